@@ -1,0 +1,44 @@
+-- The first byte of a packet (sections 2.1.2 and 2.1.3): which kinds are read, and the byte of each.
+use Rattle.std.specs.Prelude.{ℕ, ◌+◌, ◌*◌, ◌/◌, ◌%◌, ◌==◌, Bool, true, false, Option, Some, None, option_and_then, if◌then◌else◌}
+use Rattle.mqtt_wire.specs.declared.packet.QoS.{QoS}
+use Rattle.mqtt_wire.specs.declared.packet.QoS.TheVariants.{AtMostOnce, AtLeastOnce, ExactlyOnce}
+use Rattle.mqtt_wire.specs.declared.kind.Kind.{Kind}
+use Rattle.mqtt_wire.specs.declared.kind.Kind.TheVariants.{Connect, Publish, Puback, Subscribe, Disconnect}
+use Rattle.mqtt_wire.specs.declared.kind.PublishFlags.{PublishFlags}
+
+-- a flag as a bit
+abbrev pub bit : Bool → ℕ
+bit true = 1
+bit false = 0
+
+-- 4.3 Quality of Service as two bits
+abbrev pub qos_bits : QoS → ℕ
+qos_bits AtMostOnce = 0
+qos_bits AtLeastOnce = 1
+qos_bits ExactlyOnce = 2
+
+-- the quality of service of two bits: 3 is none
+abbrev pub qos_at : ℕ → Option QoS
+qos_at bits =
+    if bits == 0 then Some AtMostOnce else (if bits == 1 then Some AtLeastOnce else (if bits == 2 then Some ExactlyOnce else None))
+
+-- the byte of each kind (tables 2-1 and 2-2)
+abbrev pub first_byte : Kind → ℕ
+first_byte Connect = 0x10
+first_byte (Publish flags) = 0x30 + 8 * bit flags.dup + 2 * qos_bits flags.qos + bit flags.retain
+first_byte Puback = 0x40
+first_byte Subscribe = 0x82
+first_byte Disconnect = 0xE0
+
+-- 3.3.1: a byte from 30 to 3F is a PUBLISH, unless its QoS is 3
+abbrev pub publish_at : ℕ → Option Kind
+publish_at first =
+    if first / 16 == 3 then option_and_then (λ qos. Some (Publish (record { dup = first / 8 % 2 == 1; qos = qos; retain = first % 2 == 1 }))) (qos_at (first / 2 % 4)) else None
+
+-- the kind of a first byte: none where the byte is not in the table of the kinds that are read
+abbrev pub kind_at : ℕ → Option Kind
+kind_at first =
+    if first == 0x10 then Some Connect
+    else (if first == 0x40 then Some Puback
+    else (if first == 0x82 then Some Subscribe
+    else (if first == 0xE0 then Some Disconnect else publish_at first)))

@@ -1,0 +1,111 @@
+//! The control packets (chapter 3), as plain values.
+
+use crate::identifier::PacketIdentifier;
+use crate::non_empty::NonEmpty;
+use crate::text::Text;
+use bytes::Bytes;
+
+/// Quality of service (section 4.3).
+#[derive(Clone, Copy, Debug, PartialEq, Eq)]
+pub enum QoS {
+    AtMostOnce,
+    AtLeastOnce,
+    ExactlyOnce,
+}
+
+/// How a PUBLISH is delivered, with the identifier under which it is acknowledged (sections 3.3.1.2 and 3.3.2.2).
+#[derive(Clone, Copy, Debug, PartialEq, Eq)]
+pub enum Delivery {
+    AtMostOnce,
+    AtLeastOnce(PacketIdentifier),
+    ExactlyOnce(PacketIdentifier),
+}
+
+/// CONNECT (section 3.1) of version 5, without will, user name, password and properties.
+#[derive(Debug, Drop)]
+pub struct Connect {
+    pub clean_start: bool,
+    /// Seconds; 0 turns the keep alive off.
+    pub keep_alive: u16,
+    pub client_identifier: Text,
+}
+
+/// CONNACK (section 3.2) that accepts: what the broker offers stands in its properties.
+#[derive(Debug, Drop)]
+pub struct Connack {
+    pub session_present: bool,
+}
+
+/// PUBLISH (section 3.3) without properties.
+#[derive(Debug, Drop)]
+pub struct Publish {
+    pub dup: bool,
+    pub retain: bool,
+    pub topic: Text,
+    pub delivery: Delivery,
+    /// Shared bytes, never copied.
+    pub payload: Bytes,
+}
+
+/// PUBACK (section 3.4) without properties.
+#[derive(Debug, Drop)]
+pub struct Puback {
+    pub packet_identifier: PacketIdentifier,
+    pub reason_code: u8,
+}
+
+/// What is done with retained messages when a subscription is made (section 3.8.3.1).
+#[derive(Clone, Copy, Debug, PartialEq, Eq)]
+pub enum RetainHandling {
+    Send,
+    SendIfNew,
+    DoNotSend,
+}
+
+/// The Subscription Options (section 3.8.3.1).
+#[derive(Clone, Copy, Debug, PartialEq, Eq)]
+pub struct SubscriptionOptions {
+    pub maximum_qos: QoS,
+    pub no_local: bool,
+    pub retain_as_published: bool,
+    pub retain_handling: RetainHandling,
+}
+
+/// One entry of a SUBSCRIBE (section 3.8.3).
+#[derive(Debug, Drop)]
+pub struct Subscription {
+    pub filter: Text,
+    pub options: SubscriptionOptions,
+}
+
+/// SUBSCRIBE (section 3.8) without properties.
+#[derive(Debug, Drop)]
+pub struct Subscribe {
+    pub packet_identifier: PacketIdentifier,
+    pub subscriptions: NonEmpty<Subscription>,
+}
+
+/// SUBACK (section 3.9): one code for each entry of the SUBSCRIBE, in its order.
+#[derive(Debug, Drop)]
+pub struct Suback {
+    pub packet_identifier: PacketIdentifier,
+    pub reason_codes: NonEmpty<u8>,
+}
+
+/// DISCONNECT (section 3.14) without properties.
+#[derive(Debug, Drop)]
+pub struct Disconnect {
+    pub reason_code: u8,
+}
+
+/// A control packet (section 2.1).
+#[derive(Debug, Drop)]
+pub enum Packet {
+    Connect(Connect),
+    Connack(Connack),
+    Publish(Publish),
+    Puback(Puback),
+    Subscribe(Subscribe),
+    Suback(Suback),
+    Disconnect(Disconnect),
+}
