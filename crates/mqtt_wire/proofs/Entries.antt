@@ -20,9 +20,9 @@ with_front front read = read >>= λ others. Ok (front ++ others)
 pub subscription_shorter : (bytes : List ℕ) (x : Subscription × List ℕ) → subscription_at bytes ≡ Ok x → length x.1 < length bytes
 unfolding subscription_at
 subscription_shorter bytes x e =
-    let filter = bind_ok (text_at bytes) (λ filter. byte_at filter.1 >>= λ byte. options_at byte.0 >>= λ options. Ok (record { filter = filter.0; options = options }, byte.1)) x e in
-    let byte = bind_ok (byte_at filter.0.1) (λ byte. options_at byte.0 >>= λ options. Ok (record { filter = filter.0.0; options = options }, byte.1)) x filter.2 in
-    let options = bind_ok (options_at byte.0.0) (λ options. Ok (record { filter = filter.0.0; options = options }, byte.0.1)) x byte.2 in
+    let filter = bind_ok (text_at bytes) _ x e in
+    let byte = bind_ok (byte_at filter.0.1) _ x filter.2 in
+    let options = bind_ok (options_at byte.0.0) _ x byte.2 in
     let made : Subscription × List ℕ = (record { filter = filter.0.0; options = options.0 }, byte.0.1) in
     subst (λ (y : Subscription × List ℕ). length y.1 < length bytes) (ok_is made x options.2)
     (omega (arith, text_shorter bytes filter.0 filter.1, byte_shorter filter.0.1 byte.0 byte.1))

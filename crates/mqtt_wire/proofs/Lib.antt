@@ -3,3 +3,7 @@ pub mod Variable
 pub mod Steps
 pub mod FieldLaws
 pub mod Entries
+pub mod HeaderLaws
+pub mod FrameLaws
+pub mod OptionLaws
+pub mod EntryLaws

@@ -1,6 +1,13 @@
 -- Variable Byte Integers: what is read is spelled so, and what is spelled so is read.
-use Rattle.std.proofs.Common.{◌≡◌, ℕ, zero, suc, ◌+◌, ◌-◌, ◌*◌, ◌/◌, ◌%◌, ◌<◌, ◌≤◌, arith}
-use Rattle.mqtt_wire.specs.Forms.{variable_limit}
+use Rattle.std.proofs.Common.{◌≡◌, ℕ, zero, suc, ◌+◌, ◌-◌, ◌*◌, ◌/◌, ◌%◌, ◌<◌, ◌≤◌, Bool, true, false, cond, ltb, eqb, List, [], ◌∷◌, ◌++◌, length, Option, Some, None, Result, Ok, Err, refl, sym, ap, subst, ◌∙◌, arith, inl, inr, ◌⊎◌}
+use Rattle.std.proofs.lemmas.Bool.{ltb-true, ltb-false, lt-ltb, le-ltb, eqb-false, eqb-true, ne_eqb, eq-eqb, cases_Bool, cases_lt}
+use Rattle.mqtt_wire.specs.declared.fault.StreamFault.{StreamFault}
+use Rattle.mqtt_wire.specs.declared.fault.StreamFault.TheVariants.{Malformed}
+use Rattle.mqtt_wire.specs.Faults.{◌>>=◌}
+use Rattle.mqtt_wire.specs.Fields.{variable_at, longer}
+use Rattle.mqtt_wire.specs.Stream.{AreBytes}
+use Rattle.mqtt_wire.proofs.Steps.{bind_ok, if_ok, unless_ok, ok_is, rest_bytes, Front}
+use Rattle.mqtt_wire.specs.Forms.{variable_bytes, variable_limit}
 
 pub limit_least : (more : ℕ) → 128 ≤ variable_limit more
 limit_least zero = omega arith
@@ -11,3 +18,95 @@ limit_small zero h = omega arith
 limit_small (suc zero) h = omega arith
 limit_small (suc (suc zero)) h = omega arith
 limit_small (suc (suc (suc more))) h = absurd (omega arith)
+
+abbrev found : ℕ × List ℕ → Result (Option (ℕ × List ℕ)) StreamFault
+found x = Ok (Some x)
+
+some_is : (x y : ℕ × List ℕ) → found x ≡ found y → x ≡ y
+some_is x y e = cc
+
+pub chosen : {A : Type 0} (b : Bool) (x y z : A) → cond b x y ≡ z → ((b ≡ true) × (x ≡ z)) ⊎ ((b ≡ false) × (y ≡ z))
+chosen true x y z e = inl (refl, e)
+chosen false x y z e = inr (refl, e)
+
+-- ---- what is read is spelled so, and fits
+
+digit : (byte high : ℕ) → 128 ≤ byte → byte < 256 → 0 < high → (ltb (byte - 128 + 128 * high) 128 ≡ false) × ((byte - 128 + 128 * high) % 128 + 128 ≡ byte) × ((byte - 128 + 128 * high) / 128 ≡ high)
+digit byte high p q r = (le-ltb (byte - 128 + 128 * high) 128 (omega arith), omega arith, omega arith)
+
+longer_bytes : (more byte high : ℕ) → 128 ≤ byte → byte < 256 → 0 < high → variable_bytes (suc more) (byte - 128 + 128 * high) ≡ byte ∷ variable_bytes more high
+unfolding variable_bytes
+longer_bytes more byte high p q r =
+    let d = digit byte high p q r in
+    rw (d.0, d.1, d.2) refl
+
+longer_takes : (more byte : ℕ) (rest : List ℕ) (x : ℕ × List ℕ) (o : Option (ℕ × List ℕ)) → 128 ≤ byte → byte < 256 → longer byte o ≡ Ok (Some x) → ((high : ℕ × List ℕ) → o ≡ Some high → Front rest (variable_bytes more high.0) high.1 × (high.0 < variable_limit more)) → Front (byte ∷ rest) (variable_bytes (suc more) x.0) x.1 × (x.0 < variable_limit (suc more))
+longer_takes more byte rest x None p q e behind = absurd cc
+longer_takes more byte rest x (Some high) p q e behind =
+    let some = unless_ok (eqb high.0 0) Malformed (Ok (Some (byte - 128 + 128 * high.0, high.1))) (Some x) e in
+    let positive : 0 < high.0 = let n = eqb-false high.0 0 some.0 in omega arith in
+    let inner = behind high refl in
+    subst (λ (y : ℕ × List ℕ). Front (byte ∷ rest) (variable_bytes (suc more) y.0) y.1 × (y.0 < variable_limit (suc more))) (some_is (byte - 128 + 128 * high.0, high.1) x some.1)
+    (record { parts = ap (λ (t : List ℕ). byte ∷ t) inner.0.parts ∙ ap (λ (t : List ℕ). t ++ high.1) (sym (longer_bytes more byte high.0 p q positive)); rest_fits = inner.0.rest_fits }, omega (arith, inner.1))
+
+pub variable_takes : (more : ℕ) (bytes : List ℕ) (x : ℕ × List ℕ) → AreBytes bytes → variable_at more bytes ≡ Ok (Some x) → Front bytes (variable_bytes more x.0) x.1 × (x.0 < variable_limit more)
+unfolding variable_at variable_bytes
+variable_takes zero [] x fits e = absurd cc
+variable_takes (suc more) [] x fits e = absurd cc
+variable_takes zero (byte ∷ rest) x fits e =
+    let small = if_ok (ltb byte 128) Malformed (Ok (Some (byte, rest))) (Some x) e in
+    subst (λ (y : ℕ × List ℕ). Front (byte ∷ rest) (y.0 ∷ []) y.1 × (y.0 < 128)) (some_is (byte, rest) x small.1)
+    (record { parts = refl; rest_fits = rest_bytes byte rest fits }, ltb-true byte 128 small.0)
+variable_takes (suc more) (byte ∷ rest) x fits e =
+    elim (chosen (ltb byte 128) (Ok (Some (byte, rest))) (variable_at more rest >>= longer byte) (Ok (Some x)) e) [
+      | inl small ↦
+        subst (λ (y : ℕ × List ℕ). Front (byte ∷ rest) (variable_bytes (suc more) y.0) y.1 × (y.0 < variable_limit (suc more))) (some_is (byte, rest) x small.1)
+        (record { parts = rw small.0 refl; rest_fits = rest_bytes byte rest fits }, omega (arith, ltb-true byte 128 small.0, limit_least more))
+      | inr large ↦
+        let step = bind_ok (variable_at more rest) (longer byte) (Some x) large.1 in
+        longer_takes more byte rest x step.0 (omega (arith, ltb-false byte 128 large.0)) (fits 0) step.2
+        (λ high e. variable_takes more rest high (rest_bytes byte rest fits) (step.1 ∙ ap (λ (o : Option (ℕ × List ℕ)). Ok o) e))
+    ]
+
+-- ---- what is spelled so is read
+
+pub variable_again : (more n : ℕ) (rest : List ℕ) → n < variable_limit more → variable_at more (variable_bytes more n ++ rest) ≡ Ok (Some (n, rest))
+unfolding variable_at variable_bytes
+variable_again zero n rest h = rw (lt-ltb n 128 h) refl
+variable_again (suc more) n rest h =
+    elim (cases_lt n 128) [
+      | inl small ↦ let t = lt-ltb n 128 small in rw (t, t) refl
+      | inr large ↦
+        let t = le-ltb n 128 large in
+        let high = n / 128 in
+        let inner : variable_at more (variable_bytes more (n / 128) ++ rest) ≡ Ok (Some (n / 128, rest)) = variable_again more (n / 128) rest (omega arith) in
+        let f : ltb (n % 128 + 128) 128 ≡ false = le-ltb (n % 128 + 128) 128 (omega arith) in
+        let some : eqb (n / 128) 0 ≡ false = ne_eqb (n / 128) 0 (omega arith) in
+        let whole : n % 128 + 128 - 128 + 128 * (n / 128) ≡ n = omega arith in
+        rw (t, f, inner, some, whole) refl
+    ]
+
+-- ---- what is left is an end of the bytes
+
+longer_end : (byte : ℕ) (rest : List ℕ) (x : ℕ × List ℕ) (o : Option (ℕ × List ℕ)) → longer byte o ≡ Ok (Some x) → ((high : ℕ × List ℕ) → o ≡ Some high → (front : List ℕ) × (rest ≡ front ++ high.1)) → (front : List ℕ) × (byte ∷ rest ≡ front ++ x.1)
+longer_end byte rest x None e behind = absurd cc
+longer_end byte rest x (Some high) e behind =
+    let some = unless_ok (eqb high.0 0) Malformed (Ok (Some (byte - 128 + 128 * high.0, high.1))) (Some x) e in
+    let inner = behind high refl in
+    let same = some_is (byte - 128 + 128 * high.0, high.1) x some.1 in
+    (byte ∷ inner.0, ap (λ (t : List ℕ). byte ∷ t) inner.1 ∙ ap (λ (y : ℕ × List ℕ). (byte ∷ inner.0) ++ y.1) same)
+
+pub variable_end : (more : ℕ) (bytes : List ℕ) (x : ℕ × List ℕ) → variable_at more bytes ≡ Ok (Some x) → (front : List ℕ) × (bytes ≡ front ++ x.1)
+unfolding variable_at
+variable_end zero [] x e = absurd cc
+variable_end (suc more) [] x e = absurd cc
+variable_end zero (byte ∷ rest) x e =
+    let small = if_ok (ltb byte 128) Malformed (Ok (Some (byte, rest))) (Some x) e in
+    (byte ∷ [], ap (λ (y : ℕ × List ℕ). byte ∷ y.1) (some_is (byte, rest) x small.1))
+variable_end (suc more) (byte ∷ rest) x e =
+    elim (chosen (ltb byte 128) (Ok (Some (byte, rest))) (variable_at more rest >>= longer byte) (Ok (Some x)) e) [
+      | inl small ↦ (byte ∷ [], ap (λ (y : ℕ × List ℕ). byte ∷ y.1) (some_is (byte, rest) x small.1))
+      | inr large ↦
+        let step = bind_ok (variable_at more rest) (longer byte) (Some x) large.1 in
+        longer_end byte rest x step.0 step.2 (λ high f. variable_end more rest high (step.1 ∙ ap (λ (o : Option (ℕ × List ℕ)). Ok o) f))
+    ]

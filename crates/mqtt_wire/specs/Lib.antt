@@ -6,3 +6,4 @@ pub mod Bodies
 pub mod Writing
 pub mod Spelling
 pub mod Stream
+pub mod Frame

@@ -4,6 +4,8 @@
 mod bodies;
 mod fault;
 mod fields;
+mod frame;
+mod header;
 mod identifier;
 mod kind;
 mod non_empty;
