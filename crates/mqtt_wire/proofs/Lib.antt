@@ -7,3 +7,5 @@ pub mod HeaderLaws
 pub mod FrameLaws
 pub mod OptionLaws
 pub mod EntryLaws
+pub mod BodyLaws
+pub mod NextLaws

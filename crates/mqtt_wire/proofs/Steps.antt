@@ -1,7 +1,7 @@
 -- Steps of reading that did not fail, and what they took from the front.
-use Rattle.std.proofs.Common.{◌≡◌, ℕ, ◌+◌, ◌<◌, ◌≤◌, Bool, true, false, cond, List, [], ◌∷◌, ◌++◌, length, get_or, take, drop, Option, Some, None, Result, Ok, Err, refl, sym, ap, subst, ◌∙◌, append_assoc, arith, inl, inr}
+use Rattle.std.proofs.Common.{◌≡◌, ℕ, ◌+◌, ◌-◌, ◌<◌, ◌≤◌, Bool, true, false, cond, List, [], ◌∷◌, ◌++◌, length, get_or, take, drop, Option, Some, None, Result, Ok, Err, refl, sym, ap, subst, ◌∙◌, append_assoc, arith, inl, inr}
 use Rattle.std.proofs.lemmas.Bool.{cases_lt}
-use Rattle.std.proofs.lemmas.List.{get_or-drop, get_or-take, get_or_past, length-take}
+use Rattle.std.proofs.lemmas.List.{get_or-drop, get_or-take, get_or_past, length-take, get_or-append-add, get_or_append_left}
 use Rattle.mqtt_wire.specs.declared.fault.StreamFault.{StreamFault}
 use Rattle.mqtt_wire.specs.Faults.{◌>>=◌}
 use Rattle.mqtt_wire.specs.Stream.{AreBytes}
@@ -47,3 +47,11 @@ pub record Front (bytes text rest : List ℕ) : Type 0 where
 pub Front-then : (a x b y c : List ℕ) → Front a x b → Front b y c → Front a (x ++ y) c
 Front-then a x b y c p q =
     record { parts = p.parts ∙ ap (λ (t : List ℕ). x ++ t) q.parts ∙ sym (append_assoc x y c); rest_fits = q.rest_fits }
+
+pub append_bytes : (a b : List ℕ) → AreBytes a → AreBytes b → AreBytes (a ++ b)
+append_bytes a b p q i =
+    elim (cases_lt i (length a)) [
+      | inl lt ↦ rw (get_or_append_left a b 0 i lt) (p i)
+      | inr le ↦ let there : length a + (i - length a) ≡ i = omega arith in
+        subst (λ (k : ℕ). get_or (a ++ b) k 0 < 256) there (rw (get_or-append-add a b (i - length a) 0) (q (i - length a)))
+    ]

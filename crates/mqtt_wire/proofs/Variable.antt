@@ -110,3 +110,40 @@ variable_end (suc more) (byte ∷ rest) x e =
         let step = bind_ok (variable_at more rest) (longer byte) (Some x) large.1 in
         longer_end byte rest x step.0 step.2 (λ high f. variable_end more rest high (step.1 ∙ ap (λ (o : Option (ℕ × List ℕ)). Ok o) f))
     ]
+
+-- ---- how many bytes it has
+
+one_byte : (more n : ℕ) → n < 128 → length (variable_bytes more n) ≡ 1
+unfolding variable_bytes
+one_byte zero n h = refl
+one_byte (suc more) n h = rw (lt-ltb n 128 h) refl
+
+a_byte_more : (more n : ℕ) → 128 ≤ n → length (variable_bytes (suc more) n) ≡ suc (length (variable_bytes more (n / 128)))
+unfolding variable_bytes
+a_byte_more more n h = rw (le-ltb n 128 h) refl
+
+at_zero : (n : ℕ) → 1 ≤ length (variable_bytes 0 n)
+unfolding variable_bytes
+at_zero n = omega arith
+
+some_byte : (more n : ℕ) → 1 ≤ length (variable_bytes more n)
+some_byte zero n = at_zero n
+some_byte (suc more) n =
+    elim (cases_lt n 128) [ | inl small ↦ omega (arith, one_byte (suc more) n small) | inr large ↦ omega (arith, a_byte_more more n large) ]
+
+pub at_most_three : (n : ℕ) → n < 2097152 → length (variable_bytes 3 n) ≤ 3
+at_most_three n h =
+    elim (cases_lt n 128) [
+      | inl small ↦ omega (arith, one_byte 3 n small)
+      | inr more ↦ elim (cases_lt (n / 128) 128) [
+          | inl small ↦ omega (arith, a_byte_more 2 n more, one_byte 2 (n / 128) small)
+          | inr again ↦ let third : n / 128 / 128 < 128 = omega arith in
+            omega (arith, a_byte_more 2 n more, a_byte_more 1 (n / 128) again, one_byte 1 (n / 128 / 128) third)
+        ]
+    ]
+
+pub at_least_three : (n : ℕ) → 16384 ≤ n → 3 ≤ length (variable_bytes 3 n)
+at_least_three n h =
+    let first : 128 ≤ n = omega arith in
+    let second : 128 ≤ n / 128 = omega arith in
+    omega (arith, a_byte_more 2 n first, a_byte_more 1 (n / 128) second, some_byte 1 (n / 128 / 128))

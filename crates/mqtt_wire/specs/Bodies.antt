@@ -28,19 +28,31 @@ use Rattle.mqtt_wire.specs.Fields.{Field, byte_at, u16_at, text_at, identifier_a
 abbrev pub expect : Bool → Result (Unit {0}) StreamFault
 expect holds = if holds then Ok tt else Err Malformed
 
--- 3.1 CONNECT: of the Connect Flags only Clean Start is read yet
-unfoldable pub connect_at : List ℕ → Result Connect StreamFault
-connect_at body = do
-  name ← text_at body
+-- 3.1.2.1 and 3.1.2.2: the Protocol Name MQTT and the Protocol Version 5, the only ones that are read yet
+unfoldable pub protocol_at : List ℕ → Field (Unit {0})
+protocol_at bytes = do
+  name ← text_at bytes
   named ← expect (bytes_eq name.0 (codes "MQTT"))
   version ← byte_at name.1
   is_five ← expect (version.0 == 5)
-  flags ← byte_at version.1
+  Ok (tt, version.1)
+
+-- 3.1.2.3 Connect Flags: of them only Clean Start is read yet
+unfoldable pub connect_flags_at : List ℕ → Field Bool
+connect_flags_at bytes = do
+  flags ← byte_at bytes
   lawful ← expect (flags.0 == 0 || flags.0 == 2)
-  keep_alive ← u16_at flags.1
+  Ok (flags.0 == 2, flags.1)
+
+-- 3.1 CONNECT
+unfoldable pub connect_at : List ℕ → Result Connect StreamFault
+connect_at body = do
+  protocol ← protocol_at body
+  clean_start ← connect_flags_at protocol.1
+  keep_alive ← u16_at clean_start.1
   empty ← properties_at keep_alive.1
   client_identifier ← text_at empty.1
-  at_end (record { clean_start = flags.0 == 2; keep_alive = keep_alive.0; client_identifier = client_identifier.0 }) client_identifier.1
+  at_end (record { clean_start = clean_start.0; keep_alive = keep_alive.0; client_identifier = client_identifier.0 }) client_identifier.1
 
 -- 3.3.2.2: there is an identifier where the QoS is not 0
 unfoldable pub delivery_at : QoS → List ℕ → Field Delivery

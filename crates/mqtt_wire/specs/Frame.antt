@@ -59,3 +59,9 @@ TakesPacket hand old (Err (Stream fault)) left new =
     ((hand ≡ None) × (header_at old ≡ Err fault) × (new ≡ old) × (left ≡ None))
     ⊎ ((frame : Frame) × HasFrame hand old frame new × (body_at frame.kind frame.body ≡ Err fault) × (left ≡ Some frame))
 TakesPacket hand old (Err Memory) left new = ((new ≡ old) × (left ≡ hand)) ⊎ ((frame : Frame) × HasFrame hand old frame new × (left ≡ Some frame))
+
+-- the fault of the stream that an answer tells
+abbrev pub fault_in : Result (Option Packet) Fault → Option StreamFault
+fault_in (Ok found) = None
+fault_in (Err (Stream fault)) = Some fault
+fault_in (Err Memory) = None

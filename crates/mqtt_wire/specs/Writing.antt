@@ -56,10 +56,13 @@ options_byte o = qos_bits o.maximum_qos + 4 * bit o.no_local + 8 * bit o.retain_
 abbrev pub subscription_bytes : Subscription → List ℕ
 subscription_bytes s = utf8_string s.filter ++ options_byte s.options ∷ []
 
--- 3.1.2: protocol name, version, Connect Flags, Keep Alive, no properties, Client Identifier
+-- 3.1.2.1 and 3.1.2.2: the Protocol Name and the Protocol Version
+abbrev pub protocol : List ℕ
+protocol = utf8_string (codes "MQTT") ++ 5 ∷ []
+
+-- 3.1.2 and 3.1.3: protocol, Connect Flags, Keep Alive, no properties, Client Identifier
 abbrev pub connect_body : Connect → List ℕ
-connect_body c =
-    utf8_string (codes "MQTT") ++ 5 ∷ (2 * bit c.clean_start) ∷ u16_bytes c.keep_alive ++ properties [] ++ utf8_string c.client_identifier
+connect_body c = protocol ++ (2 * bit c.clean_start) ∷ [] ++ u16_bytes c.keep_alive ++ properties [] ++ utf8_string c.client_identifier
 
 -- 3.3.2 and 3.3.3: topic, identifier, no properties, payload
 abbrev pub publish_body : Publish → List ℕ

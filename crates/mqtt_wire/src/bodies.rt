@@ -4,7 +4,7 @@
 ghost use Rattle.std.specs.Prelude.{◌≡◌, ◌<◌, List, ℕ, length, OnOk};
 ghost use Rattle.mqtt_wire.specs.Faults.{Gives, GivesField, ReadsField};
 ghost use Rattle.mqtt_wire.specs.Fields.{Field};
-ghost use Rattle.mqtt_wire.specs.Bodies.{expect, connect_at, delivery_at, publish_body_at, reason_at, puback_at, retain_handling_at, options_at, subscription_at, subscriptions_at, entries_at, subscribe_at, body_at};
+ghost use Rattle.mqtt_wire.specs.Bodies.{expect, protocol_at, connect_flags_at, connect_at, delivery_at, publish_body_at, reason_at, puback_at, retain_handling_at, options_at, subscription_at, subscriptions_at, entries_at, subscribe_at, body_at};
 
 use crate::fault::{Fault, StreamFault};
 use crate::fields::{read_byte, read_identifier, read_properties, read_text, read_u16};
@@ -19,6 +19,9 @@ use std::alloc::Global;
 
 /// The Protocol Version of MQTT 5.0 (section 3.1.2.2).
 const PROTOCOL_VERSION: u8 = 5;
+
+/// The connect flag Clean Start (section 3.1.2.4).
+const CLEAN_START: u8 = 2;
 
 /// Reads the body of a packet of that kind, all of it.
 #[tactic(auto, unfolding(crate::specs::Bodies::body_at))]
@@ -48,23 +51,41 @@ fn expected(holds: bool) -> Result<(), StreamFault>
     }
 }
 
+/// Takes the protocol name and the version (sections 3.1.2.1 and 3.1.2.2).
+#[tactic(auto, unfolding(crate::specs::Bodies::protocol_at))]
+fn read_protocol(body: &mut Bytes) -> Result<(), Fault>
+    ensures { GivesField result body.new (protocol_at body.old) }
+{
+    let name = read_text(body)?;
+    expected(name.as_bytes() == b"MQTT".as_slice())?;
+    let version = read_byte(body)?;
+    expected(version == PROTOCOL_VERSION)?;
+    Ok(())
+}
+
+/// Takes the connect flags, and answers Clean Start (section 3.1.2.3).
+#[tactic(auto, unfolding(crate::specs::Bodies::connect_flags_at))]
+fn read_connect_flags(body: &mut Bytes) -> Result<bool, StreamFault>
+    ensures { ReadsField result body.new (connect_flags_at body.old) }
+{
+    let flags = read_byte(body)?;
+    expected(flags == 0 || flags == CLEAN_START)?;
+    Ok(flags == CLEAN_START)
+}
+
 /// Reads a CONNECT (section 3.1).
 #[tactic(auto, unfolding(crate::specs::Bodies::connect_at))]
 fn read_connect(mut body: Bytes) -> Result<Connect, Fault>
     ensures { Gives (λ packet. packet) result (connect_at body) }
 {
-    let name = read_text(&mut body)?;
-    expected(name.as_bytes() == b"MQTT".as_slice())?;
-    let version = read_byte(&mut body)?;
-    expected(version == PROTOCOL_VERSION)?;
-    let flags = read_byte(&mut body)?;
-    expected(flags == 0 || flags == 2)?;
+    read_protocol(&mut body)?;
+    let clean_start = read_connect_flags(&mut body)?;
     let keep_alive = read_u16(&mut body)?;
     read_properties(&mut body)?;
     let client_identifier = read_text(&mut body)?;
     expected(body.is_empty())?;
     Ok(Connect {
-        clean_start: flags == 2,
+        clean_start,
         keep_alive,
         client_identifier,
     })

@@ -2,7 +2,7 @@
 
 ghost use Rattle.std.specs.Prelude.{◌≡◌, [], None, Some};
 ghost use Rattle.mqtt_wire.specs.Stream.{NextAnswers, FeedAnswers};
-ghost use Rattle.mqtt_wire.specs.Frame.{TakesPacket};
+ghost use Rattle.mqtt_wire.specs.Frame.{TakesPacket, fault_in};
 
 use crate::fault::{Fault, StreamFault};
 use crate::frame::{Frame, cut_frame, read_frame};
@@ -72,13 +72,19 @@ impl Splitter {
         if let Some(fault) = self.fault {
             return Err(Fault::Stream(fault));
         }
-        match take_packet(self.alloc, &mut self.frame, &mut self.stream) {
-            Err(Fault::Stream(fault)) => {
-                self.fault = Some(fault);
-                Err(Fault::Stream(fault))
-            }
-            answer => answer,
-        }
+        let answer = take_packet(self.alloc, &mut self.frame, &mut self.stream);
+        self.fault = stream_fault(&answer);
+        answer
+    }
+}
+
+/// The fault of the stream that an answer tells, if it tells one.
+fn stream_fault(answer: &Result<Option<Packet>, Fault>) -> Option<StreamFault>
+    ensures { result ≡ fault_in answer.now }
+{
+    match answer {
+        Err(Fault::Stream(fault)) => Some(*fault),
+        Err(Fault::Memory) | Ok(_) => None,
     }
 }
 
