@@ -9,3 +9,4 @@ pub mod OptionLaws
 pub mod EntryLaws
 pub mod BodyLaws
 pub mod NextLaws
+pub mod WritingLaws

@@ -1,6 +1,7 @@
 -- The test for UTF-8 answers what the definition says.
-use Rattle.std.proofs.Common.{◌≡◌, ◌<◌, ◌==◌, Bool, true, false, List, ℕ, length, lt-ltb, refl, sym}
-use Rattle.std.specs.Prelude.{IsTrue, ◌↔◌}
+use Rattle.std.proofs.Common.{◌≡◌, ◌<◌, ◌==◌, Bool, true, false, List, ℕ, length, ltb, lt-ltb, refl, sym}
+use Rattle.std.specs.Prelude.{IsTrue, ◌↔◌, not, ◌&&◌}
+use Rattle.std.proofs.lemmas.Bool.{and_parts, ltb-true}
 use Rattle.std.specs.Str.{is_utf8, IsUtf8}
 use Rattle.std.specs.List.{list_any}
 use Rattle.mqtt_wire.specs.Forms.{is_text}
@@ -19,3 +20,10 @@ decided answer bytes h =
 pub is_text-short : (bytes : List ℕ) → length bytes < 65536 → list_any (λ b. b == 0) bytes ≡ false → is_utf8 bytes ≡ is_text bytes
 unfolding is_text
 is_text-short bytes lt none = rw (none, lt-ltb (length bytes) 65536 lt) refl
+
+pub text_is_short : (bytes : List ℕ) → is_text bytes ≡ true → length bytes < 65536
+unfolding is_text
+text_is_short bytes e =
+    let outer = and_parts (ltb (length bytes) 65536 && not (list_any (λ b. b == 0) bytes)) (is_utf8 bytes) e in
+    let inner = and_parts (ltb (length bytes) 65536) (not (list_any (λ b. b == 0) bytes)) outer.0 in
+    ltb-true (length bytes) 65536 inner.0

@@ -10,6 +10,7 @@ mod identifier;
 mod kind;
 mod non_empty;
 mod packet;
+mod sizes;
 mod text;
 
 pub use fault::{Fault, StreamFault};

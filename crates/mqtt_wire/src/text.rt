@@ -43,6 +43,7 @@ impl Text {
     pub fn as_bytes(&self) -> &[u8]
         ensures value { result.now ≡ self.now }
         ensures text { IsTrue (is_text self.now) }
+        ensures short { length result.now < 2 ^ 16 }
     {
         self.bytes.as_slice()
     }
