@@ -1,12 +1,11 @@
 -- Bodies: what is read is spelled so, and what is spelled so is read.
-use Rattle.std.proofs.Common.{◌≡◌, ℕ, zero, suc, ◌+◌, ◌*◌, ◌<◌, ◌≤◌, Bool, true, false, cond, eqb, ◌||◌, List, [], ◌∷◌, ◌++◌, length, Option, Some, None, Result, Ok, Err, refl, sym, ap, subst, ◌∙◌, append_assoc, arith, inl, inr, ◌⊎◌}
-use Rattle.std.specs.Prelude.{bytes_eq, codes, IsTrue}
+use Rattle.std.proofs.Common.{◌≡◌, ℕ, ◌*◌, ◌<◌, Bool, true, false, eqb, ◌||◌, List, [], ◌∷◌, ◌++◌, Result, Ok, refl, sym, ap, subst, ◌∙◌, append_assoc, inl, inr}
+use Rattle.std.specs.Prelude.{bytes_eq, codes}
 use Rattle.std.specs.List.{flat_map}
-use Rattle.std.proofs.lemmas.Bool.{eqb-true, eq-eqb, or_cases}
+use Rattle.std.proofs.lemmas.Bool.{eqb-true, or_cases}
 use Rattle.std.proofs.lemmas.List.{append-nil}
 use Rattle.std.proofs.lemmas.Slice.Eq.{bytes_eq-Decides}
 use Rattle.mqtt_wire.specs.declared.fault.StreamFault.{StreamFault}
-use Rattle.mqtt_wire.specs.declared.fault.StreamFault.TheVariants.{Malformed}
 use Rattle.mqtt_wire.specs.declared.packet.QoS.{QoS}
 use Rattle.mqtt_wire.specs.declared.packet.QoS.TheVariants as qos
 use Rattle.mqtt_wire.specs.declared.packet.Delivery.{Delivery}
@@ -15,13 +14,11 @@ use Rattle.mqtt_wire.specs.declared.packet.Connect.{Connect}
 use Rattle.mqtt_wire.specs.declared.packet.Publish.{Publish}
 use Rattle.mqtt_wire.specs.declared.packet.Puback.{Puback}
 use Rattle.mqtt_wire.specs.declared.packet.Subscribe.{Subscribe}
-use Rattle.mqtt_wire.specs.declared.packet.Disconnect.{Disconnect}
 use Rattle.mqtt_wire.specs.declared.packet.Packet.{Packet}
 use Rattle.mqtt_wire.specs.declared.packet.Packet.TheVariants as packets
 use Rattle.mqtt_wire.specs.declared.kind.Kind.{Kind}
 use Rattle.mqtt_wire.specs.declared.kind.Kind.TheVariants as kinds
 use Rattle.mqtt_wire.specs.declared.kind.PublishFlags.{PublishFlags}
-use Rattle.mqtt_wire.specs.Faults.{◌>>=◌}
 use Rattle.std.specs.Str.{is_utf8, chars}
 use Rattle.mqtt_wire.specs.Forms.{u16_bytes, utf8_string, is_text}
 use Rattle.mqtt_wire.specs.Kinds.{bit, first_byte}
@@ -31,7 +28,6 @@ use Rattle.mqtt_wire.specs.Writing.{properties, protocol, qos_of, delivery_bytes
 use Rattle.mqtt_wire.specs.Spelling.{IsText, IsIdentifier, IsDelivery, IsClients, SpellsReason, SpellsBody}
 use Rattle.mqtt_wire.specs.Stream.{AreBytes}
 use Rattle.mqtt_wire.proofs.Steps.{bind_ok, ok_is, Front, Front-then}
-use Rattle.mqtt_wire.proofs.Variable.{chosen}
 use Rattle.mqtt_wire.proofs.FieldLaws.{byte_takes, u16_takes, text_takes, identifier_takes, properties_takes, byte_again, u16_again, text_again, identifier_again, properties_again}
 use Rattle.mqtt_wire.proofs.OptionLaws.{reason_takes, reason_again}
 use Rattle.mqtt_wire.proofs.EntryLaws.{entries_take, entries_again}
@@ -65,7 +61,7 @@ protocol_parts : (bytes name : List ℕ) (version : ℕ) (rest after : List ℕ)
 protocol_parts bytes name version rest after is_name is_five same f =
     subst (λ (r : List ℕ). Front bytes protocol r) same
     (subst (λ (v : ℕ). Front bytes (utf8_string (codes "MQTT") ++ v ∷ []) rest) is_five
-      (subst (λ (n : List ℕ). Front bytes (utf8_string n ++ version ∷ []) rest) is_name f))
+    (subst (λ (n : List ℕ). Front bytes (utf8_string n ++ version ∷ []) rest) is_name f))
 
 pub protocol_takes : (bytes : List ℕ) (x : Unit {0} × List ℕ) → AreBytes bytes → protocol_at bytes ≡ Ok x → Front bytes protocol x.1
 unfolding protocol_at
@@ -202,7 +198,7 @@ subscribe_takes body packet fits e =
     let t3 = entries_take empty.0.1 entries.0 t2.rest_fits entries.1 in
     let made : Subscribe = record { packet_identifier = identifier.0.0; subscriptions = entries.0 } in
     let parts : body ≡ u16_bytes identifier.0.0 ++ (properties [] ++ flat_map subscription_bytes entries.0) =
-      t1.0.parts ∙ ap (λ (r : List ℕ). u16_bytes identifier.0.0 ++ r) (t2.parts ∙ ap (λ (r : List ℕ). properties [] ++ r) t3.0.parts) in
+    t1.0.parts ∙ ap (λ (r : List ℕ). u16_bytes identifier.0.0 ++ r) (t2.parts ∙ ap (λ (r : List ℕ). properties [] ++ r) t3.0.parts) in
     subst (λ (p : Subscribe). IsClients (packets.Subscribe p) × SpellsBody (packets.Subscribe p) body) (ok_is made packet entries.2)
     ((t1.1, t3.1, t3.0.filtered), parts)
 

@@ -1,12 +1,11 @@
 -- The entries of a SUBSCRIBE, read one after another.
-use Rattle.std.proofs.Common.{◌≡◌, ℕ, zero, suc, ◌+◌, ◌<◌, ◌≤◌, List, [], ◌∷◌, ◌++◌, length, Option, Some, None, Result, Ok, Err, refl, sym, ap, subst, ◌∙◌, append_assoc, arith}
+use Rattle.std.proofs.Common.{◌≡◌, ℕ, zero, suc, ◌<◌, ◌≤◌, List, [], ◌∷◌, ◌++◌, length, Result, Ok, Err, refl, sym, ap, subst, ◌∙◌, append_assoc, arith}
 use Rattle.std.proofs.lemmas.List.{append-nil}
 use Rattle.mqtt_wire.specs.declared.fault.StreamFault.{StreamFault}
 use Rattle.mqtt_wire.specs.declared.fault.StreamFault.TheVariants.{Protocol}
 use Rattle.mqtt_wire.specs.declared.fault.Fault.{Fault}
 use Rattle.mqtt_wire.specs.declared.fault.Fault.TheVariants as errors
 use Rattle.mqtt_wire.specs.declared.packet.Subscription.{Subscription}
-use Rattle.mqtt_wire.specs.declared.packet.SubscriptionOptions.{SubscriptionOptions}
 use Rattle.mqtt_wire.specs.Faults.{◌>>=◌, Fails}
 use Rattle.mqtt_wire.specs.Fields.{byte_at, text_at}
 use Rattle.mqtt_wire.specs.Bodies.{options_at, subscription_at, subscriptions_at, at_least_one}
@@ -76,7 +75,7 @@ ends errors.Memory front bytes total some h so_far = tt
 ends (errors.Stream fault) front [] total some h so_far = absurd (omega arith)
 ends (errors.Stream fault) front (byte ∷ bytes) total some h so_far =
     let one : with_front front (subscriptions_at (length (byte ∷ bytes)) (byte ∷ bytes)) ≡ Err fault =
-      ap (λ (r : Result (Subscription × List ℕ) StreamFault). with_front front (r >>= then_others (λ x. subscriptions_at (length bytes) x.1))) h in
+    ap (λ (r : Result (Subscription × List ℕ) StreamFault). with_front front (r >>= then_others (λ x. subscriptions_at (length bytes) x.1))) h in
     ap (λ (r : Read). r >>= at_least_one) (sym so_far ∙ one)
 
 -- .. or nothing is left

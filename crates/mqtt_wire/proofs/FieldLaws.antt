@@ -1,18 +1,14 @@
 -- A field that is read is the field that was spelled, and what was spelled is read again.
-use Rattle.std.proofs.Common.{◌≡◌, ℕ, zero, suc, ◌+◌, ◌-◌, ◌*◌, ◌/◌, ◌%◌, ◌^◌, ◌<◌, ◌≤◌, Bool, true, false, cond, ltb, eqb, List, [], ◌∷◌, ◌++◌, length, get_or, take, drop, Option, Some, None, Result, Ok, Err, refl, sym, ap, subst, ◌∙◌, append_assoc, arith, inl, inr, length-append, length-drop}
+use Rattle.std.proofs.Common.{◌≡◌, ℕ, zero, suc, ◌+◌, ◌*◌, ◌/◌, ◌%◌, ◌<◌, ◌≤◌, false, ltb, List, [], ◌∷◌, ◌++◌, length, take, drop, Ok, refl, sym, ap, subst, ◌∙◌, arith, length-append, length-drop}
 use Rattle.std.proofs.lemmas.List.{length-take-le}
-use Rattle.std.specs.Prelude.{IsTrue}
-use Rattle.std.proofs.lemmas.Bool.{ltb-false, le-ltb, lt-ltb, eqb-false, ne_eqb, eqb-true}
-use Rattle.std.proofs.lemmas.List.{take_at, drop_at, take-append-drop, length-take}
-use Rattle.mqtt_wire.specs.declared.fault.StreamFault.{StreamFault}
-use Rattle.mqtt_wire.specs.declared.fault.StreamFault.TheVariants.{Malformed, Protocol}
-use Rattle.mqtt_wire.specs.Faults.{◌>>=◌}
+use Rattle.std.proofs.lemmas.Bool.{ltb-false, le-ltb, eqb-false, ne_eqb}
+use Rattle.std.proofs.lemmas.List.{take_at, drop_at, take-append-drop}
 use Rattle.mqtt_wire.specs.Forms.{u16_bytes, utf8_string, is_text, variable_bytes}
 use Rattle.mqtt_wire.specs.Fields.{byte_at, u16_at, text_at, identifier_at, properties_at}
 use Rattle.mqtt_wire.specs.Writing.{properties}
 use Rattle.mqtt_wire.specs.Spelling.{IsText, IsIdentifier}
 use Rattle.mqtt_wire.specs.Stream.{AreBytes}
-use Rattle.mqtt_wire.proofs.Steps.{bind_ok, unless_ok, if_ok, ok_is, drop_bytes, take_bytes, rest_bytes, Front, Front-then}
+use Rattle.mqtt_wire.proofs.Steps.{bind_ok, unless_ok, if_ok, ok_is, drop_bytes, rest_bytes, Front}
 
 -- ---- what is left is shorter
 

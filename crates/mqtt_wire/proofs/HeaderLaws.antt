@@ -1,20 +1,18 @@
 -- A header that is read is the header that was spelled, and what was spelled is read again.
-use Rattle.std.proofs.Common.{◌≡◌, ℕ, zero, suc, ◌+◌, ◌-◌, ◌*◌, ◌/◌, ◌%◌, ◌<◌, ◌≤◌, Bool, true, false, cond, ltb, eqb, List, [], ◌∷◌, ◌++◌, length, take, drop, Option, Some, None, Result, Ok, Err, refl, sym, ap, subst, ◌∙◌, arith, inl, inr, ◌⊎◌, length-append}
+use Rattle.std.proofs.Common.{◌≡◌, ℕ, zero, suc, ◌/◌, ◌%◌, ◌<◌, ◌≤◌, Bool, true, false, cond, ltb, eqb, List, [], ◌∷◌, ◌++◌, Option, Some, None, Result, Ok, refl, sym, ap, subst, ◌∙◌, arith, inl, inr}
 use Rattle.std.specs.Prelude.{option_and_then}
-use Rattle.std.proofs.lemmas.Bool.{ltb-true, ltb-false, lt-ltb, le-ltb, eqb-true}
+use Rattle.std.proofs.lemmas.Bool.{ltb-false, le-ltb, eqb-true}
 use Rattle.mqtt_wire.specs.declared.fault.StreamFault.{StreamFault}
 use Rattle.mqtt_wire.specs.declared.fault.StreamFault.TheVariants.{TooLarge}
 use Rattle.mqtt_wire.specs.declared.packet.QoS.{QoS}
 use Rattle.mqtt_wire.specs.declared.packet.QoS.TheVariants.{AtMostOnce, AtLeastOnce, ExactlyOnce}
 use Rattle.mqtt_wire.specs.declared.kind.Kind.{Kind}
 use Rattle.mqtt_wire.specs.declared.kind.Kind.TheVariants.{Connect, Publish, Puback, Subscribe, Disconnect}
-use Rattle.mqtt_wire.specs.declared.kind.PublishFlags.{PublishFlags}
-use Rattle.mqtt_wire.specs.Faults.{◌>>=◌}
-use Rattle.mqtt_wire.specs.Forms.{variable_bytes, variable_byte_integer, variable_limit}
+use Rattle.mqtt_wire.specs.Forms.{variable_byte_integer}
 use Rattle.mqtt_wire.specs.Kinds.{bit, qos_bits, qos_at, first_byte, publish_at, kind_at}
 use Rattle.mqtt_wire.specs.Fields.{variable_at}
 use Rattle.mqtt_wire.specs.Stream.{Header, header_at, header_of, header_from, AreBytes}
-use Rattle.mqtt_wire.proofs.Steps.{bind_ok, unless_ok, ok_is, rest_bytes, Front}
+use Rattle.mqtt_wire.proofs.Steps.{bind_ok, unless_ok, rest_bytes}
 use Rattle.mqtt_wire.proofs.Variable.{chosen, variable_takes, variable_again, variable_end}
 
 -- ---- the first byte
@@ -53,12 +51,12 @@ qos_takes bits qos e =
     elim (chosen (eqb bits 0) (Some AtMostOnce) (cond (eqb bits 1) (Some AtLeastOnce) (cond (eqb bits 2) (Some ExactlyOnce) None)) (Some qos) e) [
       | inl here ↦ ap qos_bits (sym (qos_is AtMostOnce qos here.1)) ∙ sym (eqb-true bits 0 here.0)
       | inr a ↦ elim (chosen (eqb bits 1) (Some AtLeastOnce) (cond (eqb bits 2) (Some ExactlyOnce) None) (Some qos) a.1) [
-          | inl here ↦ ap qos_bits (sym (qos_is AtLeastOnce qos here.1)) ∙ sym (eqb-true bits 1 here.0)
-          | inr b ↦ elim (chosen (eqb bits 2) (Some ExactlyOnce) None (Some qos) b.1) [
-              | inl here ↦ ap qos_bits (sym (qos_is ExactlyOnce qos here.1)) ∙ sym (eqb-true bits 2 here.0)
-              | inr none ↦ absurd (let no = none.1 in cc)
-            ]
+        | inl here ↦ ap qos_bits (sym (qos_is AtLeastOnce qos here.1)) ∙ sym (eqb-true bits 1 here.0)
+        | inr b ↦ elim (chosen (eqb bits 2) (Some ExactlyOnce) None (Some qos) b.1) [
+          | inl here ↦ ap qos_bits (sym (qos_is ExactlyOnce qos here.1)) ∙ sym (eqb-true bits 2 here.0)
+          | inr none ↦ absurd (let no = none.1 in cc)
         ]
+      ]
     ]
 
 some_kind : (o : Option QoS) (f : QoS → Kind) (kind : Kind) → option_and_then (λ qos. Some (f qos)) o ≡ Some kind → (qos : QoS) × (o ≡ Some qos) × (f qos ≡ kind)
@@ -72,12 +70,12 @@ publish_takes : (first : ℕ) (kind : Kind) → first < 256 → publish_at first
 publish_takes first kind small e =
     elim (chosen (eqb (first / 16) 3) (option_and_then (λ qos. Some (Publish (record { dup = eqb (first / 8 % 2) 1; qos = qos; retain = eqb (first % 2) 1 }))) (qos_at (first / 2 % 4))) None (Some kind) e) [
       | inl three ↦
-        let made = some_kind (qos_at (first / 2 % 4)) (λ qos. Publish (record { dup = eqb (first / 8 % 2) 1; qos = qos; retain = eqb (first % 2) 1 })) kind three.1 in
-        let bits = qos_takes (first / 2 % 4) made.0 made.1 in
-        let upper = eqb-true (first / 16) 3 three.0 in
-        let dup = bit_is (first / 8 % 2) (omega arith) in
-        let retain = bit_is (first % 2) (omega arith) in
-        ap first_byte (sym made.2) ∙ (omega arith)
+          let made = some_kind (qos_at (first / 2 % 4)) (λ qos. Publish (record { dup = eqb (first / 8 % 2) 1; qos = qos; retain = eqb (first % 2) 1 })) kind three.1 in
+          let bits = qos_takes (first / 2 % 4) made.0 made.1 in
+          let upper = eqb-true (first / 16) 3 three.0 in
+          let dup = bit_is (first / 8 % 2) (omega arith) in
+          let retain = bit_is (first % 2) (omega arith) in
+          ap first_byte (sym made.2) ∙ (omega arith)
       | inr other ↦ absurd (let no = other.1 in cc)
     ]
 
@@ -86,15 +84,15 @@ kind_takes first kind small e =
     elim (chosen (eqb first 0x10) (Some Connect) (cond (eqb first 0x40) (Some Puback) (cond (eqb first 0x82) (Some Subscribe) (cond (eqb first 0xE0) (Some Disconnect) (publish_at first)))) (Some kind) e) [
       | inl here ↦ ap first_byte (sym (kind_is Connect kind here.1)) ∙ sym (eqb-true first 0x10 here.0)
       | inr a ↦ elim (chosen (eqb first 0x40) (Some Puback) (cond (eqb first 0x82) (Some Subscribe) (cond (eqb first 0xE0) (Some Disconnect) (publish_at first))) (Some kind) a.1) [
-          | inl here ↦ ap first_byte (sym (kind_is Puback kind here.1)) ∙ sym (eqb-true first 0x40 here.0)
-          | inr b ↦ elim (chosen (eqb first 0x82) (Some Subscribe) (cond (eqb first 0xE0) (Some Disconnect) (publish_at first)) (Some kind) b.1) [
-              | inl here ↦ ap first_byte (sym (kind_is Subscribe kind here.1)) ∙ sym (eqb-true first 0x82 here.0)
-              | inr c ↦ elim (chosen (eqb first 0xE0) (Some Disconnect) (publish_at first) (Some kind) c.1) [
-                  | inl here ↦ ap first_byte (sym (kind_is Disconnect kind here.1)) ∙ sym (eqb-true first 0xE0 here.0)
-                  | inr d ↦ publish_takes first kind small d.1
-                ]
-            ]
+        | inl here ↦ ap first_byte (sym (kind_is Puback kind here.1)) ∙ sym (eqb-true first 0x40 here.0)
+        | inr b ↦ elim (chosen (eqb first 0x82) (Some Subscribe) (cond (eqb first 0xE0) (Some Disconnect) (publish_at first)) (Some kind) b.1) [
+          | inl here ↦ ap first_byte (sym (kind_is Subscribe kind here.1)) ∙ sym (eqb-true first 0x82 here.0)
+          | inr c ↦ elim (chosen (eqb first 0xE0) (Some Disconnect) (publish_at first) (Some kind) c.1) [
+            | inl here ↦ ap first_byte (sym (kind_is Disconnect kind here.1)) ∙ sym (eqb-true first 0xE0 here.0)
+            | inr d ↦ publish_takes first kind small d.1
+          ]
         ]
+      ]
     ]
 
 -- ---- the header

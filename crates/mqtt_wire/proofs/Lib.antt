@@ -10,3 +10,4 @@ pub mod EntryLaws
 pub mod BodyLaws
 pub mod NextLaws
 pub mod WritingLaws
+pub mod StreamLaws

@@ -1,5 +1,5 @@
 -- What `next` answers: packets that are spelled so, an open rest, or the fault in front.
-use Rattle.std.proofs.Common.{◌≡◌, ℕ, ◌+◌, ◌-◌, ◌<◌, ◌≤◌, List, [], ◌∷◌, ◌++◌, length, get_or, take, drop, Option, Some, None, Result, Ok, Err, refl, sym, ap, subst, ◌∙◌, append_assoc, arith, inl, inr, length-append}
+use Rattle.std.proofs.Common.{◌≡◌, ℕ, ◌≤◌, List, ◌∷◌, ◌++◌, length, take, drop, Option, Some, None, Result, Ok, Err, refl, sym, ap, subst, ◌∙◌, append_assoc, arith, inl, inr, length-append}
 use Rattle.std.proofs.lemmas.Bool.{cases_lt}
 use Rattle.std.proofs.lemmas.List.{length-take-le, take-append-drop, take_at, drop_at}
 use Rattle.mqtt_wire.specs.declared.fault.StreamFault.{StreamFault}
@@ -8,12 +8,12 @@ use Rattle.mqtt_wire.specs.declared.fault.Fault.TheVariants.{Stream, Memory}
 use Rattle.mqtt_wire.specs.declared.packet.Packet.{Packet}
 use Rattle.mqtt_wire.specs.declared.frame.Frame.{Frame}
 use Rattle.mqtt_wire.specs.declared.kind.Kind.{Kind}
-use Rattle.mqtt_wire.specs.Forms.{variable_bytes, variable_byte_integer}
+use Rattle.mqtt_wire.specs.Forms.{variable_byte_integer}
 use Rattle.mqtt_wire.specs.Kinds.{first_byte}
 use Rattle.mqtt_wire.specs.Bodies.{body_at}
-use Rattle.mqtt_wire.specs.Writing.{framed, packet_byte}
+use Rattle.mqtt_wire.specs.Writing.{framed}
 use Rattle.mqtt_wire.specs.Spelling.{Spells}
-use Rattle.mqtt_wire.specs.Stream.{Header, header_at, Frames, IsOpen, FaultAt, AreBytes, Unread, Takes, Stops, NextAnswers}
+use Rattle.mqtt_wire.specs.Stream.{Header, header_at, Frames, IsOpen, FaultAt, AreBytes, Unread, NextAnswers}
 use Rattle.mqtt_wire.specs.Frame.{Cuts, frame_bytes, IsInHand, HasFrame, TakesPacket, fault_in}
 use Rattle.mqtt_wire.proofs.Steps.{drop_bytes, take_bytes}
 use Rattle.mqtt_wire.proofs.Variable.{at_most_three, at_least_three}
@@ -57,16 +57,16 @@ cut_same old header parts whole =
     ap (λ (n : ℕ). first_byte header.kind ∷ variable_byte_integer n ++ body ++ rest) size
     ∙ append_assoc head body rest ∙ ap (λ (t : List ℕ). head ++ t) (take-append-drop header.remaining header.rest) ∙ sym parts
 
-cut_kept : (old : List ℕ) (frame : Frame) (new : List ℕ) → AreBytes old → Cuts old frame new → Kept None old frame new
+pub cut_kept : (old : List ℕ) (frame : Frame) (new : List ℕ) → AreBytes old → Cuts old frame new → Kept None old frame new
 cut_kept old frame new fits cut =
     let t = header_takes old cut.header fits cut.frames.found in
     let size = length-take-le cut.header.remaining cut.header.rest cut.frames.whole in
     record {
       same =
-        ap (λ (k : Kind). framed (first_byte k) frame.body ++ new) cut.kind
-        ∙ ap (λ (b : List ℕ). framed (first_byte cut.header.kind) b ++ new) cut.body
-        ∙ ap (λ (r : List ℕ). framed (first_byte cut.header.kind) (take cut.header.remaining cut.header.rest) ++ r) cut.rest
-        ∙ cut_same old cut.header t.parts cut.frames.whole;
+          ap (λ (k : Kind). framed (first_byte k) frame.body ++ new) cut.kind
+          ∙ ap (λ (b : List ℕ). framed (first_byte cut.header.kind) b ++ new) cut.body
+          ∙ ap (λ (r : List ℕ). framed (first_byte cut.header.kind) (take cut.header.remaining cut.header.rest) ++ r) cut.rest
+          ∙ cut_same old cut.header t.parts cut.frames.whole;
       small = omega (arith, ap length cut.body, size, t.small);
     }
 
@@ -77,7 +77,7 @@ kept (Some held) old frame new small fits has = record {
   small = subst (λ (f : Frame). length f.body ≤ 65532) (sym has.0) small;
 }
 
-frame_header : (frame : Frame) (rest : List ℕ) → length frame.body ≤ 65532 → header_at (frame_bytes (Some frame) ++ rest) ≡ Ok (Some (record { kind = frame.kind; remaining = length frame.body; rest = frame.body ++ rest }))
+pub frame_header : (frame : Frame) (rest : List ℕ) → length frame.body ≤ 65532 → header_at (frame_bytes (Some frame) ++ rest) ≡ Ok (Some (record { kind = frame.kind; remaining = length frame.body; rest = frame.body ++ rest }))
 frame_header frame rest small =
     ap header_at (append_assoc (first_byte frame.kind ∷ variable_byte_integer (length frame.body)) frame.body rest)
     ∙ header_again frame.kind (length frame.body) (frame.body ++ rest) small
@@ -90,7 +90,7 @@ frame_fault frame rest fault small e =
     inr (header, frames, ap (body_at frame.kind) (take_at frame.body rest (length frame.body) refl) ∙ e)
 
 -- a body that is read spells its packet, with the header in front
-frame_spells : (frame : Frame) (packet : Packet) → length frame.body ≤ 65532 → AreBytes frame.body → body_at frame.kind frame.body ≡ Ok packet → Spells packet (frame_bytes (Some frame))
+pub frame_spells : (frame : Frame) (packet : Packet) → length frame.body ≤ 65532 → AreBytes frame.body → body_at frame.kind frame.body ≡ Ok packet → Spells packet (frame_bytes (Some frame))
 frame_spells frame packet small fits e =
     let b = body_takes frame.kind frame.body packet fits e in
     record {
@@ -101,7 +101,7 @@ frame_spells frame packet small fits e =
       size = frame_size (first_byte frame.kind) frame.body small;
     }
 
-frame_body_bytes : (frame : Frame) (rest : List ℕ) → AreBytes (frame_bytes (Some frame) ++ rest) → AreBytes frame.body
+pub frame_body_bytes : (frame : Frame) (rest : List ℕ) → AreBytes (frame_bytes (Some frame) ++ rest) → AreBytes frame.body
 frame_body_bytes frame rest fits =
     back_bytes (first_byte frame.kind ∷ variable_byte_integer (length frame.body)) frame.body (front_bytes (frame_bytes (Some frame)) rest fits)
 
@@ -130,8 +130,8 @@ next_keeps hand old (Ok None) left new small fits taken =
 next_keeps hand old (Err (Stream fault)) left new small fits taken =
     elim taken [
       | inl header ↦
-        subst (λ (h : Option Frame). IsInHand h × AreBytes (frame_bytes h ++ new)) (sym header.3)
-        (tt, subst AreBytes (ap (λ (h : Option Frame). frame_bytes h ++ old) header.0 ∙ sym header.2) fits)
+          subst (λ (h : Option Frame). IsInHand h × AreBytes (frame_bytes h ++ new)) (sym header.3)
+          (tt, subst AreBytes (ap (λ (h : Option Frame). frame_bytes h ++ old) header.0 ∙ sym header.2) fits)
       | inr body ↦ in_hand hand old body.0 left new small fits body.1 body.3
     ]
 next_keeps hand old (Err Memory) left new small fits taken =
@@ -152,26 +152,29 @@ next_answers hand old (Ok (Some packet)) left new small fits taken =
       sound = refl;
       goes_on = refl;
     }
-next_answers hand old (Ok None) left new small fits taken =
-    (refl,
-     subst (λ (h : Option Frame). IsOpen (frame_bytes h ++ old)) (sym taken.0) taken.1,
-     ap (λ (b : List ℕ). unread_of b None) (same_empty hand old left new taken.0 taken.2 taken.3))
+next_answers hand old (Ok None) left new small fits taken = (
+  refl,
+  subst (λ (h : Option Frame). IsOpen (frame_bytes h ++ old)) (sym taken.0) taken.1,
+  ap (λ (b : List ℕ). unread_of b None) (same_empty hand old left new taken.0 taken.2 taken.3),
+)
 next_answers hand old (Err (Stream fault)) left new small fits taken =
     elim taken [
-      | inl header ↦
-        (ap (λ (b : List ℕ). unread_of b (Some fault)) (same_empty hand old left new header.0 header.2 header.3),
-         inr (refl, subst (λ (h : Option Frame). FaultAt fault (frame_bytes h ++ old)) (sym header.0) (inl header.1)))
+      | inl header ↦ (
+        ap (λ (b : List ℕ). unread_of b (Some fault)) (same_empty hand old left new header.0 header.2 header.3),
+        inr (refl, subst (λ (h : Option Frame). FaultAt fault (frame_bytes h ++ old)) (sym header.0) (inl header.1)),
+      )
       | inr body ↦
-        let k = kept hand old body.0 new small fits body.1 in
-        (ap (λ (b : List ℕ). unread_of b (Some fault)) (ap (λ (h : Option Frame). frame_bytes h ++ new) body.3 ∙ k.same),
-         inr (refl, subst (FaultAt fault) k.same (frame_fault body.0 new fault k.small body.2)))
+          let k = kept hand old body.0 new small fits body.1 in (
+            ap (λ (b : List ℕ). unread_of b (Some fault)) (ap (λ (h : Option Frame). frame_bytes h ++ new) body.3 ∙ k.same),
+            inr (refl, subst (FaultAt fault) k.same (frame_fault body.0 new fault k.small body.2)),
+          )
     ]
 next_answers hand old (Err Memory) left new small fits taken =
     elim taken [
       | inl same ↦ (refl, ap (λ (b : List ℕ). unread_of b None) (ap (λ (h : Option Frame). frame_bytes h ++ new) same.1 ∙ ap (λ (r : List ℕ). frame_bytes hand ++ r) same.0))
       | inr held ↦
-        let k = kept hand old held.0 new small fits held.1 in
-        (refl, ap (λ (b : List ℕ). unread_of b None) (ap (λ (h : Option Frame). frame_bytes h ++ new) held.2 ∙ k.same))
+          let k = kept hand old held.0 new small fits held.1 in
+          (refl, ap (λ (b : List ℕ). unread_of b None) (ap (λ (h : Option Frame). frame_bytes h ++ new) held.2 ∙ k.same))
     ]
 
 -- the same, where the splitter is seen as one value before and after
@@ -179,4 +182,4 @@ pub next_from : (now : Unread) (hand : Option Frame) (old : List ℕ) (fault : O
 next_from now hand old fault answer left new after view none told small fits taken =
     subst (λ (f : Option StreamFault). NextAnswers now answer (unread_of (frame_bytes left ++ new) f)) (sym told)
     (subst (λ (u : Unread). NextAnswers u answer (unread_of (frame_bytes left ++ new) (fault_in answer))) (ap (unread_of (frame_bytes hand ++ old)) (sym none) ∙ view)
-      (next_answers hand old answer left new small fits taken))
+    (next_answers hand old answer left new small fits taken))

@@ -1,13 +1,11 @@
 -- Subscription Options and reason codes: what is read is spelled so, and what is spelled so is read.
-use Rattle.std.proofs.Common.{◌≡◌, ℕ, zero, suc, ◌+◌, ◌-◌, ◌*◌, ◌/◌, ◌%◌, ◌<◌, ◌≤◌, Bool, true, false, cond, ltb, eqb, List, [], ◌∷◌, ◌++◌, length, Option, Some, None, Result, Ok, Err, refl, sym, ap, subst, ◌∙◌, arith, inl, inr, ◌⊎◌}
-use Rattle.std.proofs.lemmas.Bool.{ltb-true, lt-ltb, eqb-true, eq-eqb, ne_eqb, eqb-false, cases_eq}
-use Rattle.mqtt_wire.specs.declared.fault.StreamFault.{StreamFault}
+use Rattle.std.proofs.Common.{◌≡◌, ℕ, ◌/◌, ◌%◌, ◌<◌, ◌≤◌, Bool, true, false, cond, ltb, eqb, List, [], ◌∷◌, ◌++◌, Option, Some, None, Ok, refl, sym, ap, ◌∙◌, arith, inl, inr}
+use Rattle.std.proofs.lemmas.Bool.{ltb-true, lt-ltb, eqb-true, eq-eqb, ne_eqb, cases_eq}
 use Rattle.mqtt_wire.specs.declared.packet.QoS.{QoS}
 use Rattle.mqtt_wire.specs.declared.packet.QoS.TheVariants.{AtMostOnce, AtLeastOnce, ExactlyOnce}
 use Rattle.mqtt_wire.specs.declared.packet.RetainHandling.{RetainHandling}
 use Rattle.mqtt_wire.specs.declared.packet.RetainHandling.TheVariants.{Send, SendIfNew, DoNotSend}
 use Rattle.mqtt_wire.specs.declared.packet.SubscriptionOptions.{SubscriptionOptions}
-use Rattle.mqtt_wire.specs.Faults.{◌>>=◌}
 use Rattle.mqtt_wire.specs.Kinds.{bit, qos_bits, qos_at}
 use Rattle.mqtt_wire.specs.Fields.{properties_at, at_end}
 use Rattle.mqtt_wire.specs.Bodies.{retain_handling_at, options_from, options_at, reason_at}
@@ -26,12 +24,12 @@ handling_takes bits handling e =
     elim (chosen (eqb bits 0) (Some Send) (cond (eqb bits 1) (Some SendIfNew) (cond (eqb bits 2) (Some DoNotSend) None)) (Some handling) e) [
       | inl here ↦ ap retain_handling_bits (sym (handling_is Send handling here.1)) ∙ sym (eqb-true bits 0 here.0)
       | inr a ↦ elim (chosen (eqb bits 1) (Some SendIfNew) (cond (eqb bits 2) (Some DoNotSend) None) (Some handling) a.1) [
-          | inl here ↦ ap retain_handling_bits (sym (handling_is SendIfNew handling here.1)) ∙ sym (eqb-true bits 1 here.0)
-          | inr b ↦ elim (chosen (eqb bits 2) (Some DoNotSend) None (Some handling) b.1) [
-              | inl here ↦ ap retain_handling_bits (sym (handling_is DoNotSend handling here.1)) ∙ sym (eqb-true bits 2 here.0)
-              | inr none ↦ absurd (let no = none.1 in cc)
-            ]
+        | inl here ↦ ap retain_handling_bits (sym (handling_is SendIfNew handling here.1)) ∙ sym (eqb-true bits 1 here.0)
+        | inr b ↦ elim (chosen (eqb bits 2) (Some DoNotSend) None (Some handling) b.1) [
+          | inl here ↦ ap retain_handling_bits (sym (handling_is DoNotSend handling here.1)) ∙ sym (eqb-true bits 2 here.0)
+          | inr none ↦ absurd (let no = none.1 in cc)
         ]
+      ]
     ]
 
 options_parts : (byte : ℕ) (qos : Option QoS) (handling : Option RetainHandling) (o : SubscriptionOptions) → byte < 64 → ((q : QoS) → qos ≡ Some q → qos_bits q ≡ byte % 4) → ((h : RetainHandling) → handling ≡ Some h → retain_handling_bits h ≡ byte / 16 % 4) → options_from byte qos handling ≡ Ok o → options_byte o ≡ byte

@@ -1,5 +1,5 @@
 -- Steps of reading that did not fail, and what they took from the front.
-use Rattle.std.proofs.Common.{◌≡◌, ℕ, ◌+◌, ◌-◌, ◌<◌, ◌≤◌, Bool, true, false, cond, List, [], ◌∷◌, ◌++◌, length, get_or, take, drop, Option, Some, None, Result, Ok, Err, refl, sym, ap, subst, ◌∙◌, append_assoc, arith, inl, inr}
+use Rattle.std.proofs.Common.{◌≡◌, ℕ, ◌+◌, ◌-◌, ◌<◌, Bool, true, false, cond, List, ◌∷◌, ◌++◌, length, get_or, take, drop, Result, Ok, Err, refl, sym, ap, subst, ◌∙◌, append_assoc, arith, inl, inr}
 use Rattle.std.proofs.lemmas.Bool.{cases_lt}
 use Rattle.std.proofs.lemmas.List.{get_or-drop, get_or-take, get_or_past, length-take, get_or-append-add, get_or_append_left}
 use Rattle.mqtt_wire.specs.declared.fault.StreamFault.{StreamFault}
@@ -53,5 +53,5 @@ append_bytes a b p q i =
     elim (cases_lt i (length a)) [
       | inl lt ↦ rw (get_or_append_left a b 0 i lt) (p i)
       | inr le ↦ let there : length a + (i - length a) ≡ i = omega arith in
-        subst (λ (k : ℕ). get_or (a ++ b) k 0 < 256) there (rw (get_or-append-add a b (i - length a) 0) (q (i - length a)))
+          subst (λ (k : ℕ). get_or (a ++ b) k 0 < 256) there (rw (get_or-append-add a b (i - length a) 0) (q (i - length a)))
     ]

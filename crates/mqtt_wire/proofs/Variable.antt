@@ -1,12 +1,12 @@
 -- Variable Byte Integers: what is read is spelled so, and what is spelled so is read.
-use Rattle.std.proofs.Common.{◌≡◌, ℕ, zero, suc, ◌+◌, ◌-◌, ◌*◌, ◌/◌, ◌%◌, ◌<◌, ◌≤◌, Bool, true, false, cond, ltb, eqb, List, [], ◌∷◌, ◌++◌, length, Option, Some, None, Result, Ok, Err, refl, sym, ap, subst, ◌∙◌, arith, inl, inr, ◌⊎◌}
-use Rattle.std.proofs.lemmas.Bool.{ltb-true, ltb-false, lt-ltb, le-ltb, eqb-false, eqb-true, ne_eqb, eq-eqb, cases_Bool, cases_lt}
+use Rattle.std.proofs.Common.{◌≡◌, ℕ, zero, suc, ◌+◌, ◌-◌, ◌*◌, ◌/◌, ◌%◌, ◌<◌, ◌≤◌, Bool, true, false, cond, ltb, eqb, List, [], ◌∷◌, ◌++◌, length, Option, Some, None, Result, Ok, refl, sym, ap, subst, ◌∙◌, arith, inl, inr, ◌⊎◌}
+use Rattle.std.proofs.lemmas.Bool.{ltb-true, ltb-false, lt-ltb, le-ltb, eqb-false, ne_eqb, cases_lt}
 use Rattle.mqtt_wire.specs.declared.fault.StreamFault.{StreamFault}
 use Rattle.mqtt_wire.specs.declared.fault.StreamFault.TheVariants.{Malformed}
 use Rattle.mqtt_wire.specs.Faults.{◌>>=◌}
 use Rattle.mqtt_wire.specs.Fields.{variable_at, longer}
 use Rattle.mqtt_wire.specs.Stream.{AreBytes}
-use Rattle.mqtt_wire.proofs.Steps.{bind_ok, if_ok, unless_ok, ok_is, rest_bytes, Front}
+use Rattle.mqtt_wire.proofs.Steps.{bind_ok, if_ok, unless_ok, rest_bytes, Front}
 use Rattle.mqtt_wire.specs.Forms.{variable_bytes, variable_limit}
 
 pub limit_least : (more : ℕ) → 128 ≤ variable_limit more
@@ -60,12 +60,12 @@ variable_takes zero (byte ∷ rest) x fits e =
 variable_takes (suc more) (byte ∷ rest) x fits e =
     elim (chosen (ltb byte 128) (Ok (Some (byte, rest))) (variable_at more rest >>= longer byte) (Ok (Some x)) e) [
       | inl small ↦
-        subst (λ (y : ℕ × List ℕ). Front (byte ∷ rest) (variable_bytes (suc more) y.0) y.1 × (y.0 < variable_limit (suc more))) (some_is (byte, rest) x small.1)
-        (record { parts = rw small.0 refl; rest_fits = rest_bytes byte rest fits }, omega (arith, ltb-true byte 128 small.0, limit_least more))
+          subst (λ (y : ℕ × List ℕ). Front (byte ∷ rest) (variable_bytes (suc more) y.0) y.1 × (y.0 < variable_limit (suc more))) (some_is (byte, rest) x small.1)
+          (record { parts = rw small.0 refl; rest_fits = rest_bytes byte rest fits }, omega (arith, ltb-true byte 128 small.0, limit_least more))
       | inr large ↦
-        let step = bind_ok (variable_at more rest) (longer byte) (Some x) large.1 in
-        longer_takes more byte rest x step.0 (omega (arith, ltb-false byte 128 large.0)) (fits 0) step.2
-        (λ high e. variable_takes more rest high (rest_bytes byte rest fits) (step.1 ∙ ap (λ (o : Option (ℕ × List ℕ)). Ok o) e))
+          let step = bind_ok (variable_at more rest) (longer byte) (Some x) large.1 in
+          longer_takes more byte rest x step.0 (omega (arith, ltb-false byte 128 large.0)) (fits 0) step.2
+          (λ high e. variable_takes more rest high (rest_bytes byte rest fits) (step.1 ∙ ap (λ (o : Option (ℕ × List ℕ)). Ok o) e))
     ]
 
 -- ---- what is spelled so is read
@@ -77,13 +77,13 @@ variable_again (suc more) n rest h =
     elim (cases_lt n 128) [
       | inl small ↦ let t = lt-ltb n 128 small in rw (t, t) refl
       | inr large ↦
-        let t = le-ltb n 128 large in
-        let high = n / 128 in
-        let inner : variable_at more (variable_bytes more (n / 128) ++ rest) ≡ Ok (Some (n / 128, rest)) = variable_again more (n / 128) rest (omega arith) in
-        let f : ltb (n % 128 + 128) 128 ≡ false = le-ltb (n % 128 + 128) 128 (omega arith) in
-        let some : eqb (n / 128) 0 ≡ false = ne_eqb (n / 128) 0 (omega arith) in
-        let whole : n % 128 + 128 - 128 + 128 * (n / 128) ≡ n = omega arith in
-        rw (t, f, inner, some, whole) refl
+          let t = le-ltb n 128 large in
+          let high = n / 128 in
+          let inner : variable_at more (variable_bytes more (n / 128) ++ rest) ≡ Ok (Some (n / 128, rest)) = variable_again more (n / 128) rest (omega arith) in
+          let f : ltb (n % 128 + 128) 128 ≡ false = le-ltb (n % 128 + 128) 128 (omega arith) in
+          let some : eqb (n / 128) 0 ≡ false = ne_eqb (n / 128) 0 (omega arith) in
+          let whole : n % 128 + 128 - 128 + 128 * (n / 128) ≡ n = omega arith in
+          rw (t, f, inner, some, whole) refl
     ]
 
 -- ---- what is left is an end of the bytes
@@ -107,8 +107,8 @@ variable_end (suc more) (byte ∷ rest) x e =
     elim (chosen (ltb byte 128) (Ok (Some (byte, rest))) (variable_at more rest >>= longer byte) (Ok (Some x)) e) [
       | inl small ↦ (byte ∷ [], ap (λ (y : ℕ × List ℕ). byte ∷ y.1) (some_is (byte, rest) x small.1))
       | inr large ↦
-        let step = bind_ok (variable_at more rest) (longer byte) (Some x) large.1 in
-        longer_end byte rest x step.0 step.2 (λ high f. variable_end more rest high (step.1 ∙ ap (λ (o : Option (ℕ × List ℕ)). Ok o) f))
+          let step = bind_ok (variable_at more rest) (longer byte) (Some x) large.1 in
+          longer_end byte rest x step.0 step.2 (λ high f. variable_end more rest high (step.1 ∙ ap (λ (o : Option (ℕ × List ℕ)). Ok o) f))
     ]
 
 -- ---- how many bytes it has
@@ -129,17 +129,17 @@ at_zero n = omega arith
 some_byte : (more n : ℕ) → 1 ≤ length (variable_bytes more n)
 some_byte zero n = at_zero n
 some_byte (suc more) n =
-    elim (cases_lt n 128) [ | inl small ↦ omega (arith, one_byte (suc more) n small) | inr large ↦ omega (arith, a_byte_more more n large) ]
+    elim (cases_lt n 128) [ inl small ↦ omega (arith, one_byte (suc more) n small) | inr large ↦ omega (arith, a_byte_more more n large) ]
 
 pub at_most_three : (n : ℕ) → n < 2097152 → length (variable_bytes 3 n) ≤ 3
 at_most_three n h =
     elim (cases_lt n 128) [
       | inl small ↦ omega (arith, one_byte 3 n small)
       | inr more ↦ elim (cases_lt (n / 128) 128) [
-          | inl small ↦ omega (arith, a_byte_more 2 n more, one_byte 2 (n / 128) small)
-          | inr again ↦ let third : n / 128 / 128 < 128 = omega arith in
+        | inl small ↦ omega (arith, a_byte_more 2 n more, one_byte 2 (n / 128) small)
+        | inr again ↦ let third : n / 128 / 128 < 128 = omega arith in
             omega (arith, a_byte_more 2 n more, a_byte_more 1 (n / 128) again, one_byte 1 (n / 128 / 128) third)
-        ]
+      ]
     ]
 
 pub at_least_three : (n : ℕ) → 16384 ≤ n → 3 ≤ length (variable_bytes 3 n)

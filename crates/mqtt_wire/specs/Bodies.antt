@@ -14,7 +14,6 @@ use Rattle.mqtt_wire.specs.declared.packet.Puback.{Puback}
 use Rattle.mqtt_wire.specs.declared.packet.Subscribe.{Subscribe}
 use Rattle.mqtt_wire.specs.declared.packet.Subscription.{Subscription}
 use Rattle.mqtt_wire.specs.declared.packet.SubscriptionOptions.{SubscriptionOptions}
-use Rattle.mqtt_wire.specs.declared.packet.Disconnect.{Disconnect}
 use Rattle.mqtt_wire.specs.declared.packet.Packet.{Packet}
 use Rattle.mqtt_wire.specs.declared.packet.Packet.TheVariants as packets
 use Rattle.mqtt_wire.specs.declared.kind.Kind.{Kind}

@@ -25,7 +25,7 @@ unfoldable pub text_at : List ℕ → Field (List ℕ)
 text_at bytes = do
   size ← u16_at bytes
   if nat_lt (length size.1) size.0 then Err Malformed
-    else (if is_text (take size.0 size.1) then Ok (take size.0 size.1, drop size.0 size.1) else Err Malformed)
+      else (if is_text (take size.0 size.1) then Ok (take size.0 size.1, drop size.0 size.1) else Err Malformed)
 
 -- 2.2.1 Packet Identifier: 0 is a protocol error
 unfoldable pub identifier_at : List ℕ → Field ℕ

@@ -1,5 +1,5 @@
 -- Whole packets that are cut off a stream and not read yet (section 2.1).
-use Rattle.std.specs.Prelude.{◌≡◌, ℕ, ◌≤◌, ◌⊎◌, List, [], ◌∷◌, ◌++◌, length, take, drop, Option, Some, None, Result, Ok, Err}
+use Rattle.std.specs.Prelude.{◌≡◌, ℕ, ◌≤◌, ◌⊎◌, List, [], length, take, drop, Option, Some, None, Result, Ok, Err}
 use Rattle.mqtt_wire.specs.declared.fault.StreamFault.{StreamFault}
 use Rattle.mqtt_wire.specs.declared.fault.Fault.{Fault}
 use Rattle.mqtt_wire.specs.declared.fault.Fault.TheVariants.{Stream, Memory}
@@ -9,7 +9,7 @@ use Rattle.mqtt_wire.specs.declared.packet.Packet.{Packet}
 use Rattle.mqtt_wire.specs.Kinds.{first_byte}
 use Rattle.mqtt_wire.specs.Writing.{framed}
 use Rattle.mqtt_wire.specs.Bodies.{body_at}
-use Rattle.mqtt_wire.specs.Stream.{Header, Frames, IsOpen, header_at, maximum_remaining_length, AreBytes}
+use Rattle.mqtt_wire.specs.Stream.{Header, Frames, IsOpen, header_at, maximum_remaining_length}
 
 -- a header without where it lies in memory
 abbrev pub header_view : FixedHeader → Header

@@ -4,7 +4,6 @@ use Rattle.mqtt_wire.specs.declared.packet.QoS.{QoS}
 use Rattle.mqtt_wire.specs.declared.packet.QoS.TheVariants.{AtMostOnce, AtLeastOnce, ExactlyOnce}
 use Rattle.mqtt_wire.specs.declared.kind.Kind.{Kind}
 use Rattle.mqtt_wire.specs.declared.kind.Kind.TheVariants.{Connect, Publish, Puback, Subscribe, Disconnect}
-use Rattle.mqtt_wire.specs.declared.kind.PublishFlags.{PublishFlags}
 
 -- a flag as a bit
 abbrev pub bit : Bool → ℕ

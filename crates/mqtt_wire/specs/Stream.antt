@@ -1,5 +1,5 @@
 -- A stream as packets, one after another, and then what is open or a fault (sections 2.1 and 4.13).
-use Rattle.std.specs.Prelude.{◌≡◌, ℕ, ◌<◌, ◌≤◌, ◌⊎◌, nat_lt, slice_index, if◌then◌else◌, List, [], ◌∷◌, ◌++◌, length, take, drop, Option, Some, None, Result, Ok, Err}
+use Rattle.std.specs.Prelude.{◌≡◌, ℕ, ◌<◌, ◌≤◌, ◌⊎◌, nat_lt, slice_index, if◌then◌else◌, List, [], ◌∷◌, ◌++◌, length, take, Option, Some, None, Result, Ok, Err}
 use Rattle.mqtt_wire.specs.declared.fault.StreamFault.{StreamFault}
 use Rattle.mqtt_wire.specs.declared.fault.StreamFault.TheVariants.{Malformed, TooLarge}
 use Rattle.mqtt_wire.specs.declared.fault.Fault.{Fault}
@@ -98,3 +98,7 @@ abbrev pub FeedAnswers : Unread → List ℕ → Result (Unit {0}) Fault → Unr
 FeedAnswers old piece (Ok done) new = (old.fault ≡ None) × (new ≡ record old { bytes = old.bytes ++ piece })
 FeedAnswers old piece (Err (Stream fault)) new = (old.fault ≡ Some fault) × (new ≡ old)
 FeedAnswers old piece (Err Memory) new = (old.fault ≡ None) × (new ≡ old)
+
+-- a reading of a stream: its packets, its rest, its fault
+abbrev pub Reading : List ℕ → Type 0
+Reading stream = (packets : List Packet) × (rest : List ℕ) × (fault : Option StreamFault) × Reads stream packets rest fault

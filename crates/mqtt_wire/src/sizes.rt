@@ -66,7 +66,7 @@ fn subscriptions_size(entries: &[Subscription]) -> Option<usize>
     ensures { MatchOption result
         (GREATEST_REMAINING_LENGTH < length (flat_map subscription_bytes entries.now))
         (λ size. (size ≡ length (flat_map subscription_bytes entries.now))
-            × (size ≤ GREATEST_REMAINING_LENGTH)) }
+        × (size ≤ GREATEST_REMAINING_LENGTH)) }
 {
     let mut size = 0usize;
     for entry in entries {

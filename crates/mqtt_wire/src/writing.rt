@@ -86,11 +86,7 @@ fn delivery_qos(delivery: &Delivery) -> u8
 
 /// Writes a Variable Byte Integer that has room for so many bytes more (section 1.5.5).
 #[tactic(auto, unfolding(crate::specs::Forms::variable_bytes))]
-fn put_variable_byte_integer(
-    out: &mut Vec<u8>,
-    more: u8,
-    number: u32,
-) -> Result<(), AllocError>
+fn put_variable_byte_integer(out: &mut Vec<u8>, more: u8, number: u32) -> Result<(), AllocError>
     requires { number < variable_limit more }
     ensures { OnOk result (out.new.items ≡ out.old.items ++ variable_bytes more number) }
 {

@@ -1,5 +1,5 @@
 use Rattle.std.proofs.Common.{arith, ap, length}
-use Rattle.mqtt_wire.specs.Frame.{header_view, Cuts}
+use Rattle.mqtt_wire.specs.Frame.{header_view}
 use Rattle.mqtt_wire.proofs.FrameLaws.{rest_within, cuts}
 use Rattle.mqtt_wire.proofs.frame.cut_frame.Goals as goal
 

@@ -1,4 +1,4 @@
-use Rattle.std.proofs.Common.{◌+◌, length, List, sym, ap, ◌∙◌, arith}
+use Rattle.std.proofs.Common.{◌+◌, length, List, sym, ap, arith}
 use Rattle.mqtt_wire.specs.Kinds.{bit}
 use Rattle.mqtt_wire.specs.Writing.{connect_body, publish_body, written_body, subscription_bytes, remaining_length}
 use Rattle.std.specs.List.{flat_map}

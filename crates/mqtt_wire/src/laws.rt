@@ -1,0 +1,30 @@
+//! Laws of the definitions, over every packet and every stream: each is the contract of a function that does nothing.
+
+ghost use Rattle.std.specs.Prelude.{◌≡◌, ◌≤◌, List, ℕ, ◌++◌, length, Option};
+ghost use Rattle.mqtt_wire.specs.declared.fault.StreamFault.{StreamFault};
+ghost use Rattle.mqtt_wire.specs.declared.packet.Packet.{Packet as AnyPacket};
+ghost use Rattle.mqtt_wire.specs.Writing.{written};
+ghost use Rattle.mqtt_wire.specs.Spelling.{IsClients, Spells, maximum_packet_size};
+ghost use Rattle.mqtt_wire.specs.Stream.{AreBytes, Reads, Reading};
+
+/// No spelling of a packet is a proper beginning of another, and no bytes spell two packets.
+pub fn spellings_are_told_apart()
+    ensures { (p q : AnyPacket) (a x b y : List ℕ) →
+        Spells p a → Spells q b → a ++ x ≡ b ++ y → (p ≡ q) × (a ≡ b) × (x ≡ y) }
+{}
+
+/// Each stream of bytes has exactly one reading: its packets, what is left behind them, and the fault in front of that
+/// where there is one.
+pub fn streams_have_one_reading()
+    ensures exists { (stream : List ℕ) → AreBytes stream → Reading stream }
+    ensures unique { (stream : List ℕ) (ps : List AnyPacket) (r : List ℕ) (f : Option StreamFault)
+        (qs : List AnyPacket) (s : List ℕ) (g : Option StreamFault) →
+        Reads stream ps r f → Reads stream qs s g → (ps ≡ qs) × (r ≡ s) × (f ≡ g) }
+{}
+
+/// What `encode` writes of a packet that a client may send is a spelling of it, so that it is read again, whatever
+/// follows it.
+pub fn written_packets_are_read_again()
+    ensures { (packet : AnyPacket) → IsClients packet → length (written packet) ≤ maximum_packet_size →
+        Spells packet (written packet) }
+{}
