@@ -211,3 +211,10 @@ pub written_spells : (packet : Packet) → IsClients packet → length (written 
 unfolding written
 written_spells packet client small =
     record { client = client; body = written_body packet; spelled = written_body_spells packet client; parts = refl; size = small }
+
+pub read_again : (packet : Packet) (after : List ℕ) (all : List Packet) (rest : List ℕ) (fault : Option StreamFault) → IsClients packet → length (written packet) ≤ 65536 → Reads (written packet ++ after) all rest fault → (others : List Packet) × (all ≡ packet ∷ others) × Reads after others rest fault
+read_again packet after [] rest fault client small reads =
+    absurd (not_ended packet (written packet) after fault (written_spells packet client small) (subst (λ (r : List ℕ). EndsAs r fault) (sym reads.0) reads.1))
+read_again packet after (first ∷ others) rest fault client small reads =
+    let same = one_packet packet first (written packet) after reads.0.0 reads.0.1 (written_spells packet client small) reads.0.2 reads.0.3 in
+    (others, ap (λ (p : Packet). p ∷ others) (sym same.0), (subst (λ (r : List ℕ). Begins r others rest) (sym same.2) reads.0.4, reads.1))

@@ -1,6 +1,6 @@
 //! Laws of the definitions, over every packet and every stream: each is the contract of a function that does nothing.
 
-ghost use Rattle.std.specs.Prelude.{◌≡◌, ◌≤◌, List, ℕ, ◌++◌, length, Option};
+ghost use Rattle.std.specs.Prelude.{◌≡◌, ◌≤◌, List, ℕ, ◌∷◌, ◌++◌, length, Option};
 ghost use Rattle.mqtt_wire.specs.declared.fault.StreamFault.{StreamFault};
 ghost use Rattle.mqtt_wire.specs.declared.packet.Packet.{Packet as AnyPacket};
 ghost use Rattle.mqtt_wire.specs.Writing.{written};
@@ -22,9 +22,13 @@ pub fn streams_have_one_reading()
         Reads stream ps r f → Reads stream qs s g → (ps ≡ qs) × (r ≡ s) × (f ≡ g) }
 {}
 
-/// What `encode` writes of a packet that a client may send is a spelling of it, so that it is read again, whatever
-/// follows it.
+/// What `encode` writes of a packet that a client may send is a spelling of it, and is read again as that packet,
+/// whatever follows it.
 pub fn written_packets_are_read_again()
-    ensures { (packet : AnyPacket) → IsClients packet → length (written packet) ≤ maximum_packet_size →
-        Spells packet (written packet) }
+    ensures spelled { (packet : AnyPacket) → IsClients packet →
+        length (written packet) ≤ maximum_packet_size → Spells packet (written packet) }
+    ensures again { (packet : AnyPacket) (after : List ℕ) (all : List AnyPacket) (rest : List ℕ)
+        (fault : Option StreamFault) → IsClients packet → length (written packet) ≤ maximum_packet_size →
+        Reads (written packet ++ after) all rest fault →
+        (others : List AnyPacket) × (all ≡ packet ∷ others) × Reads after others rest fault }
 {}

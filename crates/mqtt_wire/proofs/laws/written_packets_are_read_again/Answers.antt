@@ -1,5 +1,5 @@
-use Rattle.mqtt_wire.proofs.StreamLaws.{written_spells}
+use Rattle.mqtt_wire.proofs.StreamLaws.{written_spells, read_again}
 use Rattle.mqtt_wire.proofs.laws.written_packets_are_read_again.Goals as goal
 
 pub returns : goal.returns
-returns c = written_spells
+returns c = record { spelled = written_spells; again = read_again }
