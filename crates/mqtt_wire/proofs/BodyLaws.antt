@@ -25,7 +25,7 @@ use Rattle.mqtt_wire.specs.Kinds.{bit, first_byte}
 use Rattle.mqtt_wire.specs.Fields.{byte_at, u16_at, text_at, identifier_at, properties_at, at_end}
 use Rattle.mqtt_wire.specs.Bodies.{expect, protocol_at, connect_flags_at, connect_at, delivery_at, publish_body_at, reason_at, puback_at, entries_at, subscribe_at, body_at}
 use Rattle.mqtt_wire.specs.Writing.{properties, protocol, qos_of, delivery_bytes, subscription_bytes, connect_body, publish_body, flags_of, packet_byte}
-use Rattle.mqtt_wire.specs.Spelling.{IsText, IsIdentifier, IsDelivery, IsClients, SpellsReason, SpellsBody}
+use Rattle.mqtt_wire.specs.Spelling.{IsText, IsIdentifier, IsDelivery, IsFromClient, SpellsReason, SpellsBody}
 use Rattle.mqtt_wire.specs.Stream.{AreBytes}
 use Rattle.mqtt_wire.proofs.Steps.{bind_ok, ok_is, Front, Front-then}
 use Rattle.mqtt_wire.proofs.FieldLaws.{byte_takes, u16_takes, text_takes, identifier_takes, properties_takes, byte_again, u16_again, text_again, identifier_again, properties_again}
@@ -34,7 +34,7 @@ use Rattle.mqtt_wire.proofs.EntryLaws.{entries_take, entries_again}
 
 -- a body is a packet that a client may send, in a form of that kind
 pub record IsBody (kind : Kind) (body : List ℕ) (packet : Packet) : Type 0 where
-  pub client : IsClients packet
+  pub client : IsFromClient packet
   pub spelled : SpellsBody packet body
   pub byte : packet_byte packet ≡ first_byte kind
 
@@ -187,7 +187,7 @@ unfolding puback_at
 puback_again packet reason is spelled =
     rw (identifier_again packet.packet_identifier reason is.0, reason_again packet.reason_code reason spelled) refl
 
-pub subscribe_takes : (body : List ℕ) (packet : Subscribe) → AreBytes body → subscribe_at body ≡ Ok packet → IsClients (packets.Subscribe packet) × SpellsBody (packets.Subscribe packet) body
+pub subscribe_takes : (body : List ℕ) (packet : Subscribe) → AreBytes body → subscribe_at body ≡ Ok packet → IsFromClient (packets.Subscribe packet) × SpellsBody (packets.Subscribe packet) body
 unfolding subscribe_at
 subscribe_takes body packet fits e =
     let identifier = bind_ok (identifier_at body) _ packet e in
@@ -199,10 +199,10 @@ subscribe_takes body packet fits e =
     let made : Subscribe = record { packet_identifier = identifier.0.0; subscriptions = entries.0 } in
     let parts : body ≡ u16_bytes identifier.0.0 ++ (properties [] ++ flat_map subscription_bytes entries.0) =
     t1.0.parts ∙ ap (λ (r : List ℕ). u16_bytes identifier.0.0 ++ r) (t2.parts ∙ ap (λ (r : List ℕ). properties [] ++ r) t3.0.parts) in
-    subst (λ (p : Subscribe). IsClients (packets.Subscribe p) × SpellsBody (packets.Subscribe p) body) (ok_is made packet entries.2)
+    subst (λ (p : Subscribe). IsFromClient (packets.Subscribe p) × SpellsBody (packets.Subscribe p) body) (ok_is made packet entries.2)
     ((t1.1, t3.1, t3.0.filtered), parts)
 
-pub subscribe_again : (packet : Subscribe) → IsClients (packets.Subscribe packet) → subscribe_at (u16_bytes packet.packet_identifier ++ (properties [] ++ flat_map subscription_bytes packet.subscriptions)) ≡ Ok packet
+pub subscribe_again : (packet : Subscribe) → IsFromClient (packets.Subscribe packet) → subscribe_at (u16_bytes packet.packet_identifier ++ (properties [] ++ flat_map subscription_bytes packet.subscriptions)) ≡ Ok packet
 unfolding subscribe_at
 subscribe_again packet client =
     let rest : List ℕ = flat_map subscription_bytes packet.subscriptions in
@@ -265,7 +265,7 @@ pub record IsRead (packet : Packet) (body : List ℕ) : Type 0 where
   pub byte : packet_byte packet ≡ first_byte kind
   pub read : body_at kind body ≡ Ok packet
 
-pub body_again : (packet : Packet) (body : List ℕ) → IsClients packet → SpellsBody packet body → IsRead packet body
+pub body_again : (packet : Packet) (body : List ℕ) → IsFromClient packet → SpellsBody packet body → IsRead packet body
 unfolding body_at
 body_again (packets.Connect c) body client spelled =
     record { kind = kinds.Connect; byte = refl; read = rw (ap connect_at spelled ∙ connect_again c client.0) refl }

@@ -11,7 +11,7 @@ use Rattle.mqtt_wire.specs.Forms.{u16_bytes, variable_byte_integer}
 use Rattle.mqtt_wire.specs.Kinds.{first_byte}
 use Rattle.mqtt_wire.specs.Bodies.{body_at}
 use Rattle.mqtt_wire.specs.Writing.{framed, written_body, written, properties, subscription_bytes, reason_bytes}
-use Rattle.mqtt_wire.specs.Spelling.{IsClients, SpellsBody, Spells}
+use Rattle.mqtt_wire.specs.Spelling.{IsFromClient, SpellsBody, Spells}
 use Rattle.mqtt_wire.specs.Stream.{Header, header_at, Frames, IsOpen, FaultAt, EndsAs, Begins, Reads, Reading, AreBytes}
 use Rattle.mqtt_wire.specs.Frame.{frame_bytes, Cuts}
 use Rattle.mqtt_wire.proofs.BodyLaws.{body_again}
@@ -198,7 +198,7 @@ one_reading stream (p' ∷ ps) r f (q' ∷ qs) s g p q =
 
 -- ---- what is written is read again
 
-written_body_spells : (packet : Packet) → IsClients packet → SpellsBody packet (written_body packet)
+written_body_spells : (packet : Packet) → IsFromClient packet → SpellsBody packet (written_body packet)
 written_body_spells (packets.Connect c) client = refl
 written_body_spells (packets.Connack c) client = absurd client
 written_body_spells (packets.Publish p) client = refl
@@ -207,12 +207,12 @@ written_body_spells (packets.Subscribe s) client = append_assoc (u16_bytes s.pac
 written_body_spells (packets.Suback s) client = absurd client
 written_body_spells (packets.Disconnect d) client = reason_written d.reason_code
 
-pub written_spells : (packet : Packet) → IsClients packet → length (written packet) ≤ 65536 → Spells packet (written packet)
+pub written_spells : (packet : Packet) → IsFromClient packet → length (written packet) ≤ 65536 → Spells packet (written packet)
 unfolding written
 written_spells packet client small =
     record { client = client; body = written_body packet; spelled = written_body_spells packet client; parts = refl; size = small }
 
-pub read_again : (packet : Packet) (after : List ℕ) (all : List Packet) (rest : List ℕ) (fault : Option StreamFault) → IsClients packet → length (written packet) ≤ 65536 → Reads (written packet ++ after) all rest fault → (others : List Packet) × (all ≡ packet ∷ others) × Reads after others rest fault
+pub read_again : (packet : Packet) (after : List ℕ) (all : List Packet) (rest : List ℕ) (fault : Option StreamFault) → IsFromClient packet → length (written packet) ≤ 65536 → Reads (written packet ++ after) all rest fault → (others : List Packet) × (all ≡ packet ∷ others) × Reads after others rest fault
 read_again packet after [] rest fault client small reads =
     absurd (not_ended packet (written packet) after fault (written_spells packet client small) (subst (λ (r : List ℕ). EndsAs r fault) (sym reads.0) reads.1))
 read_again packet after (first ∷ others) rest fault client small reads =

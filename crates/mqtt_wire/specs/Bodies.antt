@@ -105,10 +105,10 @@ subscription_at bytes = do
   options ← options_at byte.0
   Ok (record { filter = filter.0; options = options }, byte.1)
 
--- subscriptions up to the end of the bytes, at most so many
+-- subscriptions up to the end of the bytes; the first number is at least that of the bytes, and bounds the recursion
 unfoldable pub subscriptions_at : ℕ → List ℕ → Result (List Subscription) StreamFault
 subscriptions_at most [] = Ok []
-subscriptions_at zero (byte ∷ bytes) = Ok []
+subscriptions_at zero (byte ∷ bytes) = Err Malformed
 subscriptions_at (suc most) (byte ∷ bytes) = do
   first ← subscription_at (byte ∷ bytes)
   others ← subscriptions_at most first.1

@@ -26,15 +26,16 @@ IsDelivery (ExactlyOnce identifier) = IsIdentifier identifier
 abbrev pub IsFiltered : Subscription → Type 0
 IsFiltered subscription = IsText subscription.filter
 
--- what the types of the crate keep of a packet that a client sends; the broker's own kinds are none
-abbrev pub IsClients : Packet → Type 0
-IsClients (packets.Connect c) = IsText c.client_identifier × (c.keep_alive < 2 ^ 16)
-IsClients (packets.Connack c) = ⊥
-IsClients (packets.Publish p) = IsText p.topic × IsDelivery p.delivery
-IsClients (packets.Puback p) = IsIdentifier p.packet_identifier
-IsClients (packets.Subscribe s) = IsIdentifier s.packet_identifier × (0 < length s.subscriptions) × AllByRecursion IsFiltered s.subscriptions
-IsClients (packets.Suback s) = ⊥
-IsClients (packets.Disconnect d) = Unit {0}
+-- the packet is of a kind that a client sends, and its fields are in the range of their types; codes and payloads are
+-- bytes wherever the spelling is one of bytes
+abbrev pub IsFromClient : Packet → Type 0
+IsFromClient (packets.Connect c) = IsText c.client_identifier × (c.keep_alive < 2 ^ 16)
+IsFromClient (packets.Connack c) = ⊥
+IsFromClient (packets.Publish p) = IsText p.topic × IsDelivery p.delivery
+IsFromClient (packets.Puback p) = IsIdentifier p.packet_identifier
+IsFromClient (packets.Subscribe s) = IsIdentifier s.packet_identifier × (0 < length s.subscriptions) × AllByRecursion IsFiltered s.subscriptions
+IsFromClient (packets.Suback s) = ⊥
+IsFromClient (packets.Disconnect d) = Unit {0}
 
 -- 3.4.2.1 and 3.14.2.1: a Reason Code of 0 may be left out, and so may an empty section of properties behind it
 abbrev pub SpellsReason : ℕ → List ℕ → Type 0
@@ -58,7 +59,7 @@ maximum_packet_size = 65536
 
 -- 2.1: the bytes are a whole packet: its header and a body of it, of at most 65,536 bytes in all
 pub record Spells (packet : Packet) (bytes : List ℕ) : Type 0 where
-  pub client : IsClients packet
+  pub client : IsFromClient packet
   pub body : List ℕ
   pub spelled : SpellsBody packet body
   pub parts : bytes ≡ framed (packet_byte packet) body

@@ -18,7 +18,7 @@ pub record Header : Type 0 where
   pub remaining : ℕ
   pub rest : List ℕ
 
--- the longest remaining length: with its header of four bytes the packet has 65,536 bytes
+-- the longest Remaining Length that is read: with its header of four bytes the packet has 65,536 bytes (profile)
 abbrev pub maximum_remaining_length : ℕ
 maximum_remaining_length = 65532
 

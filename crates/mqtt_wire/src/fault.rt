@@ -7,16 +7,17 @@ ghost use Rattle.mqtt_wire.specs.Faults.{number_of};
 use std::alloc::{AllocError, AllocFailed};
 use thiserror::Error;
 
-/// What is wrong with the bytes of a stream (section 4.13).
+/// What is wrong with a packet's bytes (section 4.13).
 #[derive(Clone, Copy, Debug, PartialEq, Eq, Error)]
 pub enum StreamFault {
-    /// Refusal 101, a Malformed Packet: the bytes are not of a form of the standard.
+    /// Refusal 101, a Malformed Packet: the bytes are of none of the forms that this crate reads.
     #[error("malformed packet")]
     Malformed,
-    /// Refusal 102, a Protocol Error: the form is right, and a value or the order is not allowed.
+    /// Refusal 102, a Protocol Error: the form is right, and a value in it is not allowed.
     #[error("protocol error")]
     Protocol,
-    /// Refusal 103: a packet of more than 65,536 bytes in all, known from its header.
+    /// Refusal 103: a packet read has more than 65,536 bytes in all, known from its header; or the Remaining Length of one
+    /// to be written would be over 268,435,455.
     #[error("packet too large")]
     TooLarge,
 }
@@ -24,7 +25,7 @@ pub enum StreamFault {
 /// Why a call could not answer.
 #[derive(Clone, Copy, Debug, PartialEq, Eq, Error)]
 pub enum Fault {
-    /// Refusals 101 to 103: the bytes themselves are at fault.
+    /// Refusals 101 to 103: the packet itself is at fault.
     #[error("{0}")]
     Stream(StreamFault),
     /// Refusal 104: memory was wanted and refused.

@@ -4,7 +4,8 @@
 //! as plain data: texts and payloads as their bytes, identifiers as numbers, lists as lists.
 //!
 //! Read so far: CONNECT of version 5 without will, user name and password, PUBLISH, PUBACK, SUBSCRIBE and DISCONNECT, all
-//! without properties. Any other first byte, and any property, is malformed until its kind is in the table.
+//! without properties. Anything else is malformed until it is read: another first byte, a property, another version, a
+//! will, a user name, a password.
 #![tactic(auto)]
 
 mod bodies;

@@ -43,7 +43,7 @@ pub struct Publish {
     pub retain: bool,
     pub topic: Text,
     pub delivery: Delivery,
-    /// Shared bytes, never copied.
+    /// A part of the bytes that were read, shared with them.
     pub payload: Bytes,
 }
 

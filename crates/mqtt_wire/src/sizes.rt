@@ -6,14 +6,14 @@ ghost use Rattle.mqtt_wire.specs.Writing.{subscription_bytes, delivery_bytes, re
 
 use crate::packet::{Delivery, Packet, Subscription};
 
-/// The greatest Remaining Length that four bytes can say (section 1.5.5).
-pub(crate) const GREATEST_REMAINING_LENGTH: usize = 268_435_455;
+/// The greatest number that a Variable Byte Integer can say, and so the greatest Remaining Length (section 1.5.5).
+pub(crate) const MAXIMUM_VARIABLE_BYTE_INTEGER: usize = 268_435_455;
 
 /// The Remaining Length in which the packet is written; `None` where four bytes cannot say it.
 #[tactic(auto, unfolding(crate::specs::Writing::remaining_length))]
 pub(crate) fn body_size(packet: &Packet) -> Option<usize>
-    ensures { MatchOption result (GREATEST_REMAINING_LENGTH < remaining_length packet.now)
-        (λ size. (size ≡ remaining_length packet.now) × (size ≤ GREATEST_REMAINING_LENGTH)) }
+    ensures { MatchOption result (MAXIMUM_VARIABLE_BYTE_INTEGER < remaining_length packet.now)
+        (λ size. (size ≡ remaining_length packet.now) × (size ≤ MAXIMUM_VARIABLE_BYTE_INTEGER)) }
 {
     match packet {
         Packet::Connect(connect) => within(13 + connect.client_identifier.as_bytes().len()),
@@ -33,10 +33,10 @@ pub(crate) fn body_size(packet: &Packet) -> Option<usize>
 
 /// The size, where four bytes can say it.
 fn within(size: usize) -> Option<usize>
-    ensures { MatchOption result (GREATEST_REMAINING_LENGTH < size)
-        (λ found. (found ≡ size) × (size ≤ GREATEST_REMAINING_LENGTH)) }
+    ensures { MatchOption result (MAXIMUM_VARIABLE_BYTE_INTEGER < size)
+        (λ found. (found ≡ size) × (size ≤ MAXIMUM_VARIABLE_BYTE_INTEGER)) }
 {
-    if size > GREATEST_REMAINING_LENGTH {
+    if size > MAXIMUM_VARIABLE_BYTE_INTEGER {
         return None;
     }
     Some(size)
@@ -64,14 +64,14 @@ fn reason_size(code: u8) -> usize
 /// How many bytes the entries of a SUBSCRIBE take; `None` where they are more than four bytes can say.
 fn subscriptions_size(entries: &[Subscription]) -> Option<usize>
     ensures { MatchOption result
-        (GREATEST_REMAINING_LENGTH < length (flat_map subscription_bytes entries.now))
+        (MAXIMUM_VARIABLE_BYTE_INTEGER < length (flat_map subscription_bytes entries.now))
         (λ size. (size ≡ length (flat_map subscription_bytes entries.now))
-        × (size ≤ GREATEST_REMAINING_LENGTH)) }
+        × (size ≤ MAXIMUM_VARIABLE_BYTE_INTEGER)) }
 {
     let mut size = 0usize;
     for entry in entries {
         size += 3 + entry.filter.as_bytes().len();
-        if size > GREATEST_REMAINING_LENGTH {
+        if size > MAXIMUM_VARIABLE_BYTE_INTEGER {
             return None;
         }
     }

@@ -18,7 +18,7 @@ use std::marker::Model;
 #[derive(Drop)]
 pub struct Splitter {
     alloc: Global,
-    /// A packet that is cut off the stream and not read yet, since memory was refused.
+    /// A packet that is cut off the stream and was not answered: memory was refused, or its body is at fault.
     frame: Option<Frame>,
     stream: BytesMut,
     fault: Option<StreamFault>,

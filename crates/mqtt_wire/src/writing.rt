@@ -1,6 +1,6 @@
 //! The one form in which each packet is written (chapter 3).
 
-ghost use Rattle.std.specs.Prelude.{◌≡◌, ◌<◌, ◌≤◌, ◌↔◌, ◌++◌, ◌∷◌, [], length, IfOk, OnOk, IsErrOf, IfErr, MatchOption, vec_len};
+ghost use Rattle.std.specs.Prelude.{◌≡◌, ◌<◌, ◌≤◌, ◌↔◌, ◌⊎◌, ◌++◌, ◌∷◌, [], length, IfOk, OnOk, IsErrOf, IfErr};
 ghost use Rattle.std.specs.List.{flat_map};
 ghost use Rattle.mqtt_wire.specs.Forms.{u16_bytes, utf8_string, variable_bytes, variable_limit};
 ghost use Rattle.mqtt_wire.specs.Kinds.{bit, qos_bits};
@@ -11,7 +11,7 @@ use crate::identifier::PacketIdentifier;
 use crate::packet::{
     Connect, Delivery, Packet, Publish, QoS, RetainHandling, Subscription, SubscriptionOptions,
 };
-use crate::sizes::{GREATEST_REMAINING_LENGTH, body_size};
+use crate::sizes::{MAXIMUM_VARIABLE_BYTE_INTEGER, body_size};
 use crate::text::Text;
 use std::alloc::{AllocError, Global};
 
@@ -28,15 +28,13 @@ const CONNACK_PROPERTIES: [u8; 12] = [
 pub fn encode(alloc: Global, packet: &Packet) -> Result<Vec<u8>, Fault>
     ensures ok { IfOk result (λ bytes. bytes.items ≡ written packet.now) }
     ensures too_large { IsErrOf result (Fault.Stream StreamFault.TooLarge)
-        ↔ (GREATEST_REMAINING_LENGTH < remaining_length packet.now) }
+        ↔ (MAXIMUM_VARIABLE_BYTE_INTEGER < remaining_length packet.now) }
+    ensures refused { IfErr result (λ fault. (fault ≡ Fault.Stream StreamFault.TooLarge) ⊎ (fault ≡ Fault.Memory)) }
 {
     let Some(remaining) = body_size(packet) else {
         return Err(Fault::Stream(StreamFault::TooLarge));
     };
-    match write(alloc, packet, remaining) {
-        Ok(bytes) => Ok(bytes),
-        Err(AllocError) => Err(Fault::Memory),
-    }
+    Ok(write(alloc, packet, remaining)?)
 }
 
 /// Writes the packet, whose body has that many bytes.

@@ -1,0 +1,11 @@
+pub mod LineLaws
+pub mod PassingLaws
+pub mod NameLaws
+pub mod WindowLaws
+pub mod HandOutLaws
+pub mod PubackLaws
+pub mod DeliveryLaws
+pub mod AnswerLaws
+pub mod SendLaws
+pub mod SoloLaws
+pub mod OutputLaws

@@ -1,0 +1,63 @@
+-- Which messages go out after a packet, and under which identifiers (sections 2.2.1, 4.6 and 4.9).
+use Rattle.std.specs.Prelude.{ℕ, ◌-◌, ◌==◌, false, List, [], ◌∷◌, length, take, drop, count_by, unwrap_or, Option, Some, None}
+use Rattle.std.specs.List.{find, range_with_len}
+use Rattle.mqtt_wire.specs.declared.packet.Packet.{Packet}
+use Rattle.mqtt_wire.specs.declared.packet.Packet.TheVariants as packets
+use Rattle.mqtt_wire.specs.declared.packet.Delivery.TheVariants.{AtLeastOnce}
+use Rattle.share_broker.specs.declared.connection.Standing.{Standing}
+use Rattle.share_broker.specs.declared.connection.Standing.TheVariants.{Unconnected, Connected, Closed}
+use Rattle.share_broker.specs.declared.group.Message.{Message}
+use Rattle.share_broker.specs.Names.{Share}
+use Rattle.share_broker.specs.Story.{Story, unacknowledged, with_hand_out}
+
+-- the most hand-outs that are unacknowledged at once: the Receive Maximum, absent, cut to 256 (3.1.2.11.3, profile)
+abbrev pub quota : ℕ
+quota = 256
+
+abbrev pub times : ℕ → List ℕ → ℕ
+times identifier identifiers = count_by (λ other. other == identifier) identifiers
+
+-- the least identifier from 1 on that none of these is
+unfoldable pub least_free : List ℕ → ℕ
+least_free identifiers = unwrap_or (find (λ identifier. times identifier identifiers == 0) (range_with_len 1 quota)) 0
+
+-- 3.3: a message as it goes out: QoS 1, DUP 0, RETAIN 0
+abbrev pub job : Message → ℕ → Packet
+job message identifier = packets.Publish (record {
+  dup = false;
+  retain = false;
+  topic = message.topic;
+  delivery = AtLeastOnce identifier;
+  payload = message.payload;
+})
+
+-- accepted and not handed out, the oldest first
+abbrev pub waiting : Story → List Message
+waiting story = drop (length story.handed_out) story.accepted
+
+-- what goes out to a member: as much as the quota has room for
+abbrev pub due_to : Standing → Option Share → Story → List Message
+due_to Connected (Some share) story = take (quota - length (unacknowledged story)) (waiting story)
+due_to Connected None story = []
+due_to Unconnected share story = []
+due_to Closed share story = []
+
+abbrev pub due : Story → List Message
+due story = due_to story.standing story.share story
+
+-- packets that are sent, and the story after them
+pub record Turn : Type 0 where
+  pub sent : List Packet
+  pub story : Story
+
+abbrev pub sent_first : Packet → Turn → Turn
+sent_first packet turn = record turn { sent = packet ∷ turn.sent }
+
+-- the messages go out, each under the least identifier that is free by then
+abbrev pub hand_out : List Message → Story → Turn
+hand_out [] story = record { sent = []; story = story }
+hand_out (message ∷ messages) story =
+    sent_first (job message (least_free (unacknowledged story))) (hand_out messages (with_hand_out (least_free (unacknowledged story)) story))
+
+unfoldable pub deliver : Story → Turn
+deliver story = hand_out (due story) story

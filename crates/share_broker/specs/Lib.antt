@@ -1,0 +1,12 @@
+pub mod Status
+pub mod Lines
+pub mod Passing
+pub mod Names
+pub mod Groups
+pub mod Story
+pub mod HandOuts
+pub mod Replies
+pub mod Report
+pub mod Output
+pub mod Shows
+pub mod UnderWay

@@ -1,0 +1,33 @@
+-- The report line of a group: what became of its messages (profile).
+use Rattle.std.specs.Prelude.{ℕ, ◌-◌, List, [], ◌∷◌, ◌++◌, length, count_by, codes, Option, Some, None}
+use Rattle.std.specs.Fmt.{decimal}
+use Rattle.share_broker.specs.declared.report.Report.{Report}
+use Rattle.share_broker.specs.Names.{Share}
+use Rattle.share_broker.specs.Story.{Story, unacknowledged, acknowledges, refuses}
+
+-- Each accepted message is acknowledged, refused, held, queued or returned: the session's expiry is 0, so what
+-- is unacknowledged at the end of the connection is returned, and nothing is held (3.1.2.11.2).
+abbrev pub report_of : Story → Report
+report_of story = record {
+  accepted = length story.accepted;
+  acknowledged = count_by (λ job. acknowledges job.code) story.handed_out;
+  refused = count_by (λ job. refuses job.code) story.handed_out;
+  held = 0;
+  queued = length story.accepted - length story.handed_out;
+  returned = length (unacknowledged story);
+}
+
+-- a count in decimal, behind its label
+abbrev pub labelled : List ℕ → ℕ → List ℕ
+labelled label count = label ++ decimal count
+
+-- the share's text, the counts, and 0A
+unfoldable pub report_line : Share → Report → List ℕ
+report_line share r =
+    share.text ++ labelled (codes " accepted ") r.accepted ++ labelled (codes " acknowledged ") r.acknowledged ++ labelled (codes " refused ") r.refused
+    ++ labelled (codes " held ") r.held ++ labelled (codes " queued ") r.queued ++ labelled (codes " returned ") r.returned ++ 10 ∷ []
+
+-- a line where a group is bound
+abbrev pub report_lines : Option Share → Report → List ℕ
+report_lines None report = []
+report_lines (Some share) report = report_line share report
