@@ -1,0 +1,4 @@
+pub mod LevelLaws
+pub mod ShareLaws
+pub mod SlotLaws
+pub mod MatchLaws

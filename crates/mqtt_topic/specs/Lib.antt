@@ -1,0 +1,4 @@
+pub mod Refusals
+pub mod Levels
+pub mod Names
+pub mod Routes

@@ -1,0 +1,22 @@
+//! Topic names, filters and shares, and the table of routes (sections 4.7 and 4.8.2).
+#![tactic(auto)]
+
+mod error;
+mod laws;
+mod levels;
+mod names;
+mod routes;
+mod share;
+mod slots;
+#[cfg(test)]
+mod tests;
+
+pub use error::TopicError;
+pub use laws::{
+    multi_level_matches_all, multi_level_matches_the_parent, plain_filters_match_one_name,
+    single_level_matches_one_level,
+};
+pub use names::{Filter, TopicName};
+pub use routes::Routes;
+pub use share::Share;
+pub use slots::{SlotIter, Slots};

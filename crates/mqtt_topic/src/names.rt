@@ -1,0 +1,144 @@
+//! Topic names and filters (section 4.7).
+
+ghost use Rattle.std.specs.Prelude.{◌≡◌, Ok};
+ghost use Rattle.mqtt_topic.specs.Levels.{levels_of, levels_left, text_left, matches};
+ghost use Rattle.mqtt_topic.specs.Names.{is_placed, are_placed, name_of, filter_of, checked};
+
+use crate::error::TopicError;
+use crate::levels::{has_wildcard, is_multi_level, matches, separator_at, split_level};
+use mqtt_wire::Text;
+use std::marker::Model;
+
+/// A topic name: a text of at least one character without wildcards (sections 4.7.3 and 3.3.2.1).
+#[derive(Debug, Drop)]
+pub struct TopicName {
+    text: Text,
+}
+
+impl Model for TopicName {
+    ghost use Rattle.std.specs.Prelude.{List, ℕ, ◌≡◌, Ok};
+    ghost use Rattle.mqtt_topic.specs.Names.{name_of};
+
+    ghost Value = { List ℕ };
+
+    ghost view = { λ name. name.text };
+
+    ghost invariant = { λ name. name_of name.text ≡ Ok name.text };
+}
+
+impl TopicName {
+    /// The topic name that the text is. Refusals: 201 where it is empty, 202 where a wildcard is in it.
+    pub fn parse(text: Text) -> Result<TopicName, TopicError>
+        ensures { result ≡ name_of text }
+    {
+        check_name(text.as_bytes())?;
+        Ok(TopicName { text })
+    }
+
+    /// The bytes of the name, as UTF-8.
+    pub fn as_bytes(&self) -> &[u8]
+        ensures bytes { result.now ≡ self.now }
+        ensures name { name_of self.now ≡ Ok self.now }
+    {
+        self.text.as_bytes()
+    }
+
+    /// The text that was parsed.
+    pub fn into_text(self) -> Text
+        ensures { result ≡ self }
+    {
+        self.text
+    }
+}
+
+/// A filter: a text of at least one character whose wildcards are whole levels, `#` only the last (section 4.7.1).
+#[derive(Debug, Drop)]
+pub struct Filter {
+    text: Text,
+}
+
+impl Model for Filter {
+    ghost use Rattle.std.specs.Prelude.{List, ℕ, ◌≡◌, Ok};
+    ghost use Rattle.mqtt_topic.specs.Names.{filter_of};
+
+    ghost Value = { List ℕ };
+
+    ghost view = { λ filter. filter.text };
+
+    ghost invariant = { λ filter. filter_of filter.text ≡ Ok filter.text };
+}
+
+impl Filter {
+    /// The filter that the text is. Refusals: 201 where it is empty, 202 where a wildcard stands out of place.
+    pub fn parse(text: Text) -> Result<Filter, TopicError>
+        ensures { result ≡ filter_of text }
+    {
+        check_filter(text.as_bytes())?;
+        Ok(Filter { text })
+    }
+
+    /// The bytes of the filter, as UTF-8.
+    pub fn as_bytes(&self) -> &[u8]
+        ensures bytes { result.now ≡ self.now }
+        ensures filter { filter_of self.now ≡ Ok self.now }
+    {
+        self.text.as_bytes()
+    }
+
+    /// Whether the filter matches the name (section 4.7). Both texts are walked once.
+    pub fn matches(&self, name: &TopicName) -> bool
+        ensures { result ≡ matches self.now name.now }
+    {
+        matches(self.as_bytes(), name.as_bytes())
+    }
+}
+
+/// Refuses what is no topic name.
+#[tactic(auto, unfolding(crate::specs::Names::name_of))]
+fn check_name(text: &[u8]) -> Result<(), TopicError>
+    ensures { checked text.now result ≡ name_of text.now }
+{
+    if text.is_empty() {
+        return Err(TopicError::Empty);
+    }
+    if has_wildcard(text) {
+        return Err(TopicError::BadWildcard);
+    }
+    Ok(())
+}
+
+/// Refuses what is no filter.
+#[tactic(auto, unfolding(crate::specs::Names::filter_of))]
+pub(crate) fn check_filter(text: &[u8]) -> Result<(), TopicError>
+    ensures { checked text.now result ≡ filter_of text.now }
+{
+    if text.is_empty() {
+        return Err(TopicError::Empty);
+    }
+    if !are_placed(text) {
+        return Err(TopicError::BadWildcard);
+    }
+    Ok(())
+}
+
+/// Whether each wildcard is a whole level, and `#` the last.
+fn are_placed(text: &[u8]) -> bool
+    ensures { result ≡ are_placed (levels_of text.now) }
+{
+    let mut levels = Some(text);
+    while let Some(text) = levels {
+        let (level, next) = split_level(text);
+        if !is_placed(level, next) {
+            return false;
+        }
+        levels = next;
+    }
+    true
+}
+
+/// Whether a level with that behind it is a wildcard in its place, or has none.
+fn is_placed(level: &[u8], next: Option<&[u8]>) -> bool
+    ensures { result ≡ is_placed level.now (levels_left (text_left next.entry)) }
+{
+    is_multi_level(level, next) || level == b"+".as_slice() || !has_wildcard(level)
+}

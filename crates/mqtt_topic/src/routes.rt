@@ -1,0 +1,100 @@
+//! The table of routes: which share is bound to which slot.
+
+ghost use Rattle.std.specs.Prelude.{◌≡◌, [], ◌<◌, ◌≤◌, length, position};
+ghost use Rattle.mqtt_topic.specs.Routes.{slot_of, routed, byte_of, sets_of, places_of, BindAnswers};
+
+use crate::error::TopicError;
+use crate::names::TopicName;
+use crate::share::Share;
+use crate::slots::Slots;
+use std::alloc::Global;
+use std::marker::Model;
+
+/// The most shares that are bound.
+const MOST_ROUTES: usize = 8;
+
+/// Up to eight shares, each bound to a slot from 0 to 7 for good.
+#[derive(Debug, Drop)]
+pub struct Routes {
+    shares: Vec<Share>,
+}
+
+impl Model for Routes {
+    ghost use Rattle.std.specs.Prelude.{List, length, ◌≤◌};
+    ghost use Rattle.mqtt_topic.specs.Names.{Share};
+
+    ghost Value = { List Share };
+
+    ghost view = { λ routes. routes.shares.items };
+
+    ghost invariant = { λ routes. length routes.shares.items ≤ 8 };
+}
+
+impl Routes {
+    /// A table in which nothing is bound.
+    pub fn new(alloc: Global) -> Routes
+        ensures { result ≡ [] }
+    {
+        Routes {
+            shares: Vec::new(alloc),
+        }
+    }
+
+    /// Binds the share: the slot that it is bound to already, or the least free one. Refusals: 205 where all eight slots are
+    /// bound to other shares, 206 where memory is refused; then nothing has changed.
+    pub fn bind(&mut self, share: Share) -> Result<u8, TopicError>
+        ensures { BindAnswers self.old share result self.new }
+    {
+        if let Some(slot) = self.find(&share) {
+            return Ok(slot);
+        }
+        let slot = self.shares.len();
+        if slot == MOST_ROUTES {
+            return Err(TopicError::NoSlot);
+        }
+        self.shares.push(share)?;
+        Ok(slot as u8)
+    }
+
+    /// The slot that the share is bound to; `None` where it is bound to none.
+    pub fn find(&self, share: &Share) -> Option<u8>
+        ensures { result ≡ slot_of share.now.text self.now }
+    {
+        let text = share.text();
+        let slot = place_of(self.shares.as_slice(), text)?;
+        Some(slot as u8)
+    }
+
+    /// The bound shares, the one of slot n at place n.
+    pub fn shares(&self) -> &[Share]
+        ensures { result.now ≡ self.now }
+    {
+        self.shares.as_slice()
+    }
+
+    /// The bound slots whose filter matches the name. It takes no memory.
+    pub fn matching(&self, name: &TopicName) -> Slots
+        ensures { result ≡ places_of 0 (routed name.now self.now) }
+    {
+        Slots::from_byte(byte_of(self.shares.as_slice(), name))
+    }
+}
+
+/// The set of the slots whose share's filter matches the name, as a byte.
+fn byte_of(shares: &[Share], name: &TopicName) -> u8
+    requires { length shares.now ≤ 8 }
+    ensures value { result ≡ byte_of (routed name.now shares.now) }
+    ensures bound { result < sets_of (length shares.now) }
+{
+    match shares {
+        [] => 0,
+        [share, others @ ..] => u8::from(share.matches(name)) + 2 * byte_of(others, name),
+    }
+}
+
+/// Where the share of that text stands.
+fn place_of(shares: &[Share], text: &[u8]) -> Option<usize>
+    ensures { result ≡ slot_of text.now shares.now }
+{
+    shares.iter().position(|share| share.text() == text)
+}

@@ -1,0 +1,80 @@
+//! Sets of slots.
+
+ghost use Rattle.std.specs.Prelude.{◌≡◌, ◌≤◌};
+ghost use Rattle.std.specs.Iterator.{YieldsFirst, item_count};
+ghost use Rattle.mqtt_topic.specs.Routes.{slots_in};
+
+use std::marker::Model;
+
+/// A set of slots from 0 to 7, in one byte. A contract sees the slots in rising order.
+#[derive(Debug, Drop)]
+pub struct Slots {
+    byte: u8,
+}
+
+impl Model for Slots {
+    ghost use Rattle.std.specs.Prelude.{List, ℕ};
+    ghost use Rattle.mqtt_topic.specs.Routes.{slots_in};
+
+    ghost Value = { List ℕ };
+
+    ghost view = { λ slots. slots_in 8 0 slots.byte };
+}
+
+impl Slots {
+    /// The set of the byte whose bit n, counted from the least significant, is slot n.
+    pub(crate) fn from_byte(byte: u8) -> Slots
+        ensures { result ≡ slots_in 8 0 byte }
+    {
+        Slots { byte }
+    }
+
+    /// The slots, in rising order.
+    pub fn iter(&self) -> SlotIter
+        ensures { result ≡ self.now }
+    {
+        SlotIter {
+            byte: self.byte,
+            slot: 0,
+        }
+    }
+}
+
+/// The slots of a set that are left, in rising order.
+#[derive(Debug, Drop)]
+pub struct SlotIter {
+    byte: u8,
+    slot: u8,
+}
+
+impl Model for SlotIter {
+    ghost use Rattle.std.specs.Prelude.{List, ℕ, ◌-◌, ◌≤◌};
+    ghost use Rattle.mqtt_topic.specs.Routes.{slots_in};
+
+    ghost Value = { List ℕ };
+
+    ghost view = { λ it. slots_in (8 - it.slot) it.slot it.byte };
+
+    ghost invariant = { λ it. it.slot ≤ 8 };
+}
+
+impl Iterator for SlotIter {
+    type Item = u8;
+
+    ghost next_gives = { YieldsFirst (λ slots. slots) };
+
+    ghost remaining = { item_count (λ slots. slots) };
+
+    fn next(&mut self) -> Option<u8> {
+        while self.slot < 8 {
+            let slot = self.slot;
+            let is_in = self.byte % 2 == 1;
+            self.slot += 1;
+            self.byte /= 2;
+            if is_in {
+                return Some(slot);
+            }
+        }
+        None
+    }
+}
