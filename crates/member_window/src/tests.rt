@@ -139,6 +139,7 @@ fn ending_session(rt: HostRuntime) {
     take_and_restore(&mut window);
     assert!(rt; window.retired());
     assert_eq!(rt; take(&mut window), Some((1, 8)));
+    take_and_restore(&mut window);
     assert_eq!(rt; take(&mut window), Some((2, 9)));
     assert_eq!(rt; take(&mut window), None);
     assert!(rt; window.is_empty());

@@ -2,21 +2,23 @@
 #![tactic(auto)]
 
 mod error;
+mod filter;
 mod laws;
 mod levels;
-mod names;
 mod routes;
 mod share;
 mod slots;
 #[cfg(test)]
 mod tests;
+mod topic_name;
 
 pub use error::TopicError;
+pub use filter::Filter;
 pub use laws::{
     multi_level_matches_all, multi_level_matches_the_parent, plain_filters_match_one_name,
     single_level_matches_one_level,
 };
-pub use names::{Filter, TopicName};
 pub use routes::Routes;
 pub use share::Share;
 pub use slots::{SlotIter, Slots};
+pub use topic_name::TopicName;

@@ -4,9 +4,9 @@ ghost use Rattle.std.specs.Prelude.{◌≡◌, [], ◌<◌, ◌≤◌, length, p
 ghost use Rattle.mqtt_topic.specs.Routes.{slot_of, routed, byte_of, sets_of, places_of, BindAnswers};
 
 use crate::error::TopicError;
-use crate::names::TopicName;
 use crate::share::Share;
 use crate::slots::Slots;
+use crate::topic_name::TopicName;
 use std::alloc::Global;
 use std::marker::Model;
 

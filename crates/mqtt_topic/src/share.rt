@@ -5,8 +5,9 @@ ghost use Rattle.mqtt_topic.specs.Levels.{is_separator, matches};
 ghost use Rattle.mqtt_topic.specs.Names.{share_of, share_cut, share_from, moved};
 
 use crate::error::TopicError;
+use crate::filter::check_filter;
 use crate::levels::{has_wildcard, matches, separator_at};
-use crate::names::{TopicName, check_filter};
+use crate::topic_name::TopicName;
 use mqtt_wire::Text;
 use std::marker::Model;
 

@@ -50,7 +50,7 @@ $share/c/c 3
 $share/d/d 4
 $share/e/e 5
 $share/f/# 6
-$share/g/g 7
+$share/g/# 7
 $share/h/h 205
 ";
 
@@ -102,7 +102,7 @@ fn routes(rt: HostRuntime) -> Result<(), Fail> {
     }
     let name = name("job").ok_or("a name")?;
     let slots: Vec<u8> = routes.matching(&name).iter().collect(rt.alloc())?;
-    assert_eq!(rt; slots.as_slice(), [0u8, 1, 2, 6].as_slice());
+    assert_eq!(rt; slots.as_slice(), [0u8, 1, 2, 6, 7].as_slice());
     assert_eq!(rt; routes.shares().len(), 8);
     Ok(())
 }

@@ -1,55 +1,14 @@
-//! Topic names and filters (section 4.7).
+//! Filters (section 4.7.1).
 
 ghost use Rattle.std.specs.Prelude.{◌≡◌, Ok};
 ghost use Rattle.mqtt_topic.specs.Levels.{levels_of, levels_left, text_left, matches};
-ghost use Rattle.mqtt_topic.specs.Names.{is_placed, are_placed, name_of, filter_of, checked};
+ghost use Rattle.mqtt_topic.specs.Names.{is_placed, are_placed, filter_of, checked};
 
 use crate::error::TopicError;
-use crate::levels::{has_wildcard, is_multi_level, matches, separator_at, split_level};
+use crate::levels::{has_wildcard, is_multi_level, matches, split_level};
+use crate::topic_name::TopicName;
 use mqtt_wire::Text;
 use std::marker::Model;
-
-/// A topic name: a text of at least one character without wildcards (sections 4.7.3 and 3.3.2.1).
-#[derive(Debug, Drop)]
-pub struct TopicName {
-    text: Text,
-}
-
-impl Model for TopicName {
-    ghost use Rattle.std.specs.Prelude.{List, ℕ, ◌≡◌, Ok};
-    ghost use Rattle.mqtt_topic.specs.Names.{name_of};
-
-    ghost Value = { List ℕ };
-
-    ghost view = { λ name. name.text };
-
-    ghost invariant = { λ name. name_of name.text ≡ Ok name.text };
-}
-
-impl TopicName {
-    /// The topic name that the text is. Refusals: 201 where it is empty, 202 where a wildcard is in it.
-    pub fn parse(text: Text) -> Result<TopicName, TopicError>
-        ensures { result ≡ name_of text }
-    {
-        check_name(text.as_bytes())?;
-        Ok(TopicName { text })
-    }
-
-    /// The bytes of the name, as UTF-8.
-    pub fn as_bytes(&self) -> &[u8]
-        ensures bytes { result.now ≡ self.now }
-        ensures name { name_of self.now ≡ Ok self.now }
-    {
-        self.text.as_bytes()
-    }
-
-    /// The text that was parsed.
-    pub fn into_text(self) -> Text
-        ensures { result ≡ self }
-    {
-        self.text
-    }
-}
 
 /// A filter: a text of at least one character whose wildcards are whole levels, `#` only the last (section 4.7.1).
 #[derive(Debug, Drop)]
@@ -91,20 +50,6 @@ impl Filter {
     {
         matches(self.as_bytes(), name.as_bytes())
     }
-}
-
-/// Refuses what is no topic name.
-#[tactic(auto, unfolding(crate::specs::Names::name_of))]
-fn check_name(text: &[u8]) -> Result<(), TopicError>
-    ensures { checked text.now result ≡ name_of text.now }
-{
-    if text.is_empty() {
-        return Err(TopicError::Empty);
-    }
-    if has_wildcard(text) {
-        return Err(TopicError::BadWildcard);
-    }
-    Ok(())
 }
 
 /// Refuses what is no filter.

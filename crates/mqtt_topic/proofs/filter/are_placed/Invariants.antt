@@ -2,7 +2,7 @@ use Rattle.std.proofs.Common.{◌≡◌}
 use Rattle.mqtt_topic.specs.Levels.{levels_of, levels_left, text_left}
 use Rattle.mqtt_topic.specs.Names.{are_placed}
 use Rattle.mqtt_topic.proofs.LevelLaws.{size_left}
-use Rattle.mqtt_topic.proofs.names.are_placed.Given as goal
+use Rattle.mqtt_topic.proofs.filter.are_placed.Given as goal
 
 -- what is left is in place as all of it is
 abbrev pub invariant-loop-levels : goal.invariant-loop-levels

@@ -1,0 +1,65 @@
+//! Topic names (section 4.7).
+
+ghost use Rattle.std.specs.Prelude.{◌≡◌, Ok};
+ghost use Rattle.mqtt_topic.specs.Names.{name_of, checked};
+
+use crate::error::TopicError;
+use crate::levels::has_wildcard;
+use mqtt_wire::Text;
+use std::marker::Model;
+
+/// A topic name: a text of at least one character without wildcards (sections 4.7.3 and 3.3.2.1).
+#[derive(Debug, Drop)]
+pub struct TopicName {
+    text: Text,
+}
+
+impl Model for TopicName {
+    ghost use Rattle.std.specs.Prelude.{List, ℕ, ◌≡◌, Ok};
+    ghost use Rattle.mqtt_topic.specs.Names.{name_of};
+
+    ghost Value = { List ℕ };
+
+    ghost view = { λ name. name.text };
+
+    ghost invariant = { λ name. name_of name.text ≡ Ok name.text };
+}
+
+impl TopicName {
+    /// The topic name that the text is. Refusals: 201 where it is empty, 202 where a wildcard is in it.
+    pub fn parse(text: Text) -> Result<TopicName, TopicError>
+        ensures { result ≡ name_of text }
+    {
+        check_name(text.as_bytes())?;
+        Ok(TopicName { text })
+    }
+
+    /// The bytes of the name, as UTF-8.
+    pub fn as_bytes(&self) -> &[u8]
+        ensures bytes { result.now ≡ self.now }
+        ensures name { name_of self.now ≡ Ok self.now }
+    {
+        self.text.as_bytes()
+    }
+
+    /// The text that was parsed.
+    pub fn into_text(self) -> Text
+        ensures { result ≡ self }
+    {
+        self.text
+    }
+}
+
+/// Refuses what is no topic name.
+#[tactic(auto, unfolding(crate::specs::Names::name_of))]
+fn check_name(text: &[u8]) -> Result<(), TopicError>
+    ensures { checked text.now result ≡ name_of text.now }
+{
+    if text.is_empty() {
+        return Err(TopicError::Empty);
+    }
+    if has_wildcard(text) {
+        return Err(TopicError::BadWildcard);
+    }
+    Ok(())
+}
