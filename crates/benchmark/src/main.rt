@@ -1,9 +1,10 @@
 //! Counted runs of the layers, to be timed from outside: `time benchmark matching 1000000`.
 //!
-//! Each run prints what it counted, so that the same words print the same line on every machine.
+//! Each run prints what it counted, so that the same words print the same lines on every machine.
 #![tactic(auto)]
 
 mod matching;
+mod reading;
 
 use std::process::ExitCode;
 use std::rt::Env;
@@ -15,30 +16,57 @@ const USAGE: u8 = 2;
 /// The status that the program ends with where memory is refused.
 const MEMORY: u8 = 4;
 
+/// A run that the words ask for.
+#[derive(Clone, Copy, Debug)]
+enum Run {
+    /// So many topic names are matched with eight filters.
+    Matching { names: u32 },
+    /// So many PUBLISH packets are read, in pieces of so many bytes.
+    Reading { packets: u32, piece: usize },
+}
+
 fn main(rt: HostRuntime) -> ExitCode {
-    let Ok(Some(names)) = count_in_words(&rt) else {
-        let _ = eprintln!(rt; "usage: benchmark matching NAMES");
+    let Ok(Some(run)) = run_in_words(&rt) else {
+        let _ = eprintln!(rt; "usage: benchmark matching NAMES | reading PACKETS PIECE");
         return ExitCode::from(USAGE);
     };
-    let Some(matched) = matching::matched(rt.alloc(), names) else {
+    let counted = match run {
+        Run::Matching { names } => matching::matched(rt.alloc(), names),
+        Run::Reading { packets, piece } => reading::read(rt.alloc(), packets, piece),
+    };
+    let Some(counted) = counted else {
         let _ = eprintln!(rt; "memory");
         return ExitCode::from(MEMORY);
     };
-    let _ = println!(rt; "{names} names matched {matched} filters");
+    let _ = match run {
+        Run::Matching { names } => println!(rt; "{names} names matched {counted} filters"),
+        Run::Reading { packets, .. } => println!(rt;
+            "{packets} packets had {counted} bytes of payload"
+        ),
+    };
     ExitCode::SUCCESS
 }
 
-/// The number behind the word `matching`, where the words are these two alone.
-fn count_in_words(rt: &(impl Env + Alloc)) -> io::Result<Option<u32>> {
+/// The run that the words behind the program's name ask for; `None` where they ask for none.
+fn run_in_words(rt: &(impl Env + Alloc)) -> io::Result<Option<Run>> {
     let mut words = env::args(rt)?;
     let _name = words.next();
-    let is_matching = words.next().is_some_and(|word| word.as_str() == "matching");
-    let count = words
+    let run = words.next();
+    let first = words
         .next()
         .and_then(|word| word.as_str().parse::<u32>().ok());
-    if is_matching && words.next().is_none() {
-        Ok(count)
-    } else {
-        Ok(None)
-    }
+    let second = words
+        .next()
+        .and_then(|word| word.as_str().parse::<u32>().ok());
+    let Some(run) = run else {
+        return Ok(None);
+    };
+    Ok(match (run.as_str(), first, second) {
+        ("matching", Some(names), None) => Some(Run::Matching { names }),
+        ("reading", Some(packets), Some(piece)) => Some(Run::Reading {
+            packets,
+            piece: piece as usize,
+        }),
+        _ => None,
+    })
 }

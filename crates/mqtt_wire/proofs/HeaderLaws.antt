@@ -7,9 +7,10 @@ use Rattle.mqtt_wire.specs.declared.fault.StreamFault.TheVariants.{TooLarge}
 use Rattle.mqtt_wire.specs.declared.packet.QoS.{QoS}
 use Rattle.mqtt_wire.specs.declared.packet.QoS.TheVariants.{AtMostOnce, AtLeastOnce, ExactlyOnce}
 use Rattle.mqtt_wire.specs.declared.kind.Kind.{Kind}
-use Rattle.mqtt_wire.specs.declared.kind.Kind.TheVariants.{Connect, Publish, Puback, Subscribe, Disconnect}
+use Rattle.mqtt_wire.specs.declared.packet.ForeignKind.TheVariants as foreign
+use Rattle.mqtt_wire.specs.declared.kind.Kind.TheVariants.{Connect, Publish, Puback, Subscribe, Unsubscribe, Pingreq, Disconnect, Foreign}
 use Rattle.mqtt_wire.specs.Forms.{variable_byte_integer}
-use Rattle.mqtt_wire.specs.Kinds.{bit, qos_bits, qos_at, first_byte, publish_at, kind_at}
+use Rattle.mqtt_wire.specs.Kinds.{bit, qos_bits, qos_at, first_byte, publish_at, kinds_of_one_byte, kind_among, kind_at}
 use Rattle.mqtt_wire.specs.Fields.{variable_at}
 use Rattle.mqtt_wire.specs.Stream.{Header, header_at, header_of, header_from, AreBytes}
 use Rattle.mqtt_wire.proofs.Steps.{bind_ok, unless_ok, rest_bytes}
@@ -36,7 +37,17 @@ kind_again Connect = refl
 kind_again (Publish flags) = publish_again flags.dup flags.qos flags.retain
 kind_again Puback = refl
 kind_again Subscribe = refl
+kind_again Unsubscribe = refl
+kind_again Pingreq = refl
 kind_again Disconnect = refl
+kind_again (Foreign foreign.Connack) = refl
+kind_again (Foreign foreign.Pubrec) = refl
+kind_again (Foreign foreign.Pubrel) = refl
+kind_again (Foreign foreign.Pubcomp) = refl
+kind_again (Foreign foreign.Suback) = refl
+kind_again (Foreign foreign.Unsuback) = refl
+kind_again (Foreign foreign.Pingresp) = refl
+kind_again (Foreign foreign.Auth) = refl
 
 pub bit_is : (n : ℕ) → n < 2 → bit (eqb n 1) ≡ n
 bit_is zero h = refl
@@ -79,21 +90,16 @@ publish_takes first kind small e =
       | inr other ↦ absurd (let no = other.1 in cc)
     ]
 
-pub kind_takes : (first : ℕ) (kind : Kind) → first < 256 → kind_at first ≡ Some kind → first_byte kind ≡ first
-kind_takes first kind small e =
-    elim (chosen (eqb first 0x10) (Some Connect) (cond (eqb first 0x40) (Some Puback) (cond (eqb first 0x82) (Some Subscribe) (cond (eqb first 0xE0) (Some Disconnect) (publish_at first)))) (Some kind) e) [
-      | inl here ↦ ap first_byte (sym (kind_is Connect kind here.1)) ∙ sym (eqb-true first 0x10 here.0)
-      | inr a ↦ elim (chosen (eqb first 0x40) (Some Puback) (cond (eqb first 0x82) (Some Subscribe) (cond (eqb first 0xE0) (Some Disconnect) (publish_at first))) (Some kind) a.1) [
-        | inl here ↦ ap first_byte (sym (kind_is Puback kind here.1)) ∙ sym (eqb-true first 0x40 here.0)
-        | inr b ↦ elim (chosen (eqb first 0x82) (Some Subscribe) (cond (eqb first 0xE0) (Some Disconnect) (publish_at first)) (Some kind) b.1) [
-          | inl here ↦ ap first_byte (sym (kind_is Subscribe kind here.1)) ∙ sym (eqb-true first 0x82 here.0)
-          | inr c ↦ elim (chosen (eqb first 0xE0) (Some Disconnect) (publish_at first) (Some kind) c.1) [
-            | inl here ↦ ap first_byte (sym (kind_is Disconnect kind here.1)) ∙ sym (eqb-true first 0xE0 here.0)
-            | inr d ↦ publish_takes first kind small d.1
-          ]
-        ]
-      ]
+among_takes : (kinds : List Kind) (first : ℕ) (kind : Kind) → first < 256 → kind_among kinds first ≡ Some kind → first_byte kind ≡ first
+among_takes [] first kind small e = publish_takes first kind small e
+among_takes (k ∷ kinds) first kind small e =
+    elim (chosen (eqb first (first_byte k)) (Some k) (kind_among kinds first) (Some kind) e) [
+      | inl here ↦ ap first_byte (sym (kind_is k kind here.1)) ∙ sym (eqb-true first (first_byte k) here.0)
+      | inr other ↦ among_takes kinds first kind small other.1
     ]
+
+pub kind_takes : (first : ℕ) (kind : Kind) → first < 256 → kind_at first ≡ Some kind → first_byte kind ≡ first
+kind_takes first kind small e = among_takes kinds_of_one_byte first kind small e
 
 -- ---- the header
 

@@ -1,4 +1,4 @@
--- Subscription Options and reason codes: what is read is spelled so, and what is spelled so is read.
+-- Subscription Options: what is read is spelled so, and what is spelled so is read.
 use Rattle.std.proofs.Common.{◌≡◌, ℕ, ◌/◌, ◌%◌, ◌<◌, ◌≤◌, Bool, true, false, cond, ltb, eqb, List, [], ◌∷◌, ◌++◌, Option, Some, None, Ok, refl, sym, ap, ◌∙◌, arith, inl, inr}
 use Rattle.std.proofs.lemmas.Bool.{ltb-true, lt-ltb, eqb-true, eq-eqb, ne_eqb, cases_eq}
 use Rattle.mqtt_wire.specs.declared.packet.QoS.{QoS}
@@ -7,14 +7,11 @@ use Rattle.mqtt_wire.specs.declared.packet.RetainHandling.{RetainHandling}
 use Rattle.mqtt_wire.specs.declared.packet.RetainHandling.TheVariants.{Send, SendIfNew, DoNotSend}
 use Rattle.mqtt_wire.specs.declared.packet.SubscriptionOptions.{SubscriptionOptions}
 use Rattle.mqtt_wire.specs.Kinds.{bit, qos_bits, qos_at}
-use Rattle.mqtt_wire.specs.Fields.{properties_at, at_end}
-use Rattle.mqtt_wire.specs.Bodies.{retain_handling_at, options_from, options_at, reason_at}
-use Rattle.mqtt_wire.specs.Writing.{properties, retain_handling_bits, options_byte, reason_bytes}
-use Rattle.mqtt_wire.specs.Spelling.{SpellsReason}
-use Rattle.mqtt_wire.proofs.Steps.{bind_ok, if_ok, ok_is}
+use Rattle.mqtt_wire.specs.Bodies.{retain_handling_at, options_from, options_at}
+use Rattle.mqtt_wire.specs.Writing.{retain_handling_bits, options_byte}
+use Rattle.mqtt_wire.proofs.Steps.{if_ok, ok_is}
 use Rattle.mqtt_wire.proofs.Variable.{chosen}
 use Rattle.mqtt_wire.proofs.HeaderLaws.{bit_is, qos_takes}
-use Rattle.mqtt_wire.proofs.FieldLaws.{no_properties, properties_is, properties_again}
 
 handling_is : (a b : RetainHandling) → Some a ≡ Some b → a ≡ b
 handling_is a b e = cc
@@ -68,11 +65,11 @@ handling_again Send = refl
 handling_again SendIfNew = refl
 handling_again DoNotSend = refl
 
-bit_small : (b : Bool) → bit b ≤ 1
+pub bit_small : (b : Bool) → bit b ≤ 1
 bit_small true = omega arith
 bit_small false = omega arith
 
-bit_again : (b : Bool) → eqb (bit b) 1 ≡ b
+pub bit_again : (b : Bool) → eqb (bit b) 1 ≡ b
 bit_again true = refl
 bit_again false = refl
 
@@ -89,34 +86,3 @@ options_again o =
     let fourth : options_byte o / 8 % 2 ≡ bit o.retain_as_published = omega arith in
     let high : options_byte o / 16 % 4 ≡ retain_handling_bits o.retain_handling = omega arith in
     rw (small, low, high, qos_again o.maximum_qos, handling_again o.retain_handling, third, fourth, bit_again o.no_local, bit_again o.retain_as_published) refl
-
--- ---- reason codes
-
-at_end_is : (code : ℕ) (rest : List ℕ) (value : ℕ) → at_end code rest ≡ Ok value → (rest ≡ []) × (code ≡ value)
-at_end_is code [] value e = (refl, ok_is code value e)
-at_end_is code (byte ∷ rest) value e = absurd cc
-
-pub reason_takes : (bytes : List ℕ) (code : ℕ) → reason_at bytes ≡ Ok code → SpellsReason code bytes
-unfolding reason_at
-reason_takes [] code e = sym (ok_is 0 code e)
-reason_takes (byte ∷ []) code e = ok_is byte code e
-reason_takes (byte ∷ next ∷ rest) code e =
-    let empty = bind_ok (properties_at (next ∷ rest)) _ code e in
-    let ended = at_end_is byte empty.0.1 code empty.2 in
-    let p = properties_is (next ∷ rest) empty.0 empty.1 in
-    (ended.1, p ∙ ap (λ (t : List ℕ). properties [] ++ t) ended.0 ∙ ap (λ (t : List ℕ). t ++ []) no_properties ∙ sym no_properties)
-
-pub reason_again : (code : ℕ) (bytes : List ℕ) → SpellsReason code bytes → reason_at bytes ≡ Ok code
-unfolding reason_at
-reason_again code [] e = ap (λ (c : ℕ). Ok c) (sym e)
-reason_again code (byte ∷ []) e = ap (λ (c : ℕ). Ok c) e
-reason_again code (byte ∷ next ∷ rest) e =
-    let empty : properties_at (next ∷ rest) ≡ Ok (tt, []) = ap properties_at (e.1 ∙ no_properties ∙ ap (λ (t : List ℕ). t ++ []) (sym no_properties)) ∙ properties_again [] in
-    rw empty (ap (λ (c : ℕ). Ok c) e.0)
-
-pub reason_written : (code : ℕ) → SpellsReason code (reason_bytes code)
-reason_written code =
-    elim (cases_eq code 0) [
-      | inl none ↦ rw (eq-eqb code 0 none) none
-      | inr some ↦ rw (ne_eqb code 0 some) refl
-    ]

@@ -7,17 +7,27 @@ use Rattle.mqtt_wire.specs.declared.frame.Frame.{Frame}
 use Rattle.mqtt_wire.specs.declared.kind.Kind.{Kind}
 use Rattle.mqtt_wire.specs.declared.packet.Packet.{Packet}
 use Rattle.mqtt_wire.specs.declared.packet.Packet.TheVariants as packets
-use Rattle.mqtt_wire.specs.Forms.{u16_bytes, variable_byte_integer}
+use Rattle.mqtt_wire.specs.Forms.{variable_byte_integer}
 use Rattle.mqtt_wire.specs.Kinds.{first_byte}
 use Rattle.mqtt_wire.specs.Bodies.{body_at}
-use Rattle.mqtt_wire.specs.Writing.{framed, written_body, written, properties, subscription_bytes, reason_bytes}
-use Rattle.mqtt_wire.specs.Spelling.{IsFromClient, SpellsBody, Spells}
+use Rattle.mqtt_wire.specs.Writing.{packet_byte, framed, connect_body, publish_body, written_body, written, reason_bytes}
+use Rattle.mqtt_wire.specs.Spelling.{IsFromClient, PropertiesFit, SpellsConnect, SpellsPublish, SpellsPuback, SpellsSubscribe, SpellsUnsubscribe, SpellsDisconnect, SpellsBody, Spells}
 use Rattle.mqtt_wire.specs.Stream.{Header, header_at, Frames, IsOpen, FaultAt, EndsAs, Begins, Reads, Reading, AreBytes}
 use Rattle.mqtt_wire.specs.Frame.{frame_bytes, Cuts}
 use Rattle.mqtt_wire.proofs.BodyLaws.{body_again}
-use Rattle.mqtt_wire.proofs.OptionLaws.{reason_written}
+use Rattle.mqtt_wire.specs.declared.packet.Connect.{Connect}
+use Rattle.mqtt_wire.specs.declared.packet.Publish.{Publish}
+use Rattle.mqtt_wire.specs.declared.packet.Puback.{Puback}
+use Rattle.mqtt_wire.specs.declared.packet.Subscribe.{Subscribe}
+use Rattle.mqtt_wire.specs.declared.packet.Unsubscribe.{Unsubscribe}
+use Rattle.mqtt_wire.specs.declared.packet.Disconnect.{Disconnect}
+use Rattle.mqtt_wire.specs.declared.property.Section.TheVariants as sections
+use Rattle.mqtt_wire.specs.Sections.{properties}
+use Rattle.mqtt_wire.specs.PropertyLists.{connect_list, publish_list, puback_list, subscribe_list, unsubscribe_list, disconnect_list, ConnectFits, PublishFits, PubackFits, SubscribeFits, UnsubscribeFits, DisconnectFits}
+use Rattle.mqtt_wire.proofs.ReasonLaws.{reason_written}
+use Rattle.mqtt_wire.proofs.PropertyListLaws.{spelled, all_of_connect, connect_gathered, connect_back, all_of_publish, publish_gathered, publish_back, all_of_puback, puback_gathered, puback_back, all_of_subscribe, subscribe_gathered, subscribe_back, all_of_unsubscribe, unsubscribe_gathered, unsubscribe_back, all_of_disconnect, disconnect_gathered, disconnect_back}
+use Rattle.mqtt_wire.proofs.ConnectLaws.{shortest_other_version, shortest_with_will}
 use Rattle.mqtt_wire.proofs.NextLaws.{body_size, frame_header, frame_spells, cut_kept, back_bytes, frame_body_bytes}
-use Rattle.std.specs.List.{flat_map}
 
 abbrev frame_of : Kind → List ℕ → Frame
 frame_of kind body = record { kind = kind; body = body }
@@ -33,7 +43,8 @@ pub record Seen (packet : Packet) (front after : List ℕ) : Type 0 where
 
 pub seen : (packet : Packet) (front after : List ℕ) → Spells packet front → Seen packet front after
 seen packet front after spelled =
-    let r = body_again packet spelled.body spelled.client spelled.spelled in
+    let within : length spelled.body ≤ 65536 = omega (arith, ap length spelled.parts, length-append (packet_byte packet ∷ variable_byte_integer (length spelled.body)) spelled.body, spelled.size) in
+    let r = body_again packet spelled.body within spelled.client spelled.spelled in
     let parts : front ≡ framed (first_byte r.kind) spelled.body = spelled.parts ∙ ap (λ (first : ℕ). framed first spelled.body) r.byte in
     let small = body_size (first_byte r.kind) spelled.body (omega (arith, ap length parts, spelled.size)) in
     record {
@@ -198,23 +209,82 @@ one_reading stream (p' ∷ ps) r f (q' ∷ qs) s g p q =
 
 -- ---- what is written is read again
 
-written_body_spells : (packet : Packet) → IsFromClient packet → SpellsBody packet (written_body packet)
-written_body_spells (packets.Connect c) client = refl
-written_body_spells (packets.Connack c) client = absurd client
-written_body_spells (packets.Publish p) client = refl
-written_body_spells (packets.Puback p) client = (reason_bytes p.reason_code, refl, reason_written p.reason_code)
-written_body_spells (packets.Subscribe s) client = append_assoc (u16_bytes s.packet_identifier) (properties []) (flat_map subscription_bytes s.subscriptions)
-written_body_spells (packets.Suback s) client = absurd client
-written_body_spells (packets.Disconnect d) client = reason_written d.reason_code
+connect_spells : (c : Connect) → ConnectFits c.properties → SpellsConnect c (connect_body c)
+connect_spells c fits = record {
+  all = all_of_connect c.properties;
+  section = properties (connect_list c.properties);
+  spelled = spelled sections.Connect (connect_list c.properties) (all_of_connect c.properties) (connect_gathered c.properties fits);
+  properties_are = connect_back c.properties;
+  parts = refl;
+}
 
-pub written_spells : (packet : Packet) → IsFromClient packet → length (written packet) ≤ 65536 → Spells packet (written packet)
+publish_spells : (p : Publish) → PublishFits p.properties → SpellsPublish p (publish_body p)
+publish_spells p fits = record {
+  all = all_of_publish p.properties;
+  section = properties (publish_list p.properties);
+  spelled = spelled sections.Publish (publish_list p.properties) (all_of_publish p.properties) (publish_gathered p.properties fits);
+  properties_are = publish_back p.properties;
+  parts = refl;
+}
+
+puback_spells : (p : Puback) → PubackFits p.properties → SpellsPuback p (written_body (packets.Puback p))
+puback_spells p fits = record {
+  all = all_of_puback p.properties;
+  reason = reason_bytes p.reason_code (puback_list p.properties);
+  spelled = reason_written sections.Puback p.reason_code (puback_list p.properties) (all_of_puback p.properties) (puback_gathered p.properties fits);
+  properties_are = puback_back p.properties;
+  parts = refl;
+}
+
+subscribe_spells : (s : Subscribe) → SubscribeFits s.properties → SpellsSubscribe s (written_body (packets.Subscribe s))
+subscribe_spells s fits = record {
+  all = all_of_subscribe s.properties;
+  section = properties (subscribe_list s.properties);
+  spelled = spelled sections.Subscribe (subscribe_list s.properties) (all_of_subscribe s.properties) (subscribe_gathered s.properties fits);
+  properties_are = subscribe_back s.properties;
+  parts = refl;
+}
+
+unsubscribe_spells : (u : Unsubscribe) → UnsubscribeFits u.properties → SpellsUnsubscribe u (written_body (packets.Unsubscribe u))
+unsubscribe_spells u fits = record {
+  all = all_of_unsubscribe u.properties;
+  section = properties (unsubscribe_list u.properties);
+  spelled = spelled sections.Unsubscribe (unsubscribe_list u.properties) (all_of_unsubscribe u.properties) (unsubscribe_gathered u.properties fits);
+  properties_are = unsubscribe_back u.properties;
+  parts = refl;
+}
+
+disconnect_spells : (d : Disconnect) → DisconnectFits d.properties → SpellsDisconnect d (written_body (packets.Disconnect d))
+disconnect_spells d fits = record {
+  all = all_of_disconnect d.properties;
+  spelled = reason_written sections.Disconnect d.reason_code (disconnect_list d.properties) (all_of_disconnect d.properties) (disconnect_gathered d.properties fits);
+  properties_are = disconnect_back d.properties;
+}
+
+written_body_spells : (packet : Packet) → IsFromClient packet → PropertiesFit packet → SpellsBody packet (written_body packet)
+written_body_spells (packets.Connect c) client fits = connect_spells c fits
+written_body_spells (packets.Connack c) client fits = absurd client
+written_body_spells (packets.Publish p) client fits = publish_spells p fits
+written_body_spells (packets.Puback p) client fits = puback_spells p fits
+written_body_spells (packets.Subscribe s) client fits = subscribe_spells s fits
+written_body_spells (packets.Suback s) client fits = absurd client
+written_body_spells (packets.Unsubscribe u) client fits = unsubscribe_spells u fits
+written_body_spells (packets.Unsuback u) client fits = absurd client
+written_body_spells packets.Pingreq client fits = refl
+written_body_spells packets.Pingresp client fits = absurd client
+written_body_spells (packets.Disconnect d) client fits = disconnect_spells d fits
+written_body_spells (packets.Foreign kind) client fits = tt
+written_body_spells (packets.OtherVersion version) client fits = shortest_other_version version
+written_body_spells packets.WithWill client fits = shortest_with_will
+
+pub written_spells : (packet : Packet) → IsFromClient packet → PropertiesFit packet → length (written packet) ≤ 65536 → Spells packet (written packet)
 unfolding written
-written_spells packet client small =
-    record { client = client; body = written_body packet; spelled = written_body_spells packet client; parts = refl; size = small }
+written_spells packet client fits small =
+    record { client = client; body = written_body packet; spelled = written_body_spells packet client fits; parts = refl; size = small }
 
-pub read_again : (packet : Packet) (after : List ℕ) (all : List Packet) (rest : List ℕ) (fault : Option StreamFault) → IsFromClient packet → length (written packet) ≤ 65536 → Reads (written packet ++ after) all rest fault → (others : List Packet) × (all ≡ packet ∷ others) × Reads after others rest fault
-read_again packet after [] rest fault client small reads =
-    absurd (not_ended packet (written packet) after fault (written_spells packet client small) (subst (λ (r : List ℕ). EndsAs r fault) (sym reads.0) reads.1))
-read_again packet after (first ∷ others) rest fault client small reads =
-    let same = one_packet packet first (written packet) after reads.0.0 reads.0.1 (written_spells packet client small) reads.0.2 reads.0.3 in
+pub read_again : (packet : Packet) (after : List ℕ) (all : List Packet) (rest : List ℕ) (fault : Option StreamFault) → IsFromClient packet → PropertiesFit packet → length (written packet) ≤ 65536 → Reads (written packet ++ after) all rest fault → (others : List Packet) × (all ≡ packet ∷ others) × Reads after others rest fault
+read_again packet after [] rest fault client fits small reads =
+    absurd (not_ended packet (written packet) after fault (written_spells packet client fits small) (subst (λ (r : List ℕ). EndsAs r fault) (sym reads.0) reads.1))
+read_again packet after (first ∷ others) rest fault client fits small reads =
+    let same = one_packet packet first (written packet) after reads.0.0 reads.0.1 (written_spells packet client fits small) reads.0.2 reads.0.3 in
     (others, ap (λ (p : Packet). p ∷ others) (sym same.0), (subst (λ (r : List ℕ). Begins r others rest) (sym same.2) reads.0.4, reads.1))

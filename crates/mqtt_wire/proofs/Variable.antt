@@ -1,6 +1,7 @@
 -- Variable Byte Integers: what is read is spelled so, and what is spelled so is read.
-use Rattle.std.proofs.Common.{◌≡◌, ℕ, zero, suc, ◌+◌, ◌-◌, ◌*◌, ◌/◌, ◌%◌, ◌<◌, ◌≤◌, Bool, true, false, cond, ltb, eqb, List, [], ◌∷◌, ◌++◌, length, Option, Some, None, Result, Ok, refl, sym, ap, subst, ◌∙◌, arith, inl, inr, ◌⊎◌}
+use Rattle.std.proofs.Common.{◌≡◌, ℕ, zero, suc, ◌+◌, ◌-◌, ◌*◌, ◌/◌, ◌%◌, ◌<◌, ◌≤◌, Bool, true, false, cond, ltb, eqb, List, [], ◌∷◌, ◌++◌, length, drop, Option, Some, None, Result, Ok, refl, sym, ap, subst, ◌∙◌, arith, inl, inr, ◌⊎◌, length-append}
 use Rattle.std.proofs.lemmas.Bool.{ltb-true, ltb-false, lt-ltb, le-ltb, eqb-false, ne_eqb, cases_lt}
+use Rattle.std.proofs.lemmas.List.{drop_at}
 use Rattle.mqtt_wire.specs.declared.fault.StreamFault.{StreamFault}
 use Rattle.mqtt_wire.specs.declared.fault.StreamFault.TheVariants.{Malformed}
 use Rattle.mqtt_wire.specs.Faults.{◌>>=◌}
@@ -147,3 +148,58 @@ at_least_three n h =
     let first : 128 ≤ n = omega arith in
     let second : 128 ≤ n / 128 = omega arith in
     omega (arith, a_byte_more 2 n first, a_byte_more 1 (n / 128) second, some_byte 1 (n / 128 / 128))
+
+pub is_one_byte : (n : ℕ) → n < 128 → length (variable_bytes 3 n) ≡ 1
+is_one_byte n h = one_byte 3 n h
+
+pub is_two_bytes : (n : ℕ) → 128 ≤ n → n < 16384 → length (variable_bytes 3 n) ≡ 2
+is_two_bytes n large h =
+    let high : n / 128 < 128 = omega arith in
+    omega (arith, a_byte_more 2 n large, one_byte 2 (n / 128) high)
+
+pub is_three_bytes : (n : ℕ) → 16384 ≤ n → n < 2097152 → length (variable_bytes 3 n) ≡ 3
+is_three_bytes n large h = let least = at_least_three n large in let most = at_most_three n h in omega arith
+
+last_byte : (n : ℕ) → length (variable_bytes 0 n) ≡ 1
+unfolding variable_bytes
+last_byte n = refl
+
+pub is_four_bytes : (n : ℕ) → 2097152 ≤ n → n < 268435456 → length (variable_bytes 3 n) ≡ 4
+is_four_bytes n large h =
+    let first : 128 ≤ n = omega arith in
+    let second : 128 ≤ n / 128 = omega arith in
+    let third : 128 ≤ n / 128 / 128 = omega arith in
+    omega (arith, a_byte_more 2 n first, a_byte_more 1 (n / 128) second, a_byte_more 0 (n / 128 / 128) third, last_byte (n / 128 / 128 / 128))
+
+longer_shorter : (byte : ℕ) (rest : List ℕ) (x : ℕ × List ℕ) (o : Option (ℕ × List ℕ)) → longer byte o ≡ Ok (Some x) → ((high : ℕ × List ℕ) → o ≡ Some high → length high.1 < length rest) → length x.1 < length (byte ∷ rest)
+longer_shorter byte rest x None e behind = absurd cc
+longer_shorter byte rest x (Some high) e behind =
+    let some = unless_ok (eqb high.0 0) Malformed (Ok (Some (byte - 128 + 128 * high.0, high.1))) (Some x) e in
+    let less = behind high refl in
+    subst (λ (y : ℕ × List ℕ). length y.1 < length (byte ∷ rest)) (some_is (byte - 128 + 128 * high.0, high.1) x some.1) (omega arith)
+
+pub variable_shorter : (more : ℕ) (bytes : List ℕ) (x : ℕ × List ℕ) → variable_at more bytes ≡ Ok (Some x) → length x.1 < length bytes
+unfolding variable_at
+variable_shorter zero [] x e = absurd cc
+variable_shorter (suc more) [] x e = absurd cc
+variable_shorter zero (byte ∷ rest) x e =
+    let small = if_ok (ltb byte 128) Malformed (Ok (Some (byte, rest))) (Some x) e in
+    subst (λ (y : ℕ × List ℕ). length y.1 < length (byte ∷ rest)) (some_is (byte, rest) x small.1) (omega arith)
+variable_shorter (suc more) (byte ∷ rest) x e =
+    elim (chosen (ltb byte 128) (Ok (Some (byte, rest))) (variable_at more rest >>= longer byte) (Ok (Some x)) e) [
+      | inl small ↦ subst (λ (y : ℕ × List ℕ). length y.1 < length (byte ∷ rest)) (some_is (byte, rest) x small.1) (omega arith)
+      | inr large ↦
+          let step = bind_ok (variable_at more rest) (longer byte) (Some x) large.1 in
+          longer_shorter byte rest x step.0 step.2 (λ high f. variable_shorter more rest high (step.1 ∙ ap (λ (o : Option (ℕ × List ℕ)). Ok o) f))
+    ]
+
+rest_of : (front rest bytes : List ℕ) → bytes ≡ front ++ rest → drop (length bytes - length rest) bytes ≡ rest
+rest_of front rest bytes e =
+    let size : length bytes - length rest ≡ length front = omega (arith, ap length e, length-append front rest) in
+    ap (λ (n : ℕ). drop n bytes) size ∙ ap (drop (length front)) e ∙ drop_at front rest (length front) refl
+
+-- what is behind the number is what is left where its bytes are dropped
+pub variable_rest : (more : ℕ) (bytes : List ℕ) (x : ℕ × List ℕ) → variable_at more bytes ≡ Ok (Some x) → drop (length bytes - length x.1) bytes ≡ x.1
+variable_rest more bytes x e =
+    let parts = variable_end more bytes x e in
+    rest_of parts.0 x.1 bytes parts.1

@@ -4,12 +4,15 @@ use Rattle.std.specs.Prelude.{OnOk, MatchOption}
 use Rattle.std.specs.List.{flat_map}
 use Rattle.std.proofs.lemmas.List.Folds.{length-flat_map-take}
 use Rattle.mqtt_wire.specs.declared.packet.Connect.{Connect}
+use Rattle.mqtt_wire.specs.declared.packet.Connack.TheVariants.{Accepted, Refused}
+use Rattle.mqtt_wire.specs.declared.packet.Acceptance.{Acceptance}
+use Rattle.mqtt_wire.specs.declared.packet.ConnectRefusal.{ConnectRefusal}
 use Rattle.mqtt_wire.specs.declared.packet.Publish.{Publish}
 use Rattle.mqtt_wire.specs.declared.packet.Subscription.{Subscription}
-use Rattle.mqtt_wire.specs.Forms.{u16_bytes, utf8_string, variable_bytes, variable_limit}
-use Rattle.mqtt_wire.specs.Kinds.{bit}
-use Rattle.mqtt_wire.specs.Writing.{properties, protocol, connack_properties, delivery_bytes, options_byte, subscription_bytes, connect_body, publish_body}
-use Rattle.mqtt_wire.proofs.FieldLaws.{no_properties}
+use Rattle.mqtt_wire.specs.Forms.{u16_bytes, binary_data, utf8_string, variable_bytes, variable_limit, variable_byte_integer}
+use Rattle.mqtt_wire.specs.Writing.{connack_properties, connack_body, connect_payload, delivery_bytes, reason_bytes, options_byte, subscription_bytes, connect_body, publish_body}
+use Rattle.mqtt_wire.specs.Sections.{properties}
+use Rattle.mqtt_wire.specs.PropertyLists.{bytes_if, connect_list, publish_list}
 
 -- what holds at Ok, and more
 pub on_ok : {A E P Q : Type 0} (r : Result A E) → (P → Q) → OnOk r P → OnOk r Q
@@ -24,32 +27,62 @@ next_byte (suc more) n large h =
     let less : suc more - 1 ≡ more = omega arith in
     rw (le-ltb n 128 large, less) refl
 
+-- a section of properties
+pub properties_size : (list : List ℕ) → length (properties list) ≡ length (variable_byte_integer (length list)) + length list
+properties_size list = length-append (variable_byte_integer (length list)) list
+
+pub no_properties : properties [] ≡ 0 ∷ []
+unfolding variable_bytes
+no_properties = refl
+
 no_properties_size : length (properties []) ≡ 1
 no_properties_size = ap length no_properties
 
-pub connect_size : (c : Connect) → length (connect_body c) ≡ 13 + length c.client_identifier
-connect_size c =
-    let flags : List ℕ = (2 * bit c.clean_start) ∷ [] in
-    let alive : List ℕ = u16_bytes c.keep_alive in
-    omega (arith, no_properties_size, length-append (protocol ++ flags ++ alive ++ properties []) (utf8_string c.client_identifier), length-append (protocol ++ flags ++ alive) (properties []))
+pub payload_size : (c : Connect) → length (connect_payload c) ≡ 2 + length c.client_identifier + length (bytes_if utf8_string c.user_name) + length (bytes_if binary_data c.password)
+payload_size c =
+    let names : List ℕ = bytes_if utf8_string c.user_name in
+    let last : List ℕ = bytes_if binary_data c.password in
+    omega (arith, length-append (utf8_string c.client_identifier) (names ++ last), length-append names last)
 
-pub connack_size : (present : ℕ) → length (present ∷ 0 ∷ properties connack_properties) ≡ 14
-unfolding variable_bytes
-connack_size present = refl
+pub connect_size : (c : Connect) → length (connect_body c) ≡ 10 + length (properties (connect_list c.properties)) + length (connect_payload c)
+connect_size c = omega (arith, length-append (properties (connect_list c.properties)) (connect_payload c))
 
-pub publish_size : (p : Publish) → length (publish_body p) ≡ 3 + length p.topic + length (delivery_bytes p.delivery) + length p.payload
+pub connack_size : (a : Acceptance) → length (connack_body (Accepted a)) ≡ 2 + length (variable_byte_integer (length (connack_properties a))) + length (connack_properties a)
+connack_size a = omega (arith, length-append (variable_byte_integer (length (connack_properties a))) (connack_properties a))
+
+pub refused_size : (refusal : ConnectRefusal) → length (connack_body (Refused refusal)) ≡ 3
+refused_size refusal = omega (arith, no_properties_size)
+
+pub publish_size : (p : Publish) → length (publish_body p) ≡ 2 + length p.topic + length (delivery_bytes p.delivery) + length (properties (publish_list p.properties)) + length p.payload
 publish_size p =
-    omega (arith, no_properties_size, length-append (utf8_string p.topic ++ delivery_bytes p.delivery ++ properties []) p.payload, length-append (utf8_string p.topic ++ delivery_bytes p.delivery) (properties []), length-append (utf8_string p.topic) (delivery_bytes p.delivery))
+    let section : List ℕ = properties (publish_list p.properties) in
+    omega (arith, length-append (utf8_string p.topic) (delivery_bytes p.delivery ++ (section ++ p.payload)), length-append (delivery_bytes p.delivery) (section ++ p.payload), length-append section p.payload)
 
--- an identifier, no properties, and the entries or codes behind them
-pub listed_size : (identifier : ℕ) (rest : List ℕ) → length (u16_bytes identifier ++ properties [] ++ rest) ≡ 3 + length rest
-listed_size identifier rest =
-    omega (arith, no_properties_size, length-append (u16_bytes identifier ++ properties []) rest, length-append (u16_bytes identifier) (properties []))
+-- an identifier, a section of properties, and the entries or codes behind them
+pub listed_size : (identifier : ℕ) (list rest : List ℕ) → length (u16_bytes identifier ++ (properties list ++ rest)) ≡ 2 + length (properties list) + length rest
+listed_size identifier list rest = omega (arith, length-append (properties list) rest)
+
+-- an identifier and codes
+pub codes_size : (identifier : ℕ) (rest : List ℕ) → length (u16_bytes identifier ++ (properties [] ++ rest)) ≡ 3 + length rest
+codes_size identifier rest = omega (arith, no_properties_size, listed_size identifier [] rest)
+
+-- properties behind a reason code
+pub reason_some : (code : ℕ) (list : List ℕ) → 0 < length list → reason_bytes code list ≡ code ∷ properties list
+reason_some code [] some = absurd (omega arith)
+reason_some code (byte ∷ list) some = refl
+
+pub reason_least : (code : ℕ) (list : List ℕ) → length list ≤ length (reason_bytes code list)
+reason_least code [] = omega arith
+reason_least code (byte ∷ list) = omega (arith, properties_size (byte ∷ list))
 
 -- the entries up to one of them take no more bytes than all of them
 pub entry_within : (entries : List Subscription) (i : ℕ) (entry : Subscription) → i < length entries → entry ≡ get_or entries i entry → length (flat_map subscription_bytes (take i entries)) + (3 + length entry.filter) ≤ length (flat_map subscription_bytes entries)
 entry_within entries i entry lt is =
     omega (arith, length-flat_map-take subscription_bytes entries i entry lt, ap (λ (s : Subscription). length (subscription_bytes s)) is, length-append (utf8_string entry.filter) (options_byte entry.options ∷ []))
+
+pub filter_within : (filters : List (List ℕ)) (i : ℕ) (filter : List ℕ) → i < length filters → filter ≡ get_or filters i filter → length (flat_map utf8_string (take i filters)) + (2 + length filter) ≤ length (flat_map utf8_string filters)
+filter_within filters i filter lt is =
+    omega (arith, length-flat_map-take utf8_string filters i filter lt, ap (λ (t : List ℕ). length (utf8_string t)) is)
 
 -- a size that was tested is the Remaining Length
 pub sized : (found : Option ℕ) (size remaining : ℕ) → size ≡ remaining → MatchOption found (268435455 < size) (λ n. (n ≡ size) × (size ≤ 268435455)) → MatchOption found (268435455 < remaining) (λ n. (n ≡ remaining) × (n ≤ 268435455))

@@ -1,5 +1,5 @@
 -- The body of each kind of packet, read field by field: the packet, or the first fault (chapter 3).
-use Rattle.std.specs.Prelude.{ℕ, zero, suc, ◌/◌, ◌%◌, ◌==◌, ◌||◌, nat_lt, bytes_eq, codes, if◌then◌else◌, Bool, List, [], ◌∷◌, length, Option, Some, None, Result, Ok, Err}
+use Rattle.std.specs.Prelude.{ℕ, zero, suc, ◌/◌, ◌%◌, ◌==◌, nat_lt, if◌then◌else◌, Bool, List, [], ◌∷◌, length, Option, Some, None, Result, Ok, Err}
 use Rattle.mqtt_wire.specs.declared.fault.StreamFault.{StreamFault}
 use Rattle.mqtt_wire.specs.declared.fault.StreamFault.TheVariants.{Malformed, Protocol}
 use Rattle.mqtt_wire.specs.declared.packet.QoS.{QoS}
@@ -8,11 +8,15 @@ use Rattle.mqtt_wire.specs.declared.packet.RetainHandling.{RetainHandling}
 use Rattle.mqtt_wire.specs.declared.packet.RetainHandling.TheVariants.{Send, SendIfNew, DoNotSend}
 use Rattle.mqtt_wire.specs.declared.packet.Delivery.{Delivery}
 use Rattle.mqtt_wire.specs.declared.packet.Delivery.TheVariants.{AtMostOnce, AtLeastOnce, ExactlyOnce}
+use Rattle.mqtt_wire.specs.declared.packet_properties.ConnectProperties.{ConnectProperties}
 use Rattle.mqtt_wire.specs.declared.packet.Connect.{Connect}
+use Rattle.mqtt_wire.specs.declared.bodies.ConnectPayload.{ConnectPayload}
+use Rattle.mqtt_wire.specs.declared.packet.Disconnect.{Disconnect}
 use Rattle.mqtt_wire.specs.declared.packet.Publish.{Publish}
 use Rattle.mqtt_wire.specs.declared.packet.Puback.{Puback}
 use Rattle.mqtt_wire.specs.declared.packet.Subscribe.{Subscribe}
 use Rattle.mqtt_wire.specs.declared.packet.Subscription.{Subscription}
+use Rattle.mqtt_wire.specs.declared.packet.Unsubscribe.{Unsubscribe}
 use Rattle.mqtt_wire.specs.declared.packet.SubscriptionOptions.{SubscriptionOptions}
 use Rattle.mqtt_wire.specs.declared.packet.Packet.{Packet}
 use Rattle.mqtt_wire.specs.declared.packet.Packet.TheVariants as packets
@@ -21,37 +25,56 @@ use Rattle.mqtt_wire.specs.declared.kind.Kind.TheVariants as kinds
 use Rattle.mqtt_wire.specs.declared.kind.PublishFlags.{PublishFlags}
 use Rattle.mqtt_wire.specs.Faults.{◌>>=◌}
 use Rattle.mqtt_wire.specs.Kinds.{qos_at}
-use Rattle.mqtt_wire.specs.Fields.{Field, byte_at, u16_at, text_at, identifier_at, properties_at, at_end}
+use Rattle.mqtt_wire.specs.Protocol.{is_mqtt_5, are_connect_flags, has_will}
+use Rattle.mqtt_wire.specs.Fields.{Field, byte_at, u16_at, binary_at, text_at, identifier_at, field_if, at_end}
+use Rattle.mqtt_wire.specs.declared.property.Section.{Section}
+use Rattle.mqtt_wire.specs.declared.property.Section.TheVariants as sections
+use Rattle.mqtt_wire.specs.declared.properties.Properties.{Properties}
+use Rattle.mqtt_wire.specs.Properties.{nothing}
+use Rattle.mqtt_wire.specs.Sections.{properties_at}
+use Rattle.mqtt_wire.specs.PropertyLists.{connect_of, publish_of, puback_of, subscribe_of, unsubscribe_of, disconnect_of}
 
 -- a value that must be so, or the packet is malformed
 abbrev pub expect : Bool → Result (Unit {0}) StreamFault
 expect holds = if holds then Ok tt else Err Malformed
 
--- 3.1.2.1 and 3.1.2.2: the Protocol Name MQTT and the Protocol Version 5, the only ones that are read yet
-unfoldable pub protocol_at : List ℕ → Field (Unit {0})
-protocol_at bytes = do
-  name ← text_at bytes
-  named ← expect (bytes_eq name.0 (codes "MQTT"))
-  version ← byte_at name.1
-  is_five ← expect (version.0 == 5)
-  Ok (tt, version.1)
+-- 3.1.3: Client Identifier, User Name and Password, and nothing behind them
+unfoldable pub connect_payload_at : ℕ → List ℕ → Result ConnectPayload StreamFault
+connect_payload_at flags bytes = do
+  client_identifier ← text_at bytes
+  user_name ← field_if (flags / 128 % 2 == 1) text_at client_identifier.1
+  password ← field_if (flags / 64 % 2 == 1) binary_at user_name.1
+  at_end (record { client_identifier = client_identifier.0; user_name = user_name.0; password = password.0 }) password.1
 
--- 3.1.2.3 Connect Flags: of them only Clean Start is read yet
-unfoldable pub connect_flags_at : List ℕ → Field Bool
-connect_flags_at bytes = do
+-- 3.1.2.10 to 3.1.3: what stands behind flags without a will
+unfoldable pub connect_fields_at : ℕ → List ℕ → Result Connect StreamFault
+connect_fields_at flags bytes = do
+  keep_alive ← u16_at bytes
+  all ← properties_at sections.Connect keep_alive.1
+  properties ← connect_of all.0
+  payload ← connect_payload_at flags all.1
+  Ok (record {
+    clean_start = flags / 2 % 2 == 1;
+    keep_alive = keep_alive.0;
+    properties = properties;
+    client_identifier = payload.client_identifier;
+    user_name = payload.user_name;
+    password = payload.password;
+  })
+
+-- what stands behind the version 5: behind a will flag nothing is looked at (profile)
+unfoldable pub connect_5_at : List ℕ → Result Packet StreamFault
+connect_5_at bytes = do
   flags ← byte_at bytes
-  lawful ← expect (flags.0 == 0 || flags.0 == 2)
-  Ok (flags.0 == 2, flags.1)
+  lawful ← expect (are_connect_flags flags.0)
+  if has_will flags.0 then Ok packets.WithWill else (connect_fields_at flags.0 flags.1 >>= λ p. Ok (packets.Connect p))
 
--- 3.1 CONNECT
-unfoldable pub connect_at : List ℕ → Result Connect StreamFault
+-- 3.1 CONNECT: behind another name or version nothing is looked at (profile)
+unfoldable pub connect_at : List ℕ → Result Packet StreamFault
 connect_at body = do
-  protocol ← protocol_at body
-  clean_start ← connect_flags_at protocol.1
-  keep_alive ← u16_at clean_start.1
-  empty ← properties_at keep_alive.1
-  client_identifier ← text_at empty.1
-  at_end (record { clean_start = clean_start.0; keep_alive = keep_alive.0; client_identifier = client_identifier.0 }) client_identifier.1
+  name ← text_at body
+  version ← byte_at name.1
+  if is_mqtt_5 name.0 version.0 then connect_5_at version.1 else Ok (packets.OtherVersion version.0)
 
 -- 3.3.2.2: there is an identifier where the QoS is not 0
 unfoldable pub delivery_at : QoS → List ℕ → Field Delivery
@@ -64,21 +87,29 @@ unfoldable pub publish_body_at : PublishFlags → List ℕ → Result Publish St
 publish_body_at flags body = do
   topic ← text_at body
   delivery ← delivery_at flags.qos topic.1
-  empty ← properties_at delivery.1
-  Ok (record { dup = flags.dup; retain = flags.retain; topic = topic.0; delivery = delivery.0; payload = empty.1 })
+  all ← properties_at sections.Publish delivery.1
+  Ok (record { dup = flags.dup; retain = flags.retain; topic = topic.0; delivery = delivery.0; properties = publish_of all.0; payload = all.1 })
 
--- 3.4.2.1 and 3.14.2.1: a reason code, 0 where it is left out, and the properties, which may be left out too
-unfoldable pub reason_at : List ℕ → Result ℕ StreamFault
-reason_at [] = Ok 0
-reason_at (code ∷ []) = Ok code
-reason_at (code ∷ byte ∷ rest) = properties_at (byte ∷ rest) >>= λ empty. at_end code empty.1
+-- properties with nothing behind them
+unfoldable pub last_properties_at : Section → List ℕ → Result Properties StreamFault
+last_properties_at section bytes = properties_at section bytes >>= λ all. at_end all.0 all.1
+
+-- 3.4.2 and 3.14.2: a reason code, 0 where it is left out, and the properties, which may be left out too
+unfoldable pub reason_at : Section → List ℕ → Result (ℕ × Properties) StreamFault
+reason_at section [] = Ok (0, nothing)
+reason_at section (code ∷ []) = Ok (code, nothing)
+reason_at section (code ∷ byte ∷ rest) = last_properties_at section (byte ∷ rest) >>= λ all. Ok (code, all)
 
 -- 3.4 PUBACK
 unfoldable pub puback_at : List ℕ → Result Puback StreamFault
 puback_at body = do
   identifier ← identifier_at body
-  code ← reason_at identifier.1
-  Ok (record { packet_identifier = identifier.0; reason_code = code })
+  reason ← reason_at sections.Puback identifier.1
+  Ok (record { packet_identifier = identifier.0; reason_code = reason.0; properties = puback_of reason.1 })
+
+-- 3.14 DISCONNECT
+unfoldable pub disconnect_at : List ℕ → Result Disconnect StreamFault
+disconnect_at body = reason_at sections.Disconnect body >>= λ reason. Ok (record { reason_code = reason.0; properties = disconnect_of reason.1 })
 
 -- 3.8.3.1 Retain Handling as two bits: 3 is none
 abbrev pub retain_handling_at : ℕ → Option RetainHandling
@@ -105,36 +136,47 @@ subscription_at bytes = do
   options ← options_at byte.0
   Ok (record { filter = filter.0; options = options }, byte.1)
 
--- subscriptions up to the end of the bytes; the first number is at least that of the bytes, and bounds the recursion
-unfoldable pub subscriptions_at : ℕ → List ℕ → Result (List Subscription) StreamFault
-subscriptions_at most [] = Ok []
-subscriptions_at zero (byte ∷ bytes) = Err Malformed
-subscriptions_at (suc most) (byte ∷ bytes) = do
-  first ← subscription_at (byte ∷ bytes)
-  others ← subscriptions_at most first.1
+-- entries up to the end of the bytes; the number is at least that of the bytes, and bounds the recursion
+unfoldable pub entries_within : {A : Type 0} → (List ℕ → Field A) → ℕ → List ℕ → Result (List A) StreamFault
+entries_within entry most [] = Ok []
+entries_within entry zero (byte ∷ bytes) = Err Malformed
+entries_within entry (suc most) (byte ∷ bytes) = do
+  first ← entry (byte ∷ bytes)
+  others ← entries_within entry most first.1
   Ok (first.0 ∷ others)
 
--- 3.8.3: a packet without an entry is a protocol error
-abbrev pub at_least_one : List Subscription → Result (List Subscription) StreamFault
+-- 3.8.3 and 3.10.3: a packet without an entry is a protocol error
+abbrev pub at_least_one : {A : Type 0} → List A → Result (List A) StreamFault
 at_least_one [] = Err Protocol
 at_least_one (first ∷ others) = Ok (first ∷ others)
 
--- the entries of a SUBSCRIBE: there are no more of them than bytes
-unfoldable pub entries_at : List ℕ → Result (List Subscription) StreamFault
-entries_at bytes = subscriptions_at (length bytes) bytes >>= at_least_one
+-- the entries of a SUBSCRIBE or an UNSUBSCRIBE: there are no more of them than bytes
+unfoldable pub entries_at : {A : Type 0} → (List ℕ → Field A) → List ℕ → Result (List A) StreamFault
+entries_at entry bytes = entries_within entry (length bytes) bytes >>= at_least_one
 
 -- 3.8 SUBSCRIBE
 unfoldable pub subscribe_at : List ℕ → Result Subscribe StreamFault
 subscribe_at body = do
   identifier ← identifier_at body
-  empty ← properties_at identifier.1
-  entries ← entries_at empty.1
-  Ok (record { packet_identifier = identifier.0; subscriptions = entries })
+  all ← properties_at sections.Subscribe identifier.1
+  entries ← entries_at subscription_at all.1
+  Ok (record { packet_identifier = identifier.0; properties = subscribe_of all.0; subscriptions = entries })
+
+-- 3.10 UNSUBSCRIBE
+unfoldable pub unsubscribe_at : List ℕ → Result Unsubscribe StreamFault
+unsubscribe_at body = do
+  identifier ← identifier_at body
+  all ← properties_at sections.Unsubscribe identifier.1
+  entries ← entries_at text_at all.1
+  Ok (record { packet_identifier = identifier.0; properties = unsubscribe_of all.0; filters = entries })
 
 -- the body of a packet of that kind
 unfoldable pub body_at : Kind → List ℕ → Result Packet StreamFault
-body_at kinds.Connect body = connect_at body >>= λ p. Ok (packets.Connect p)
+body_at kinds.Connect body = connect_at body
 body_at (kinds.Publish flags) body = publish_body_at flags body >>= λ p. Ok (packets.Publish p)
 body_at kinds.Puback body = puback_at body >>= λ p. Ok (packets.Puback p)
 body_at kinds.Subscribe body = subscribe_at body >>= λ p. Ok (packets.Subscribe p)
-body_at kinds.Disconnect body = reason_at body >>= λ code. Ok (packets.Disconnect (record { reason_code = code }))
+body_at kinds.Unsubscribe body = unsubscribe_at body >>= λ p. Ok (packets.Unsubscribe p)
+body_at kinds.Pingreq body = at_end packets.Pingreq body
+body_at kinds.Disconnect body = disconnect_at body >>= λ p. Ok (packets.Disconnect p)
+body_at (kinds.Foreign kind) body = Ok (packets.Foreign kind)

@@ -1,5 +1,5 @@
 -- The data representations that packets are made of (section 1.5).
-use Rattle.std.specs.Prelude.{ℕ, zero, suc, ◌+◌, ◌*◌, ◌/◌, ◌%◌, ◌==◌, nat_lt, Bool, not, ◌&&◌, if◌then◌else◌, List, [], ◌∷◌, ◌++◌, length}
+use Rattle.std.specs.Prelude.{IsTrue, ◌<◌, ◌^◌, ℕ, zero, suc, ◌+◌, ◌*◌, ◌/◌, ◌%◌, ◌==◌, nat_lt, Bool, not, ◌&&◌, if◌then◌else◌, List, [], ◌∷◌, ◌++◌, length}
 use Rattle.std.specs.List.{list_any}
 use Rattle.std.specs.Str.{is_utf8}
 
@@ -37,3 +37,11 @@ is_text bytes = nat_lt (length bytes) 65536 && not (list_any (λ b. b == 0) byte
 -- .. written as binary data
 abbrev pub utf8_string : List ℕ → List ℕ
 utf8_string text = binary_data text
+
+-- the bytes are a text ..
+abbrev pub IsText : List ℕ → Type 0
+IsText bytes = IsTrue (is_text bytes)
+
+-- .. or Binary Data
+abbrev pub IsBinary : List ℕ → Type 0
+IsBinary bytes = length bytes < 2 ^ 16

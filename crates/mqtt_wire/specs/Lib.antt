@@ -1,7 +1,12 @@
 pub mod Faults
 pub mod Forms
+pub mod Sizes
 pub mod Kinds
+pub mod Protocol
 pub mod Fields
+pub mod Properties
+pub mod Sections
+pub mod PropertyLists
 pub mod Bodies
 pub mod Writing
 pub mod Spelling

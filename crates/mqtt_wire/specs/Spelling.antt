@@ -1,17 +1,26 @@
 -- Which bytes spell a packet of a client (chapter 3).
-use Rattle.std.specs.Prelude.{◌≡◌, ℕ, ◌<◌, ◌≤◌, ◌^◌, IsTrue, List, [], ◌∷◌, ◌++◌, length}
+use Rattle.std.specs.Prelude.{◌≡◌, ℕ, ◌<◌, ◌≤◌, ◌^◌, Bool, true, false, IsTrue, List, [], ◌∷◌, ◌++◌, length, IfSome, Ok}
 use Rattle.std.specs.List.{flat_map, AllByRecursion}
 use Rattle.mqtt_wire.specs.declared.packet.Delivery.{Delivery}
 use Rattle.mqtt_wire.specs.declared.packet.Delivery.TheVariants.{AtMostOnce, AtLeastOnce, ExactlyOnce}
 use Rattle.mqtt_wire.specs.declared.packet.Subscription.{Subscription}
 use Rattle.mqtt_wire.specs.declared.packet.Packet.{Packet}
 use Rattle.mqtt_wire.specs.declared.packet.Packet.TheVariants as packets
-use Rattle.mqtt_wire.specs.Forms.{u16_bytes, is_text}
-use Rattle.mqtt_wire.specs.Writing.{properties, subscription_bytes, connect_body, publish_body, packet_byte, framed}
-
--- 1.5.4: the bytes are a text
-abbrev pub IsText : List ℕ → Type 0
-IsText bytes = IsTrue (is_text bytes)
+use Rattle.mqtt_wire.specs.declared.packet.Connect.{Connect}
+use Rattle.mqtt_wire.specs.declared.packet.Publish.{Publish}
+use Rattle.mqtt_wire.specs.declared.packet.Puback.{Puback}
+use Rattle.mqtt_wire.specs.declared.packet.Subscribe.{Subscribe}
+use Rattle.mqtt_wire.specs.declared.packet.Unsubscribe.{Unsubscribe}
+use Rattle.mqtt_wire.specs.declared.packet.Disconnect.{Disconnect}
+use Rattle.mqtt_wire.specs.declared.property.Section.{Section}
+use Rattle.mqtt_wire.specs.declared.property.Section.TheVariants as sections
+use Rattle.mqtt_wire.specs.declared.properties.Properties.{Properties}
+use Rattle.mqtt_wire.specs.Properties.{nothing}
+use Rattle.mqtt_wire.specs.Sections.{SpellsProperties}
+use Rattle.mqtt_wire.specs.PropertyLists.{connect_of, publish_of, puback_of, subscribe_of, unsubscribe_of, disconnect_of, ConnectFits, PublishFits, PubackFits, SubscribeFits, UnsubscribeFits, DisconnectFits}
+use Rattle.mqtt_wire.specs.Forms.{u16_bytes, utf8_string, IsText, IsBinary}
+use Rattle.mqtt_wire.specs.Protocol.{is_mqtt_5, are_connect_flags, has_will}
+use Rattle.mqtt_wire.specs.Writing.{protocol, connect_flags, connect_payload, delivery_bytes, subscription_bytes, packet_byte, framed}
 
 -- 2.2.1: a Packet Identifier is not 0 and fits two bytes
 abbrev pub IsIdentifier : ℕ → Type 0
@@ -26,32 +35,110 @@ IsDelivery (ExactlyOnce identifier) = IsIdentifier identifier
 abbrev pub IsFiltered : Subscription → Type 0
 IsFiltered subscription = IsText subscription.filter
 
--- the packet is of a kind that a client sends, and its fields are in the range of their types; codes and payloads are
--- bytes wherever the spelling is one of bytes
+-- the packet is one that reading makes of a client's bytes, and its fields are in the range of their types; codes,
+-- versions and payloads are bytes wherever the spelling is one of bytes
 abbrev pub IsFromClient : Packet → Type 0
-IsFromClient (packets.Connect c) = IsText c.client_identifier × (c.keep_alive < 2 ^ 16)
+IsFromClient (packets.Connect c) = IsText c.client_identifier × (c.keep_alive < 2 ^ 16) × IfSome c.user_name IsText × IfSome c.password IsBinary
 IsFromClient (packets.Connack c) = ⊥
 IsFromClient (packets.Publish p) = IsText p.topic × IsDelivery p.delivery
 IsFromClient (packets.Puback p) = IsIdentifier p.packet_identifier
 IsFromClient (packets.Subscribe s) = IsIdentifier s.packet_identifier × (0 < length s.subscriptions) × AllByRecursion IsFiltered s.subscriptions
 IsFromClient (packets.Suback s) = ⊥
+IsFromClient (packets.Unsubscribe u) = IsIdentifier u.packet_identifier × (0 < length u.filters) × AllByRecursion IsText u.filters
+IsFromClient (packets.Unsuback u) = ⊥
+IsFromClient packets.Pingreq = Unit {0}
+IsFromClient packets.Pingresp = ⊥
 IsFromClient (packets.Disconnect d) = Unit {0}
+IsFromClient (packets.Foreign kind) = Unit {0}
+IsFromClient (packets.OtherVersion version) = Unit {0}
+IsFromClient packets.WithWill = Unit {0}
 
--- 3.4.2.1 and 3.14.2.1: a Reason Code of 0 may be left out, and so may an empty section of properties behind it
-abbrev pub SpellsReason : ℕ → List ℕ → Type 0
-SpellsReason code [] = code ≡ 0
-SpellsReason code (byte ∷ []) = byte ≡ code
-SpellsReason code (byte ∷ next ∷ rest) = (byte ≡ code) × (next ∷ rest ≡ properties [])
+-- its properties are in the range of their types too
+abbrev pub PropertiesFit : Packet → Type 0
+PropertiesFit (packets.Connect c) = ConnectFits c.properties
+PropertiesFit (packets.Publish p) = PublishFits p.properties
+PropertiesFit (packets.Puback p) = PubackFits p.properties
+PropertiesFit (packets.Subscribe s) = SubscribeFits s.properties
+PropertiesFit (packets.Unsubscribe u) = UnsubscribeFits u.properties
+PropertiesFit (packets.Disconnect d) = DisconnectFits d.properties
+PropertiesFit _ = Unit {0}
+
+-- 3.4.2 and 3.14.2: a Reason Code of 0 may be left out, and so may an empty section of properties behind it
+abbrev pub SpellsReason : Section → ℕ → Properties → List ℕ → Type 0
+SpellsReason section code all [] = (code ≡ 0) × (all ≡ nothing)
+SpellsReason section code all (byte ∷ []) = (byte ≡ code) × (all ≡ nothing)
+SpellsReason section code all (byte ∷ next ∷ rest) = (byte ≡ code) × SpellsProperties section all (next ∷ rest)
+
+-- a CONNECT of another name or version, and anything behind that
+abbrev pub SpellsOtherVersion : ℕ → List ℕ → Type 0
+SpellsOtherVersion version body = (name : List ℕ) × (rest : List ℕ) × (body ≡ utf8_string name ++ (version ∷ rest)) × IsText name × (is_mqtt_5 name version ≡ false)
+
+-- a CONNECT of version 5 with a will in lawful flags, and anything behind them
+abbrev pub SpellsWithWill : List ℕ → Type 0
+SpellsWithWill body = (flags : ℕ) × (rest : List ℕ) × (body ≡ protocol ++ (flags ∷ rest)) × IsTrue (are_connect_flags flags) × IsTrue (has_will flags)
+
+-- 3.1: the fields in their order, and a section of the properties
+pub record SpellsConnect (c : Connect) (body : List ℕ) : Type 0 where
+  pub all : Properties
+  pub section : List ℕ
+  pub spelled : SpellsProperties sections.Connect all section
+  pub properties_are : connect_of all ≡ Ok c.properties
+  pub parts : body ≡ protocol ++ (connect_flags c ∷ u16_bytes c.keep_alive ++ (section ++ connect_payload c))
+
+-- 3.3
+pub record SpellsPublish (p : Publish) (body : List ℕ) : Type 0 where
+  pub all : Properties
+  pub section : List ℕ
+  pub spelled : SpellsProperties sections.Publish all section
+  pub properties_are : publish_of all ≡ p.properties
+  pub parts : body ≡ utf8_string p.topic ++ (delivery_bytes p.delivery ++ (section ++ p.payload))
+
+-- 3.4
+pub record SpellsPuback (p : Puback) (body : List ℕ) : Type 0 where
+  pub all : Properties
+  pub reason : List ℕ
+  pub spelled : SpellsReason sections.Puback p.reason_code all reason
+  pub properties_are : puback_of all ≡ p.properties
+  pub parts : body ≡ u16_bytes p.packet_identifier ++ reason
+
+-- 3.8
+pub record SpellsSubscribe (s : Subscribe) (body : List ℕ) : Type 0 where
+  pub all : Properties
+  pub section : List ℕ
+  pub spelled : SpellsProperties sections.Subscribe all section
+  pub properties_are : subscribe_of all ≡ s.properties
+  pub parts : body ≡ u16_bytes s.packet_identifier ++ (section ++ flat_map subscription_bytes s.subscriptions)
+
+-- 3.10
+pub record SpellsUnsubscribe (u : Unsubscribe) (body : List ℕ) : Type 0 where
+  pub all : Properties
+  pub section : List ℕ
+  pub spelled : SpellsProperties sections.Unsubscribe all section
+  pub properties_are : unsubscribe_of all ≡ u.properties
+  pub parts : body ≡ u16_bytes u.packet_identifier ++ (section ++ flat_map utf8_string u.filters)
+
+-- 3.14
+pub record SpellsDisconnect (d : Disconnect) (body : List ℕ) : Type 0 where
+  pub all : Properties
+  pub spelled : SpellsReason sections.Disconnect d.reason_code all body
+  pub properties_are : disconnect_of all ≡ d.properties
 
 -- the bytes are a body of the packet
 abbrev pub SpellsBody : Packet → List ℕ → Type 0
-SpellsBody (packets.Connect c) body = body ≡ connect_body c
+SpellsBody (packets.Connect c) body = SpellsConnect c body
 SpellsBody (packets.Connack c) body = ⊥
-SpellsBody (packets.Publish p) body = body ≡ publish_body p
-SpellsBody (packets.Puback p) body = (reason : List ℕ) × (body ≡ u16_bytes p.packet_identifier ++ reason) × SpellsReason p.reason_code reason
-SpellsBody (packets.Subscribe s) body = body ≡ u16_bytes s.packet_identifier ++ (properties [] ++ flat_map subscription_bytes s.subscriptions)
+SpellsBody (packets.Publish p) body = SpellsPublish p body
+SpellsBody (packets.Puback p) body = SpellsPuback p body
+SpellsBody (packets.Subscribe s) body = SpellsSubscribe s body
 SpellsBody (packets.Suback s) body = ⊥
-SpellsBody (packets.Disconnect d) body = SpellsReason d.reason_code body
+SpellsBody (packets.Unsubscribe u) body = SpellsUnsubscribe u body
+SpellsBody (packets.Unsuback u) body = ⊥
+SpellsBody packets.Pingreq body = body ≡ []
+SpellsBody packets.Pingresp body = ⊥
+SpellsBody (packets.Disconnect d) body = SpellsDisconnect d body
+SpellsBody (packets.Foreign kind) body = Unit {0}
+SpellsBody (packets.OtherVersion version) body = SpellsOtherVersion version body
+SpellsBody packets.WithWill body = SpellsWithWill body
 
 -- the most bytes that a packet has in all (profile)
 abbrev pub maximum_packet_size : ℕ

@@ -1,5 +1,5 @@
 -- The one form in which each packet is written (chapter 3).
-use Rattle.std.specs.Prelude.{ℕ, ◌+◌, ◌*◌, ◌==◌, codes, if◌then◌else◌, List, [], ◌∷◌, ◌++◌, length}
+use Rattle.std.specs.Prelude.{ℕ, ◌+◌, ◌*◌, ◌==◌, codes, if◌then◌else◌, List, [], ◌∷◌, ◌++◌, length, Option, Some, None, is_some}
 use Rattle.std.specs.List.{flat_map}
 use Rattle.mqtt_wire.specs.declared.packet.QoS.{QoS}
 use Rattle.mqtt_wire.specs.declared.packet.QoS.TheVariants as qos
@@ -8,24 +8,46 @@ use Rattle.mqtt_wire.specs.declared.packet.RetainHandling.TheVariants.{Send, Sen
 use Rattle.mqtt_wire.specs.declared.packet.Delivery.{Delivery}
 use Rattle.mqtt_wire.specs.declared.packet.Delivery.TheVariants.{AtMostOnce, AtLeastOnce, ExactlyOnce}
 use Rattle.mqtt_wire.specs.declared.packet.Connect.{Connect}
+use Rattle.mqtt_wire.specs.declared.packet.Connack.{Connack}
+use Rattle.mqtt_wire.specs.declared.packet.Connack.TheVariants.{Accepted, Refused}
+use Rattle.mqtt_wire.specs.declared.packet.Acceptance.{Acceptance}
+use Rattle.mqtt_wire.specs.declared.packet.ConnectRefusal.{ConnectRefusal}
+use Rattle.mqtt_wire.specs.declared.packet.ConnectRefusal.TheVariants as refusals
 use Rattle.mqtt_wire.specs.declared.packet.Publish.{Publish}
 use Rattle.mqtt_wire.specs.declared.packet.Subscription.{Subscription}
 use Rattle.mqtt_wire.specs.declared.packet.SubscriptionOptions.{SubscriptionOptions}
 use Rattle.mqtt_wire.specs.declared.packet.Packet.{Packet}
 use Rattle.mqtt_wire.specs.declared.packet.Packet.TheVariants as packets
+use Rattle.mqtt_wire.specs.declared.packet.ForeignKind.TheVariants as foreign
 use Rattle.mqtt_wire.specs.declared.kind.Kind.TheVariants as kinds
 use Rattle.mqtt_wire.specs.declared.kind.PublishFlags.{PublishFlags}
-use Rattle.mqtt_wire.specs.Forms.{u16_bytes, u32_bytes, variable_byte_integer, utf8_string}
-use Rattle.mqtt_wire.specs.Kinds.{bit, qos_bits, first_byte}
+use Rattle.mqtt_wire.specs.Forms.{u16_bytes, u32_bytes, variable_byte_integer, binary_data, utf8_string}
+use Rattle.mqtt_wire.specs.Sections.{properties}
+use Rattle.mqtt_wire.specs.PropertyLists.{bytes_if, connect_list, publish_list, puback_list, subscribe_list, unsubscribe_list, disconnect_list}
+use Rattle.mqtt_wire.specs.Kinds.{bit, qos_bits, foreign_byte, first_byte}
 
--- 2.2.2 Properties: the length of all of them, and they themselves
-abbrev pub properties : List ℕ → List ℕ
-properties bytes = variable_byte_integer (length bytes) ++ bytes
+-- 3.2.2.3.7: the identifier that was assigned
+abbrev pub assigned : List ℕ → List ℕ
+assigned identifier = 0x12 ∷ utf8_string identifier
 
--- 3.2.2.3: what the broker offers: Maximum QoS 1, Retain Available 0, Maximum Packet Size 65,536,
--- Subscription Identifiers Available 0
-abbrev pub connack_properties : List ℕ
-connack_properties = 0x24 ∷ 1 ∷ 0x25 ∷ 0 ∷ 0x27 ∷ u32_bytes 65536 ++ 0x29 ∷ 0 ∷ []
+-- 3.2.2.3: an identifier that was assigned, and what the broker offers: Maximum QoS 1, Retain Available 0, Maximum
+-- Packet Size 65,536, Subscription Identifiers Available 0
+abbrev pub connack_properties : Acceptance → List ℕ
+connack_properties a = bytes_if assigned a.assigned_client_identifier ++ 0x24 ∷ 1 ∷ 0x25 ∷ 0 ∷ 0x27 ∷ u32_bytes 65536 ++ 0x29 ∷ 0 ∷ []
+
+-- 3.2.2.2: the Reason Code of a refusal
+abbrev pub refusal_code : ConnectRefusal → ℕ
+refusal_code refusals.ProtocolError = 0x82
+refusal_code refusals.ImplementationSpecificError = 0x83
+refusal_code refusals.UnsupportedProtocolVersion = 0x84
+refusal_code refusals.ClientIdentifierNotValid = 0x85
+refusal_code refusals.ServerBusy = 0x89
+refusal_code refusals.BadAuthenticationMethod = 0x8C
+
+-- 3.2: Session Present, the Reason Code and the properties
+abbrev pub connack_body : Connack → List ℕ
+connack_body (Accepted a) = bit a.session_present ∷ 0 ∷ properties (connack_properties a)
+connack_body (Refused refusal) = 0 ∷ refusal_code refusal ∷ properties []
 
 -- 3.3.1.2: the quality of service of a PUBLISH
 abbrev pub qos_of : Delivery → QoS
@@ -39,9 +61,10 @@ delivery_bytes AtMostOnce = []
 delivery_bytes (AtLeastOnce identifier) = u16_bytes identifier
 delivery_bytes (ExactlyOnce identifier) = u16_bytes identifier
 
--- 3.4.2.1 and 3.14.2.1: a Reason Code of 0 is left out
-abbrev pub reason_bytes : ℕ → List ℕ
-reason_bytes code = if code == 0 then [] else code ∷ []
+-- 3.4.2 and 3.14.2: an empty section is left out, and then a Reason Code of 0 too
+abbrev pub reason_bytes : ℕ → List ℕ → List ℕ
+reason_bytes code [] = if code == 0 then [] else code ∷ []
+reason_bytes code (byte ∷ list) = code ∷ properties (byte ∷ list)
 
 abbrev pub retain_handling_bits : RetainHandling → ℕ
 retain_handling_bits Send = 0
@@ -60,23 +83,39 @@ subscription_bytes s = utf8_string s.filter ++ options_byte s.options ∷ []
 abbrev pub protocol : List ℕ
 protocol = utf8_string (codes "MQTT") ++ 5 ∷ []
 
--- 3.1.2 and 3.1.3: protocol, Connect Flags, Keep Alive, no properties, Client Identifier
+-- 3.1.2.3 Connect Flags
+abbrev pub connect_flags : Connect → ℕ
+connect_flags c = 2 * bit c.clean_start + 64 * bit (is_some c.password) + 128 * bit (is_some c.user_name)
+
+-- 3.1.3: Client Identifier, User Name, Password
+abbrev pub connect_payload : Connect → List ℕ
+connect_payload c = utf8_string c.client_identifier ++ (bytes_if utf8_string c.user_name ++ bytes_if binary_data c.password)
+
+-- 3.1.2 and 3.1.3: protocol, Connect Flags, Keep Alive, properties, and the payload
 abbrev pub connect_body : Connect → List ℕ
-connect_body c = protocol ++ (2 * bit c.clean_start) ∷ [] ++ u16_bytes c.keep_alive ++ properties [] ++ utf8_string c.client_identifier
+connect_body c = protocol ++ (connect_flags c ∷ u16_bytes c.keep_alive ++ (properties (connect_list c.properties) ++ connect_payload c))
 
--- 3.3.2 and 3.3.3: topic, identifier, no properties, payload
+-- 3.3.2 and 3.3.3: topic, identifier, properties, payload
 abbrev pub publish_body : Publish → List ℕ
-publish_body p = utf8_string p.topic ++ delivery_bytes p.delivery ++ properties [] ++ p.payload
+publish_body p = utf8_string p.topic ++ (delivery_bytes p.delivery ++ (properties (publish_list p.properties) ++ p.payload))
 
--- the body in which a packet is written
+-- The body in which a packet is written. Of one whose body is not looked at when it is read, it is the shortest that is
+-- read so.
 abbrev pub written_body : Packet → List ℕ
 written_body (packets.Connect c) = connect_body c
-written_body (packets.Connack c) = bit c.session_present ∷ 0 ∷ properties connack_properties
+written_body (packets.Connack c) = connack_body c
 written_body (packets.Publish p) = publish_body p
-written_body (packets.Puback p) = u16_bytes p.packet_identifier ++ reason_bytes p.reason_code
-written_body (packets.Subscribe s) = u16_bytes s.packet_identifier ++ properties [] ++ flat_map subscription_bytes s.subscriptions
-written_body (packets.Suback s) = u16_bytes s.packet_identifier ++ properties [] ++ s.reason_codes
-written_body (packets.Disconnect d) = reason_bytes d.reason_code
+written_body (packets.Puback p) = u16_bytes p.packet_identifier ++ reason_bytes p.reason_code (puback_list p.properties)
+written_body (packets.Subscribe s) = u16_bytes s.packet_identifier ++ (properties (subscribe_list s.properties) ++ flat_map subscription_bytes s.subscriptions)
+written_body (packets.Suback s) = u16_bytes s.packet_identifier ++ (properties [] ++ s.reason_codes)
+written_body (packets.Unsubscribe u) = u16_bytes u.packet_identifier ++ (properties (unsubscribe_list u.properties) ++ flat_map utf8_string u.filters)
+written_body (packets.Unsuback u) = u16_bytes u.packet_identifier ++ (properties [] ++ u.reason_codes)
+written_body packets.Pingreq = []
+written_body packets.Pingresp = []
+written_body (packets.Disconnect d) = reason_bytes d.reason_code (disconnect_list d.properties)
+written_body (packets.Foreign kind) = []
+written_body (packets.OtherVersion version) = utf8_string [] ++ version ∷ []
+written_body packets.WithWill = protocol ++ 4 ∷ []
 
 -- 3.3.1: the flags of a PUBLISH
 abbrev pub flags_of : Publish → PublishFlags
@@ -85,12 +124,19 @@ flags_of p = record { dup = p.dup; qos = qos_of p.delivery; retain = p.retain }
 -- the first byte of a packet
 abbrev pub packet_byte : Packet → ℕ
 packet_byte (packets.Connect c) = first_byte kinds.Connect
-packet_byte (packets.Connack c) = 0x20
+packet_byte (packets.Connack c) = foreign_byte foreign.Connack
 packet_byte (packets.Publish p) = first_byte (kinds.Publish (flags_of p))
 packet_byte (packets.Puback p) = first_byte kinds.Puback
 packet_byte (packets.Subscribe s) = first_byte kinds.Subscribe
-packet_byte (packets.Suback s) = 0x90
+packet_byte (packets.Suback s) = foreign_byte foreign.Suback
+packet_byte (packets.Unsubscribe u) = first_byte kinds.Unsubscribe
+packet_byte (packets.Unsuback u) = foreign_byte foreign.Unsuback
+packet_byte packets.Pingreq = first_byte kinds.Pingreq
+packet_byte packets.Pingresp = foreign_byte foreign.Pingresp
 packet_byte (packets.Disconnect d) = first_byte kinds.Disconnect
+packet_byte (packets.Foreign kind) = foreign_byte kind
+packet_byte (packets.OtherVersion version) = first_byte kinds.Connect
+packet_byte packets.WithWill = first_byte kinds.Connect
 
 -- 2.1: a header and the body behind it
 abbrev pub framed : ℕ → List ℕ → List ℕ

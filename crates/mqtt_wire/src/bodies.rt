@@ -3,25 +3,38 @@
 
 ghost use Rattle.std.specs.Prelude.{◌≡◌, ◌<◌, List, ℕ, length, OnOk};
 ghost use Rattle.mqtt_wire.specs.Faults.{Gives, GivesField, ReadsField};
-ghost use Rattle.mqtt_wire.specs.Fields.{Field};
-ghost use Rattle.mqtt_wire.specs.Bodies.{expect, protocol_at, connect_flags_at, connect_at, delivery_at, publish_body_at, reason_at, puback_at, retain_handling_at, options_at, subscription_at, subscriptions_at, entries_at, subscribe_at, body_at};
+ghost use Rattle.mqtt_wire.specs.Fields.{Field, text_at};
+ghost use Rattle.mqtt_wire.specs.Protocol.{are_connect_flags};
+ghost use Rattle.mqtt_wire.specs.Bodies.{expect, connect_payload_at, connect_fields_at, connect_5_at, connect_at, delivery_at, publish_body_at, last_properties_at, reason_at, puback_at, disconnect_at, retain_handling_at, options_at, subscription_at, entries_within, at_least_one, entries_at, subscribe_at, unsubscribe_at, body_at};
 
+use crate::binary::Binary;
 use crate::fault::{Fault, StreamFault};
-use crate::fields::{read_byte, read_identifier, read_properties, read_text, read_u16};
+use crate::fields::{
+    read_binary_if, read_byte, read_identifier, read_text, read_text_if, read_u16,
+};
 use crate::kind::{Kind, PublishFlags, qos_of};
 use crate::non_empty::NonEmpty;
 use crate::packet::{
     Connect, Delivery, Disconnect, Packet, Puback, Publish, QoS, RetainHandling, Subscribe,
-    Subscription, SubscriptionOptions,
+    Subscription, SubscriptionOptions, Unsubscribe,
 };
+use crate::properties::Properties;
+use crate::property::Section;
+use crate::sections::read_properties;
+use crate::text::Text;
 use bytes::Bytes;
 use std::alloc::Global;
 
 /// The Protocol Version of MQTT 5.0 (section 3.1.2.2).
 const PROTOCOL_VERSION: u8 = 5;
 
-/// The connect flag Clean Start (section 3.1.2.4).
-const CLEAN_START: u8 = 2;
+/// The payload of a CONNECT (section 3.1.3).
+#[derive(Debug, Drop)]
+pub(crate) struct ConnectPayload {
+    client_identifier: Text,
+    user_name: Option<Text>,
+    password: Option<Binary>,
+}
 
 /// Reads the body of a packet of that kind, all of it.
 #[tactic(auto, unfolding(crate::specs::Bodies::body_at))]
@@ -29,14 +42,17 @@ pub(crate) fn read_body(alloc: Global, kind: Kind, body: Bytes) -> Result<Packet
     ensures { Gives (λ packet. packet) result (body_at kind body) }
 {
     match kind {
-        Kind::Connect => Ok(Packet::Connect(read_connect(body)?)),
-        Kind::Publish(flags) => Ok(Packet::Publish(read_publish(flags, body)?)),
-        Kind::Puback => Ok(Packet::Puback(read_puback(body)?)),
+        Kind::Connect => read_connect(alloc, body),
+        Kind::Publish(flags) => Ok(Packet::Publish(read_publish(alloc, flags, body)?)),
+        Kind::Puback => Ok(Packet::Puback(read_puback(alloc, body)?)),
         Kind::Subscribe => Ok(Packet::Subscribe(read_subscribe(alloc, body)?)),
-        Kind::Disconnect => {
-            let reason_code = read_reason(body)?;
-            Ok(Packet::Disconnect(Disconnect { reason_code }))
+        Kind::Unsubscribe => Ok(Packet::Unsubscribe(read_unsubscribe(alloc, body)?)),
+        Kind::Pingreq => {
+            expected(body.is_empty())?;
+            Ok(Packet::Pingreq)
         }
+        Kind::Disconnect => Ok(Packet::Disconnect(read_disconnect(alloc, body)?)),
+        Kind::Foreign(kind) => Ok(Packet::Foreign(kind)),
     }
 }
 
@@ -51,43 +67,72 @@ fn expected(holds: bool) -> Result<(), StreamFault>
     }
 }
 
-/// Takes the protocol name and the version (sections 3.1.2.1 and 3.1.2.2).
-#[tactic(auto, unfolding(crate::specs::Bodies::protocol_at))]
-fn read_protocol(body: &mut Bytes) -> Result<(), Fault>
-    ensures { GivesField result body.new (protocol_at body.old) }
-{
-    let name = read_text(body)?;
-    expected(name.as_bytes() == b"MQTT".as_slice())?;
-    let version = read_byte(body)?;
-    expected(version == PROTOCOL_VERSION)?;
-    Ok(())
-}
-
-/// Takes the connect flags, and answers Clean Start (section 3.1.2.3).
-#[tactic(auto, unfolding(crate::specs::Bodies::connect_flags_at))]
-fn read_connect_flags(body: &mut Bytes) -> Result<bool, StreamFault>
-    ensures { ReadsField result body.new (connect_flags_at body.old) }
-{
-    let flags = read_byte(body)?;
-    expected(flags == 0 || flags == CLEAN_START)?;
-    Ok(flags == CLEAN_START)
-}
-
-/// Reads a CONNECT (section 3.1).
+/// Reads a CONNECT (section 3.1). Behind another protocol name or version nothing is looked at.
 #[tactic(auto, unfolding(crate::specs::Bodies::connect_at))]
-fn read_connect(mut body: Bytes) -> Result<Connect, Fault>
+fn read_connect(alloc: Global, mut body: Bytes) -> Result<Packet, Fault>
     ensures { Gives (λ packet. packet) result (connect_at body) }
 {
-    read_protocol(&mut body)?;
-    let clean_start = read_connect_flags(&mut body)?;
+    let name = read_text(&mut body)?;
+    let version = read_byte(&mut body)?;
+    if name.as_bytes() == b"MQTT".as_slice() && version == PROTOCOL_VERSION {
+        read_connect_5(alloc, body)
+    } else {
+        Ok(Packet::OtherVersion(version))
+    }
+}
+
+/// Reads what stands behind the version 5. Behind a will flag nothing is looked at.
+#[tactic(auto, unfolding(crate::specs::Bodies::connect_5_at))]
+fn read_connect_5(alloc: Global, mut body: Bytes) -> Result<Packet, Fault>
+    ensures { Gives (λ packet. packet) result (connect_5_at body) }
+{
+    let flags = read_byte(&mut body)?;
+    expected(are_connect_flags(flags))?;
+    if flags / 4 % 2 == 1 {
+        return Ok(Packet::WithWill);
+    }
+    Ok(Packet::Connect(read_connect_fields(alloc, flags, body)?))
+}
+
+/// Whether the connect flags are lawful: bit 0 is reserved, a will QoS of 3 is none, and without a will its flags are 0
+/// (section 3.1.2.3).
+fn are_connect_flags(flags: u8) -> bool
+    ensures { result ≡ are_connect_flags flags }
+{
+    flags % 2 == 0 && flags / 8 % 4 != 3 && (flags / 4 % 2 == 1 || flags / 8 % 8 == 0)
+}
+
+/// Reads what stands behind the connect flags of a CONNECT without a will (sections 3.1.2.10 and 3.1.3).
+#[tactic(auto, unfolding(crate::specs::Bodies::connect_fields_at))]
+fn read_connect_fields(alloc: Global, flags: u8, mut body: Bytes) -> Result<Connect, Fault>
+    ensures { Gives (λ packet. packet) result (connect_fields_at flags body) }
+{
     let keep_alive = read_u16(&mut body)?;
-    read_properties(&mut body)?;
-    let client_identifier = read_text(&mut body)?;
-    expected(body.is_empty())?;
+    let properties = read_properties(alloc, Section::Connect, &mut body)?.into_connect()?;
+    let payload = read_connect_payload(flags, body)?;
     Ok(Connect {
-        clean_start,
+        clean_start: flags / 2 % 2 == 1,
         keep_alive,
+        properties,
+        client_identifier: payload.client_identifier,
+        user_name: payload.user_name,
+        password: payload.password,
+    })
+}
+
+/// Reads the payload of a CONNECT, all of it: the client identifier, the user name and the password (section 3.1.3).
+#[tactic(auto, unfolding(crate::specs::Bodies::connect_payload_at))]
+fn read_connect_payload(flags: u8, mut body: Bytes) -> Result<ConnectPayload, Fault>
+    ensures { Gives (λ payload. payload) result (connect_payload_at flags body) }
+{
+    let client_identifier = read_text(&mut body)?;
+    let user_name = read_text_if(flags / 128 % 2 == 1, &mut body)?;
+    let password = read_binary_if(flags / 64 % 2 == 1, &mut body)?;
+    expected(body.is_empty())?;
+    Ok(ConnectPayload {
         client_identifier,
+        user_name,
+        password,
     })
 }
 
@@ -105,47 +150,77 @@ fn read_delivery(qos: QoS, body: &mut Bytes) -> Result<Delivery, StreamFault>
 
 /// Reads a PUBLISH (section 3.3): what is left behind its properties is the payload.
 #[tactic(auto, unfolding(crate::specs::Bodies::publish_body_at))]
-fn read_publish(flags: PublishFlags, mut body: Bytes) -> Result<Publish, Fault>
+fn read_publish(alloc: Global, flags: PublishFlags, mut body: Bytes) -> Result<Publish, Fault>
     ensures { Gives (λ packet. packet) result (publish_body_at flags body) }
 {
     let topic = read_text(&mut body)?;
     let delivery = read_delivery(flags.qos, &mut body)?;
-    read_properties(&mut body)?;
+    let properties = read_properties(alloc, Section::Publish, &mut body)?.into_publish();
     Ok(Publish {
         dup: flags.dup,
         retain: flags.retain,
         topic,
         delivery,
+        properties,
         payload: body,
     })
 }
 
-/// Reads the reason code that ends a PUBACK or a DISCONNECT (sections 3.4.2.1 and 3.14.2.1).
+/// Reads the reason code and the properties that end a PUBACK or a DISCONNECT (sections 3.4.2 and 3.14.2).
 #[tactic(auto, unfolding(crate::specs::Bodies::reason_at))]
-fn read_reason(mut body: Bytes) -> Result<u8, StreamFault>
-    ensures { result ≡ reason_at body }
+fn read_reason(alloc: Global, section: Section, mut body: Bytes) -> Result<(u8, Properties), Fault>
+    ensures { Gives (λ reason. reason) result (reason_at section body) }
 {
     let code = match body.as_slice() {
-        [] => return Ok(0),
-        [code] => return Ok(*code),
+        [] => return Ok((0, Properties::nothing(alloc))),
+        [code] => return Ok((*code, Properties::nothing(alloc))),
         [code, ..] => *code,
     };
     body.advance(1);
-    read_properties(&mut body)?;
-    expected(body.is_empty())?;
-    Ok(code)
+    let properties = read_last_properties(alloc, section, body)?;
+    Ok((code, properties))
+}
+
+/// Reads a section of properties with nothing behind it.
+#[tactic(auto, unfolding(crate::specs::Bodies::last_properties_at))]
+fn read_last_properties(
+    alloc: Global,
+    section: Section,
+    mut body: Bytes,
+) -> Result<Properties, Fault>
+    ensures { Gives (λ all. all) result (last_properties_at section body) }
+{
+    let properties = read_properties(alloc, section, &mut body)?;
+    if body.is_empty() {
+        Ok(properties)
+    } else {
+        Err(Fault::Stream(StreamFault::Malformed))
+    }
 }
 
 /// Reads a PUBACK (section 3.4).
 #[tactic(auto, unfolding(crate::specs::Bodies::puback_at))]
-fn read_puback(mut body: Bytes) -> Result<Puback, StreamFault>
-    ensures { result ≡ puback_at body }
+fn read_puback(alloc: Global, mut body: Bytes) -> Result<Puback, Fault>
+    ensures { Gives (λ packet. packet) result (puback_at body) }
 {
     let packet_identifier = read_identifier(&mut body)?;
-    let reason_code = read_reason(body)?;
+    let (reason_code, properties) = read_reason(alloc, Section::Puback, body)?;
     Ok(Puback {
         packet_identifier,
         reason_code,
+        properties: properties.into_puback(),
+    })
+}
+
+/// Reads a DISCONNECT (section 3.14).
+#[tactic(auto, unfolding(crate::specs::Bodies::disconnect_at))]
+fn read_disconnect(alloc: Global, body: Bytes) -> Result<Disconnect, Fault>
+    ensures { Gives (λ packet. packet) result (disconnect_at body) }
+{
+    let (reason_code, properties) = read_reason(alloc, Section::Disconnect, body)?;
+    Ok(Disconnect {
+        reason_code,
+        properties: properties.into_disconnect(),
     })
 }
 
@@ -195,13 +270,31 @@ fn read_subscription(body: &mut Bytes) -> Result<Subscription, Fault>
 }
 
 /// Reads the entries of a SUBSCRIBE, at least one (section 3.8.3).
-fn read_entries(alloc: Global, mut body: Bytes) -> Result<NonEmpty<Subscription>, Fault>
-    ensures { Gives (λ entries. entries) result (entries_at body) }
+fn read_subscriptions(alloc: Global, mut body: Bytes) -> Result<NonEmpty<Subscription>, Fault>
+    ensures { Gives (λ entries. entries) result (entries_at subscription_at body) }
 {
     let mut entries = Vec::new(alloc);
     while !body.is_empty() {
         entries.push(read_subscription(&mut body)?)?;
     }
+    at_least_one(entries)
+}
+
+/// Reads the filters of an UNSUBSCRIBE, at least one (section 3.10.3).
+fn read_filters(alloc: Global, mut body: Bytes) -> Result<NonEmpty<Text>, Fault>
+    ensures { Gives (λ entries. entries) result (entries_at text_at body) }
+{
+    let mut entries = Vec::new(alloc);
+    while !body.is_empty() {
+        entries.push(read_text(&mut body)?)?;
+    }
+    at_least_one(entries)
+}
+
+/// The entries, of which there has to be one.
+fn at_least_one<T: Drop>(entries: Vec<T>) -> Result<NonEmpty<T>, Fault>
+    ensures { Gives (λ entries. entries) result (at_least_one entries.items) }
+{
     match NonEmpty::from_vec(entries) {
         Some(entries) => Ok(entries),
         None => Err(Fault::Stream(StreamFault::Protocol)),
@@ -214,10 +307,26 @@ fn read_subscribe(alloc: Global, mut body: Bytes) -> Result<Subscribe, Fault>
     ensures { Gives (λ packet. packet) result (subscribe_at body) }
 {
     let packet_identifier = read_identifier(&mut body)?;
-    read_properties(&mut body)?;
-    let subscriptions = read_entries(alloc, body)?;
+    let properties = read_properties(alloc, Section::Subscribe, &mut body)?.into_subscribe();
+    let subscriptions = read_subscriptions(alloc, body)?;
     Ok(Subscribe {
         packet_identifier,
+        properties,
         subscriptions,
+    })
+}
+
+/// Reads an UNSUBSCRIBE (section 3.10).
+#[tactic(auto, unfolding(crate::specs::Bodies::unsubscribe_at))]
+fn read_unsubscribe(alloc: Global, mut body: Bytes) -> Result<Unsubscribe, Fault>
+    ensures { Gives (λ packet. packet) result (unsubscribe_at body) }
+{
+    let packet_identifier = read_identifier(&mut body)?;
+    let properties = read_properties(alloc, Section::Unsubscribe, &mut body)?.into_unsubscribe();
+    let filters = read_filters(alloc, body)?;
+    Ok(Unsubscribe {
+        packet_identifier,
+        properties,
+        filters,
     })
 }

@@ -3,7 +3,7 @@
 ghost use Rattle.std.specs.Prelude.{◌≡◌};
 ghost use Rattle.mqtt_wire.specs.Kinds.{kind_at, publish_at, qos_at};
 
-use crate::packet::QoS;
+use crate::packet::{ForeignKind, QoS};
 
 /// The kinds of packet that are read, with the flags of a PUBLISH.
 #[derive(Clone, Copy, Debug, PartialEq, Eq)]
@@ -12,7 +12,11 @@ pub(crate) enum Kind {
     Publish(PublishFlags),
     Puback,
     Subscribe,
+    Unsubscribe,
+    Pingreq,
     Disconnect,
+    /// A kind that a client has no business to send.
+    Foreign(ForeignKind),
 }
 
 /// The flags of a PUBLISH (section 3.3.1).
@@ -31,7 +35,17 @@ pub(crate) fn kind_of(first: u8) -> Option<Kind>
         0x10 => Some(Kind::Connect),
         0x40 => Some(Kind::Puback),
         0x82 => Some(Kind::Subscribe),
+        0xA2 => Some(Kind::Unsubscribe),
+        0xC0 => Some(Kind::Pingreq),
         0xE0 => Some(Kind::Disconnect),
+        0x20 => Some(Kind::Foreign(ForeignKind::Connack)),
+        0x50 => Some(Kind::Foreign(ForeignKind::Pubrec)),
+        0x62 => Some(Kind::Foreign(ForeignKind::Pubrel)),
+        0x70 => Some(Kind::Foreign(ForeignKind::Pubcomp)),
+        0x90 => Some(Kind::Foreign(ForeignKind::Suback)),
+        0xB0 => Some(Kind::Foreign(ForeignKind::Unsuback)),
+        0xD0 => Some(Kind::Foreign(ForeignKind::Pingresp)),
+        0xF0 => Some(Kind::Foreign(ForeignKind::Auth)),
         _ => publish_kind(first),
     }
 }

@@ -4,7 +4,7 @@ ghost use Rattle.std.specs.Prelude.{◌≡◌, ◌≤◌, List, ℕ, ◌∷◌, 
 ghost use Rattle.mqtt_wire.specs.declared.fault.StreamFault.{StreamFault};
 ghost use Rattle.mqtt_wire.specs.declared.packet.Packet.{Packet as AnyPacket};
 ghost use Rattle.mqtt_wire.specs.Writing.{written};
-ghost use Rattle.mqtt_wire.specs.Spelling.{IsFromClient, Spells, maximum_packet_size};
+ghost use Rattle.mqtt_wire.specs.Spelling.{IsFromClient, PropertiesFit, Spells, maximum_packet_size};
 ghost use Rattle.mqtt_wire.specs.Stream.{AreBytes, Reads, Reading};
 
 /// No spelling of a packet is a proper beginning of another, and no bytes spell two packets.
@@ -25,10 +25,11 @@ pub fn streams_have_one_reading()
 /// What `encode` writes of a packet that a client may send is a spelling of it, and is read again as that packet,
 /// whatever follows it.
 pub fn written_packets_are_read_again()
-    ensures spelled { (packet : AnyPacket) → IsFromClient packet →
+    ensures spelled { (packet : AnyPacket) → IsFromClient packet → PropertiesFit packet →
         length (written packet) ≤ maximum_packet_size → Spells packet (written packet) }
     ensures again { (packet : AnyPacket) (after : List ℕ) (all : List AnyPacket) (rest : List ℕ)
-        (fault : Option StreamFault) → IsFromClient packet → length (written packet) ≤ maximum_packet_size →
+        (fault : Option StreamFault) → IsFromClient packet → PropertiesFit packet →
+        length (written packet) ≤ maximum_packet_size →
         Reads (written packet ++ after) all rest fault →
         (others : List AnyPacket) × (all ≡ packet ∷ others) × Reads after others rest fault }
 {}

@@ -3,11 +3,13 @@
 //! [`Splitter`] takes a stream in pieces and answers its packets; [`encode`] writes a packet. A contract sees a [`Packet`]
 //! as plain data: texts and payloads as their bytes, identifiers as numbers, lists as lists.
 //!
-//! Read so far: CONNECT of version 5 without will, user name and password, PUBLISH, PUBACK, SUBSCRIBE and DISCONNECT, all
-//! without properties. Anything else is malformed until it is read: another first byte, a property, another version, a
-//! will, a user name, a password.
+//! Every kind of packet that a client sends is read, with every property and every rule on a value; the types keep the
+//! rules, so that a packet that breaks one cannot be made. What a client has no business to send is read as
+//! [`Packet::Foreign`], a CONNECT of another version as [`Packet::OtherVersion`], one with a will as [`Packet::WithWill`]:
+//! their bodies are not looked at.
 #![tactic(auto)]
 
+mod binary;
 mod bodies;
 mod fault;
 mod fields;
@@ -18,13 +20,22 @@ mod kind;
 mod laws;
 mod non_empty;
 mod packet;
+mod packet_properties;
+mod properties;
+mod property;
+mod property_sizes;
+mod property_writing;
+mod sections;
 mod sizes;
 mod splitter;
 #[cfg(test)]
 mod tests;
 mod text;
+mod user_properties;
+mod values;
 mod writing;
 
+pub use binary::Binary;
 pub use fault::{Fault, StreamFault};
 pub use identifier::PacketIdentifier;
 pub use laws::{
@@ -32,9 +43,16 @@ pub use laws::{
 };
 pub use non_empty::NonEmpty;
 pub use packet::{
-    Connack, Connect, Delivery, Disconnect, Packet, Puback, Publish, QoS, RetainHandling, Suback,
-    Subscribe, Subscription, SubscriptionOptions,
+    Acceptance, Connack, Connect, ConnectRefusal, Delivery, Disconnect, ForeignKind, Packet,
+    Puback, Publish, QoS, RetainHandling, Suback, Subscribe, Subscription, SubscriptionOptions,
+    Unsuback, Unsubscribe,
+};
+pub use packet_properties::{
+    Authentication, ConnectProperties, DisconnectProperties, PubackProperties, PublishProperties,
+    SubscribeProperties, UnsubscribeProperties,
 };
 pub use splitter::Splitter;
 pub use text::Text;
+pub use user_properties::{UserProperties, UserProperty};
+pub use values::{MaximumPacketSize, ReceiveMaximum, SubscriptionIdentifier};
 pub use writing::encode;

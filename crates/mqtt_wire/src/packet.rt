@@ -1,7 +1,12 @@
 //! The control packets (chapter 3), as plain values.
 
+use crate::binary::Binary;
 use crate::identifier::PacketIdentifier;
 use crate::non_empty::NonEmpty;
+use crate::packet_properties::{
+    ConnectProperties, DisconnectProperties, PubackProperties, PublishProperties,
+    SubscribeProperties, UnsubscribeProperties,
+};
 use crate::text::Text;
 use bytes::Bytes;
 
@@ -27,23 +32,58 @@ pub enum Delivery {
     ExactlyOnce(PacketIdentifier),
 }
 
-/// CONNECT (section 3.1) of version 5, without will, user name, password and properties.
+/// CONNECT (section 3.1) of version 5, without a will.
 #[derive(Debug, Drop)]
 pub struct Connect {
     /// An earlier session of the client is discarded (section 3.1.2.4).
     pub clean_start: bool,
     /// Seconds; 0 turns the keep alive off.
     pub keep_alive: u16,
+    pub properties: ConnectProperties,
+    /// Empty where the broker is to assign one (section 3.1.3.1).
     pub client_identifier: Text,
+    /// Section 3.1.3.5.
+    pub user_name: Option<Text>,
+    /// It may stand without a user name (section 3.1.3.6).
+    pub password: Option<Binary>,
 }
 
-/// CONNACK (section 3.2) that accepts: what the broker offers stands in its properties.
+/// CONNACK (section 3.2).
 #[derive(Debug, Drop)]
-pub struct Connack {
-    pub session_present: bool,
+pub enum Connack {
+    /// The connection is accepted: Reason Code 00.
+    Accepted(Acceptance),
+    /// The connection is refused: the session is not present, and there are no properties.
+    Refused(ConnectRefusal),
 }
 
-/// PUBLISH (section 3.3) without properties.
+/// What a CONNACK that accepts says: what the broker offers stands in its properties.
+#[derive(Debug, Drop)]
+pub struct Acceptance {
+    /// Section 3.2.2.1.1.
+    pub session_present: bool,
+    /// The identifier that the broker gave to a client without one (section 3.2.2.3.7).
+    pub assigned_client_identifier: Option<Text>,
+}
+
+/// Why a CONNECT is refused (section 3.2.2.2).
+#[derive(Clone, Copy, Debug, PartialEq, Eq)]
+pub enum ConnectRefusal {
+    /// 82.
+    ProtocolError,
+    /// 83.
+    ImplementationSpecificError,
+    /// 84.
+    UnsupportedProtocolVersion,
+    /// 85.
+    ClientIdentifierNotValid,
+    /// 89.
+    ServerBusy,
+    /// 8C.
+    BadAuthenticationMethod,
+}
+
+/// PUBLISH (section 3.3).
 #[derive(Debug, Drop)]
 pub struct Publish {
     /// It may have been sent before (section 3.3.1.1).
@@ -52,15 +92,17 @@ pub struct Publish {
     pub retain: bool,
     pub topic: Text,
     pub delivery: Delivery,
+    pub properties: PublishProperties,
     /// A part of the bytes that were read, shared with them.
     pub payload: Bytes,
 }
 
-/// PUBACK (section 3.4) without properties.
+/// PUBACK (section 3.4).
 #[derive(Debug, Drop)]
 pub struct Puback {
     pub packet_identifier: PacketIdentifier,
     pub reason_code: u8,
+    pub properties: PubackProperties,
 }
 
 /// What is done with retained messages when a subscription is made (section 3.8.3.1).
@@ -93,10 +135,11 @@ pub struct Subscription {
     pub options: SubscriptionOptions,
 }
 
-/// SUBSCRIBE (section 3.8) without properties.
+/// SUBSCRIBE (section 3.8).
 #[derive(Debug, Drop)]
 pub struct Subscribe {
     pub packet_identifier: PacketIdentifier,
+    pub properties: SubscribeProperties,
     pub subscriptions: NonEmpty<Subscription>,
 }
 
@@ -107,13 +150,45 @@ pub struct Suback {
     pub reason_codes: NonEmpty<u8>,
 }
 
-/// DISCONNECT (section 3.14) without properties.
+/// UNSUBSCRIBE (section 3.10).
+#[derive(Debug, Drop)]
+pub struct Unsubscribe {
+    pub packet_identifier: PacketIdentifier,
+    pub properties: UnsubscribeProperties,
+    pub filters: NonEmpty<Text>,
+}
+
+/// UNSUBACK (section 3.11): one code for each filter of the UNSUBSCRIBE, in its order.
+#[derive(Debug, Drop)]
+pub struct Unsuback {
+    pub packet_identifier: PacketIdentifier,
+    pub reason_codes: NonEmpty<u8>,
+}
+
+/// DISCONNECT (section 3.14).
 #[derive(Debug, Drop)]
 pub struct Disconnect {
     pub reason_code: u8,
+    pub properties: DisconnectProperties,
+}
+
+/// The types of packet that a client has no business to send to this broker: those that only a server sends, and those
+/// of QoS 2 and of enhanced authentication (table 2-1, profile).
+#[derive(Clone, Copy, Debug, PartialEq, Eq)]
+pub enum ForeignKind {
+    Connack,
+    Pubrec,
+    Pubrel,
+    Pubcomp,
+    Suback,
+    Unsuback,
+    Pingresp,
+    Auth,
 }
 
 /// A control packet (section 2.1), by its type.
+///
+/// The last three are what reading makes of packets whose bodies are not looked at.
 #[derive(Debug, Drop)]
 pub enum Packet {
     Connect(Connect),
@@ -122,5 +197,15 @@ pub enum Packet {
     Puback(Puback),
     Subscribe(Subscribe),
     Suback(Suback),
+    Unsubscribe(Unsubscribe),
+    Unsuback(Unsuback),
+    Pingreq,
+    Pingresp,
     Disconnect(Disconnect),
+    /// A packet of a type that a client has no business to send.
+    Foreign(ForeignKind),
+    /// A CONNECT of another protocol name or of that protocol version, which is not 5 then or is 5 under another name.
+    OtherVersion(u8),
+    /// A CONNECT of version 5 with a will.
+    WithWill,
 }

@@ -51,58 +51,199 @@ fn answer_to(alloc: Global, stream: &[u8]) -> Result<u16, Fault> {
     }
 }
 
+// Packets of every kind in their written form, with every property that they may have.
+const WRITTEN: &str = "\
+103800044D51545405C2003C23110000000A1500016D16000164170119002100052200032600016B000176270000100000027731000175000170
+101000044D51545405400000000000000170
+3B2500016100071D0101020000000A0300016308000172090001642300022600016B0001764142
+30050001610041
+3406000161000700
+400F0007100B1F0001722600016B000176
+4003000710
+82140001090B052600016B0001760001612D00016212
+820A0001030BC80100016100
+A21600020E2600016B000176260001610001620001610000
+C000
+E000
+E00104
+E0120010110000000A1F0001722600016B000176
+F000
+6200
+1003000004
+100800044D5154540504
+";
+
+// A packet in another form, and its written form.
+const SPELLED: &str = "\
+321400036A6F6200070B2600016B0001760300016141 321400036A6F6200070B030001612600016B00017641
+4003000700 40020007
+400400070000 40020007
+E00100 E000
+D00100 D000
+101000064D51497364700302003C00027731 1003000003
+100B00044D515454052E003C00 100800044D5154540504
+";
+
+// Bytes, and the number of the fault that they show; 0 where more bytes are wanted.
+const FAULTS: &str = "\
+82FFFFFF 0
+32FCFF03 0
+C0 0
+00 101
+36 101
+41 101
+80 101
+F1 101
+829200 101
+82FFFFFFFF 101
+82FFFFFF00 101
+82FFFFFF7F 103
+32FDFF03 103
+C00100 101
+100D00044D51545405030000000000 101
+100D00044D515454051C0000000000 101
+100D00044D51545405080000000000 101
+100D00044D51545405200000000000 101
+100600054D515454 101
+100600044D515454 101
+10040001FF05 101
+100E00044D5154540502000000000100 101
+100E00044D5154540502000000000000 101
+100D00044D51545405820000000000 101
+101100044D5154540502000005110000000000 101
+101700044D515454050200000A110000000111000000010000 102
+101100044D5154540502000004160001640000 102
+100F00044D515454050200000217020000 102
+100F00044D515454050200000219020000 102
+101000044D51545405020000032100000000 102
+101200044D515454050200000527000000000000 102
+100F00044D51545405020000020B010000 101
+100F00044D515454050200000280010000 101
+100E00044D5154540502000080000000 101
+3206000161000000 102
+320E0001610007080300016103000161 102
+32080001610007020B01 102
+3209000161000703210001 101
+3207000161000001FF 102
+3207000161000701FF 101
+320E00016100070803000161030001FF 102
+320E000161000708030001FF03000161 101
+320A00016100070409000561 101
+32080001610007022300 101
+40020000 102
+40050001000123 101
+40050001000000 101
+400100 101
+8203000100 102
+820700010000016103 102
+820700010000016130 102
+820700010000016140 101
+820700010000016143 101
+82090001020B0000016101 102
+820A0001030B800000016101 101
+82080001800000016101 101
+A203000100 102
+A2080001020B01000161 101
+E00600041F000100 101
+";
+
+// The first packet of these bytes, written again.
+fn rewritten(alloc: Global, digits: &str) -> Result<Vec<u8>, Fault> {
+    let mut splitter = Splitter::new(alloc);
+    splitter.feed(&bytes_of(alloc, digits)?)?;
+    match splitter.next()? {
+        Some(packet) => encode(alloc, &packet),
+        None => Ok(Vec::new(alloc)),
+    }
+}
+
+// The bytes that hex digits say; a want of memory where they say none.
+fn bytes_of(alloc: Global, digits: &str) -> Result<Vec<u8>, Fault> {
+    match hex::decode(alloc, digits) {
+        Ok(bytes) => Ok(bytes),
+        Err(_) => Err(Fault::Memory),
+    }
+}
+
 #[test]
-fn faults(rt: HostRuntime) -> Result<(), Fail> {
-    let rows: [(&[u8], u16); 14] = [
-        (b"", 0),
-        (b"\x82\xFF\xFF\xFF", 0),
-        (b"\x32\xFC\xFF\x03", 0),
-        (b"\xE0\x02\x04\x00", 1),
-        (b"\x00", 101),
-        (b"\x36", 101),
-        (b"\x82\x92\x00", 101),
-        (b"\x82\xFF\xFF\xFF\xFF", 101),
-        (b"\x82\xFF\xFF\xFF\x7F", 103),
-        (b"\x32\xFD\xFF\x03", 103),
-        (b"\x40\x02\x00\x00", 102),
-        (b"\x40\x05\x00\x01\x00\x00\x00", 101),
-        (b"\x82\x03\x00\x01\x00", 102),
-        (b"\x82\x07\x00\x01\x00\x00\x01\x61\x03", 102),
-    ];
-    for (stream, number) in rows {
-        assert_eq!(rt; answer_to(rt.alloc(), stream)?, number, "to {stream:?}");
+fn packets(rt: HostRuntime) -> Result<(), Fail> {
+    for line in WRITTEN.lines() {
+        let again = rewritten(rt.alloc(), line)?;
+        let bytes = bytes_of(rt.alloc(), line)?;
+        assert_eq!(rt; again.as_slice(), bytes.as_slice(), "{line}");
     }
     Ok(())
 }
 
 #[test]
-fn what_the_broker_writes(rt: HostRuntime) -> Result<(), Fail> {
-    let packet_identifier = PacketIdentifier::new(1).ok_or("1 is an identifier")?;
-    let connack = Packet::Connack(Connack {
-        session_present: false,
-    });
-    let puback = Packet::Puback(Puback {
-        packet_identifier,
-        reason_code: 0x10,
-    });
-    let codes = Vec::from_slice(rt.alloc(), &[1, 0x97])?;
-    let reason_codes = NonEmpty::from_vec(codes).ok_or("there are two codes")?;
-    let suback = Packet::Suback(Suback {
+fn other_spellings(rt: HostRuntime) -> Result<(), Fail> {
+    for line in SPELLED.lines() {
+        let (spelled, written) = line.split_once(' ').ok_or("two words")?;
+        let again = rewritten(rt.alloc(), spelled)?;
+        let bytes = bytes_of(rt.alloc(), written)?;
+        assert_eq!(rt; again.as_slice(), bytes.as_slice(), "{line}");
+    }
+    Ok(())
+}
+
+#[test]
+fn faults(rt: HostRuntime) -> Result<(), Fail> {
+    for line in FAULTS.lines() {
+        let (digits, number) = line.split_once(' ').ok_or("two words")?;
+        let answer = answer_to(rt.alloc(), &bytes_of(rt.alloc(), digits)?)?;
+        assert_eq!(rt; Some(answer), number.parse().ok(), "{line}");
+    }
+    Ok(())
+}
+
+// A CONNACK that accepts, as it is written.
+fn accepting(alloc: Global, assigned_client_identifier: Option<Text>) -> Result<Vec<u8>, Fault> {
+    let session_present = false;
+    let accepted = Acceptance {
+        session_present,
+        assigned_client_identifier,
+    };
+    encode(alloc, &Packet::Connack(Connack::Accepted(accepted)))
+}
+
+#[test]
+fn accepting_connack(rt: HostRuntime) -> Result<(), Fail> {
+    let bytes = accepting(rt.alloc(), None)?;
+    let wanted = b"\x20\x0E\x00\x00\x0B\x24\x01\x25\x00\x27\x00\x01\x00\x00\x29\x00";
+    assert_eq!(rt; bytes.as_slice(), wanted.as_slice());
+    let bytes = accepting(rt.alloc(), Text::parse(Bytes::from_static(b"a")))?;
+    let wanted = b"\x20\x12\x00\x00\x0F\x12\x00\x01a\x24\x01\x25\x00\x27\x00\x01\x00\x00\x29\x00";
+    assert_eq!(rt; bytes.as_slice(), wanted.as_slice());
+    Ok(())
+}
+
+#[test]
+fn refusing_connack(rt: HostRuntime) -> Result<(), Fail> {
+    let refusal = ConnectRefusal::UnsupportedProtocolVersion;
+    let bytes = encode(rt.alloc(), &Packet::Connack(Connack::Refused(refusal)))?;
+    assert_eq!(rt; bytes.as_slice(), b"\x20\x03\x00\x84\x00".as_slice());
+    Ok(())
+}
+
+// A SUBACK with two codes, as it is written.
+fn suback(alloc: Global, packet_identifier: PacketIdentifier) -> Result<Vec<u8>, Fault> {
+    let codes = Vec::from_slice(alloc, &[1, 0x97])?;
+    let reason_codes = NonEmpty::from_vec(codes).ok_or(Fault::Memory)?;
+    let suback = Suback {
         packet_identifier,
         reason_codes,
-    });
-    let rows: [(Packet, &[u8]); 3] = [
-        (
-            connack,
-            b"\x20\x0E\x00\x00\x0B\x24\x01\x25\x00\x27\x00\x01\x00\x00\x29\x00",
-        ),
-        (puback, b"\x40\x03\x00\x01\x10"),
-        (suback, b"\x90\x05\x00\x01\x00\x01\x97"),
-    ];
-    for (packet, bytes) in rows {
-        let written = encode(rt.alloc(), &packet)?;
-        assert_eq!(rt; written.as_slice(), bytes);
-    }
+    };
+    encode(alloc, &Packet::Suback(suback))
+}
+
+#[test]
+fn suback_of_two(rt: HostRuntime) -> Result<(), Fail> {
+    let identifier = PacketIdentifier::new(1).ok_or("1 is an identifier")?;
+    let bytes = suback(rt.alloc(), identifier)?;
+    assert_eq!(rt;
+        bytes.as_slice(),
+        b"\x90\x05\x00\x01\x00\x01\x97".as_slice()
+    );
     Ok(())
 }
 
@@ -120,5 +261,34 @@ fn values(rt: HostRuntime) -> Result<(), Fail> {
     assert!(rt; NonEmpty::<u8>::from_vec(Vec::new(rt.alloc())).is_none());
     let list = NonEmpty::from_vec(Vec::from_slice(rt.alloc(), &[3u8])?).ok_or("it has an item")?;
     assert_eq!(rt; list.into_vec().as_slice(), [3u8].as_slice());
+    Ok(())
+}
+
+#[test]
+fn values_of_properties(rt: HostRuntime) -> Result<(), Fail> {
+    assert_eq!(rt; ReceiveMaximum::new(0), None);
+    assert_eq!(rt; ReceiveMaximum::new(5).map(ReceiveMaximum::get), Some(5));
+    assert_eq!(rt; MaximumPacketSize::new(0), None);
+    assert_eq!(rt;
+        MaximumPacketSize::new(9).map(MaximumPacketSize::get),
+        Some(9)
+    );
+    assert_eq!(rt; SubscriptionIdentifier::new(0), None);
+    assert_eq!(rt; SubscriptionIdentifier::new(268_435_456), None);
+    let greatest = SubscriptionIdentifier::new(268_435_455).map(SubscriptionIdentifier::get);
+    assert_eq!(rt; greatest, Some(268_435_455));
+    let binary = Binary::new(Bytes::from_static(b"\0\xFF")).ok_or("two bytes")?;
+    assert_eq!(rt; binary.try_clone()?.as_bytes(), b"\0\xFF".as_slice());
+    Ok(())
+}
+
+#[test]
+fn user_properties(rt: HostRuntime) -> Result<(), Fail> {
+    let mut list = UserProperties::new(rt.alloc());
+    assert!(rt; list.as_slice().is_empty());
+    let name = Text::parse(Bytes::from_static(b"k")).ok_or("a text")?;
+    let value = Text::parse(Bytes::from_static(b"v")).ok_or("a text")?;
+    list.push(UserProperty { name, value })?;
+    assert_eq!(rt; list.as_slice().len(), 1);
     Ok(())
 }

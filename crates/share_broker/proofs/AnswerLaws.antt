@@ -4,6 +4,7 @@ use Rattle.std.proofs.lemmas.List.{get_or-append-add}
 use Rattle.std.specs.Io.KnownBytes.{Appends}
 use Rattle.mqtt_wire.specs.declared.packet.Packet.{Packet}
 use Rattle.mqtt_wire.specs.declared.fault.StreamFault.{StreamFault}
+use Rattle.mqtt_wire.specs.declared.fault.StreamFault.TheVariants.{Malformed, Protocol, TooLarge}
 use Rattle.mqtt_wire.specs.Stream.{Unread, Takes, Stops, EndsAs, AreBytes}
 use Rattle.share_broker.specs.declared.connection.Connection.{Connection}
 use Rattle.share_broker.specs.declared.connection.Outs.{Outs}
@@ -13,24 +14,24 @@ use Rattle.share_broker.specs.declared.connection.Standing.TheVariants.{Unconnec
 use Rattle.share_broker.specs.Passing.{Passes, Begins}
 use Rattle.share_broker.specs.Story.{Story, opening}
 use Rattle.share_broker.specs.HandOuts.{Turn, deliver}
-use Rattle.share_broker.specs.Replies.{turn, Reply, reply, reply_at}
+use Rattle.share_broker.specs.Replies.{turn, Reply, reply, reply_at, fault_at, end_reply}
 use Rattle.share_broker.specs.Report.{report_of, report_lines}
-use Rattle.share_broker.specs.Output.{lines_for, output_from, IsStreamOutput}
-use Rattle.share_broker.specs.Shows.{Shows, Takes as Turns, next_at}
+use Rattle.share_broker.specs.Output.{lines_for, ending, output_from, IsStreamOutput}
+use Rattle.share_broker.specs.Shows.{Shows, Takes as Turns, Ends, next_at}
 use Rattle.share_broker.specs.UnderWay.{Goes, IsUnderWay, IsAnswered, IsWritten, IsBegun}
 use Rattle.share_broker.proofs.PassingLaws.{Passes-nothing, Passes-then, Begins-then, Begins-stops, Begins-longer, Begins-passed, Appends-passed}
 use Rattle.share_broker.proofs.HandOutLaws.{deliver-nothing}
 use Rattle.share_broker.proofs.DeliveryLaws.{due-closed, Shows-opening}
 use Rattle.mqtt_wire.proofs.StreamLaws.{exists_reading}
 
-pub ends_at : (old : Unread) (fault : StreamFault) (new : Unread) → Stops old fault new → old.fault ≡ None → (end : Option StreamFault) × EndsAs old.bytes end
-ends_at old fault new stops sound = elim stops.1 [ inl before ↦ absurd (cc) | inr here ↦ (Some fault, here.1) ]
+pub ends_at : (old : Unread) (fault : StreamFault) (new : Unread) → Stops old fault new → old.fault ≡ None → EndsAs old.bytes (Some fault)
+ends_at old fault new stops sound = elim stops.1 [ inl before ↦ absurd (cc) | inr here ↦ here.1 ]
 
-pub takes_from : (old new : Unread) (found : Option Packet) (packet : Packet) → Goes old (Ok found) new → found ≡ Some packet → Takes old packet new
-takes_from old new found packet goes is = subst (λ f. Goes old (Ok f) new) is goes
+pub takes_from : (old new : Unread) (found : Option Packet) (packet : Packet) (fault : Option StreamFault) → Goes old (Ok found) new fault → found ≡ Some packet → Takes old packet new
+takes_from old new found packet fault goes is = subst (λ f. Goes old (Ok f) new fault) is goes
 
-pub ends_from : (old new : Unread) (found : Option Packet) → Goes old (Ok found) new → found ≡ None → (fault : Option StreamFault) × EndsAs old.bytes fault
-ends_from old new found goes is = let at : Goes old (Ok None) new = subst (λ f. Goes old (Ok f) new) is goes in at
+pub ends_from : (old new : Unread) (found : Option Packet) (fault : Option StreamFault) → Goes old (Ok found) new fault → found ≡ None → EndsAs old.bytes fault
+ends_from old new found fault goes is = let at : Goes old (Ok None) new fault = subst (λ f. Goes old (Ok f) new fault) is goes in at
 
 rest_are_bytes : (front rest bytes : List ℕ) → bytes ≡ front ++ rest → AreBytes bytes → AreBytes rest
 rest_are_bytes front rest bytes parts are i =
@@ -61,7 +62,7 @@ IsUnderWay-step stream first mid now waiting still unread left connection after 
       sound = takes.goes_on;
       bytes_are = rest_are_bytes takes.front left.bytes unread.bytes takes.parts way.bytes_are;
       completes = λ packets rest fault reads.
-          subst (IsStreamOutput stream) (sym (append_assoc way.told (lines_for sent) (output_from (turn packet way.story).story packets)))
+          subst (IsStreamOutput stream) (sym (append_assoc way.told (lines_for sent) (output_from (turn packet way.story).story packets fault)))
           (way.completes (packet ∷ packets) rest fault ((takes.front, left.bytes, takes.spelled, takes.parts, reads.0), reads.1));
     }
 
@@ -70,9 +71,9 @@ pub IsUnderWay-stops : (stream : List ℕ) (first now : Option (List ℕ)) (wait
 IsUnderWay-stops stream first now waiting unread connection way =
     let reading = exists_reading unread.bytes way.bytes_are in
     record {
-      output = way.told ++ output_from way.story reading.0;
+      output = way.told ++ output_from way.story reading.0 reading.2;
       defined_by = way.completes reading.0 reading.1 reading.2 reading.3;
-      begins = Begins-stops first now [] way.told waiting (output_from way.story reading.0) way.passes;
+      begins = Begins-stops first now [] way.told waiting (output_from way.story reading.0 reading.2) way.passes;
     }
 
 -- the writer failed among a packet's lines
@@ -82,7 +83,7 @@ IsUnderWay-fails stream first mid now waiting unread left connection after packe
     let sent = (turn packet way.story).sent in
     let are = rest_are_bytes takes.front left.bytes unread.bytes takes.parts way.bytes_are in
     let reading = exists_reading left.bytes are in
-    let more = output_from (turn packet way.story).story reading.0 in
+    let more = output_from (turn packet way.story).story reading.0 reading.2 in
     let begun : Begins mid now (waiting ++ lines_for sent) = subst (λ ps. Begins mid now (waiting ++ lines_for ps)) t.sent begins in
     record {
       output = way.told ++ (lines_for sent ++ more);
@@ -90,15 +91,46 @@ IsUnderWay-fails stream first mid now waiting unread left connection after packe
       begins = subst (Begins first now) (append_assoc way.told (lines_for sent) more) (Begins-longer first now (way.told ++ lines_for sent) more (Begins-then first mid now [] way.told waiting (lines_for sent) way.passes begun));
     }
 
--- the stream ended
-pub IsAnswered-ended : (stream : List ℕ) (first now : Option (List ℕ)) (waiting : List ℕ) (unread : Unread) (connection : Connection) → IsUnderWay stream first now waiting unread connection → ((fault : Option StreamFault) × EndsAs unread.bytes fault) → IsAnswered stream first now waiting connection
-IsAnswered-ended stream first now waiting unread connection way ends = record {
-  story = way.story;
-  told = way.told;
-  shows = way.shows;
-  passes = way.passes;
-  completes = way.completes [] unread.bytes ends.0 (refl, ends.1);
-}
+-- the end of the stream changes nothing that is reported
+same_report : (fault : Option StreamFault) (story : Story) → report_lines (end_reply fault story).story.share (report_of (end_reply fault story).story) ≡ report_lines story.share (report_of story)
+same_report None story = refl
+same_report (Some fault) story = same_at story.standing fault
+  where
+    same_at : (standing : Standing) (fault : StreamFault) → report_lines (fault_at standing fault story).story.share (report_of (fault_at standing fault story).story) ≡ report_lines story.share (report_of story)
+    same_at Unconnected Malformed = refl
+    same_at Unconnected Protocol = refl
+    same_at Unconnected TooLarge = refl
+    same_at Connected fault = refl
+    same_at Closed fault = refl
+
+-- the stream ended, and that was answered
+pub IsAnswered-ended : (stream : List ℕ) (first mid now : Option (List ℕ)) (waiting still : List ℕ) (unread : Unread) (connection after : Connection) (fault : Option StreamFault) (packets : List Packet) → IsUnderWay stream first mid waiting unread connection → EndsAs unread.bytes fault → ((story : Story) → Shows story connection → Ends fault story packets after) → Passes mid now waiting (lines_for packets) still → IsAnswered stream first now still after
+IsAnswered-ended stream first mid now waiting still unread connection after fault packets way ends answers passes =
+    let e = answers way.story way.shows in
+    let sent = option_to_list (end_reply fault way.story).packet in
+    let report = report_lines way.story.share (report_of way.story) in
+    record {
+      story = (end_reply fault way.story).story;
+      told = way.told ++ lines_for sent;
+      shows = e.shows;
+      passes = Passes-then first mid now [] way.told waiting (lines_for sent) still way.passes (subst (λ ps. Passes mid now waiting (lines_for ps) still) e.sent passes);
+      completes =
+          subst (λ r. IsStreamOutput stream (way.told ++ lines_for sent ++ r)) (sym (same_report fault way.story))
+          (subst (IsStreamOutput stream) (sym (append_assoc way.told (lines_for sent) report)) (way.completes [] unread.bytes fault (refl, ends)));
+    }
+
+-- the writer failed at that answer
+pub IsBegun-ended : (stream : List ℕ) (first mid now : Option (List ℕ)) (waiting : List ℕ) (unread : Unread) (connection after : Connection) (fault : Option StreamFault) (packets : List Packet) → IsUnderWay stream first mid waiting unread connection → EndsAs unread.bytes fault → ((story : Story) → Shows story connection → Ends fault story packets after) → Begins mid now (waiting ++ lines_for packets) → IsBegun stream first now
+IsBegun-ended stream first mid now waiting unread connection after fault packets way ends answers begins =
+    let e = answers way.story way.shows in
+    let sent = option_to_list (end_reply fault way.story).packet in
+    let report = report_lines way.story.share (report_of way.story) in
+    let begun : Begins mid now (waiting ++ lines_for sent) = subst (λ ps. Begins mid now (waiting ++ lines_for ps)) e.sent begins in
+    record {
+      output = way.told ++ (lines_for sent ++ report);
+      defined_by = way.completes [] unread.bytes fault (refl, ends);
+      begins = subst (Begins first now) (append_assoc way.told (lines_for sent) report) (Begins-longer first now (way.told ++ lines_for sent) report (Begins-then first mid now [] way.told waiting (lines_for sent) way.passes begun));
+    }
 
 closed_turn : (packet : Packet) (story : Story) → story.standing ≡ Closed → turn packet story ≡ record { sent = []; story = story }
 closed_turn packet story closed =
@@ -109,10 +141,15 @@ closed_turn packet story closed =
     turn_of : Reply → Turn
     turn_of r = record { sent = option_to_list r.packet ++ (deliver r.story).sent; story = (deliver r.story).story }
 
-output_from-closed : (story : Story) (packets : List Packet) → story.standing ≡ Closed → output_from story packets ≡ report_lines story.share (report_of story)
-output_from-closed story [] closed = refl
-output_from-closed story (packet ∷ packets) closed =
-    ap (λ (t : Turn). lines_for t.sent ++ output_from t.story packets) (closed_turn packet story closed) ∙ output_from-closed story packets closed
+ending-closed : (fault : Option StreamFault) (story : Story) → story.standing ≡ Closed → ending fault story ≡ report_lines story.share (report_of story)
+ending-closed None story closed = refl
+ending-closed (Some fault) story closed =
+    ap (λ (s : Standing). lines_for (option_to_list (fault_at s fault story).packet) ++ report_lines story.share (report_of story)) closed
+
+output_from-closed : (story : Story) (packets : List Packet) (fault : Option StreamFault) → story.standing ≡ Closed → output_from story packets fault ≡ report_lines story.share (report_of story)
+output_from-closed story [] fault closed = ending-closed fault story closed
+output_from-closed story (packet ∷ packets) fault closed =
+    ap (λ (t : Turn). lines_for t.sent ++ output_from t.story packets fault) (closed_turn packet story closed) ∙ output_from-closed story packets fault closed
 
 closes : (standing : Standing) → Close ≡ next_at standing → standing ≡ Closed
 closes Unconnected e = absurd (cc)
@@ -129,7 +166,7 @@ IsAnswered-closed stream first now waiting unread connection way next =
       told = way.told;
       shows = way.shows;
       passes = way.passes;
-      completes = subst (λ s. IsStreamOutput stream (way.told ++ s)) (output_from-closed way.story reading.0 closed) (way.completes reading.0 reading.1 reading.2 reading.3);
+      completes = subst (λ s. IsStreamOutput stream (way.told ++ s)) (output_from-closed way.story reading.0 reading.2 closed) (way.completes reading.0 reading.1 reading.2 reading.3);
     }
 
 -- the report was not written
@@ -172,10 +209,10 @@ IsBegun-last stream first mid late now waiting report still connection done repo
 pub stops_all : (a : Option (List ℕ)) (b : List ℕ) (d : Unread) (e : Connection) (now : Option (List ℕ)) (waiting : List ℕ) (unread : Unread) (connection : Connection) → ((stream : List ℕ) (first : Option (List ℕ)) → IsUnderWay stream first a b d e → IsUnderWay stream first now waiting unread connection) → (stream : List ℕ) (first : Option (List ℕ)) → IsUnderWay stream first a b d e → IsBegun stream first now
 stops_all a b d e now waiting unread connection way stream first start = IsUnderWay-stops stream first now waiting unread connection (way stream first start)
 
-pub fails_all : (a : Option (List ℕ)) (b : List ℕ) (d : Unread) (e : Connection) (mid now : Option (List ℕ)) (waiting : List ℕ) (unread left : Unread) (connection after : Connection) (found : Option Packet) (packet : Packet) (outs : Outs) → ((stream : List ℕ) (first : Option (List ℕ)) → IsUnderWay stream first a b d e → IsUnderWay stream first mid waiting unread connection) → (unread.fault ≡ None → Goes unread (Ok found) left) → found ≡ Some packet → ((story : Story) → Shows story connection → Turns packet story outs after) → Begins mid now (waiting ++ lines_for outs.packets.items) → (stream : List ℕ) (first : Option (List ℕ)) → IsUnderWay stream first a b d e → IsBegun stream first now
-fails_all a b d e mid now waiting unread left connection after found packet outs way goes is steps begins stream first start =
+pub fails_all : (a : Option (List ℕ)) (b : List ℕ) (d : Unread) (e : Connection) (mid now : Option (List ℕ)) (waiting : List ℕ) (unread left : Unread) (connection after : Connection) (found : Option Packet) (packet : Packet) (outs : Outs) (fault : Option StreamFault) → ((stream : List ℕ) (first : Option (List ℕ)) → IsUnderWay stream first a b d e → IsUnderWay stream first mid waiting unread connection) → (unread.fault ≡ None → Goes unread (Ok found) left fault) → found ≡ Some packet → ((story : Story) → Shows story connection → Turns packet story outs after) → Begins mid now (waiting ++ lines_for outs.packets.items) → (stream : List ℕ) (first : Option (List ℕ)) → IsUnderWay stream first a b d e → IsBegun stream first now
+fails_all a b d e mid now waiting unread left connection after found packet outs fault way goes is steps begins stream first start =
     let here = way stream first start in
-    IsUnderWay-fails stream first mid now waiting unread left connection after packet outs here (takes_from unread left found packet (goes here.sound) is) steps begins
+    IsUnderWay-fails stream first mid now waiting unread left connection after packet outs here (takes_from unread left found packet fault (goes here.sound) is) steps begins
 
 -- before the first packet, as the calls say it
 pub IsUnderWay-start : (stream : List ℕ) (first : Option (List ℕ)) (waiting : List ℕ) (old unread : Unread) (connection : Connection) → AreBytes stream → Shows opening connection → old ≡ record { bytes = []; fault = None } → unread ≡ record old { bytes = old.bytes ++ stream } → waiting ≡ [] → IsUnderWay stream first first waiting unread connection
@@ -187,3 +224,9 @@ IsUnderWay-start stream first waiting old unread connection are shows empty fed 
 -- nothing was told
 pub IsBegun-nothing : (stream : List ℕ) (first : Option (List ℕ)) → AreBytes stream → IsBegun stream first first
 IsBegun-nothing stream first are = IsUnderWay-stops stream first first [] _ _ (IsUnderWay-first stream first _ are (Shows-opening 256))
+
+-- the writer failed at the answer to the end, as the calls say it
+pub end_fails_all : (a : Option (List ℕ)) (b : List ℕ) (d : Unread) (e : Connection) (mid now : Option (List ℕ)) (waiting : List ℕ) (unread left : Unread) (connection after : Connection) (found : Option Packet) (fault : Option StreamFault) (packets : List Packet) → ((stream : List ℕ) (first : Option (List ℕ)) → IsUnderWay stream first a b d e → IsUnderWay stream first mid waiting unread connection) → (unread.fault ≡ None → Goes unread (Ok found) left fault) → found ≡ None → ((story : Story) → Shows story connection → Ends fault story packets after) → Begins mid now (waiting ++ lines_for packets) → (stream : List ℕ) (first : Option (List ℕ)) → IsUnderWay stream first a b d e → IsBegun stream first now
+end_fails_all a b d e mid now waiting unread left connection after found fault packets way goes is answers begins stream first start =
+    let here = way stream first start in
+    IsBegun-ended stream first mid now waiting unread connection after fault packets here (ends_from unread left found fault (goes here.sound) is) answers begins

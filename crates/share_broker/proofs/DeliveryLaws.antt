@@ -4,7 +4,7 @@ use Rattle.mqtt_wire.specs.declared.packet.Packet.{Packet}
 use Rattle.share_broker.specs.declared.connection.Standing.{Standing}
 use Rattle.share_broker.specs.declared.connection.Standing.TheVariants.{Unconnected, Connected, Closed}
 use Rattle.share_broker.specs.declared.connection.Connection.{Connection}
-use Rattle.share_broker.specs.Story.{Story, opening}
+use Rattle.share_broker.specs.Story.{Story, default_terms, opening}
 use Rattle.share_broker.specs.HandOuts.{due, due_to}
 use Rattle.share_broker.specs.Shows.{Shows, Delivers, times_in}
 use Rattle.share_broker.proofs.WindowLaws.{weight_at, set_flags, set_flags-cons}
@@ -53,8 +53,8 @@ none_held : (n identifier : ℕ) → 0 ≡ times_in (replicate n false) identifi
 none_held n zero = refl
 none_held n (suc k) = weight_at false _ (sym (unset n k))
 
-pub Shows-opening : (n : ℕ) → Shows opening (record { standing = Unconnected; group = None; window = replicate n false })
-Shows-opening n = record { standing = refl; group = (refl, refl, refl); window = record { each = none_held n; size = none_set n } }
+pub Shows-opening : (n : ℕ) → Shows opening (record { standing = Unconnected; terms = default_terms; group = None; window = replicate n false })
+Shows-opening n = record { standing = refl; terms = refl; group = (refl, refl, refl); window = record { each = none_held n; size = none_set n } }
 
 pub unconnected_apart : {s : Standing} → s ≡ Unconnected → s ≡ Connected → ⊥
 unconnected_apart is other = cc

@@ -1,5 +1,5 @@
 -- What goes out, one message after another.
-use Rattle.std.proofs.Common.{◌≡◌, ℕ, zero, suc, ◌+◌, ◌-◌, ◌<◌, Bool, true, false, not, cond, List, [], ◌∷◌, ◌++◌, length, set, take, drop, map, filter, refl, sym, ap, subst, ◌∙◌, arith, Option, Some, None, append_assoc, append-nil, add-zero}
+use Rattle.std.proofs.Common.{◌≡◌, ℕ, zero, suc, ◌+◌, ◌-◌, ◌<◌, ◌≤◌, Bool, true, false, not, cond, List, [], ◌∷◌, ◌++◌, length, set, take, drop, map, filter, count_by, refl, sym, ap, subst, ◌∙◌, arith, Option, Some, None, append_assoc, append-nil, add-zero}
 use Rattle.std.specs.Option.{option_map}
 use Rattle.std.proofs.lemmas.List.{length_push, drop-drop, length-drop, map-append}
 use Rattle.std.proofs.lemmas.List.Elements.{filter-append}
@@ -8,20 +8,21 @@ use Rattle.std.proofs.lemmas.List.Quantifiers.{position-Some}
 use Rattle.std.specs.List.{position}
 use Rattle.mqtt_wire.specs.declared.packet.Packet.{Packet}
 use Rattle.share_broker.specs.declared.connection.Standing.TheVariants.{Connected}
+use Rattle.share_broker.specs.declared.connection.Terms.{Terms}
 use Rattle.share_broker.specs.declared.group.Message.{Message}
 use Rattle.share_broker.specs.Groups.{GroupState}
 use Rattle.share_broker.specs.Names.{Share}
 use Rattle.share_broker.specs.Story.{Story, HandOut, is_open, open_identifiers, unacknowledged, with_hand_out, acknowledges, refuses}
-use Rattle.share_broker.specs.HandOuts.{quota, job, least_free, waiting, due, due_to, hand_out, sent_first, deliver}
+use Rattle.share_broker.specs.HandOuts.{greatest_identifier, quota_of, quota, job, least_free, waiting, due, due_to, hand_out, sent_first, deliver}
 use Rattle.share_broker.specs.Shows.{ShowsWindow, ShowsGroup, HandsOut, IsOnTheWay}
-use Rattle.share_broker.proofs.WindowLaws.{set_flags, set_flags-lt, set_flags-full, not_true, least_free-at, ShowsWindow-hold}
+use Rattle.share_broker.proofs.WindowLaws.{set_flags-full, not_true, least_free-at, ShowsWindow-hold}
 
 open-push : (jobs : List HandOut) (id : ℕ) → open_identifiers (jobs ++ (record { identifier = id; code = None }) ∷ []) ≡ open_identifiers jobs ++ id ∷ []
 open-push jobs id =
     let new : HandOut = record { identifier = id; code = None } in
     ap (map (λ (j : HandOut). j.identifier)) (filter-append is_open jobs (new ∷ [])) ∙ map-append (λ (j : HandOut). j.identifier) (filter is_open jobs) (new ∷ [])
 
-due-member : (story : Story) (share : Share) → story.standing ≡ Connected → story.share ≡ Some share → due story ≡ take (quota - length (unacknowledged story)) (waiting story)
+due-member : (story : Story) (share : Share) → story.standing ≡ Connected → story.share ≡ Some share → due story ≡ take (quota story - length (unacknowledged story)) (waiting story)
 due-member story share standing bound = ap (λ s. due_to s story.share story) standing ∙ ap (λ s. due_to Connected s story) bound
 
 deliver-next : (now : Story) (message : Message) (id : ℕ) → due now ≡ message ∷ due (with_hand_out id now) → least_free (unacknowledged now) ≡ id → deliver now ≡ sent_first (job message id) (deliver (with_hand_out id now))
@@ -51,26 +52,28 @@ ShowsGroup-hand_out story group message rest id shows next =
     }
 
 -- One message goes out.
-pub IsOnTheWay-next : (first : Story) (before after : List Packet) (group : GroupState) (flags : List Bool) (place : ℕ) (message : Message) (rest : List Message) → first.standing ≡ Connected → IsOnTheWay first before after group flags → length flags ≡ quota → position not flags ≡ Some place → group.waiting ≡ message ∷ rest → IsOnTheWay first before (after ++ job message (place + 1) ∷ []) (record group { waiting = rest }) (set flags place true)
-IsOnTheWay-next first before after group flags place message rest connected way size found next =
+pub IsOnTheWay-next : (first : Story) (before after : List Packet) (group : GroupState) (flags : List Bool) (place : ℕ) (message : Message) (rest : List Message) → first.standing ≡ Connected → IsOnTheWay first before after group flags → length flags ≡ greatest_identifier → count_by (λ flag. flag) flags < quota first → position not flags ≡ Some place → group.waiting ≡ message ∷ rest → IsOnTheWay first before (after ++ job message (place + 1) ∷ []) (record group { waiting = rest }) (set flags place true)
+IsOnTheWay-next first before after group flags place message rest connected way size open' found next =
     let now = way.now in
     let id = place + 1 in
     let new : HandOut = record { identifier = id; code = None } in
     let at = position-Some not flags place false found in
     let unset = not_true _ at.1 in
     let after_group = ShowsGroup-hand_out now group message rest id way.group_now next in
-    let room : length (unacknowledged now) < quota = subst (λ n. n < quota) (sym way.window_now.size) (subst (λ n. set_flags flags < n) size (set_flags-lt flags place at.0 unset)) in
+    let same_quota : quota now ≡ quota first = ap (λ (t : Terms). quota_of t.receive_maximum) way.terms in
+    let room : length (unacknowledged now) < quota now = omega (arith, way.window_now.size, same_quota, open') in
     let ids : unacknowledged (with_hand_out id now) ≡ unacknowledged now ++ id ∷ [] = open-push now.handed_out id in
     let more : length (unacknowledged now ++ id ∷ []) ≡ length (unacknowledged now) + 1 = length_push (unacknowledged now) id in
-    let one : quota - length (unacknowledged now) ≡ suc (quota - (length (unacknowledged now) + 1)) = omega arith in
-    let due_now : due now ≡ message ∷ take (quota - (length (unacknowledged now) + 1)) rest = due-member now group.share (way.standing ∙ connected) way.group_now.share_is ∙ ap (take (quota - length (unacknowledged now))) (sym way.group_now.waits ∙ next) ∙ ap (λ n. take n (message ∷ rest)) one in
-    let due_next : due (with_hand_out id now) ≡ take (quota - (length (unacknowledged now) + 1)) rest = due-member (with_hand_out id now) group.share (way.standing ∙ connected) way.group_now.share_is ∙ ap (λ n. take (quota - n) (waiting (with_hand_out id now))) (ap length ids ∙ more) ∙ ap (take (quota - (length (unacknowledged now) + 1))) (sym after_group.waits) in
+    let one : quota now - length (unacknowledged now) ≡ suc (quota now - (length (unacknowledged now) + 1)) = omega arith in
+    let due_now : due now ≡ message ∷ take (quota now - (length (unacknowledged now) + 1)) rest = due-member now group.share (way.standing ∙ connected) way.group_now.share_is ∙ ap (take (quota now - length (unacknowledged now))) (sym way.group_now.waits ∙ next) ∙ ap (λ n. take n (message ∷ rest)) one in
+    let due_next : due (with_hand_out id now) ≡ take (quota now - (length (unacknowledged now) + 1)) rest = due-member (with_hand_out id now) group.share (way.standing ∙ connected) way.group_now.share_is ∙ ap (λ n. take (quota now - n) (waiting (with_hand_out id now))) (ap length ids ∙ more) ∙ ap (take (quota now - (length (unacknowledged now) + 1))) (sym after_group.waits) in
     let delivered = deliver-next now message id (due_now ∙ ap (λ ms. message ∷ ms) (sym due_next)) (least_free-at (unacknowledged now) flags place way.window_now size found) in
     record {
       now = with_hand_out id now;
       group_now = after_group;
       window_now = subst (λ xs. ShowsWindow xs (set flags place true)) (sym ids) (ShowsWindow-hold (unacknowledged now) flags place way.window_now at.0 unset);
       standing = way.standing;
+      terms = way.terms;
       sent = append_assoc after (job message id ∷ []) (deliver (with_hand_out id now)).sent ∙ ap (λ t. after ++ t.sent) (sym delivered) ∙ way.sent;
       story = ap (λ t. t.story) (sym delivered) ∙ way.story;
     }
@@ -80,11 +83,11 @@ place_of None id e = absurd (cc)
 place_of (Some p) id e = (p, refl, cc)
 
 -- The same, as the calls say it.
-pub IsOnTheWay-step : (first : Story) (before after : List Packet) (group new : GroupState) (flags : List Bool) (id : ℕ) (message : Message) → first.standing ≡ Connected → IsOnTheWay first before after group flags → length flags ≡ quota → option_map (λ p. p + 1) (position not flags) ≡ Some id → group.waiting ≡ message ∷ new.waiting → new ≡ record group { waiting = drop 1 group.waiting } → IsOnTheWay first before (after ++ job message id ∷ []) new (set flags (id - 1) true)
-IsOnTheWay-step first before after group new flags id message connected way size found next rest =
+pub IsOnTheWay-step : (first : Story) (before after : List Packet) (group new : GroupState) (flags : List Bool) (id : ℕ) (message : Message) → first.standing ≡ Connected → IsOnTheWay first before after group flags → length flags ≡ greatest_identifier → count_by (λ flag. flag) flags < quota first → option_map (λ p. p + 1) (position not flags) ≡ Some id → group.waiting ≡ message ∷ new.waiting → new ≡ record group { waiting = drop 1 group.waiting } → IsOnTheWay first before (after ++ job message id ∷ []) new (set flags (id - 1) true)
+IsOnTheWay-step first before after group new flags id message connected way size open' found next rest =
     let at = place_of (position not flags) id found in
     let place = at.0 in
-    let step = IsOnTheWay-next first before after group flags place message new.waiting connected way size at.1 next in
+    let step = IsOnTheWay-next first before after group flags place message new.waiting connected way size open' at.1 next in
     let same : record group { waiting = new.waiting } ≡ new = ap (λ ms. record group { waiting = ms }) (ap (λ (g : GroupState). g.waiting) rest) ∙ sym rest in
     let spot : place ≡ id - 1 = omega (arith, at.2) in
     subst (λ n. IsOnTheWay first before (after ++ job message n ∷ []) new (set flags (id - 1) true)) (sym at.2)
@@ -100,6 +103,7 @@ done first before after group flags way none =
       group_after = subst (λ s. ShowsGroup s group) same way.group_now;
       window_after = subst (λ s. ShowsWindow (unacknowledged s) flags) same way.window_now;
       goes_on = ap (λ s. s.standing) (sym same) ∙ way.standing;
+      keeps_terms = ap (λ (s : Story). s.terms) (sym same) ∙ way.terms;
     }
 
 take_none : (n : ℕ) → take {A = Message} n [] ≡ []
@@ -109,23 +113,25 @@ take_none (suc n) = refl
 -- Nothing waits.
 pub HandsOut-empty : (first : Story) (before after : List Packet) (group : GroupState) (flags : List Bool) → first.standing ≡ Connected → IsOnTheWay first before after group flags → group.waiting ≡ [] → HandsOut first before after group flags
 HandsOut-empty first before after group flags connected way none =
-    done first before after group flags way (due-member way.now group.share (way.standing ∙ connected) way.group_now.share_is ∙ ap (take (quota - length (unacknowledged way.now))) (sym way.group_now.waits ∙ none) ∙ take_none (quota - length (unacknowledged way.now)))
+    done first before after group flags way (due-member way.now group.share (way.standing ∙ connected) way.group_now.share_is ∙ ap (take (quota way.now - length (unacknowledged way.now))) (sym way.group_now.waits ∙ none) ∙ take_none (quota way.now - length (unacknowledged way.now)))
 
--- Each identifier is in use.
-pub HandsOut-full : (first : Story) (before after : List Packet) (group : GroupState) (flags : List Bool) → first.standing ≡ Connected → IsOnTheWay first before after group flags → length flags ≡ quota → position not flags ≡ None → HandsOut first before after group flags
-HandsOut-full first before after group flags connected way size full =
-    let count : length (unacknowledged way.now) ≡ quota = way.window_now.size ∙ set_flags-full flags full ∙ size in
-    let none : quota - length (unacknowledged way.now) ≡ 0 = omega arith in
+-- The quota has no room.
+pub HandsOut-full : (first : Story) (before after : List Packet) (group : GroupState) (flags : List Bool) → first.standing ≡ Connected → IsOnTheWay first before after group flags → quota first ≤ count_by (λ flag. flag) flags → HandsOut first before after group flags
+HandsOut-full first before after group flags connected way full =
+    let same_quota : quota way.now ≡ quota first = ap (λ (t : Terms). quota_of t.receive_maximum) way.terms in
+    let none : quota way.now - length (unacknowledged way.now) ≡ 0 = omega (arith, way.window_now.size, same_quota, full) in
     done first before after group flags way (due-member way.now group.share (way.standing ∙ connected) way.group_now.share_is ∙ ap (λ n. take n (waiting way.now)) none)
 
 -- Nothing went out yet.
 pub IsOnTheWay-first : (first : Story) (before : List Packet) (group : GroupState) (flags : List Bool) → ShowsGroup first group → ShowsWindow (unacknowledged first) flags → IsOnTheWay first before before group flags
-IsOnTheWay-first first before group flags shows window = record { now = first; group_now = shows; window_now = window; standing = refl; sent = refl; story = refl }
+IsOnTheWay-first first before group flags shows window = record { now = first; group_now = shows; window_now = window; standing = refl; terms = refl; sent = refl; story = refl }
 
 no_place : (place : Option ℕ) → option_map (λ p. p + 1) place ≡ None → place ≡ None
 no_place None e = refl
 no_place (Some p) e = absurd (cc)
 
--- The same, as the call says it.
-pub HandsOut-none_free : (first : Story) (before after : List Packet) (group : GroupState) (flags : List Bool) → first.standing ≡ Connected → IsOnTheWay first before after group flags → length flags ≡ quota → option_map (λ p. p + 1) (position not flags) ≡ None → HandsOut first before after group flags
-HandsOut-none_free first before after group flags connected way size full = HandsOut-full first before after group flags connected way size (no_place (position not flags) full)
+-- Each identifier is in use, so the quota has no room.
+pub HandsOut-none_free : (first : Story) (before after : List Packet) (group : GroupState) (flags : List Bool) → first.standing ≡ Connected → IsOnTheWay first before after group flags → length flags ≡ greatest_identifier → quota first ≤ 256 → option_map (λ p. p + 1) (position not flags) ≡ None → HandsOut first before after group flags
+HandsOut-none_free first before after group flags connected way size small full =
+    let count : count_by (λ flag. flag) flags ≡ 256 = set_flags-full flags (no_place (position not flags) full) ∙ size in
+    HandsOut-full first before after group flags connected way (omega (arith, count, small))

@@ -9,3 +9,4 @@ pub mod AnswerLaws
 pub mod SendLaws
 pub mod SoloLaws
 pub mod OutputLaws
+pub mod ReplyLaws

@@ -1,8 +1,10 @@
 -- Each input has one output, or a first line that is not hex.
-use Rattle.std.proofs.Common.{◌≡◌, ℕ, zero, suc, ◌+◌, List, [], ◌∷◌, ◌++◌, refl, sym, ap, subst, ◌∙◌, arith, Result, Ok, Err, inl, inr, ◌⊎◌}
+use Rattle.std.proofs.Common.{◌≡◌, ℕ, zero, suc, ◌+◌, List, [], ◌∷◌, ◌++◌, refl, sym, ap, subst, ◌∙◌, arith, Option, Result, Ok, Err, inl, inr, ◌⊎◌}
 use Rattle.hex.specs.declared.error.FromHexError.{FromHexError}
 use Rattle.hex.specs.Hex.{decode_of}
 use Rattle.hex.proofs.HexLemmas.{decode_of-ok}
+use Rattle.mqtt_wire.specs.declared.fault.StreamFault.{StreamFault}
+use Rattle.mqtt_wire.specs.declared.packet.Packet.{Packet}
 use Rattle.mqtt_wire.specs.Stream.{AreBytes, Reads}
 use Rattle.mqtt_wire.proofs.StreamLaws.{exists_reading, one_reading}
 use Rattle.share_broker.specs.Lines.{joined, stream_from, stream_of, lines_of}
@@ -33,7 +35,7 @@ output_or_line input (Err line) is = inl (line, is)
 output_or_line input (Ok stream) is =
     let reading = exists_reading stream (stream_is_bytes 1 (lines_of input) stream is) in
     inr (
-      solo_output reading.0,
+      solo_output reading.0 reading.2,
       record {
         stream = stream;
         spelled = is;
@@ -51,5 +53,6 @@ pub one_output : (input one other : List ℕ) → IsSoloOutput input one → IsS
 one_output input one other p q =
     let same = ok_same q.stream p.stream (stream_of input) q.spelled p.spelled in
     let reads : Reads p.stream q.answered.packets q.answered.rest q.answered.fault = subst (λ s. Reads s q.answered.packets q.answered.rest q.answered.fault) same q.answered.reads in
-    let packets = (one_reading p.stream p.answered.packets p.answered.rest p.answered.fault q.answered.packets q.answered.rest q.answered.fault p.answered.reads reads).0 in
-    p.answered.text ∙ ap solo_output packets ∙ sym q.answered.text
+    let both = one_reading p.stream p.answered.packets p.answered.rest p.answered.fault q.answered.packets q.answered.rest q.answered.fault p.answered.reads reads in
+    p.answered.text ∙ ap (λ (ps : List Packet). solo_output ps p.answered.fault) both.0
+    ∙ ap (λ (f : Option StreamFault). solo_output q.answered.packets f) both.2 ∙ sym q.answered.text

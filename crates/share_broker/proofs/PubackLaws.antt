@@ -123,6 +123,7 @@ groups_after story (Some group) id code shows none =
 pub Shows-puback_ignored : (story : Story) (connection : Connection) (id code : ℕ) → Shows story connection → 0 < id → get_or connection.window (id - 1) false ≡ false → Shows (with_puback id code story) (record connection { window = set connection.window (id - 1) false })
 Shows-puback_ignored story connection id code shows some unset = record {
   standing = shows.standing;
+  terms = shows.terms;
   group = groups_after story connection.group id code shows.group (open_at (unacknowledged story) connection.window id shows.window some ∙ weight_at _ false unset);
   window = window_after story.handed_out connection.window id code shows.window some;
 }
@@ -145,6 +146,7 @@ Shows-puback_settles story connection group id code shows is some held =
     let once = open_at (unacknowledged story) connection.window id shows.window some ∙ weight_at _ true held in
     record {
       standing = shows.standing;
+      terms = shows.terms;
       group = subst (ShowsGroup (with_puback id code story)) (by_code (nat_lt code 128) group (few story group acknowledges group.acknowledged shows_group shows_group.acknowledged) (few story group refuses group.refused shows_group shows_group.refused)) (IsGroupOf-settled story.share story.accepted story.handed_out group id code 1 shows_group once);
       window = window_after story.handed_out connection.window id code shows.window some;
     }

@@ -1,5 +1,5 @@
 -- The lines of some packets, one after another.
-use Rattle.std.proofs.Common.{◌≡◌, ℕ, ◌+◌, ◌<◌, List, [], ◌∷◌, ◌++◌, length, get_or, take, drop, take-append-drop, sym, ap, subst, ◌∙◌, Option, append_assoc, append-nil, Result, Ok, Err, OnErr}
+use Rattle.std.proofs.Common.{◌≡◌, ℕ, ◌+◌, ◌<◌, List, [], ◌∷◌, ◌++◌, length, get_or, take, drop, take-append-drop, sym, ap, subst, ◌∙◌, Option, append_assoc, append-nil, Result, Ok, Err, OnOk, OnErr}
 use Rattle.std.proofs.lemmas.List.{take_more}
 use Rattle.std.proofs.lemmas.List.Concat.{flat_map-append}
 use Rattle.mqtt_wire.specs.declared.packet.Packet.{Packet}
@@ -8,6 +8,14 @@ use Rattle.share_broker.specs.Lines.{hex_line}
 use Rattle.share_broker.specs.Passing.{Passes, Begins}
 use Rattle.share_broker.specs.Output.{lines_for}
 use Rattle.share_broker.proofs.PassingLaws.{Passes-then, Begins-then, Begins-stops, Begins-longer}
+
+pub then_ok : {T E P Q : Type 0} → (r : Result T E) → OnOk r P → (P → Q) → OnOk r Q
+then_ok (Ok x) p f = f p
+then_ok (Err e) p f = tt
+
+pub then_err : {T E P Q : Type 0} → (r : Result T E) → OnErr r P → (P → Q) → OnErr r Q
+then_err (Ok x) p f = tt
+then_err (Err e) p f = f p
 
 pub on_err : {T E P : Type 0} → (r : Result T E) → P → OnErr r P
 on_err (Ok x) p = tt

@@ -6,7 +6,7 @@ use Rattle.std.proofs.lemmas.List.Sums.{sum_by-cons, sum_by_push, sum_by-set, co
 use Rattle.std.proofs.lemmas.List.Quantifiers.{position-Some}
 use Rattle.std.proofs.lemmas.List.{length_push, get_or-set_same, get_or-set_other, set_past, get_or_past}
 use Rattle.std.specs.List.{position, position_or_len, find, range_with_len}
-use Rattle.share_broker.specs.HandOuts.{times, least_free, quota}
+use Rattle.share_broker.specs.HandOuts.{times, least_free, greatest_identifier}
 use Rattle.share_broker.specs.Shows.{ShowsWindow, times_in}
 
 abbrev pub set_flags : List Bool → ℕ
@@ -83,7 +83,7 @@ times_at ids flags k shows =
     by_flag true = refl
     by_flag false = refl
 
-pub least_free-at : (ids : List ℕ) (flags : List Bool) (place : ℕ) → ShowsWindow ids flags → length flags ≡ quota → position not flags ≡ Some place → least_free ids ≡ place + 1
+pub least_free-at : (ids : List ℕ) (flags : List Bool) (place : ℕ) → ShowsWindow ids flags → length flags ≡ greatest_identifier → position not flags ≡ Some place → least_free ids ≡ place + 1
 unfolding least_free
 least_free-at ids flags place shows size found =
     let at = position-Some not flags place false found in

@@ -1,5 +1,5 @@
 -- Which messages go out after a packet, and under which identifiers (sections 2.2.1, 4.6 and 4.9).
-use Rattle.std.specs.Prelude.{ℕ, ◌-◌, ◌==◌, false, List, [], ◌∷◌, length, take, drop, count_by, unwrap_or, Option, Some, None}
+use Rattle.std.specs.Prelude.{ℕ, ◌-◌, ◌==◌, nat_lt, if◌then◌else◌, false, List, [], ◌∷◌, length, take, drop, count_by, unwrap_or, Option, Some, None}
 use Rattle.std.specs.List.{find, range_with_len}
 use Rattle.mqtt_wire.specs.declared.packet.Packet.{Packet}
 use Rattle.mqtt_wire.specs.declared.packet.Packet.TheVariants as packets
@@ -10,16 +10,23 @@ use Rattle.share_broker.specs.declared.group.Message.{Message}
 use Rattle.share_broker.specs.Names.{Share}
 use Rattle.share_broker.specs.Story.{Story, unacknowledged, with_hand_out}
 
--- the most hand-outs that are unacknowledged at once: the Receive Maximum, absent, cut to 256 (3.1.2.11.3, profile)
-abbrev pub quota : ℕ
-quota = 256
+-- identifiers are 1 to 256 (profile)
+abbrev pub greatest_identifier : ℕ
+greatest_identifier = 256
+
+-- the most hand-outs that are unacknowledged at once: the Receive Maximum, cut to 256 (3.1.2.11.3, profile)
+abbrev pub quota_of : ℕ → ℕ
+quota_of receive_maximum = if nat_lt receive_maximum greatest_identifier then receive_maximum else greatest_identifier
+
+abbrev pub quota : Story → ℕ
+quota story = quota_of story.terms.receive_maximum
 
 abbrev pub times : ℕ → List ℕ → ℕ
 times identifier identifiers = count_by (λ other. other == identifier) identifiers
 
 -- the least identifier from 1 on that none of these is
 unfoldable pub least_free : List ℕ → ℕ
-least_free identifiers = unwrap_or (find (λ identifier. times identifier identifiers == 0) (range_with_len 1 quota)) 0
+least_free identifiers = unwrap_or (find (λ identifier. times identifier identifiers == 0) (range_with_len 1 greatest_identifier)) 0
 
 -- 3.3: a message as it goes out: QoS 1, DUP 0, RETAIN 0
 abbrev pub job : Message → ℕ → Packet
@@ -28,6 +35,15 @@ job message identifier = packets.Publish (record {
   retain = false;
   topic = message.topic;
   delivery = AtLeastOnce identifier;
+  properties = record {
+    payload_format_indicator = message.properties.payload_format_indicator;
+    message_expiry_interval = None;
+    content_type = message.properties.content_type;
+    response_topic = message.properties.response_topic;
+    correlation_data = message.properties.correlation_data;
+    topic_alias = None;
+    user_properties = message.properties.user_properties;
+  };
   payload = message.payload;
 })
 
@@ -37,7 +53,7 @@ waiting story = drop (length story.handed_out) story.accepted
 
 -- what goes out to a member: as much as the quota has room for
 abbrev pub due_to : Standing → Option Share → Story → List Message
-due_to Connected (Some share) story = take (quota - length (unacknowledged story)) (waiting story)
+due_to Connected (Some share) story = take (quota story - length (unacknowledged story)) (waiting story)
 due_to Connected None story = []
 due_to Unconnected share story = []
 due_to Closed share story = []

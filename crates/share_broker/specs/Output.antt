@@ -1,5 +1,5 @@
 -- The defined output of `solo` for an input, with no queue, window or session in it.
-use Rattle.std.specs.Prelude.{◌≡◌, ◌⊎◌, List, [], ◌∷◌, ◌++◌, ℕ, Option, Ok}
+use Rattle.std.specs.Prelude.{◌≡◌, ◌⊎◌, List, [], ◌∷◌, ◌++◌, ℕ, Option, Ok, option_to_list}
 use Rattle.std.specs.List.{flat_map}
 use Rattle.std.specs.Io.KnownBytes.{Appends, Keeps}
 use Rattle.mqtt_wire.specs.declared.fault.StreamFault.{StreamFault}
@@ -9,28 +9,32 @@ use Rattle.mqtt_wire.specs.Writing.{written}
 use Rattle.share_broker.specs.Lines.{stream_of, hex_line}
 use Rattle.share_broker.specs.Passing.{Begins}
 use Rattle.share_broker.specs.Story.{Story, opening}
-use Rattle.share_broker.specs.Replies.{turn}
+use Rattle.share_broker.specs.Replies.{turn, end_reply}
 use Rattle.share_broker.specs.Report.{report_of, report_lines}
 
 -- a line for each packet
 abbrev pub lines_for : List Packet → List ℕ
 lines_for packets = flat_map (λ packet. hex_line (written packet)) packets
 
--- what is written from a story on: for each packet what it brings about, and the report at the end
-abbrev pub output_from : Story → List Packet → List ℕ
-output_from story [] = report_lines story.share (report_of story)
-output_from story (packet ∷ packets) = lines_for (turn packet story).sent ++ output_from (turn packet story).story packets
+-- what is written at the end of the stream: the reply to the fault that stands there, and the report
+abbrev pub ending : Option StreamFault → Story → List ℕ
+ending fault story = lines_for (option_to_list (end_reply fault story).packet) ++ report_lines story.share (report_of story)
 
-abbrev pub solo_output : List Packet → List ℕ
-solo_output packets = output_from opening packets
+-- what is written from a story on: for each packet what it brings about, and then the ending
+abbrev pub output_from : Story → List Packet → Option StreamFault → List ℕ
+output_from story [] fault = ending fault story
+output_from story (packet ∷ packets) fault = lines_for (turn packet story).sent ++ output_from (turn packet story).story packets fault
 
--- The output for a stream: that of the packets which it is read as. What ends them, a fault or an open rest, gives nothing.
+abbrev pub solo_output : List Packet → Option StreamFault → List ℕ
+solo_output packets fault = output_from opening packets fault
+
+-- The output for a stream: that of the packets which it is read as, and of the fault that ends them, if one does.
 pub record IsStreamOutput (stream output : List ℕ) : Type 0 where
   pub packets : List Packet
   pub rest : List ℕ
   pub fault : Option StreamFault
   pub reads : Reads stream packets rest fault
-  pub text : output ≡ solo_output packets
+  pub text : output ≡ solo_output packets fault
 
 -- the output for an input: that for the stream which its lines spell
 pub record IsSoloOutput (input output : List ℕ) : Type 0 where

@@ -1,20 +1,20 @@
 -- The report line of a group: what became of its messages (profile).
-use Rattle.std.specs.Prelude.{ℕ, ◌-◌, List, [], ◌∷◌, ◌++◌, length, count_by, codes, Option, Some, None}
+use Rattle.std.specs.Prelude.{ℕ, ◌-◌, ◌==◌, if◌then◌else◌, List, [], ◌∷◌, ◌++◌, length, count_by, codes, Option, Some, None}
 use Rattle.std.specs.Fmt.{decimal}
 use Rattle.share_broker.specs.declared.report.Report.{Report}
 use Rattle.share_broker.specs.Names.{Share}
 use Rattle.share_broker.specs.Story.{Story, unacknowledged, acknowledges, refuses}
 
--- Each accepted message is acknowledged, refused, held, queued or returned: the session's expiry is 0, so what
--- is unacknowledged at the end of the connection is returned, and nothing is held (3.1.2.11.2).
+-- Each accepted message is acknowledged, refused, held, queued or returned: what is unacknowledged at the end of the
+-- connection is returned where the session ends with it, and else held (3.1.2.11.2).
 abbrev pub report_of : Story → Report
 report_of story = record {
   accepted = length story.accepted;
   acknowledged = count_by (λ job. acknowledges job.code) story.handed_out;
   refused = count_by (λ job. refuses job.code) story.handed_out;
-  held = 0;
+  held = if story.terms.session_expiry_interval == 0 then 0 else length (unacknowledged story);
   queued = length story.accepted - length story.handed_out;
-  returned = length (unacknowledged story);
+  returned = if story.terms.session_expiry_interval == 0 then length (unacknowledged story) else 0;
 }
 
 -- a count in decimal, behind its label

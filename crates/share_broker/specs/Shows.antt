@@ -1,5 +1,5 @@
 -- How the broker's own state shows a story.
-use Rattle.std.specs.Prelude.{◌≡◌, ◌==◌, ℕ, zero, suc, ◌≤◌, Bool, false, if◌then◌else◌, List, [], ◌++◌, length, drop, count_by, slice_index_or, Option, Some, None}
+use Rattle.std.specs.Prelude.{◌≡◌, ◌==◌, ℕ, zero, suc, ◌≤◌, Bool, false, if◌then◌else◌, List, [], ◌++◌, length, drop, count_by, slice_index_or, Option, Some, None, option_to_list}
 use Rattle.mqtt_wire.specs.declared.packet.Packet.{Packet}
 use Rattle.share_broker.specs.declared.connection.Connection.{Connection}
 use Rattle.share_broker.specs.declared.connection.Standing.{Standing}
@@ -10,7 +10,8 @@ use Rattle.share_broker.specs.declared.connection.Outs.{Outs}
 use Rattle.share_broker.specs.declared.group.Message.{Message}
 use Rattle.share_broker.specs.Names.{Share}
 use Rattle.share_broker.specs.Groups.{GroupState}
-use Rattle.share_broker.specs.Replies.{Reply, turn, publish_code, accepted_if}
+use Rattle.mqtt_wire.specs.declared.fault.StreamFault.{StreamFault}
+use Rattle.share_broker.specs.Replies.{Reply, turn, publish_code, accepted_if, end_reply}
 use Rattle.share_broker.specs.Story.{Story, HandOut, unacknowledged, acknowledges, refuses}
 use Rattle.share_broker.specs.HandOuts.{times, deliver}
 
@@ -50,6 +51,7 @@ ShowsGroups story (Some group) = ShowsGroup story group
 
 pub record Shows (story : Story) (connection : Connection) : Type 0 where
   pub standing : connection.standing ≡ story.standing
+  pub terms : connection.terms ≡ story.terms
   pub group : ShowsGroups story connection.group
   pub window : ShowsWindow (unacknowledged story) connection.window
 
@@ -74,12 +76,18 @@ pub record Takes (packet : Packet) (story : Story) (outs : Outs) (connection : C
   pub shows : Shows (turn packet story).story connection
   pub next : outs.next ≡ next_at connection.standing
 
+-- the end of the stream was answered
+pub record Ends (fault : Option StreamFault) (story : Story) (packets : List Packet) (connection : Connection) : Type 0 where
+  pub sent : packets ≡ option_to_list (end_reply fault story).packet
+  pub shows : Shows (end_reply fault story).story connection
+
 -- What is due after a story went out, behind the packets before; group and window show the story after it.
 pub record HandsOut (story : Story) (before after : List Packet) (group : GroupState) (flags : List Bool) : Type 0 where
   pub sent : after ≡ before ++ (deliver story).sent
   pub group_after : ShowsGroup (deliver story).story group
   pub window_after : ShowsWindow (unacknowledged (deliver story).story) flags
   pub goes_on : (deliver story).story.standing ≡ story.standing
+  pub keeps_terms : (deliver story).story.terms ≡ story.terms
 
 -- On the way from a first story: what was sent, with what is still due, is what was due at first.
 pub record IsOnTheWay (first : Story) (before after : List Packet) (group : GroupState) (flags : List Bool) : Type 0 where
@@ -87,5 +95,6 @@ pub record IsOnTheWay (first : Story) (before after : List Packet) (group : Grou
   pub group_now : ShowsGroup now group
   pub window_now : ShowsWindow (unacknowledged now) flags
   pub standing : now.standing ≡ first.standing
+  pub terms : now.terms ≡ first.terms
   pub sent : after ++ (deliver now).sent ≡ before ++ (deliver first).sent
   pub story : (deliver now).story ≡ (deliver first).story

@@ -1,7 +1,8 @@
 -- What has become of the messages of a run, as lists: those accepted, and the hand-outs (sections 4.3.2 and 4.4).
-use Rattle.std.specs.Prelude.{ℕ, ◌==◌, ◌&&◌, nat_lt, Bool, false, not, if◌then◌else◌, List, [], ◌++◌, ◌∷◌, map, filter, Option, Some, None, is_none}
+use Rattle.std.specs.Prelude.{ℕ, ◌==◌, ◌&&◌, nat_lt, Bool, true, false, not, if◌then◌else◌, List, [], ◌++◌, ◌∷◌, map, filter, Option, Some, None, is_none}
 use Rattle.share_broker.specs.declared.connection.Standing.{Standing}
 use Rattle.share_broker.specs.declared.connection.Standing.TheVariants.{Unconnected}
+use Rattle.share_broker.specs.declared.connection.Terms.{Terms}
 use Rattle.share_broker.specs.declared.group.Message.{Message}
 use Rattle.share_broker.specs.Names.{Share}
 
@@ -10,17 +11,23 @@ pub record HandOut : Type 0 where
   pub identifier : ℕ
   pub code : Option ℕ
 
--- The share that is bound, whose member the client is; the accepted messages, in order; the hand-outs, in
--- order: the first is that of the first accepted message, and so on.
+-- What the client asked for when it connected; the share that is bound, whose member the client is; the accepted
+-- messages, in order; the hand-outs, in order: the first is that of the first accepted message, and so on.
 pub record Story : Type 0 where
   pub standing : Standing
+  pub terms : Terms
   pub share : Option Share
   pub accepted : List Message
   pub handed_out : List HandOut
 
+-- 3.1.2.11: what holds where a CONNECT says nothing: the greatest Receive Maximum, packets of any size, and a session that
+-- ends with its connection
+abbrev pub default_terms : Terms
+default_terms = record { receive_maximum = 65535; session_expiry_interval = 0; takes_all_packets = true }
+
 -- before the first packet
 abbrev pub opening : Story
-opening = record { standing = Unconnected; share = None; accepted = []; handed_out = [] }
+opening = record { standing = Unconnected; terms = default_terms; share = None; accepted = []; handed_out = [] }
 
 -- no PUBACK came
 abbrev pub is_open : HandOut → Bool

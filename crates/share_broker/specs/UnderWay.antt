@@ -12,11 +12,11 @@ use Rattle.share_broker.specs.Report.{report_of, report_lines}
 use Rattle.share_broker.specs.Output.{output_from, IsStreamOutput}
 use Rattle.share_broker.specs.Shows.{Shows}
 
--- a packet was taken, or the stream ends here, open or at a fault
-abbrev pub Goes : Unread → Result (Option Packet) SoloError → Unread → Type 0
-Goes old (Ok (Some packet)) new = Takes old packet new
-Goes old (Ok None) new = (fault : Option StreamFault) × EndsAs old.bytes fault
-Goes old (Err error) new = new.bytes ≡ old.bytes
+-- a packet was taken, or the stream ends here, open or at the fault that is told
+abbrev pub Goes : Unread → Result (Option Packet) SoloError → Unread → Option StreamFault → Type 0
+Goes old (Ok (Some packet)) new fault = Takes old packet new
+Goes old (Ok None) new fault = EndsAs old.bytes fault
+Goes old (Err error) new fault = new.bytes ≡ old.bytes
 
 -- From what the writer held at first: what was told is written or waits, and whatever is left of the stream is
 -- read as, its output completes what was told.
@@ -27,7 +27,7 @@ pub record IsUnderWay (stream : List ℕ) (first now : Option (List ℕ)) (waiti
   pub passes : Passes first now [] told waiting
   pub sound : unread.fault ≡ None
   pub bytes_are : AreBytes unread.bytes
-  pub completes : (packets : List Packet) (rest : List ℕ) (fault : Option StreamFault) → Reads unread.bytes packets rest fault → IsStreamOutput stream (told ++ output_from story packets)
+  pub completes : (packets : List Packet) (rest : List ℕ) (fault : Option StreamFault) → Reads unread.bytes packets rest fault → IsStreamOutput stream (told ++ output_from story packets fault)
 
 -- Only the report is left to be told.
 pub record IsAnswered (stream : List ℕ) (first now : Option (List ℕ)) (waiting : List ℕ) (connection : Connection) : Type 0 where

@@ -5,7 +5,7 @@ ghost use Rattle.share_broker.specs.Groups.{OfferAnswers, with_fate};
 use crate::report::Report;
 use crate::share::Share;
 use bytes::Bytes;
-use mqtt_wire::Text;
+use mqtt_wire::{Binary, Text, UserProperties};
 use std::alloc::Global;
 use std::collections::VecDeque;
 use std::marker::Model;
@@ -17,11 +17,22 @@ const CAPACITY: usize = 1024;
 /// How many messages are accepted in all.
 const LIFE: u64 = 1 << 20;
 
-/// A message on its way from a publisher to a member. Topic and payload are shared, never copied.
+/// A message on its way from a publisher to a member. Its texts and its payload are shared, never copied.
 #[derive(Debug, Drop)]
 pub struct Message {
     pub topic: Text,
+    pub properties: MessageProperties,
     pub payload: Bytes,
+}
+
+/// The properties that a message keeps from its publisher to its member (section 3.3.2.3).
+#[derive(Debug, Drop)]
+pub struct MessageProperties {
+    pub payload_format_indicator: Option<u8>,
+    pub content_type: Option<Text>,
+    pub response_topic: Option<Text>,
+    pub correlation_data: Option<Binary>,
+    pub user_properties: UserProperties,
 }
 
 /// Why a message was not accepted.
@@ -130,13 +141,13 @@ impl Group {
         }
     }
 
-    /// The counts, where so many jobs came back from a session that ended.
-    pub fn report(&self, returned: u64) -> Report
+    /// The counts, where so many jobs are held by a session that goes on, and so many came back from one that ended.
+    pub fn report(&self, held: u64, returned: u64) -> Report
         ensures { result ≡ record {
           accepted = self.now.accepted;
           acknowledged = self.now.acknowledged;
           refused = self.now.refused;
-          held = 0;
+          held = held;
           queued = length self.now.waiting;
           returned = returned;
         } }
@@ -145,7 +156,7 @@ impl Group {
             accepted: self.accepted,
             acknowledged: self.acknowledged,
             refused: self.refused,
-            held: 0,
+            held,
             queued: self.waiting.len() as u64,
             returned,
         }

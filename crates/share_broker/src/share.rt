@@ -31,7 +31,7 @@ impl Model for Share {
 
 /// Whether a text is a topic name: at least one character, and no wildcard.
 #[tactic(auto, unfolding(crate::specs::Names::is_name))]
-pub fn is_name(text: &[u8]) -> bool
+fn is_name(text: &[u8]) -> bool
     ensures { result ≡ is_name text.now }
 {
     !text.is_empty() && !has_wildcard(text)
@@ -95,7 +95,7 @@ fn filter_behind(rest: &[u8]) -> Option<usize>
 }
 
 /// Whether a `+` or a `#` is among the bytes.
-fn has_wildcard(text: &[u8]) -> bool
+pub fn has_wildcard(text: &[u8]) -> bool
     ensures { result ≡ list_any is_wildcard text.now }
 {
     text.iter().any(|byte| *byte == b'+' || *byte == b'#')

@@ -10,7 +10,7 @@ use crate::connection::{Connection, Next};
 use crate::error::SoloError;
 use crate::input::read_stream;
 use crate::output::Output;
-use mqtt_wire::{Fault, Packet, Splitter, encode};
+use mqtt_wire::{Fault, Packet, Splitter, StreamFault, encode};
 use std::alloc::Global;
 use std::io::{Read, Write};
 
@@ -53,7 +53,7 @@ fn answer<W: Write>(alloc: Global, stream: &[u8], writer: &mut W) -> Result<(), 
     output.finish(writer)
 }
 
-/// Takes packets until the stream ends or the connection is closed.
+/// Takes packets until the stream ends or the connection is closed, and answers the fault that ends it.
 fn converse<W: Write>(
     alloc: Global,
     splitter: &mut Splitter,
@@ -67,7 +67,8 @@ fn converse<W: Write>(
         → IsBegun stream first (W.contents writer.new)) }
     ensures no_line { IfErr result IsNoLine }
 {
-    while let Some(packet) = next_packet(splitter)? {
+    let mut fault = None;
+    while let Some(packet) = next_packet(splitter, &mut fault)? {
         let outs = connection.step(alloc, packet)?;
         send(alloc, &outs.packets, output, writer)?;
         match outs.next {
@@ -75,18 +76,28 @@ fn converse<W: Write>(
             Next::Close => return Ok(()),
         }
     }
-    Ok(())
+    let packets = connection.end(alloc, fault)?;
+    send(alloc, &packets, output, writer)
 }
 
-/// The next packet; `None` where the stream ends, and at a fault, which closes the connection with no answer.
-fn next_packet(splitter: &mut Splitter) -> Result<Option<Packet>, SoloError>
-    ensures goes { splitter.old.fault ≡ None → Goes splitter.old result splitter.new }
+/// The next packet; `None` where the stream ends, and at a fault, which is told.
+fn next_packet(
+    splitter: &mut Splitter,
+    fault: &mut Option<StreamFault>,
+) -> Result<Option<Packet>, SoloError>
+    ensures goes { splitter.old.fault ≡ None → Goes splitter.old result splitter.new fault.new }
     ensures fewer { IfOk result (λ found. IsSome found → length splitter.new.bytes < length splitter.old.bytes) }
     ensures no_line { IfErr result IsNoLine }
 {
     match splitter.next() {
-        Ok(packet) => Ok(packet),
-        Err(Fault::Stream(_)) => Ok(None),
+        Ok(packet) => {
+            *fault = None;
+            Ok(packet)
+        }
+        Err(Fault::Stream(found)) => {
+            *fault = Some(found);
+            Ok(None)
+        }
         Err(Fault::Memory) => Err(SoloError::Memory),
     }
 }

@@ -4,10 +4,10 @@ use Rattle.share_broker.specs.Shows.{ShowsGroup, ShowsWindow, IsOnTheWay}
 use Rattle.share_broker.specs.declared.connection.Standing.TheVariants.{Connected}
 use Rattle.share_broker.proofs.connection.hand_out.Given as goal
 
-abbrev pub invariant-loop-identifier : goal.invariant-loop-identifier
-invariant-loop-identifier l =
-    (story : Story) → story.standing ≡ Connected → ShowsGroup story l.initial.group → ShowsWindow (unacknowledged story) l.initial.window
+abbrev pub invariant-loop-window : goal.invariant-loop-window
+invariant-loop-window l =
+    (story : Story) → story.standing ≡ Connected → l.fn.receive_maximum ≡ story.terms.receive_maximum → ShowsGroup story l.initial.group → ShowsWindow (unacknowledged story) l.initial.window
     → IsOnTheWay story l.initial.packets.items l.packets.items l.group l.window
 
-abbrev pub decreases-loop-identifier : goal.decreases-loop-identifier
-decreases-loop-identifier l = length l.group.waiting
+abbrev pub decreases-loop-window : goal.decreases-loop-window
+decreases-loop-window l = length l.group.waiting

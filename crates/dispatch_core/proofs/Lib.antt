@@ -1,0 +1,17 @@
+pub mod Spots
+pub mod LawfulSteps
+pub mod Kept
+pub mod Stuck
+pub mod Histories
+pub mod RunLaws
+pub mod ExactLaws
+pub mod JobLists
+pub mod Orders
+pub mod Places
+pub mod Joined
+pub mod JoinedCases
+pub mod JoinedPlaces
+pub mod Touching
+pub mod Stored
+pub mod Merged
+pub mod Counts

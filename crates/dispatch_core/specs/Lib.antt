@@ -1,0 +1,11 @@
+pub mod GroupState
+pub mod Step
+pub mod Reasons
+pub mod History
+pub mod Lawful
+pub mod Mentions
+pub mod Refusals
+pub mod JobRuns
+pub mod Joining
+pub mod Rows
+pub mod Layout

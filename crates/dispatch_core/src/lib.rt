@@ -1,0 +1,36 @@
+//! One shared subscription group as a pure state machine: the events of a group, the states that they
+//! lead to, and the laws that hold of every list of events.
+//!
+//! A group accepts jobs through ports, and hands each to one of its members (OASIS MQTT 5.0, 4.8.2).
+//! A job waits in its port's queue, is held by a member, and is acknowledged or refused for good, or
+//! is returned by a session that ended and handed out again. The first hand-outs of a port's jobs go in
+//! their order (4.6).
+//!
+//! [`replay`] follows a list of events from the beginning and succeeds exactly where each may happen;
+//! [`State::step`] does one event. A list of events that may happen is called a run of the group. The
+//! laws are in [`laws`]: they say what holds in every state that a run leads to.
+//!
+//! [`Runs`] is a list of jobs for those who count what was settled. It is kept as stretches of
+//! consecutive numbers, each of them a [`Run`] of numbers.
+//!
+//! Nothing here waits, reads a clock or knows of threads.
+#![tactic(auto)]
+
+mod error;
+mod event;
+mod history;
+mod joining;
+pub mod laws;
+mod member;
+mod port;
+mod runs;
+mod state;
+
+pub use error::{ReplayError, RoomError, StepError, Why};
+pub use event::{Event, Job, MEMBERS, PORTS, Spot};
+pub use history::replay;
+pub use runs::{Run, Runs};
+pub use state::State;
+
+#[cfg(test)]
+mod tests;

@@ -1,0 +1,98 @@
+-- Each kind of step that brings a new view keeps the gate's law: a seat is cut off, and a token is made.
+use Rattle.std.proofs.Common.{◌≡◌, ℕ, ◌+◌, ◌-◌, ◌≤◌, true, ◌&&◌, true≢false, List, [], ◌∷◌, ◌++◌, set, sym, refl, ap, ◌∙◌, arith}
+use Rattle.std.specs.Prelude.{All, nat_le, nat_lt, if◌then◌else◌}
+use Rattle.std.proofs.lemmas.Bool.Decides.{nat_tests}
+use Rattle.std.proofs.lemmas.List.Elements.{All-set, All-append, All-nil, All-cons}
+use Rattle.std.proofs.lemmas.List.Sums.{sum_by_push}
+use mathlib.Core.Option.{some}
+use lib.ListN.{get_elem?}
+use Rattle.gate_word.specs.declared.step.View.{View}
+use Rattle.gate_word.specs.Steps.{standing_of, saw_drained}
+use Rattle.gate_word.specs.Steps.Standing.{Outside, Inside}
+use Rattle.gate_word.specs.Seats.{adds, away, has_number, all_seats, cut_seat, rest_after_cut, token}
+use Rattle.gate_word.specs.GateLaw.{GateLaw, IsNotInside, NobodyIsInside, KnowsShut, HasShut, KnowsDrained}
+use Rattle.gate_word.proofs.Places.{all_at, any_at, any_front, sum_at}
+
+all_push : (P : View → Type 0) (views : List View) (u : View) → All P views → P u → All P (views ++ u ∷ [])
+all_push P views u all this = All-append P views (u ∷ []) all (All-cons P u [] this (All-nil P))
+
+-- a view comes that is no seat's, and knows no more than the law says
+keeps_push : (word : ℕ) (views : List View) (u : View) → GateLaw word views
+    → away u ≡ 0 → ((number : ℕ) → has_number number u ≡ 0) → KnowsShut word u → KnowsDrained word views u → IsNotInside u
+    → GateLaw word (views ++ u ∷ [])
+keeps_push word views u law outside no_number shut drained not_inside =
+    let nobody : NobodyIsInside views → NobodyIsInside (views ++ u ∷ []) = λ nobody. all_push IsNotInside views u nobody not_inside in
+    record {
+      counted = omega (arith, sum_by_push away views u, law.counted);
+      numbers = (λ number. let was = law.numbers number in omega (arith, sum_by_push (has_number number) views u, no_number number));
+      seated = all_push (λ v. away v ≤ v.count) views u law.seated (omega arith);
+      shut = all_push (KnowsShut word) views u law.shut shut;
+      shut_by = (λ shut. any_front HasShut views u (law.shut_by shut));
+      drained = all_push (KnowsDrained word (views ++ u ∷ [])) views u
+          (λ k d lt mark. let known = law.drained k d lt mark in (known.0, nobody known.1))
+          (λ mark. let known = drained mark in (known.0, nobody known.1));
+    }
+
+no_number : (number : ℕ) → has_number number token ≡ 0
+no_number number = grind (arith, nat_tests)
+
+pub keeps_token : (word : ℕ) (views : List View) (place : ℕ) (v : View) → GateLaw word views → get_elem? views place ≡ some v
+    → saw_drained v.steps ≡ true → GateLaw word (views ++ token ∷ [])
+keeps_token word views place v law at saw =
+    let known = all_at (KnowsDrained word views) views place v at law.drained saw in
+    keeps_push word views token law refl no_number (λ _. known.0) (λ _. known) (λ inside. absurd (cc))
+
+-- the numbers of a seat that is cut off and of what is left are those that there were
+cut_numbers : (number : ℕ) (v : View) → 2 ≤ v.count → has_number number (rest_after_cut v) + has_number number (cut_seat v) ≡ has_number number v
+cut_numbers number v two = numbers number v.first v.count two
+  where
+    numbers : (k first count : ℕ) → 2 ≤ count
+        → (if nat_le (first + 1) k && nat_lt k (first + 1 + (count - 1)) then 1 else 0) + (if nat_le first k && nat_lt k (first + 1) then 1 else 0)
+        ≡ (if nat_le first k && nat_lt k (first + count) then 1 else 0)
+    numbers k first count two = grind (arith, nat_tests)
+
+pub keeps_cut : (word : ℕ) (views : List View) (place : ℕ) (v : View) → GateLaw word views → get_elem? views place ≡ some v
+    → 2 ≤ v.count → standing_of v.steps ≡ Outside → GateLaw word (set views place (rest_after_cut v) ++ cut_seat v ∷ [])
+keeps_cut word views place v law at two outside =
+    let w = rest_after_cut v in
+    let u = cut_seat v in
+    let left = set views place w in
+    let none : away v ≡ 0 = ap adds outside in
+    let not_inside : IsNotInside v = λ inside. let never : Outside ≡ Inside = sym outside ∙ inside in absurd (cc) in
+    let nobody : NobodyIsInside views → NobodyIsInside (left ++ u ∷ []) =
+    λ nobody. all_push IsNotInside left u (All-set IsNotInside views place w not_inside nobody) (λ inside. absurd (cc)) in
+    record {
+      counted = (let sum = sum_at away views place v w at in let was = law.counted in omega (arith, sum_by_push away left u));
+      numbers = (λ number.
+          let sum = sum_at (has_number number) views place v w at in
+          let was = law.numbers number in
+          let same = cut_numbers number v two in
+          omega (arith, sum_by_push (has_number number) left u));
+      seated = all_push (λ t. away t ≤ t.count) left u (All-set (λ t. away t ≤ t.count) views place w (omega arith) law.seated) (omega arith);
+      shut = all_push (KnowsShut word) left u
+          (All-set (KnowsShut word) views place w (all_at (KnowsShut word) views place v at law.shut) law.shut)
+          (λ mark. absurd (true≢false (sym mark)));
+      shut_by = (λ shut. any_front HasShut left u (any_at HasShut views place v w at (λ marked. marked) (law.shut_by shut)));
+      drained = all_push (KnowsDrained word (left ++ u ∷ [])) left u
+          (All-set (KnowsDrained word (left ++ u ∷ [])) views place w
+          (λ mark. let known = all_at (KnowsDrained word views) views place v at law.drained mark in (known.0, nobody known.1))
+          (λ k d lt mark. let known = law.drained k d lt mark in (known.0, nobody known.1)))
+          (λ mark. absurd (true≢false (sym mark)));
+    }
+
+-- the gate as it is opened
+pub opens : (count : ℕ) → count ≤ 80 → GateLaw 0 (all_seats count ∷ [])
+opens count most =
+    let v = all_seats count in
+    let none : (P : View → Type 0) → P v → All P (v ∷ []) = λ P this. All-cons P v [] this (All-nil P) in
+    record {
+      counted = refl;
+      numbers = (λ number. numbers number count most);
+      seated = none (λ u. away u ≤ u.count) (omega arith);
+      shut = none (KnowsShut 0) (λ mark. absurd (true≢false (sym mark)));
+      shut_by = (λ shut. absurd (true≢false (sym shut)));
+      drained = none (KnowsDrained 0 (v ∷ [])) (λ mark. absurd (true≢false (sym mark)));
+    }
+  where
+    numbers : (k count : ℕ) → count ≤ 80 → 0 + (if nat_le 0 k && nat_lt k (0 + count) then 1 else 0) ≤ (if nat_lt k 80 then 1 else 0)
+    numbers k count most = grind (arith, nat_tests)

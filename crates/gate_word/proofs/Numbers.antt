@@ -1,0 +1,77 @@
+-- Since seat numbers are distinct and below 80, at most 80 seats are not outside.
+use Rattle.std.proofs.Common.{◌≡◌, ℕ, zero, suc, ◌+◌, ◌<◌, ◌≤◌, ⊎_elim, List, [], ◌∷◌, length, get_or, ap, arith}
+use Rattle.std.specs.Prelude.{All, sum_by}
+use Rattle.std.proofs.lemmas.Bool.{cases_lt}
+use Rattle.std.proofs.lemmas.Bool.Decides.{nat_tests}
+use Rattle.std.proofs.lemmas.List.Elements.{All-head, All-tail}
+use Rattle.std.proofs.lemmas.List.Sums.{sum_by-cons, get_or-le-sum_by}
+use Rattle.gate_word.specs.declared.step.View.{View}
+use Rattle.gate_word.specs.Steps.{shut_bit, Standing, standing_of}
+use Rattle.gate_word.specs.Steps.Standing.{Outside, Inside, Bouncing}
+use Rattle.gate_word.specs.Seats.{adds, away, has_number}
+use Rattle.gate_word.specs.GateLaw.{GateLaw}
+
+-- the sum of f over the numbers below n
+below : ℕ → (ℕ → ℕ) → ℕ
+below zero f = 0
+below (suc n) f = below n f + f n
+
+below_most : (n : ℕ) (f : ℕ → ℕ) → ((k : ℕ) → f k ≤ 1) → below n f ≤ n
+unfolding below
+below_most zero f one = omega arith
+below_most (suc n) f one = let h = below_most n f one in let here = one n in omega arith
+
+below_term : (n : ℕ) (f : ℕ → ℕ) (k : ℕ) → k < n → f k ≤ below n f
+unfolding below
+below_term zero f k lt = absurd (omega arith)
+below_term (suc n) f k lt = ⊎_elim
+    (λ (less : k < n). let h = below_term n f k less in omega arith)
+    (λ (last : n ≤ k). let same : f k ≡ f n = ap f (omega arith) in omega arith)
+    (cases_lt k n)
+
+below_add : (n : ℕ) (f g h : ℕ → ℕ) → ((k : ℕ) → f k ≡ g k + h k) → below n f ≡ below n g + below n h
+unfolding below
+below_add zero f g h sums = omega arith
+below_add (suc n) f g h sums = let less = below_add n f g h sums in let here = sums n in omega arith
+
+-- a number of a view is below 80
+first_below : (word : ℕ) (views : List View) → GateLaw word views → (k : ℕ) (d : View) → k < length views → 1 ≤ (get_or views k d).count → (get_or views k d).first < 80
+first_below word views law k d lt some_seat =
+    let v = get_or views k d in
+    let has : has_number v.first v ≡ 1 = grind (arith, nat_tests) in
+    let part : has_number v.first v ≤ sum_by (has_number v.first) views = get_or-le-sum_by (has_number v.first) views k d lt in
+    let most = law.numbers v.first in
+    grind (arith, nat_tests)
+
+adds_most : (standing : Standing) → adds standing ≤ 1
+adds_most Outside = omega arith
+adds_most Inside = omega arith
+adds_most Bouncing = omega arith
+
+-- each view that is not outside has a number of its own among those below n
+away_below : (n : ℕ) (views : List View) → All (λ v. away v ≤ v.count) views → All (λ v. 1 ≤ v.count → v.first < n) views
+    → sum_by away views ≤ below n (λ k. sum_by (has_number k) views)
+away_below n [] seated small = omega arith
+away_below n (v ∷ vs) seated small =
+    let less = away_below n vs (All-tail (λ u. away u ≤ u.count) v vs seated) (All-tail (λ u. 1 ≤ u.count → u.first < n) v vs small) in
+    let seat = All-head (λ u. away u ≤ u.count) v vs seated in
+    let first = All-head (λ u. 1 ≤ u.count → u.first < n) v vs small in
+    let parts = below_add n (λ k. sum_by (has_number k) (v ∷ vs)) (λ k. has_number k v) (λ k. sum_by (has_number k) vs) (λ k. sum_by-cons (has_number k) v vs) in
+    let one : away v ≤ below n (λ k. has_number k v) = ⊎_elim
+    (λ (none : v.count < 1). omega arith)
+    (λ (some_seat : 1 ≤ v.count).
+    let own : has_number v.first v ≡ 1 = grind (arith, nat_tests) in
+    let part = below_term n (λ k. has_number k v) v.first (first some_seat) in
+    let most = adds_most (standing_of v.steps) in
+    omega arith)
+    (cases_lt v.count 1) in
+    omega (arith, sum_by-cons away v vs)
+
+-- so the word is at most 161, and adding 2 doesn't wrap
+pub small : (word : ℕ) (views : List View) → GateLaw word views → word < 162
+small word views law =
+    let bit : shut_bit word < 2 = omega arith in
+    let less = away_below 80 views law.seated (first_below word views law) in
+    let most = below_most 80 (λ k. sum_by (has_number k) views) (λ k. let most = law.numbers k in grind (arith, nat_tests)) in
+    let is = law.counted in
+    omega arith

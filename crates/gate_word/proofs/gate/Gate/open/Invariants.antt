@@ -1,0 +1,18 @@
+use Rattle.std.proofs.Common.{◌≡◌, ℕ, ◌≤◌, ◌+◌, ◌-◌, [], vec_len, vec_capacity}
+use Rattle.gate_word.specs.declared.step.View.{View}
+use Rattle.gate_word.specs.Seats.{AreNewSeats}
+use Rattle.gate_word.proofs.gate.Gate.open.Given as goal
+
+-- the view of who has still so many seats, from this number on
+abbrev pub seats_from : ℕ → ℕ → View
+seats_from first count = record { first = first; count = count; steps = [] }
+
+abbrev pub invariant-loop : goal.invariant-loop
+invariant-loop l = record {
+  one_word : l.word.shared.table_id.words ≡ 1;
+  gate : l.pass.table_id ≡ l.word.shared.table_id;
+  rest : l.pass.me ≡ (seats_from (vec_len l.row) (l.fn.seats - vec_len l.row), []);
+  made : AreNewSeats l.word.shared.table_id (vec_len l.row) l.row.items;
+  room : l.fn.seats ≤ vec_capacity l.row;
+  counted : (vec_len l.row + 1 ≡ l.counter) × (l.end ≡ l.fn.seats);
+}

@@ -1,0 +1,38 @@
+-- The gate's law: what the word says of the seats. It holds at every moment of every schedule.
+use Rattle.std.specs.Prelude.{◌≡◌, ℕ, ◌+◌, ◌*◌, ◌≤◌, nat_lt, if◌then◌else◌, true, List, All, Any, sum_by}
+use Rattle.gate_word.specs.declared.step.View.{View}
+use Rattle.gate_word.specs.Steps.{shut_bit, is_shut, standing_of, has_shut, knows_shut, saw_drained}
+use Rattle.gate_word.specs.Steps.Standing.{Outside, Inside}
+use Rattle.gate_word.specs.Seats.{away, has_number}
+
+abbrev pub IsOutside : View → Type 0
+IsOutside v = standing_of v.steps ≡ Outside
+
+abbrev pub IsNotInside : View → Type 0
+IsNotInside v = ¬ (standing_of v.steps ≡ Inside)
+
+abbrev pub NobodyIsInside : List View → Type 0
+NobodyIsInside views = All IsNotInside views
+
+-- who shut the gate, or found it shut once, knows that the bit is set
+abbrev pub KnowsShut : ℕ → View → Type 0
+KnowsShut word v = knows_shut v.steps ≡ true → is_shut word ≡ true
+
+abbrev pub HasShut : View → Type 0
+HasShut v = has_shut v.steps ≡ true
+
+-- who saw the gate drained knows that the bit is set and that nobody is inside
+abbrev pub KnowsDrained : ℕ → List View → View → Type 0
+KnowsDrained word views v = saw_drained v.steps ≡ true → (is_shut word ≡ true) × NobodyIsInside views
+
+pub record GateLaw (word : ℕ) (views : List View) : Type 0 where
+  -- the word is twice the number of seats that are not outside, plus the shut bit
+  pub counted : word ≡ 2 * sum_by away views + shut_bit word
+  -- each number below 80 is one seat's at most, and no seat has another
+  pub numbers : (number : ℕ) → sum_by (has_number number) views ≤ (if nat_lt number 80 then 1 else 0)
+  -- what is not outside is a seat
+  pub seated : All (λ v. away v ≤ v.count) views
+  -- the gate is shut where somebody shut it, and nowhere else
+  pub shut : All (KnowsShut word) views
+  pub shut_by : is_shut word ≡ true → Any HasShut views
+  pub drained : All (KnowsDrained word views) views

@@ -1,0 +1,7 @@
+pub mod Steps
+pub mod Seats
+pub mod Kinds
+pub mod Schedules
+pub mod GateLaw
+pub mod Calls
+pub mod Rule

@@ -1,0 +1,70 @@
+-- Seats as contracts see them, and the views of which the gate's law speaks.
+use Rattle.std.specs.Prelude.{◌≡◌, ℕ, ◌+◌, ◌-◌, ◌<◌, ◌&&◌, nat_le, nat_lt, if◌then◌else◌, List, [], ◌∷◌, length, slice_get, Some, All}
+use Rattle.atomic_table.specs.Seated.{TableId}
+use Rattle.gate_word.specs.declared.step.Step.{Step}
+use Rattle.gate_word.specs.declared.step.Step.TheVariants.{Looked}
+use Rattle.gate_word.specs.declared.step.View.{View}
+use Rattle.gate_word.specs.Steps.{Standing, standing_of}
+use Rattle.gate_word.specs.Steps.Standing.{Outside, Inside, Bouncing}
+
+-- which gate it is: what no other gate shares with it
+abbrev pub GateId : Type 0
+GateId = TableId
+
+-- a seat, as a value of its own or inside a turn: its gate, its number, and the steps that it has made, the newest first
+pub record Seat : Type 0 where
+  pub gate : GateId
+  pub number : ℕ
+  pub steps : List Step
+
+-- a seat that has made no step
+abbrev pub new_seat : GateId → ℕ → Seat
+new_seat gate number = record { gate = gate; number = number; steps = [] }
+
+-- these are the seats numbered from 0 on, in that order, and none has made a step
+pub record AreNewSeats (gate : GateId) (count : ℕ) (seats : List Seat) : Type 0 where
+  pub all : length seats ≡ count
+  pub each : (number : ℕ) → number < count → slice_get seats number ≡ Some (new_seat gate number)
+
+-- they are seats of this gate
+abbrev pub AreSeatsOf : GateId → List Seat → Type 0
+AreSeatsOf gate seats = All (λ seat. seat.gate ≡ gate) seats
+
+-- the view of a seat, and the seat that such a view is of
+abbrev pub view_of : Seat → View
+view_of seat = record { first = seat.number; count = 1; steps = seat.steps }
+
+abbrev pub seat_of : GateId → View → Seat
+seat_of gate v = record { gate = gate; number = v.first; steps = v.steps }
+
+-- the view of who has all seats
+abbrev pub all_seats : ℕ → View
+all_seats count = record { first = 0; count = count; steps = [] }
+
+-- the view of the first of some seats, cut off from the others, and that of the others
+abbrev pub cut_seat : View → View
+cut_seat v = record { first = v.first; count = 1; steps = [] }
+
+abbrev pub rest_after_cut : View → View
+rest_after_cut v = record { first = v.first + 1; count = v.count - 1; steps = v.steps }
+
+-- the view in a token: no seat, and a look that found 1
+abbrev pub token : View
+token = record { first = 0; count = 0; steps = Looked 1 ∷ [] }
+
+-- the view after one step more
+abbrev pub stepped : Step → View → View
+stepped step v = record { first = v.first; count = v.count; steps = step ∷ v.steps }
+
+-- 1 for a seat that has added 2 to the word and not taken it off
+abbrev pub adds : Standing → ℕ
+adds Outside = 0
+adds Inside = 1
+adds Bouncing = 1
+
+abbrev pub away : View → ℕ
+away v = adds (standing_of v.steps)
+
+-- 1 where the view has this seat number
+abbrev pub has_number : ℕ → View → ℕ
+has_number number v = if nat_le v.first number && nat_lt number (v.first + v.count) then 1 else 0

@@ -1,0 +1,105 @@
+//! Readers of a section of properties, from the front of what is left of a body (section 2.2.2).
+
+ghost use Rattle.std.specs.Prelude.{◌≡◌, ◌<◌, List, ℕ, length, OnOk};
+ghost use Rattle.mqtt_wire.specs.Faults.{Gives, GivesField};
+ghost use Rattle.mqtt_wire.specs.Properties.{nothing, is_forbidden};
+ghost use Rattle.mqtt_wire.specs.Sections.{value_at, property_at, gathered_at, properties_at};
+
+use crate::fault::{Fault, StreamFault};
+use crate::fields::{
+    read_binary, read_byte, read_flag, read_maximum_packet_size, read_pair, read_receive_maximum,
+    read_subscription_identifier, read_text, read_u16, read_u32, read_variable,
+};
+use crate::properties::Properties;
+use crate::property::{Property, PropertyName, Section, name_of};
+use bytes::Bytes;
+use std::alloc::Global;
+
+/// Takes a section of properties: their length, and they themselves.
+#[tactic(auto, unfolding(crate::specs::Sections::properties_at))]
+pub(crate) fn read_properties(
+    alloc: Global,
+    section: Section,
+    body: &mut Bytes,
+) -> Result<Properties, Fault>
+    ensures { GivesField result body.new (properties_at section body.old) }
+{
+    let size = read_variable(body)? as usize;
+    if body.len() < size {
+        return Err(Fault::Stream(StreamFault::Malformed));
+    }
+    let list = body.split_to(size)?;
+    gather(alloc, section, list)
+}
+
+/// Reads properties up to the end of the bytes.
+fn gather(alloc: Global, section: Section, mut list: Bytes) -> Result<Properties, Fault>
+    ensures { Gives (λ all. all) result (gathered_at section nothing (length list) list) }
+{
+    let mut properties = Properties::nothing(alloc);
+    while !list.is_empty() {
+        let property = read_property(section, &properties, &mut list)?;
+        properties.add(property)?;
+    }
+    Ok(properties)
+}
+
+/// Takes one property, behind those that are there.
+#[tactic(auto, unfolding(crate::specs::Sections::property_at))]
+fn read_property(section: Section, so_far: &Properties, list: &mut Bytes) -> Result<Property, Fault>
+    ensures field { GivesField result list.new (property_at section so_far.now list.old) }
+    ensures shorter { OnOk result (length list.new < length list.old) }
+{
+    let identifier = read_byte(list)?;
+    let Some(name) = name_of(section, identifier) else {
+        return Err(Fault::Stream(StreamFault::Malformed));
+    };
+    if is_forbidden(section, name) || so_far.has(name) {
+        return Err(Fault::Stream(StreamFault::Protocol));
+    }
+    read_value(name, list)
+}
+
+/// Whether the section may not have a property of that name, though its packet has one when a broker sends it.
+fn is_forbidden(section: Section, name: PropertyName) -> bool
+    ensures { result ≡ is_forbidden section name }
+{
+    matches!(
+        (section, name),
+        (Section::Publish, PropertyName::SubscriptionIdentifier)
+    )
+}
+
+/// Takes the value of a property of that name.
+#[tactic(auto, unfolding(crate::specs::Sections::value_at))]
+fn read_value(name: PropertyName, list: &mut Bytes) -> Result<Property, Fault>
+    ensures field { GivesField result list.new (value_at name list.old) }
+{
+    Ok(match name {
+        PropertyName::PayloadFormatIndicator => Property::PayloadFormatIndicator(read_byte(list)?),
+        PropertyName::MessageExpiryInterval => Property::MessageExpiryInterval(read_u32(list)?),
+        PropertyName::ContentType => Property::ContentType(read_text(list)?),
+        PropertyName::ResponseTopic => Property::ResponseTopic(read_text(list)?),
+        PropertyName::CorrelationData => Property::CorrelationData(read_binary(list)?),
+        PropertyName::SubscriptionIdentifier => {
+            Property::SubscriptionIdentifier(read_subscription_identifier(list)?)
+        }
+        PropertyName::SessionExpiryInterval => Property::SessionExpiryInterval(read_u32(list)?),
+        PropertyName::AuthenticationMethod => Property::AuthenticationMethod(read_text(list)?),
+        PropertyName::AuthenticationData => Property::AuthenticationData(read_binary(list)?),
+        PropertyName::RequestProblemInformation => {
+            Property::RequestProblemInformation(read_flag(list)?)
+        }
+        PropertyName::RequestResponseInformation => {
+            Property::RequestResponseInformation(read_flag(list)?)
+        }
+        PropertyName::ReasonString => Property::ReasonString(read_text(list)?),
+        PropertyName::ReceiveMaximum => Property::ReceiveMaximum(read_receive_maximum(list)?),
+        PropertyName::TopicAliasMaximum => Property::TopicAliasMaximum(read_u16(list)?),
+        PropertyName::TopicAlias => Property::TopicAlias(read_u16(list)?),
+        PropertyName::UserProperty => Property::UserProperty(read_pair(list)?),
+        PropertyName::MaximumPacketSize => {
+            Property::MaximumPacketSize(read_maximum_packet_size(list)?)
+        }
+    })
+}
