@@ -1,6 +1,6 @@
 -- CONNECT: what is read is spelled so, and what is spelled so is read.
 use Rattle.std.proofs.Common.{◌≡◌, ℕ, ◌+◌, ◌*◌, ◌/◌, ◌%◌, ◌<◌, ◌≤◌, Bool, true, false, eqb, ◌||◌, List, [], ◌∷◌, ◌++◌, length, Option, Some, None, Result, Ok, refl, sym, ap, subst, ◌∙◌, append_assoc, arith, inl, inr, length-append}
-use Rattle.std.specs.Prelude.{bytes_eq, codes, IfSome, IsTrue, is_some, not, ◌&&◌}
+use Rattle.std.specs.Prelude.{bytes_eq, codes, IfSome, is_some, not, ◌&&◌}
 use Rattle.std.proofs.lemmas.Bool.{eqb-true, eqb-false, or_cases, and_parts}
 use Rattle.std.proofs.lemmas.List.{append-nil}
 use Rattle.std.proofs.lemmas.Slice.Eq.{bytes_eq-Decides}
@@ -16,7 +16,6 @@ use Rattle.mqtt_wire.specs.Kinds.{bit}
 use Rattle.mqtt_wire.specs.Fields.{Field, byte_at, u16_at, binary_at, text_at, field_if, at_end}
 use Rattle.mqtt_wire.specs.declared.property.Section.TheVariants as sections
 use Rattle.mqtt_wire.specs.declared.properties.Properties.{Properties}
-use Rattle.mqtt_wire.specs.declared.packet_properties.ConnectProperties.{ConnectProperties}
 use Rattle.mqtt_wire.specs.Sections.{properties_at, SpellsProperties}
 use Rattle.mqtt_wire.specs.PropertyLists.{bytes_if, connect_of}
 use Rattle.mqtt_wire.specs.Protocol.{is_mqtt_5, are_connect_flags, has_will}
@@ -27,7 +26,6 @@ use Rattle.mqtt_wire.specs.Stream.{AreBytes}
 use Rattle.mqtt_wire.proofs.Steps.{bind_ok, ok_is, Front, Front-then}
 use Rattle.mqtt_wire.proofs.Variable.{chosen}
 use Rattle.mqtt_wire.proofs.HeaderLaws.{bit_is}
-use Rattle.mqtt_wire.proofs.OptionLaws.{bit_small, bit_again}
 use Rattle.mqtt_wire.proofs.FieldLaws.{byte_takes, u16_takes, binary_takes, text_takes, byte_again, u16_again, binary_again, text_again}
 use Rattle.mqtt_wire.proofs.SectionLaws.{properties_take, properties_again}
 

@@ -1,20 +1,24 @@
 -- What `next` answers: packets that are spelled so, an open rest, or the fault in front.
-use Rattle.std.proofs.Common.{◌≡◌, ℕ, ◌≤◌, List, ◌∷◌, ◌++◌, length, take, drop, Option, Some, None, Result, Ok, Err, refl, sym, ap, subst, ◌∙◌, append_assoc, arith, inl, inr, length-append}
+use Rattle.std.proofs.Common.{◌≡◌, ℕ, ◌<◌, ◌≤◌, List, ◌∷◌, ◌++◌, length, take, drop, Option, Some, None, Ok, Err, refl, sym, ap, subst, ◌∙◌, append_assoc, arith, inl, inr, length-append}
 use Rattle.std.proofs.lemmas.Bool.{cases_lt}
 use Rattle.std.proofs.lemmas.List.{length-take-le, take-append-drop, take_at, drop_at}
 use Rattle.mqtt_wire.specs.declared.fault.StreamFault.{StreamFault}
 use Rattle.mqtt_wire.specs.declared.fault.Fault.{Fault}
 use Rattle.mqtt_wire.specs.declared.fault.Fault.TheVariants.{Stream, Memory}
 use Rattle.mqtt_wire.specs.declared.packet.Packet.{Packet}
+use Rattle.mqtt_wire.specs.declared.header.FixedHeader.{FixedHeader}
 use Rattle.mqtt_wire.specs.declared.frame.Frame.{Frame}
+use Rattle.mqtt_wire.specs.declared.splitter.InHand.{InHand}
+use Rattle.mqtt_wire.specs.declared.splitter.InHand.TheVariants.{Nothing, Headed, Whole}
 use Rattle.mqtt_wire.specs.declared.kind.Kind.{Kind}
+use Rattle.mqtt_wire.specs.Faults.{Fails}
 use Rattle.mqtt_wire.specs.Forms.{variable_byte_integer}
 use Rattle.mqtt_wire.specs.Kinds.{first_byte}
 use Rattle.mqtt_wire.specs.Bodies.{body_at}
 use Rattle.mqtt_wire.specs.Writing.{framed}
 use Rattle.mqtt_wire.specs.Spelling.{Spells}
-use Rattle.mqtt_wire.specs.Stream.{Header, header_at, Frames, IsOpen, FaultAt, AreBytes, Unread, NextAnswers}
-use Rattle.mqtt_wire.specs.Frame.{Cuts, frame_bytes, IsInHand, HasFrame, TakesPacket, fault_in}
+use Rattle.mqtt_wire.specs.Stream.{Header, header_at, Frames, IsOpen, FaultAt, AreBytes, Unread}
+use Rattle.mqtt_wire.specs.Frame.{header_with, header_bytes, frame_bytes, bytes_in_hand, IsInHand, IsHeld, Keeps, TakesFrame, TakesPacket, unread}
 use Rattle.mqtt_wire.proofs.Steps.{drop_bytes, take_bytes}
 use Rattle.mqtt_wire.proofs.Variable.{at_most_three, at_least_three}
 use Rattle.mqtt_wire.proofs.HeaderLaws.{header_takes, header_again}
@@ -41,56 +45,44 @@ front_bytes a b h i = subst AreBytes (take_at a b (length a) refl) (take_bytes (
 pub back_bytes : (a b : List ℕ) → AreBytes (a ++ b) → AreBytes b
 back_bytes a b h i = subst AreBytes (drop_at a b (length a) refl) (drop_bytes (length a) (a ++ b) h) i
 
--- ---- a frame in hand
+-- ---- a frame
 
--- a frame and what is behind it are the bytes that they were
-pub record Kept (hand : Option Frame) (old : List ℕ) (frame : Frame) (new : List ℕ) : Type 0 where
-  pub same : frame_bytes (Some frame) ++ new ≡ frame_bytes hand ++ old
-  pub small : length frame.body ≤ 65532
+-- the bytes of a frame and what is behind them are the header and what was behind that
+pub frame_same : (kind : Kind) (remaining : ℕ) (rest : List ℕ) → remaining ≤ length rest → framed (first_byte kind) (take remaining rest) ++ drop remaining rest ≡ (first_byte kind ∷ variable_byte_integer remaining) ++ rest
+frame_same kind remaining rest whole =
+    let body : List ℕ = take remaining rest in
+    let head : List ℕ = first_byte kind ∷ variable_byte_integer remaining in
+    ap (λ (n : ℕ). first_byte kind ∷ variable_byte_integer n ++ body ++ drop remaining rest) (length-take-le remaining rest whole)
+    ∙ append_assoc head body (drop remaining rest)
+    ∙ ap (λ (t : List ℕ). head ++ t) (take-append-drop remaining rest)
 
-cut_same : (old : List ℕ) (header : Header) → old ≡ first_byte header.kind ∷ variable_byte_integer header.remaining ++ header.rest → header.remaining ≤ length header.rest → framed (first_byte header.kind) (take header.remaining header.rest) ++ drop header.remaining header.rest ≡ old
-cut_same old header parts whole =
-    let size = length-take-le header.remaining header.rest whole in
-    let head : List ℕ = first_byte header.kind ∷ variable_byte_integer header.remaining in
-    let body : List ℕ = take header.remaining header.rest in
-    let rest : List ℕ = drop header.remaining header.rest in
-    ap (λ (n : ℕ). first_byte header.kind ∷ variable_byte_integer n ++ body ++ rest) size
-    ∙ append_assoc head body rest ∙ ap (λ (t : List ℕ). head ++ t) (take-append-drop header.remaining header.rest) ∙ sym parts
+-- a whole packet in front of a stream, as its frame and what is behind it
+pub record Framed (stream : List ℕ) (header : Header) : Type 0 where
+  pub same : framed (first_byte header.kind) (take header.remaining header.rest) ++ drop header.remaining header.rest ≡ stream
+  pub small : length (take header.remaining header.rest) ≤ 65532
 
-pub cut_kept : (old : List ℕ) (frame : Frame) (new : List ℕ) → AreBytes old → Cuts old frame new → Kept None old frame new
-cut_kept old frame new fits cut =
-    let t = header_takes old cut.header fits cut.frames.found in
-    let size = length-take-le cut.header.remaining cut.header.rest cut.frames.whole in
+pub frames_whole : (stream : List ℕ) (header : Header) → AreBytes stream → Frames stream header → Framed stream header
+frames_whole stream header fits frames =
+    let t = header_takes stream header fits frames.found in
     record {
-      same =
-          ap (λ (k : Kind). framed (first_byte k) frame.body ++ new) cut.kind
-          ∙ ap (λ (b : List ℕ). framed (first_byte cut.header.kind) b ++ new) cut.body
-          ∙ ap (λ (r : List ℕ). framed (first_byte cut.header.kind) (take cut.header.remaining cut.header.rest) ++ r) cut.rest
-          ∙ cut_same old cut.header t.parts cut.frames.whole;
-      small = omega (arith, ap length cut.body, size, t.small);
+      same = frame_same header.kind header.remaining header.rest frames.whole ∙ sym t.parts;
+      small = omega (arith, length-take-le header.remaining header.rest frames.whole, t.small);
     }
 
-pub kept : (hand : Option Frame) (old : List ℕ) (frame : Frame) (new : List ℕ) → IsInHand hand → AreBytes (frame_bytes hand ++ old) → HasFrame hand old frame new → Kept hand old frame new
-kept None old frame new small fits has = cut_kept old frame new fits has
-kept (Some held) old frame new small fits has = record {
-  same = ap (λ (f : Frame). frame_bytes (Some f) ++ new) has.0 ∙ ap (λ (r : List ℕ). frame_bytes (Some held) ++ r) has.1;
-  small = subst (λ (f : Frame). length f.body ≤ 65532) (sym has.0) small;
-}
-
-pub frame_header : (frame : Frame) (rest : List ℕ) → length frame.body ≤ 65532 → header_at (frame_bytes (Some frame) ++ rest) ≡ Ok (Some (record { kind = frame.kind; remaining = length frame.body; rest = frame.body ++ rest }))
+pub frame_header : (frame : Frame) (rest : List ℕ) → length frame.body ≤ 65532 → header_at (frame_bytes frame ++ rest) ≡ Ok (Some (record { kind = frame.kind; remaining = length frame.body; rest = frame.body ++ rest }))
 frame_header frame rest small =
     ap header_at (append_assoc (first_byte frame.kind ∷ variable_byte_integer (length frame.body)) frame.body rest)
     ∙ header_again frame.kind (length frame.body) (frame.body ++ rest) small
 
 -- a fault in the body of a frame stands in front of the bytes
-frame_fault : (frame : Frame) (rest : List ℕ) (fault : StreamFault) → length frame.body ≤ 65532 → body_at frame.kind frame.body ≡ Err fault → FaultAt fault (frame_bytes (Some frame) ++ rest)
+pub frame_fault : (frame : Frame) (rest : List ℕ) (fault : StreamFault) → length frame.body ≤ 65532 → body_at frame.kind frame.body ≡ Err fault → FaultAt fault (frame_bytes frame ++ rest)
 frame_fault frame rest fault small e =
     let header : Header = record { kind = frame.kind; remaining = length frame.body; rest = frame.body ++ rest } in
-    let frames : Frames (frame_bytes (Some frame) ++ rest) header = record { found = frame_header frame rest small; whole = omega (arith, length-append frame.body rest) } in
+    let frames : Frames (frame_bytes frame ++ rest) header = record { found = frame_header frame rest small; whole = omega (arith, length-append frame.body rest) } in
     inr (header, frames, ap (body_at frame.kind) (take_at frame.body rest (length frame.body) refl) ∙ e)
 
 -- a body that is read spells its packet, with the header in front
-pub frame_spells : (frame : Frame) (packet : Packet) → length frame.body ≤ 65532 → AreBytes frame.body → body_at frame.kind frame.body ≡ Ok packet → Spells packet (frame_bytes (Some frame))
+pub frame_spells : (frame : Frame) (packet : Packet) → length frame.body ≤ 65532 → AreBytes frame.body → body_at frame.kind frame.body ≡ Ok packet → Spells packet (frame_bytes frame)
 frame_spells frame packet small fits e =
     let b = body_takes frame.kind frame.body packet fits e in
     record {
@@ -101,85 +93,75 @@ frame_spells frame packet small fits e =
       size = frame_size (first_byte frame.kind) frame.body small;
     }
 
-pub frame_body_bytes : (frame : Frame) (rest : List ℕ) → AreBytes (frame_bytes (Some frame) ++ rest) → AreBytes frame.body
+pub frame_body_bytes : (frame : Frame) (rest : List ℕ) → AreBytes (frame_bytes frame ++ rest) → AreBytes frame.body
 frame_body_bytes frame rest fits =
-    back_bytes (first_byte frame.kind ∷ variable_byte_integer (length frame.body)) frame.body (front_bytes (frame_bytes (Some frame)) rest fits)
+    back_bytes (first_byte frame.kind ∷ variable_byte_integer (length frame.body)) frame.body (front_bytes (frame_bytes frame) rest fits)
 
--- ---- the two facts that `next` owes
+-- ---- what is in hand
 
-in_hand : (hand : Option Frame) (old : List ℕ) (frame : Frame) (left : Option Frame) (new : List ℕ) → IsInHand hand → AreBytes (frame_bytes hand ++ old) → HasFrame hand old frame new → left ≡ Some frame → IsInHand left × AreBytes (frame_bytes left ++ new)
-in_hand hand old frame left new small fits has is =
-    let k = kept hand old frame new small fits has in
-    subst (λ (h : Option Frame). IsInHand h × AreBytes (frame_bytes h ++ new)) (sym is) (k.small, subst AreBytes (sym k.same) fits)
+-- nothing was taken
+pub keeps_all : (hand : InHand) (old new : List ℕ) → IsInHand hand → new ≡ old → Keeps hand old hand new
+keeps_all hand old new small same = record { same = ap (λ (s : List ℕ). bytes_in_hand hand ++ s) same; small = small }
 
-abbrev unread_of : List ℕ → Option StreamFault → Unread
-unread_of bytes fault = record { bytes = bytes; fault = fault }
+-- a header was taken
+pub keeps_header : (old : List ℕ) (header : FixedHeader) (new : List ℕ) → AreBytes old → header_at old ≡ Ok (Some (header_with header new)) → Keeps Nothing old (Headed header) new
+keeps_header old header new fits e =
+    let t = header_takes old (header_with header new) fits e in
+    record { same = sym t.parts; small = t.small }
 
-same_empty : (hand : Option Frame) (old : List ℕ) (left : Option Frame) (new : List ℕ) → hand ≡ None → new ≡ old → left ≡ None → frame_bytes left ++ new ≡ frame_bytes hand ++ old
-same_empty hand old left new p q r =
-    ap (λ (h : Option Frame). frame_bytes h ++ new) (r ∙ sym p) ∙ ap (λ (t : List ℕ). frame_bytes hand ++ t) q
+-- a body was taken
+pub keeps_body : (header : FixedHeader) (old : List ℕ) (frame : Frame) (new : List ℕ) → header.remaining ≤ 65532 → TakesFrame header old frame new → Keeps (Headed header) old (Whole frame) new
+keeps_body header old frame new small taken = record {
+  same =
+      ap (λ (k : Kind). framed (first_byte k) frame.body ++ new) taken.kind
+      ∙ ap (λ (b : List ℕ). framed (first_byte header.kind) b ++ new) taken.body
+      ∙ ap (λ (r : List ℕ). framed (first_byte header.kind) (take header.remaining old) ++ r) taken.rest
+      ∙ frame_same header.kind header.remaining old taken.whole;
+  small = omega (arith, ap length taken.body, length-take-le header.remaining old taken.whole);
+}
 
-pub next_keeps : (hand : Option Frame) (old : List ℕ) (answer : Result (Option Packet) Fault) (left : Option Frame) (new : List ℕ) → IsInHand hand → AreBytes (frame_bytes hand ++ old) → TakesPacket hand old answer left new → IsInHand left × AreBytes (frame_bytes left ++ new)
-next_keeps hand old (Ok (Some packet)) left new small fits taken =
-    let k = kept hand old taken.0 new small fits taken.1 in
-    let here : AreBytes (frame_bytes (Some taken.0) ++ new) = subst AreBytes (sym k.same) fits in
-    subst (λ (h : Option Frame). IsInHand h × AreBytes (frame_bytes h ++ new)) (sym taken.3) (tt, back_bytes (frame_bytes (Some taken.0)) new here)
-next_keeps hand old (Ok None) left new small fits taken =
-    subst (λ (h : Option Frame). IsInHand h × AreBytes (frame_bytes h ++ new)) (sym taken.3)
-    (tt, subst AreBytes (ap (λ (h : Option Frame). frame_bytes h ++ old) taken.0 ∙ sym taken.2) fits)
-next_keeps hand old (Err (Stream fault)) left new small fits taken =
-    elim taken [
-      | inl header ↦
-          subst (λ (h : Option Frame). IsInHand h × AreBytes (frame_bytes h ++ new)) (sym header.3)
-          (tt, subst AreBytes (ap (λ (h : Option Frame). frame_bytes h ++ old) header.0 ∙ sym header.2) fits)
-      | inr body ↦ in_hand hand old body.0 left new small fits body.1 body.3
-    ]
-next_keeps hand old (Err Memory) left new small fits taken =
-    elim taken [
-      | inl same ↦ subst (λ (h : Option Frame). IsInHand h × AreBytes (frame_bytes h ++ new)) (sym same.1) (small, subst (λ (r : List ℕ). AreBytes (frame_bytes hand ++ r)) (sym same.0) fits)
-      | inr held ↦ in_hand hand old held.0 left new small fits held.1 held.2
-    ]
+-- one after the other
+pub keeps_on : (a : InHand) (s : List ℕ) (b : InHand) (t : List ℕ) (c : InHand) (u : List ℕ) → Keeps a s b t → Keeps b t c u → Keeps a s c u
+keeps_on a s b t c u p q = record { same = q.same ∙ p.same; small = q.small }
 
-pub next_answers : (hand : Option Frame) (old : List ℕ) (answer : Result (Option Packet) Fault) (left : Option Frame) (new : List ℕ) → IsInHand hand → AreBytes (frame_bytes hand ++ old) → TakesPacket hand old answer left new → NextAnswers (record { bytes = frame_bytes hand ++ old; fault = None }) answer (record { bytes = frame_bytes left ++ new; fault = fault_in answer })
-next_answers hand old (Ok (Some packet)) left new small fits taken =
-    let frame = taken.0 in
-    let k = kept hand old taken.0 new small fits taken.1 in
-    let here : AreBytes (frame_bytes (Some taken.0) ++ new) = subst AreBytes (sym k.same) fits in
-    record {
-      front = frame_bytes (Some taken.0);
-      spelled = frame_spells taken.0 packet k.small (frame_body_bytes taken.0 new here) taken.2;
-      parts = sym k.same ∙ ap (λ (h : Option Frame). frame_bytes (Some taken.0) ++ (frame_bytes h ++ new)) (sym taken.3);
-      sound = refl;
-      goes_on = refl;
-    }
-next_answers hand old (Ok None) left new small fits taken = (
-  refl,
-  subst (λ (h : Option Frame). IsOpen (frame_bytes h ++ old)) (sym taken.0) taken.1,
-  ap (λ (b : List ℕ). unread_of b None) (same_empty hand old left new taken.0 taken.2 taken.3),
+-- what is kept is still bytes
+pub still_held : (hand : InHand) (old : List ℕ) (left : InHand) (new : List ℕ) → IsHeld hand old → Keeps hand old left new → IsHeld left new
+still_held hand old left new held keeps = (keeps.small, subst AreBytes (sym keeps.same) held.1)
+
+-- a header is open as long as its body is not whole
+pub headed_open : (header : FixedHeader) (rest : List ℕ) → header.remaining ≤ 65532 → length rest < header.remaining → IsOpen (header_bytes header ++ rest)
+headed_open header rest small short = inr (header_with header rest, header_again header.kind header.remaining rest small, short)
+
+-- ---- what `next` owes
+
+abbrev unread_with : Option StreamFault → List ℕ → Unread
+unread_with fault bytes = record { bytes = bytes; fault = fault }
+
+pub same_unread : (hand : InHand) (old : List ℕ) (left : InHand) (new : List ℕ) (fault : Option StreamFault) → Keeps hand old left new → unread left new fault ≡ unread hand old fault
+same_unread hand old left new fault keeps = ap (unread_with fault) keeps.same
+
+-- a packet was read of what is in hand
+pub takes_frame : (hand : InHand) (old : List ℕ) (frame : Frame) (new : List ℕ) (packet : Packet) → IsHeld hand old → Keeps hand old (Whole frame) new → body_at frame.kind frame.body ≡ Ok packet → TakesPacket hand old (Ok (Some packet)) Nothing new
+takes_frame hand old frame new packet held keeps e =
+    let left = still_held hand old (Whole frame) new held keeps in (
+      (tt, back_bytes (frame_bytes frame) new left.1),
+      record {
+        front = frame_bytes frame;
+        spelled = frame_spells frame packet keeps.small (frame_body_bytes frame new left.1) e;
+        parts = sym keeps.same;
+        sound = refl;
+        goes_on = refl;
+      },
+    )
+
+-- what is in hand could not be read
+pub frame_fails : (hand : InHand) (old : List ℕ) (frame : Frame) (new : List ℕ) (fault : Fault) → IsHeld hand old → Keeps hand old (Whole frame) new → Fails fault (body_at frame.kind frame.body) → TakesPacket hand old (Err fault) (Whole frame) new
+frame_fails hand old frame new Memory held keeps e =
+    (still_held hand old (Whole frame) new held keeps, (refl, same_unread hand old (Whole frame) new None keeps))
+frame_fails hand old frame new (Stream fault) held keeps e = (
+  still_held hand old (Whole frame) new held keeps,
+  (
+    same_unread hand old (Whole frame) new (Some fault) keeps,
+    inr (refl, subst (FaultAt fault) keeps.same (frame_fault frame new fault keeps.small e)),
+  ),
 )
-next_answers hand old (Err (Stream fault)) left new small fits taken =
-    elim taken [
-      | inl header ↦ (
-        ap (λ (b : List ℕ). unread_of b (Some fault)) (same_empty hand old left new header.0 header.2 header.3),
-        inr (refl, subst (λ (h : Option Frame). FaultAt fault (frame_bytes h ++ old)) (sym header.0) (inl header.1)),
-      )
-      | inr body ↦
-          let k = kept hand old body.0 new small fits body.1 in (
-            ap (λ (b : List ℕ). unread_of b (Some fault)) (ap (λ (h : Option Frame). frame_bytes h ++ new) body.3 ∙ k.same),
-            inr (refl, subst (FaultAt fault) k.same (frame_fault body.0 new fault k.small body.2)),
-          )
-    ]
-next_answers hand old (Err Memory) left new small fits taken =
-    elim taken [
-      | inl same ↦ (refl, ap (λ (b : List ℕ). unread_of b None) (ap (λ (h : Option Frame). frame_bytes h ++ new) same.1 ∙ ap (λ (r : List ℕ). frame_bytes hand ++ r) same.0))
-      | inr held ↦
-          let k = kept hand old held.0 new small fits held.1 in
-          (refl, ap (λ (b : List ℕ). unread_of b None) (ap (λ (h : Option Frame). frame_bytes h ++ new) held.2 ∙ k.same))
-    ]
-
--- the same, where the splitter is seen as one value before and after
-pub next_from : (now : Unread) (hand : Option Frame) (old : List ℕ) (fault : Option StreamFault) (answer : Result (Option Packet) Fault) (left : Option Frame) (new : List ℕ) (after : Option StreamFault) → unread_of (frame_bytes hand ++ old) fault ≡ now → fault ≡ None → after ≡ fault_in answer → IsInHand hand → AreBytes (frame_bytes hand ++ old) → TakesPacket hand old answer left new → NextAnswers now answer (unread_of (frame_bytes left ++ new) after)
-next_from now hand old fault answer left new after view none told small fits taken =
-    subst (λ (f : Option StreamFault). NextAnswers now answer (unread_of (frame_bytes left ++ new) f)) (sym told)
-    (subst (λ (u : Unread). NextAnswers u answer (unread_of (frame_bytes left ++ new) (fault_in answer))) (ap (unread_of (frame_bytes hand ++ old)) (sym none) ∙ view)
-    (next_answers hand old answer left new small fits taken))

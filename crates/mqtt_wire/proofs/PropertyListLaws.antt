@@ -1,7 +1,5 @@
 -- The properties of each packet as they are written: they add up, so they are read again.
 use Rattle.std.proofs.Common.{◌≡◌, ℕ, true, List, [], ◌∷◌, ◌++◌, Option, Some, None, Ok, refl, sym, ap, subst, ◌∙◌, append_assoc}
-use Rattle.std.specs.Prelude.{IfSome}
-use Rattle.std.specs.List.{flat_map, AllByRecursion}
 use Rattle.std.proofs.lemmas.List.{append-nil}
 use Rattle.std.proofs.lemmas.List.Concat.{flat_map-cons}
 use Rattle.mqtt_wire.specs.declared.property.Section.{Section}
@@ -19,7 +17,7 @@ use Rattle.mqtt_wire.specs.declared.packet_properties.SubscribeProperties.{Subsc
 use Rattle.mqtt_wire.specs.declared.packet_properties.UnsubscribeProperties.{UnsubscribeProperties}
 use Rattle.mqtt_wire.specs.declared.packet_properties.DisconnectProperties.{DisconnectProperties}
 use Rattle.mqtt_wire.specs.Properties.{name_of, may_come, nothing, with_property}
-use Rattle.mqtt_wire.specs.Sections.{IsPair, property_bytes, IsProperty, AddUp, properties, SpellsProperties}
+use Rattle.mqtt_wire.specs.Sections.{property_bytes, IsProperty, properties, SpellsProperties}
 use Rattle.mqtt_wire.specs.PropertyLists.{optional, user_bytes, authentication_bytes, Fits, ArePairs, AuthenticationFits, authentication_of, connect_from, connect_of, connect_list, ConnectFits, publish_of, publish_list, PublishFits, puback_of, puback_list, PubackFits, subscribe_of, subscribe_list, SubscribeFits, unsubscribe_of, unsubscribe_list, UnsubscribeFits, disconnect_of, disconnect_list, DisconnectFits}
 use Rattle.mqtt_wire.proofs.SectionLaws.{Gathered}
 

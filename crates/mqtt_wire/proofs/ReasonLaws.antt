@@ -1,10 +1,8 @@
 -- Reason codes and the properties behind them: what is read is spelled so, and what is spelled so is read.
-use Rattle.std.proofs.Common.{◌≡◌, ℕ, ◌<◌, ◌≤◌, List, [], ◌∷◌, ◌++◌, length, Result, Ok, refl, sym, ap, subst, ◌∙◌, arith, inl, inr, length-append}
+use Rattle.std.proofs.Common.{◌≡◌, ℕ, ◌<◌, ◌≤◌, List, [], ◌∷◌, length, Ok, refl, sym, ap, subst, ◌∙◌, arith, inl, inr, length-append}
 use Rattle.std.proofs.lemmas.List.{append-nil}
-use Rattle.mqtt_wire.specs.declared.fault.StreamFault.{StreamFault}
 use Rattle.mqtt_wire.specs.declared.property.Section.{Section}
 use Rattle.mqtt_wire.specs.declared.properties.Properties.{Properties}
-use Rattle.mqtt_wire.specs.Fields.{at_end}
 use Rattle.mqtt_wire.specs.Properties.{nothing}
 use Rattle.mqtt_wire.specs.declared.property.Property.{Property}
 use Rattle.mqtt_wire.specs.Forms.{variable_byte_integer}

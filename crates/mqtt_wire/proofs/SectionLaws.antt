@@ -1,9 +1,9 @@
 -- Sections of properties: what is read is spelled so, and what is spelled so is read.
-use Rattle.std.proofs.Common.{◌≡◌, ℕ, zero, suc, ◌<◌, ◌≤◌, Bool, true, false, cond, eqb, ◌||◌, List, [], ◌∷◌, ◌++◌, length, take, drop, Option, Some, None, Result, Ok, Err, refl, sym, ap, subst, ◌∙◌, append_assoc, arith, inl, inr, length-append}
+use Rattle.std.proofs.Common.{◌≡◌, ℕ, zero, suc, ◌<◌, ◌≤◌, Bool, true, false, eqb, ◌||◌, List, [], ◌∷◌, ◌++◌, length, take, drop, Option, Some, None, Result, Ok, Err, refl, sym, ap, subst, ◌∙◌, append_assoc, arith, inl, inr, length-append}
 use Rattle.std.specs.Prelude.{is_some, not, ◌&&◌, OnOk}
 use Rattle.std.specs.List.{flat_map}
 use Rattle.std.proofs.lemmas.Bool.{eqb-true, and_parts, ltb-false, le-ltb}
-use Rattle.std.proofs.lemmas.List.{length-take-le, take-append-drop, take_at, drop_at, append-nil}
+use Rattle.std.proofs.lemmas.List.{length-take-le, take-append-drop, take_at, drop_at}
 use Rattle.std.proofs.lemmas.List.Concat.{flat_map-cons}
 use Rattle.mqtt_wire.specs.declared.fault.StreamFault.{StreamFault}
 use Rattle.mqtt_wire.specs.declared.fault.StreamFault.TheVariants.{Protocol}
@@ -18,7 +18,7 @@ use Rattle.mqtt_wire.specs.Faults.{◌>>=◌, Fails, GivesField}
 use Rattle.mqtt_wire.specs.Forms.{variable_byte_integer}
 use Rattle.mqtt_wire.specs.Fields.{Field, byte_at, variable_field_at}
 use Rattle.mqtt_wire.specs.Properties.{identifier_of, names_of, name_among, name_in, name_of, is_forbidden, is_there, may_come, nothing, with_property}
-use Rattle.mqtt_wire.specs.Sections.{value_at, value_bytes, property_bytes, IsProperty, admitted, property_at, gathered_at, properties_at, AddUp, properties, SpellsProperties}
+use Rattle.mqtt_wire.specs.Sections.{value_bytes, property_bytes, IsProperty, admitted, property_at, gathered_at, properties_at, AddUp, properties, SpellsProperties}
 use Rattle.mqtt_wire.specs.Stream.{AreBytes}
 use Rattle.mqtt_wire.proofs.Steps.{bind_ok, unless_ok, ok_is, Front, Front-then, take_bytes, drop_bytes}
 use Rattle.mqtt_wire.proofs.Variable.{chosen}

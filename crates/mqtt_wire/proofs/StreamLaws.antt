@@ -1,5 +1,5 @@
 -- Laws of streams: no spelling begins another, each stream has exactly one reading, and what is written is read again.
-use Rattle.std.proofs.Common.{◌≡◌, ℕ, zero, suc, ◌<◌, ◌≤◌, List, [], ◌∷◌, ◌++◌, length, take, drop, Option, Some, None, Result, Ok, Err, refl, sym, ap, subst, ◌∙◌, append_assoc, arith, inl, inr, length-append}
+use Rattle.std.proofs.Common.{◌≡◌, ℕ, zero, suc, ◌<◌, ◌≤◌, List, [], ◌∷◌, ◌++◌, length, take, drop, Option, Some, None, Result, Ok, Err, refl, sym, ap, subst, ◌∙◌, arith, inl, inr, length-append}
 use Rattle.std.proofs.lemmas.Bool.{cases_lt}
 use Rattle.std.proofs.lemmas.List.{take_at, drop_at}
 use Rattle.mqtt_wire.specs.declared.fault.StreamFault.{StreamFault}
@@ -13,7 +13,7 @@ use Rattle.mqtt_wire.specs.Bodies.{body_at}
 use Rattle.mqtt_wire.specs.Writing.{packet_byte, framed, connect_body, publish_body, written_body, written, reason_bytes}
 use Rattle.mqtt_wire.specs.Spelling.{IsFromClient, PropertiesFit, SpellsConnect, SpellsPublish, SpellsPuback, SpellsSubscribe, SpellsUnsubscribe, SpellsDisconnect, SpellsBody, Spells}
 use Rattle.mqtt_wire.specs.Stream.{Header, header_at, Frames, IsOpen, FaultAt, EndsAs, Begins, Reads, Reading, AreBytes}
-use Rattle.mqtt_wire.specs.Frame.{frame_bytes, Cuts}
+use Rattle.mqtt_wire.specs.Frame.{frame_bytes}
 use Rattle.mqtt_wire.proofs.BodyLaws.{body_again}
 use Rattle.mqtt_wire.specs.declared.packet.Connect.{Connect}
 use Rattle.mqtt_wire.specs.declared.packet.Publish.{Publish}
@@ -27,7 +27,7 @@ use Rattle.mqtt_wire.specs.PropertyLists.{connect_list, publish_list, puback_lis
 use Rattle.mqtt_wire.proofs.ReasonLaws.{reason_written}
 use Rattle.mqtt_wire.proofs.PropertyListLaws.{spelled, all_of_connect, connect_gathered, connect_back, all_of_publish, publish_gathered, publish_back, all_of_puback, puback_gathered, puback_back, all_of_subscribe, subscribe_gathered, subscribe_back, all_of_unsubscribe, unsubscribe_gathered, unsubscribe_back, all_of_disconnect, disconnect_gathered, disconnect_back}
 use Rattle.mqtt_wire.proofs.ConnectLaws.{shortest_other_version, shortest_with_will}
-use Rattle.mqtt_wire.proofs.NextLaws.{body_size, frame_header, frame_spells, cut_kept, back_bytes, frame_body_bytes}
+use Rattle.mqtt_wire.proofs.NextLaws.{body_size, frame_header, frame_spells, frames_whole, back_bytes, frame_body_bytes}
 
 abbrev frame_of : Kind → List ℕ → Frame
 frame_of kind body = record { kind = kind; body = body }
@@ -125,13 +125,12 @@ spelled_next : (stream : List ℕ) (header : Header) (packet : Packet) → AreBy
 spelled_next stream header packet fits frames e next =
     let frame : Frame = frame_of header.kind (take header.remaining header.rest) in
     let after : List ℕ = drop header.remaining header.rest in
-    let cut : Cuts stream frame after = record { header = header; frames = frames; kind = refl; body = refl; rest = refl } in
-    let k = cut_kept stream frame after fits cut in
-    let here : AreBytes (frame_bytes (Some frame) ++ after) = subst AreBytes (sym k.same) fits in
+    let k = frames_whole stream header fits frames in
+    let here : AreBytes (frame_bytes frame ++ after) = subst AreBytes (sym k.same) fits in
     let spelled = frame_spells frame packet k.small (frame_body_bytes frame after here) e in
-    let shorter : length after < length stream = longer_than (frame_bytes (Some frame)) after stream (length-framed (first_byte header.kind) frame.body) k.same in
-    let r = next after shorter (back_bytes (frame_bytes (Some frame)) after here) in
-    (packet ∷ r.0, r.1, r.2, ((frame_bytes (Some frame), after, spelled, sym k.same, r.3.0), r.3.1))
+    let shorter : length after < length stream = longer_than (frame_bytes frame) after stream (length-framed (first_byte header.kind) frame.body) k.same in
+    let r = next after shorter (back_bytes (frame_bytes frame) after here) in
+    (packet ∷ r.0, r.1, r.2, ((frame_bytes frame, after, spelled, sym k.same, r.3.0), r.3.1))
 
 after_body : (stream : List ℕ) (header : Header) (body : Result Packet StreamFault) → AreBytes stream → Frames stream header → body_at header.kind (take header.remaining header.rest) ≡ body → ((after : List ℕ) → length after < length stream → AreBytes after → Reading after) → Reading stream
 after_body stream header (Ok packet) fits frames e next = spelled_next stream header packet fits frames e next

@@ -8,7 +8,6 @@ use Rattle.mqtt_wire.specs.declared.packet.RetainHandling.{RetainHandling}
 use Rattle.mqtt_wire.specs.declared.packet.RetainHandling.TheVariants.{Send, SendIfNew, DoNotSend}
 use Rattle.mqtt_wire.specs.declared.packet.Delivery.{Delivery}
 use Rattle.mqtt_wire.specs.declared.packet.Delivery.TheVariants.{AtMostOnce, AtLeastOnce, ExactlyOnce}
-use Rattle.mqtt_wire.specs.declared.packet_properties.ConnectProperties.{ConnectProperties}
 use Rattle.mqtt_wire.specs.declared.packet.Connect.{Connect}
 use Rattle.mqtt_wire.specs.declared.bodies.ConnectPayload.{ConnectPayload}
 use Rattle.mqtt_wire.specs.declared.packet.Disconnect.{Disconnect}

@@ -1,5 +1,5 @@
 -- Which bytes spell a packet of a client (chapter 3).
-use Rattle.std.specs.Prelude.{◌≡◌, ℕ, ◌<◌, ◌≤◌, ◌^◌, Bool, true, false, IsTrue, List, [], ◌∷◌, ◌++◌, length, IfSome, Ok}
+use Rattle.std.specs.Prelude.{◌≡◌, ℕ, ◌<◌, ◌≤◌, ◌^◌, false, IsTrue, List, [], ◌∷◌, ◌++◌, length, IfSome, Ok}
 use Rattle.std.specs.List.{flat_map, AllByRecursion}
 use Rattle.mqtt_wire.specs.declared.packet.Delivery.{Delivery}
 use Rattle.mqtt_wire.specs.declared.packet.Delivery.TheVariants.{AtMostOnce, AtLeastOnce, ExactlyOnce}

@@ -1,5 +1,5 @@
 -- The one form in which each packet is written (chapter 3).
-use Rattle.std.specs.Prelude.{ℕ, ◌+◌, ◌*◌, ◌==◌, codes, if◌then◌else◌, List, [], ◌∷◌, ◌++◌, length, Option, Some, None, is_some}
+use Rattle.std.specs.Prelude.{ℕ, ◌+◌, ◌*◌, ◌==◌, codes, if◌then◌else◌, List, [], ◌∷◌, ◌++◌, length, is_some}
 use Rattle.std.specs.List.{flat_map}
 use Rattle.mqtt_wire.specs.declared.packet.QoS.{QoS}
 use Rattle.mqtt_wire.specs.declared.packet.QoS.TheVariants as qos

@@ -1,41 +1,62 @@
-//! Whole packets that are cut off a stream and not read yet (section 2.1).
+//! Packets that are taken off a stream: first the header, then the body (section 2.1).
 
 ghost use Rattle.std.specs.Prelude.{◌≡◌, List, ℕ};
 ghost use Rattle.mqtt_wire.specs.Faults.{Gives};
 ghost use Rattle.mqtt_wire.specs.Bodies.{body_at};
-ghost use Rattle.mqtt_wire.specs.Frame.{CutsFrame};
+ghost use Rattle.mqtt_wire.specs.Frame.{TakesHeader, TakesBody};
 
 use crate::bodies::read_body;
-use crate::fault::Fault;
-use crate::header::read_header;
+use crate::fault::{Fault, StreamFault};
+use crate::header::{FixedHeader, read_header};
 use crate::kind::Kind;
 use crate::packet::Packet;
 use bytes::{Bytes, BytesMut};
-use std::alloc::Global;
+use std::alloc::{AllocError, Global};
 
-/// A whole packet: its kind and its body, which shares the bytes of the stream.
+/// The longest body that gets bytes of its own.
+const LONGEST_COPY: usize = 4_096;
+
+/// A whole packet: its kind and its body.
 #[derive(Debug, Drop)]
 pub(crate) struct Frame {
     pub(crate) kind: Kind,
     pub(crate) body: Bytes,
 }
 
-/// Cuts the next packet off the stream; `None` where it is not whole yet. An `Err` changes nothing.
-pub(crate) fn cut_frame(stream: &mut BytesMut) -> Result<Option<Frame>, Fault>
-    ensures { CutsFrame stream.old.items result stream.new.items }
+/// Takes the header off the stream; `None` where it is not whole yet. An `Err` changes nothing.
+pub(crate) fn take_header(stream: &mut BytesMut) -> Result<Option<FixedHeader>, StreamFault>
+    ensures { TakesHeader stream.old.items result stream.new.items }
 {
     let bytes = stream.as_slice();
-    let Some(header) = read_header(bytes)? else {
+    let Some((header, rest)) = read_header(bytes)? else {
         return Ok(None);
     };
-    if header.rest.len() < header.remaining {
+    let size = bytes.len() - rest.len();
+    stream.advance(size);
+    Ok(Some(header))
+}
+
+/// Takes the body behind a header off the stream; `None` where it is not whole yet. An `Err` changes nothing.
+///
+/// What is kept of a packet shares the bytes of its body, and may wait long. So a short body gets bytes of its own, and
+/// does not hold the piece of the stream that it came in; a longer one shares that.
+pub(crate) fn take_body(
+    alloc: Global,
+    header: FixedHeader,
+    stream: &mut BytesMut,
+) -> Result<Option<Frame>, AllocError>
+    ensures { TakesBody header stream.old.items result stream.new.items }
+{
+    let FixedHeader { kind, remaining } = header;
+    if stream.len() < remaining {
         return Ok(None);
     }
-    let kind = header.kind;
-    let header_size = bytes.len() - header.rest.len();
-    let size = header_size + header.remaining;
-    let mut body = stream.freeze_to(size)?;
-    body.advance(header_size);
+    if remaining > LONGEST_COPY {
+        let body = stream.freeze_to(remaining)?;
+        return Ok(Some(Frame { kind, body }));
+    }
+    let body = Bytes::copy_from_slice(alloc, &stream.as_slice()[..remaining])?;
+    stream.advance(remaining);
     Ok(Some(Frame { kind, body }))
 }
 

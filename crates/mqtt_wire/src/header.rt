@@ -11,17 +11,16 @@ use crate::kind::{Kind, kind_of};
 /// The greatest Remaining Length that is read: with its header of four bytes the packet has 65,536 bytes.
 const MAXIMUM_REMAINING_LENGTH: u32 = 65_532;
 
-/// What a fixed header says, and the bytes behind it.
+/// What a fixed header says.
 #[derive(Clone, Copy, Debug)]
-pub(crate) struct FixedHeader<'a> {
+pub(crate) struct FixedHeader {
     pub(crate) kind: Kind,
     pub(crate) remaining: usize,
-    pub(crate) rest: &'a [u8],
 }
 
-/// The header in front of the bytes; `None` where it is not whole yet.
+/// The header in front of the bytes, and the bytes behind it; `None` where it is not whole yet.
 #[tactic(auto, unfolding(crate::specs::Stream::header_at))]
-pub(crate) fn read_header(bytes: &[u8]) -> Result<Option<FixedHeader<'_>>, StreamFault>
+pub(crate) fn read_header(bytes: &[u8]) -> Result<Option<(FixedHeader, &[u8])>, StreamFault>
     ensures { GivesHeader result (header_at bytes.now) }
 {
     let [first, behind @ ..] = bytes else {
@@ -36,9 +35,6 @@ pub(crate) fn read_header(bytes: &[u8]) -> Result<Option<FixedHeader<'_>>, Strea
     if remaining > MAXIMUM_REMAINING_LENGTH {
         return Err(StreamFault::TooLarge);
     }
-    Ok(Some(FixedHeader {
-        kind,
-        remaining: remaining as usize,
-        rest,
-    }))
+    let remaining = remaining as usize;
+    Ok(Some((FixedHeader { kind, remaining }, rest)))
 }

@@ -93,7 +93,7 @@ pub struct Publish {
     pub topic: Text,
     pub delivery: Delivery,
     pub properties: PublishProperties,
-    /// A part of the bytes that were read, shared with them.
+    /// Shared, as the bytes of a [`Text`] are.
     pub payload: Bytes,
 }
 
@@ -204,7 +204,7 @@ pub enum Packet {
     Disconnect(Disconnect),
     /// A packet of a type that a client has no business to send.
     Foreign(ForeignKind),
-    /// A CONNECT of another protocol name or of that protocol version, which is not 5 then or is 5 under another name.
+    /// A CONNECT of another protocol name or another version than MQTT 5.0, with its version byte.
     OtherVersion(u8),
     /// A CONNECT of version 5 with a will.
     WithWill,

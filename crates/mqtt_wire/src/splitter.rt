@@ -2,39 +2,51 @@
 
 ghost use Rattle.std.specs.Prelude.{◌≡◌, [], None, Some};
 ghost use Rattle.mqtt_wire.specs.Stream.{NextAnswers, FeedAnswers};
-ghost use Rattle.mqtt_wire.specs.Frame.{TakesPacket, fault_in};
+ghost use Rattle.mqtt_wire.specs.Frame.{IsHeld, ReachesHeader, ReachesPacket, TakesPacket, fault_in};
 
 use crate::fault::{Fault, StreamFault};
-use crate::frame::{Frame, cut_frame, read_frame};
+use crate::frame::{Frame, read_frame, take_body, take_header};
+use crate::header::FixedHeader;
 use crate::packet::Packet;
 use bytes::BytesMut;
 use std::alloc::Global;
 use std::marker::Model;
 
+/// What was taken off the stream of the packet in front, and was not answered yet.
+#[derive(Debug, Drop)]
+pub(crate) enum InHand {
+    /// Nothing: the header is not whole yet.
+    Nothing,
+    /// The header, which is looked at once. The body is not whole yet, or memory was refused.
+    Headed(FixedHeader),
+    /// All of the packet: memory was refused, or its body is at fault.
+    Whole(Frame),
+}
+
 /// Cuts a stream of bytes into packets, in whatever pieces it comes.
 ///
-/// A contract sees it as the bytes that it has not read yet and the fault that it met, if it met one. A packet's texts
-/// and its payload share the bytes of the stream.
+/// A contract sees it as the bytes that it has not read yet and the fault that it met, if it met one. The texts and the
+/// payload of a packet share the bytes of its body: those of the piece that it came in where it is long, and bytes of
+/// its own where it has at most 4,096.
 #[derive(Drop)]
 pub struct Splitter {
     alloc: Global,
-    /// A packet that is cut off the stream and was not answered: memory was refused, or its body is at fault.
-    frame: Option<Frame>,
+    in_hand: InHand,
     stream: BytesMut,
     fault: Option<StreamFault>,
 }
 
 impl Model for Splitter {
     ghost use Rattle.std.specs.Prelude.{◌++◌};
-    ghost use Rattle.mqtt_wire.specs.Stream.{Unread, AreBytes};
+    ghost use Rattle.mqtt_wire.specs.Stream.{Unread};
 
     ghost Value = { Unread };
 
-    ghost use Rattle.mqtt_wire.specs.Frame.{frame_bytes, IsInHand};
+    ghost use Rattle.mqtt_wire.specs.Frame.{IsHeld, unread};
 
-    ghost view = { λ s. record { bytes = frame_bytes s.frame ++ s.stream.items; fault = s.fault } };
+    ghost view = { λ s. unread s.in_hand s.stream.items s.fault };
 
-    ghost invariant = { λ s. IsInHand s.frame × AreBytes (frame_bytes s.frame ++ s.stream.items) };
+    ghost invariant = { λ s. IsHeld s.in_hand s.stream.items };
 }
 
 impl Splitter {
@@ -44,7 +56,7 @@ impl Splitter {
     {
         Splitter {
             alloc,
-            frame: None,
+            in_hand: InHand::Nothing,
             stream: BytesMut::new(alloc),
             fault: None,
         }
@@ -72,7 +84,7 @@ impl Splitter {
         if let Some(fault) = self.fault {
             return Err(Fault::Stream(fault));
         }
-        let answer = take_packet(self.alloc, &mut self.frame, &mut self.stream);
+        let answer = take_packet(self.alloc, &mut self.in_hand, &mut self.stream);
         self.fault = stream_fault(&answer);
         answer
     }
@@ -88,21 +100,44 @@ fn stream_fault(answer: &Result<Option<Packet>, Fault>) -> Option<StreamFault>
     }
 }
 
-/// Takes the packet in hand, or else the next of the stream.
+/// Takes the next packet, once all of it is there.
 fn take_packet(
     alloc: Global,
-    in_hand: &mut Option<Frame>,
+    in_hand: &mut InHand,
     stream: &mut BytesMut,
 ) -> Result<Option<Packet>, Fault>
-    ensures { TakesPacket in_hand.old stream.old.items result in_hand.new stream.new.items }
+    ensures { IsHeld in_hand.old stream.old.items → TakesPacket in_hand.old stream.old.items result in_hand.new stream.new.items }
 {
-    if in_hand.is_none() {
-        *in_hand = cut_frame(stream)?;
-    }
-    let Some(frame) = in_hand else {
+    reach_packet(alloc, in_hand, stream)?;
+    let InHand::Whole(frame) = in_hand else {
         return Ok(None);
     };
     let packet = read_frame(alloc, frame)?;
-    *in_hand = None;
+    *in_hand = InHand::Nothing;
     Ok(Some(packet))
+}
+
+/// Takes what is there of the packet in front: its header, and then its body.
+fn reach_packet(alloc: Global, in_hand: &mut InHand, stream: &mut BytesMut) -> Result<(), Fault>
+    ensures { IsHeld in_hand.old stream.old.items → ReachesPacket in_hand.old stream.old.items result in_hand.new stream.new.items }
+{
+    reach_header(in_hand, stream)?;
+    if let InHand::Headed(header) = in_hand {
+        if let Some(frame) = take_body(alloc, *header, stream)? {
+            *in_hand = InHand::Whole(frame);
+        }
+    }
+    Ok(())
+}
+
+/// Takes the header of the packet in front, where it was not taken yet and is whole.
+fn reach_header(in_hand: &mut InHand, stream: &mut BytesMut) -> Result<(), StreamFault>
+    ensures { IsHeld in_hand.old stream.old.items → ReachesHeader in_hand.old stream.old.items result in_hand.new stream.new.items }
+{
+    if let InHand::Nothing = in_hand {
+        if let Some(header) = take_header(stream)? {
+            *in_hand = InHand::Headed(header);
+        }
+    }
+    Ok(())
 }

@@ -11,28 +11,81 @@ const STREAM: [u8; 54] = [
     0x40, 0x02, 0x00, 0x01, 0xE0, 0x00,
 ];
 
+// The written form of a packet.
+fn written(alloc: Global, packet: Packet) -> Result<Vec<u8>, Fault> {
+    encode(alloc, &packet)
+}
+
+// The next packet in its written form; `None` where it is not whole yet.
+fn next_written(alloc: Global, splitter: &mut Splitter) -> Result<Option<Vec<u8>>, Fault> {
+    match splitter.next()? {
+        Some(packet) => Ok(Some(written(alloc, packet)?)),
+        None => Ok(None),
+    }
+}
+
+// Feeds a piece, and writes each packet again that is whole then.
+fn write_again(
+    alloc: Global,
+    splitter: &mut Splitter,
+    piece: &[u8],
+    again: &mut Vec<u8>,
+) -> Result<(), Fault> {
+    splitter.feed(piece)?;
+    for _ in 0..8 {
+        let Some(bytes) = next_written(alloc, splitter)? else {
+            break;
+        };
+        again.extend_from_slice(&bytes)?;
+    }
+    Ok(())
+}
+
 // The packets of the stream in pieces of that size, each written again.
-fn written_again(alloc: Global, piece: usize) -> Result<Vec<u8>, Fault> {
+fn in_pieces(alloc: Global, size: usize) -> Result<Vec<u8>, Fault> {
     let mut splitter = Splitter::new(alloc);
     let mut again = Vec::new(alloc);
-    for bytes in STREAM.chunks(piece.max(1)) {
-        splitter.feed(bytes)?;
-        for _ in 0..8 {
-            let Some(packet) = splitter.next()? else {
-                break;
-            };
-            again.extend_from_slice(&encode(alloc, &packet)?)?;
-        }
+    for piece in STREAM.chunks(size.max(1)) {
+        write_again(alloc, &mut splitter, piece, &mut again)?;
     }
+    Ok(again)
+}
+
+// The packets of the stream cut in two at that byte, each written again.
+fn in_two(alloc: Global, at: usize) -> Result<Vec<u8>, Fault> {
+    let (front, back) = STREAM.split_at(at.min(STREAM.len()));
+    let mut splitter = Splitter::new(alloc);
+    let mut again = Vec::new(alloc);
+    write_again(alloc, &mut splitter, front, &mut again)?;
+    write_again(alloc, &mut splitter, back, &mut again)?;
     Ok(again)
 }
 
 #[test]
 fn every_cutting(rt: HostRuntime) -> Result<(), Fail> {
-    for piece in 1..55usize {
-        let again = written_again(rt.alloc(), piece)?;
-        assert_eq!(rt; again.as_slice(), STREAM.as_slice(), "in pieces of {piece}");
+    for place in 0..55usize {
+        let again = in_pieces(rt.alloc(), place)?;
+        assert_eq!(rt; again.as_slice(), STREAM.as_slice(), "in pieces of {place}");
+        let again = in_two(rt.alloc(), place)?;
+        assert_eq!(rt; again.as_slice(), STREAM.as_slice(), "in two at {place}");
     }
+    Ok(())
+}
+
+// A PUBLISH of 65,536 bytes, the most that is read.
+fn longest_publish(alloc: Global) -> Result<Vec<u8>, Fault> {
+    let mut bytes = Vec::from_slice(alloc, b"\x32\xFC\xFF\x03\x00\x01a\x00\x07\x00")?;
+    bytes.resize(65_536, 0x41)?;
+    Ok(bytes)
+}
+
+#[test]
+fn longest_packet(rt: HostRuntime) -> Result<(), Fail> {
+    let bytes = longest_publish(rt.alloc())?;
+    let mut splitter = Splitter::new(rt.alloc());
+    splitter.feed(&bytes)?;
+    let again = next_written(rt.alloc(), &mut splitter)?;
+    assert!(rt; again.is_some_and(|again| again.as_slice() == bytes.as_slice()));
     Ok(())
 }
 
@@ -40,11 +93,11 @@ fn every_cutting(rt: HostRuntime) -> Result<(), Fail> {
 fn answer_to(alloc: Global, stream: &[u8]) -> Result<u16, Fault> {
     let mut splitter = Splitter::new(alloc);
     splitter.feed(stream)?;
-    match splitter.next() {
+    match next_written(alloc, &mut splitter) {
         Ok(None) => Ok(0),
         Ok(Some(_)) => Ok(1),
         Err(Fault::Memory) => Err(Fault::Memory),
-        Err(fault) => match splitter.next() {
+        Err(fault) => match next_written(alloc, &mut splitter) {
             Err(again) if again == fault => Ok(fault.number()),
             _ => Ok(2),
         },
@@ -134,7 +187,10 @@ C00100 101
 40050001000123 101
 40050001000000 101
 400100 101
+400400010005 101
+4008000100FFFFFFFF01 101
 8203000100 102
+820700000000016101 102
 820700010000016103 102
 820700010000016130 102
 820700010000016140 101
@@ -142,17 +198,22 @@ C00100 101
 82090001020B0000016101 102
 820A0001030B800000016101 101
 82080001800000016101 101
+820700010000016181 101
+8209000102010100016101 101
 A203000100 102
+A206000000000161 102
 A2080001020B01000161 101
 E00600041F000100 101
+E00400022100 101
+E003000000 101
 ";
 
 // The first packet of these bytes, written again.
 fn rewritten(alloc: Global, digits: &str) -> Result<Vec<u8>, Fault> {
     let mut splitter = Splitter::new(alloc);
     splitter.feed(&bytes_of(alloc, digits)?)?;
-    match splitter.next()? {
-        Some(packet) => encode(alloc, &packet),
+    match next_written(alloc, &mut splitter)? {
+        Some(bytes) => Ok(bytes),
         None => Ok(Vec::new(alloc)),
     }
 }
@@ -203,7 +264,7 @@ fn accepting(alloc: Global, assigned_client_identifier: Option<Text>) -> Result<
         session_present,
         assigned_client_identifier,
     };
-    encode(alloc, &Packet::Connack(Connack::Accepted(accepted)))
+    written(alloc, Packet::Connack(Connack::Accepted(accepted)))
 }
 
 #[test]
@@ -220,29 +281,36 @@ fn accepting_connack(rt: HostRuntime) -> Result<(), Fail> {
 #[test]
 fn refusing_connack(rt: HostRuntime) -> Result<(), Fail> {
     let refusal = ConnectRefusal::UnsupportedProtocolVersion;
-    let bytes = encode(rt.alloc(), &Packet::Connack(Connack::Refused(refusal)))?;
+    let bytes = written(rt.alloc(), Packet::Connack(Connack::Refused(refusal)))?;
     assert_eq!(rt; bytes.as_slice(), b"\x20\x03\x00\x84\x00".as_slice());
     Ok(())
 }
 
-// A SUBACK with two codes, as it is written.
-fn suback(alloc: Global, packet_identifier: PacketIdentifier) -> Result<Vec<u8>, Fault> {
-    let codes = Vec::from_slice(alloc, &[1, 0x97])?;
-    let reason_codes = NonEmpty::from_vec(codes).ok_or(Fault::Memory)?;
-    let suback = Suback {
-        packet_identifier,
-        reason_codes,
-    };
-    encode(alloc, &Packet::Suback(suback))
+// Two codes of a SUBACK or an UNSUBACK.
+fn two_codes(alloc: Global) -> Result<NonEmpty<u8>, Fault> {
+    NonEmpty::from_vec(Vec::from_slice(alloc, &[1, 0x97])?).ok_or(Fault::Memory)
 }
 
 #[test]
-fn suback_of_two(rt: HostRuntime) -> Result<(), Fail> {
-    let identifier = PacketIdentifier::new(1).ok_or("1 is an identifier")?;
-    let bytes = suback(rt.alloc(), identifier)?;
+fn suback_and_unsuback(rt: HostRuntime) -> Result<(), Fail> {
+    let packet_identifier = PacketIdentifier::new(1).ok_or("1 is an identifier")?;
+    let suback = Suback {
+        packet_identifier,
+        reason_codes: two_codes(rt.alloc())?,
+    };
+    let bytes = written(rt.alloc(), Packet::Suback(suback))?;
     assert_eq!(rt;
         bytes.as_slice(),
         b"\x90\x05\x00\x01\x00\x01\x97".as_slice()
+    );
+    let unsuback = Unsuback {
+        packet_identifier,
+        reason_codes: two_codes(rt.alloc())?,
+    };
+    let bytes = written(rt.alloc(), Packet::Unsuback(unsuback))?;
+    assert_eq!(rt;
+        bytes.as_slice(),
+        b"\xB0\x05\x00\x01\x00\x01\x97".as_slice()
     );
     Ok(())
 }

@@ -1,6 +1,6 @@
 //! User Properties: pairs of a name and a value, which may repeat and keep their order (section 2.2.2.2).
 
-ghost use Rattle.std.specs.Prelude.{◌≡◌, [], ◌∷◌, ◌++◌, OnOk};
+ghost use Rattle.std.specs.Prelude.{◌≡◌, [], ◌∷◌, ◌++◌, OnOk, OnErr};
 
 use crate::text::Text;
 use std::alloc::{AllocError, Global};
@@ -38,9 +38,10 @@ impl UserProperties {
         }
     }
 
-    /// One more, behind the others.
+    /// One more, behind the others. At an `Err` they are as they were.
     pub fn push(&mut self, property: UserProperty) -> Result<(), AllocError>
-        ensures { OnOk result (self.new ≡ self.old ++ property ∷ []) }
+        ensures pushed { OnOk result (self.new ≡ self.old ++ property ∷ []) }
+        ensures unchanged { OnErr result (self.new ≡ self.old) }
     {
         self.properties.push(property)?;
         Ok(())

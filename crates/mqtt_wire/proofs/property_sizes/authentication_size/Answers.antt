@@ -1,4 +1,4 @@
-use Rattle.std.proofs.Common.{arith, ap, length, length-append, ◌∷◌, List, ℕ}
+use Rattle.std.proofs.Common.{arith, ap, length, length-append, ◌∷◌}
 use Rattle.mqtt_wire.specs.Forms.{utf8_string}
 use Rattle.mqtt_wire.specs.PropertyLists.{optional}
 use Rattle.mqtt_wire.specs.declared.property.Property.TheVariants.{AuthenticationData}

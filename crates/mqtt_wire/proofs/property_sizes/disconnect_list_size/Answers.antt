@@ -1,7 +1,6 @@
-use Rattle.std.proofs.Common.{◌≡◌, ◌+◌, length, ap, ◌∙◌, arith, sym}
+use Rattle.std.proofs.Common.{◌≡◌, ◌+◌, length, arith}
 use Rattle.std.specs.Prelude.{min}
 use Rattle.mqtt_wire.specs.declared.property.Property.TheVariants.{ReasonString, SessionExpiryInterval}
-use Rattle.mqtt_wire.specs.declared.user_properties.UserProperty.{UserProperty}
 use Rattle.mqtt_wire.specs.PropertyLists.{optional, user_bytes, disconnect_list}
 use Rattle.mqtt_wire.specs.Sizes.{greatest}
 use Rattle.mqtt_wire.proofs.PropertySizeLaws.{saturated, disconnect_length}
