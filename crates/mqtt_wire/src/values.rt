@@ -7,7 +7,7 @@ use std::marker::Model;
 /// How many PUBLISH packets of QoS 1 a client takes unacknowledged: 1 to 65,535 (section 3.1.2.11.3).
 #[derive(Clone, Copy, Debug, PartialEq, Eq)]
 pub struct ReceiveMaximum {
-    value: u16,
+    packets: u16,
 }
 
 impl Model for ReceiveMaximum {
@@ -15,23 +15,23 @@ impl Model for ReceiveMaximum {
 
     ghost Value = { ℕ };
 
-    ghost view = { λ maximum. maximum.value };
+    ghost view = { λ maximum. maximum.packets };
 
-    ghost invariant = { λ maximum. 0 < maximum.value };
+    ghost invariant = { λ maximum. 0 < maximum.packets };
 
-    ghost inverse = { λ number. record { value = number } };
+    ghost inverse = { λ number. record { packets = number } };
 }
 
 impl ReceiveMaximum {
     /// The Receive Maximum of that number; `None` for 0.
-    pub fn new(value: u16) -> Option<ReceiveMaximum>
-        ensures value { IfSome result (λ maximum. maximum ≡ value) }
-        ensures found { IsSome result ↔ (0 < value) }
+    pub fn new(packets: u16) -> Option<ReceiveMaximum>
+        ensures value { IfSome result (λ maximum. maximum ≡ packets) }
+        ensures found { IsSome result ↔ (0 < packets) }
     {
-        if value == 0 {
+        if packets == 0 {
             return None;
         }
-        Some(ReceiveMaximum { value })
+        Some(ReceiveMaximum { packets })
     }
 
     /// Its number, from 1 on.
@@ -39,14 +39,14 @@ impl ReceiveMaximum {
         ensures value { result ≡ self }
         ensures not_zero { 0 < result }
     {
-        self.value
+        self.packets
     }
 }
 
 /// The longest packet that a client takes, in bytes: 1 to 4,294,967,295 (section 3.1.2.11.4).
 #[derive(Clone, Copy, Debug, PartialEq, Eq)]
 pub struct MaximumPacketSize {
-    value: u32,
+    bytes: u32,
 }
 
 impl Model for MaximumPacketSize {
@@ -54,23 +54,23 @@ impl Model for MaximumPacketSize {
 
     ghost Value = { ℕ };
 
-    ghost view = { λ maximum. maximum.value };
+    ghost view = { λ maximum. maximum.bytes };
 
-    ghost invariant = { λ maximum. 0 < maximum.value };
+    ghost invariant = { λ maximum. 0 < maximum.bytes };
 
-    ghost inverse = { λ number. record { value = number } };
+    ghost inverse = { λ number. record { bytes = number } };
 }
 
 impl MaximumPacketSize {
     /// The Maximum Packet Size of that number; `None` for 0.
-    pub fn new(value: u32) -> Option<MaximumPacketSize>
-        ensures value { IfSome result (λ maximum. maximum ≡ value) }
-        ensures found { IsSome result ↔ (0 < value) }
+    pub fn new(bytes: u32) -> Option<MaximumPacketSize>
+        ensures value { IfSome result (λ maximum. maximum ≡ bytes) }
+        ensures found { IsSome result ↔ (0 < bytes) }
     {
-        if value == 0 {
+        if bytes == 0 {
             return None;
         }
-        Some(MaximumPacketSize { value })
+        Some(MaximumPacketSize { bytes })
     }
 
     /// Its number, from 1 on.
@@ -78,14 +78,14 @@ impl MaximumPacketSize {
         ensures value { result ≡ self }
         ensures not_zero { 0 < result }
     {
-        self.value
+        self.bytes
     }
 }
 
 /// The identifier that a client gives to a subscription: 1 to 268,435,455 (section 3.8.2.1.2).
 #[derive(Clone, Copy, Debug, PartialEq, Eq)]
 pub struct SubscriptionIdentifier {
-    value: u32,
+    number: u32,
 }
 
 impl Model for SubscriptionIdentifier {
@@ -93,23 +93,23 @@ impl Model for SubscriptionIdentifier {
 
     ghost Value = { ℕ };
 
-    ghost view = { λ identifier. identifier.value };
+    ghost view = { λ identifier. identifier.number };
 
-    ghost invariant = { λ identifier. (0 < identifier.value) × (identifier.value < 2 ^ 28) };
+    ghost invariant = { λ identifier. (0 < identifier.number) × (identifier.number < 2 ^ 28) };
 
-    ghost inverse = { λ number. record { value = number } };
+    ghost inverse = { λ value. record { number = value } };
 }
 
 impl SubscriptionIdentifier {
     /// The identifier of that number; `None` for 0 and from 268,435,456 on.
-    pub fn new(value: u32) -> Option<SubscriptionIdentifier>
-        ensures value { IfSome result (λ identifier. identifier ≡ value) }
-        ensures found { IsSome result ↔ ((0 < value) × (value < 2 ^ 28)) }
+    pub fn new(number: u32) -> Option<SubscriptionIdentifier>
+        ensures value { IfSome result (λ identifier. identifier ≡ number) }
+        ensures found { IsSome result ↔ ((0 < number) × (number < 2 ^ 28)) }
     {
-        if value == 0 || value >= 1 << 28 {
+        if number == 0 || number >= 1 << 28 {
             return None;
         }
-        Some(SubscriptionIdentifier { value })
+        Some(SubscriptionIdentifier { number })
     }
 
     /// Its number.
@@ -117,6 +117,6 @@ impl SubscriptionIdentifier {
         ensures value { result ≡ self }
         ensures range { (0 < result) × (result < 2 ^ 28) }
     {
-        self.value
+        self.number
     }
 }
