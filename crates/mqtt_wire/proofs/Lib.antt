@@ -17,3 +17,4 @@ pub mod NextLaws
 pub mod WritingLaws
 pub mod PropertySizeLaws
 pub mod StreamLaws
+pub mod PieceLaws

@@ -1,6 +1,6 @@
 //! Laws of the definitions, over every packet and every stream: each is the contract of a function that does nothing.
 
-ghost use Rattle.std.specs.Prelude.{◌≡◌, ◌≤◌, List, ℕ, ◌∷◌, ◌++◌, length, Option};
+ghost use Rattle.std.specs.Prelude.{◌≡◌, ◌≤◌, List, ℕ, ◌∷◌, ◌++◌, length, Option, Some, None};
 ghost use Rattle.mqtt_wire.specs.declared.fault.StreamFault.{StreamFault};
 ghost use Rattle.mqtt_wire.specs.declared.packet.Packet.{Packet as AnyPacket};
 ghost use Rattle.mqtt_wire.specs.Writing.{written};
@@ -20,6 +20,17 @@ pub fn streams_have_one_reading()
     ensures unique { (stream : List ℕ) (ps : List AnyPacket) (r : List ℕ) (f : Option StreamFault)
         (qs : List AnyPacket) (s : List ℕ) (g : Option StreamFault) →
         Reads stream ps r f → Reads stream qs s g → (ps ≡ qs) × (r ≡ s) × (f ≡ g) }
+{}
+
+/// In whatever pieces a stream comes, it is read alike: the packets of a piece are those of the stream, and what is left of it
+/// is read on with the next piece; a fault that shows in a piece is the fault of the stream, whatever follows.
+pub fn pieces_are_read_as_the_whole()
+    ensures goes_on { (piece next : List ℕ) (packets others : List AnyPacket) (rest last : List ℕ)
+        (fault : Option StreamFault) → Reads piece packets rest None → Reads (rest ++ next) others last fault →
+        Reads (piece ++ next) (packets ++ others) last fault }
+    ensures faulty { (piece next : List ℕ) (packets : List AnyPacket) (rest : List ℕ) (fault : StreamFault) →
+        AreBytes piece → Reads piece packets rest (Some fault) →
+        Reads (piece ++ next) packets (rest ++ next) (Some fault) }
 {}
 
 /// What `encode` writes of a packet that a client may send is a spelling of it, and is read again as that packet,
