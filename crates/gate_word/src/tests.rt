@@ -1,4 +1,4 @@
-//! What no clause says: that a gate opens, the worked row, and a run with threads.
+//! What no clause says: that a gate opens, an example, and a run with threads.
 ghost use Rattle.std.specs.Prelude.{◌≡◌, IfSome};
 ghost use Rattle.gate_word.specs.Seats.{AreSeatsOf};
 

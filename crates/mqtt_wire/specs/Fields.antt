@@ -48,7 +48,7 @@ u32_at (a ∷ b ∷ []) = Err Malformed
 u32_at (a ∷ b ∷ c ∷ []) = Err Malformed
 u32_at (a ∷ b ∷ c ∷ d ∷ rest) = Ok (16777216 * a + 65536 * b + 256 * c + d, rest)
 
--- 2.2.2.2: a byte that is 0 or 1, and else a protocol error
+-- 3.1.2.11.6 and 3.1.2.11.7: a byte that is 0 or 1, and else a protocol error
 unfoldable pub flag_at : List ℕ → Field Bool
 flag_at bytes = do
   byte ← byte_at bytes
