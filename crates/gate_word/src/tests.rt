@@ -31,7 +31,7 @@ fn visit(gate: &Gate, seat: GateSeat) -> (bool, GateSeat)
 }
 
 #[test]
-fn worked_row(rt: HostRuntime) -> Result<(), Fail> {
+fn one_gate_from_open_to_drained(rt: HostRuntime) -> Result<(), Fail> {
     let (gate, mut seats) = Gate::open(rt.alloc(), 3)?;
     let third = take_seat(&gate, &mut seats).ok_or("a third seat")?;
     let mut second = take_seat(&gate, &mut seats).ok_or("a second seat")?;
