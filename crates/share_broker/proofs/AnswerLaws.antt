@@ -14,7 +14,8 @@ use Rattle.share_broker.specs.declared.connection.Standing.TheVariants.{Unconnec
 use Rattle.share_broker.specs.Passing.{Passes, Begins}
 use Rattle.share_broker.specs.Story.{Story, opening}
 use Rattle.share_broker.specs.HandOuts.{Turn, deliver}
-use Rattle.share_broker.specs.Replies.{turn, Reply, reply, reply_at, fault_at, end_reply}
+use Rattle.share_broker.specs.Reply.{Reply}
+use Rattle.share_broker.specs.Replies.{turn, reply, reply_at, fault_at, end_reply}
 use Rattle.share_broker.specs.Report.{report_of, report_lines}
 use Rattle.share_broker.specs.Output.{lines_for, ending, output_from, IsStreamOutput}
 use Rattle.share_broker.specs.Shows.{Shows, Takes as Turns, Ends, next_at}

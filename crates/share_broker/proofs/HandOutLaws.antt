@@ -8,12 +8,13 @@ use Rattle.std.proofs.lemmas.List.Quantifiers.{position-Some}
 use Rattle.std.specs.List.{position}
 use Rattle.mqtt_wire.specs.declared.packet.Packet.{Packet}
 use Rattle.share_broker.specs.declared.connection.Standing.TheVariants.{Connected}
-use Rattle.share_broker.specs.declared.connection.Terms.{Terms}
+use Rattle.share_broker.specs.declared.terms.Terms.{Terms}
 use Rattle.share_broker.specs.declared.group.Message.{Message}
 use Rattle.share_broker.specs.Groups.{GroupState}
 use Rattle.share_broker.specs.Names.{Share}
 use Rattle.share_broker.specs.Story.{Story, HandOut, is_open, open_identifiers, unacknowledged, with_hand_out, acknowledges, refuses}
-use Rattle.share_broker.specs.HandOuts.{greatest_identifier, quota_of, quota, job, least_free, waiting, due, due_to, hand_out, sent_first, deliver}
+use Rattle.share_broker.specs.Packets.{job}
+use Rattle.share_broker.specs.HandOuts.{greatest_identifier, quota_of, quota, least_free, waiting, due, due_to, hand_out, sent_first, deliver}
 use Rattle.share_broker.specs.Shows.{ShowsWindow, ShowsGroup, HandsOut, IsOnTheWay}
 use Rattle.share_broker.proofs.WindowLaws.{set_flags-full, not_true, least_free-at, ShowsWindow-hold}
 

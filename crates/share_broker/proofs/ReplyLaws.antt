@@ -10,7 +10,9 @@ use Rattle.mqtt_wire.specs.declared.packet.Disconnect.{Disconnect}
 use Rattle.mqtt_wire.specs.declared.packet.Packet.{Packet}
 use Rattle.mqtt_wire.specs.declared.packet.Packet.TheVariants as packets
 use Rattle.share_broker.specs.Story.{Story}
-use Rattle.share_broker.specs.Replies.{closing_with, disconnect, later_reply}
+use Rattle.share_broker.specs.Packets.{disconnect}
+use Rattle.share_broker.specs.Reply.{closing_with}
+use Rattle.share_broker.specs.Replies.{later_reply}
 
 -- packets that a client has no business to send close the connection with 82
 pub others_close : (packet : Packet) (story : Story) → ((p : Publish) → packet ≡ packets.Publish p → ⊥) → ((p : Puback) → packet ≡ packets.Puback p → ⊥) → ((s : Subscribe) → packet ≡ packets.Subscribe s → ⊥) → (packet ≡ packets.Pingreq → ⊥) → ((d : Disconnect) → packet ≡ packets.Disconnect d → ⊥) → ((u : Unsubscribe) → packet ≡ packets.Unsubscribe u → ⊥) → later_reply packet story ≡ closing_with (disconnect 0x82) story

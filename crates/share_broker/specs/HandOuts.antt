@@ -2,13 +2,12 @@
 use Rattle.std.specs.Prelude.{ℕ, ◌-◌, ◌==◌, nat_lt, if◌then◌else◌, false, List, [], ◌∷◌, length, take, drop, count_by, unwrap_or, Option, Some, None}
 use Rattle.std.specs.List.{find, range_with_len}
 use Rattle.mqtt_wire.specs.declared.packet.Packet.{Packet}
-use Rattle.mqtt_wire.specs.declared.packet.Packet.TheVariants as packets
-use Rattle.mqtt_wire.specs.declared.packet.Delivery.TheVariants.{AtLeastOnce}
 use Rattle.share_broker.specs.declared.connection.Standing.{Standing}
 use Rattle.share_broker.specs.declared.connection.Standing.TheVariants.{Unconnected, Connected, Closed}
 use Rattle.share_broker.specs.declared.group.Message.{Message}
 use Rattle.share_broker.specs.Names.{Share}
 use Rattle.share_broker.specs.Story.{Story, unacknowledged, with_hand_out}
+use Rattle.share_broker.specs.Packets.{job}
 
 -- identifiers are 1 to 256 (profile)
 abbrev pub greatest_identifier : ℕ
@@ -27,25 +26,6 @@ times identifier identifiers = count_by (λ other. other == identifier) identifi
 -- the least identifier from 1 on that none of these is
 unfoldable pub least_free : List ℕ → ℕ
 least_free identifiers = unwrap_or (find (λ identifier. times identifier identifiers == 0) (range_with_len 1 greatest_identifier)) 0
-
--- 3.3: a message as it goes out: QoS 1, DUP 0, RETAIN 0
-abbrev pub job : Message → ℕ → Packet
-job message identifier = packets.Publish (record {
-  dup = false;
-  retain = false;
-  topic = message.topic;
-  delivery = AtLeastOnce identifier;
-  properties = record {
-    payload_format_indicator = message.properties.payload_format_indicator;
-    message_expiry_interval = None;
-    content_type = message.properties.content_type;
-    response_topic = message.properties.response_topic;
-    correlation_data = message.properties.correlation_data;
-    topic_alias = None;
-    user_properties = message.properties.user_properties;
-  };
-  payload = message.payload;
-})
 
 -- accepted and not handed out, the oldest first
 abbrev pub waiting : Story → List Message

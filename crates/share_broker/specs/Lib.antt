@@ -4,7 +4,12 @@ pub mod Passing
 pub mod Names
 pub mod Groups
 pub mod Story
+pub mod Packets
 pub mod HandOuts
+pub mod Reply
+pub mod Connecting
+pub mod Publishing
+pub mod Subscribing
 pub mod Replies
 pub mod Report
 pub mod Output

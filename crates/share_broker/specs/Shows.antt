@@ -11,7 +11,9 @@ use Rattle.share_broker.specs.declared.group.Message.{Message}
 use Rattle.share_broker.specs.Names.{Share}
 use Rattle.share_broker.specs.Groups.{GroupState}
 use Rattle.mqtt_wire.specs.declared.fault.StreamFault.{StreamFault}
-use Rattle.share_broker.specs.Replies.{Reply, turn, publish_code, accepted_if, end_reply}
+use Rattle.share_broker.specs.Reply.{Reply}
+use Rattle.share_broker.specs.Publishing.{publish_code, accepted_if}
+use Rattle.share_broker.specs.Replies.{turn, end_reply}
 use Rattle.share_broker.specs.Story.{Story, HandOut, unacknowledged, acknowledges, refuses}
 use Rattle.share_broker.specs.HandOuts.{times, deliver}
 

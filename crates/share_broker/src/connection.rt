@@ -1,55 +1,34 @@
 //! One client's connection as a decision core: packets go in as values, and packets and a close come out.
-ghost use Rattle.std.specs.Prelude.{◌≡◌, ◌≤◌, ℕ, Some, IfOk, OnOk};
-ghost use Rattle.share_broker.specs.Story.{Story, opening, unacknowledged, with_puback};
-ghost use Rattle.share_broker.specs.HandOuts.{job, quota_of};
-ghost use Rattle.share_broker.specs.Replies.{reply, closing, closing_with, refusing, accepting, connect_reply, first_reply, later_reply, disconnect_reply, publish_reply, publish_reply_if, subscribe_reply, entry_reply, share_reply, share_reply_if, asks_qos_1, is_under, terms_of, with_expiry, is_given_expiry, assigned_to, closing_code, message_of, disconnect, puback, suback, fault_code, end_reply};
+ghost use Rattle.std.specs.Prelude.{◌≡◌, ℕ, Some, IfOk, OnOk};
+ghost use Rattle.share_broker.specs.Story.{Story, opening, with_puback};
+ghost use Rattle.share_broker.specs.Packets.{suback};
+ghost use Rattle.share_broker.specs.Reply.{closing, closing_with};
+ghost use Rattle.share_broker.specs.Connecting.{refusing, accepting, connect_reply, first_reply};
+ghost use Rattle.share_broker.specs.Publishing.{closing_code, publish_reply, publish_reply_if};
+ghost use Rattle.share_broker.specs.Subscribing.{share_reply, subscribe_reply};
+ghost use Rattle.share_broker.specs.Replies.{reply, later_reply, disconnect_reply, with_expiry, end_reply};
 ghost use Rattle.share_broker.specs.Report.{report_of, report_lines};
-ghost use Rattle.share_broker.specs.Shows.{Shows, ShowsGroup, ShowsWindow, Gives, Offers, Delivers, Takes, Ends, HandsOut};
-ghost use Rattle.share_broker.specs.declared.connection.Standing.TheVariants.{Connected};
+ghost use Rattle.share_broker.specs.Shows.{Shows, Gives, Offers, Delivers, Takes, Ends};
 
-use crate::group::{Fate, Group, Message, MessageProperties, NotTaken};
-use crate::share::{Share, has_wildcard};
+use crate::group::{Fate, Group, Message, NotTaken};
+use crate::hand_outs::hand_out;
+use crate::packets::{disconnect, message_of, puback, suback};
+use crate::reason_code::{
+    FIRST_FAILURE, GRANTED_QOS_1, IMPLEMENTATION_SPECIFIC_ERROR, NO_MATCHING_SUBSCRIBERS,
+    PROTOCOL_ERROR, QOS_NOT_SUPPORTED, QUOTA_EXCEEDED, SUCCESS, fault_code,
+};
+use crate::requests::{closing_code, share_of};
+use crate::share::Share;
+use crate::terms::{Terms, assigned_to, is_size_under, terms_of};
 use crate::window::Window;
-use bytes::Bytes;
 use mqtt_wire::{
-    Acceptance, Connack, Connect, ConnectProperties, ConnectRefusal, Delivery, Disconnect,
-    DisconnectProperties, MaximumPacketSize, NonEmpty, Packet, PacketIdentifier, Puback,
-    PubackProperties, Publish, PublishProperties, QoS, RetainHandling, StreamFault, Suback,
-    Subscribe, SubscriptionOptions, Text, UserProperties,
+    Acceptance, Connack, Connect, ConnectRefusal, Delivery, Disconnect, Packet, PacketIdentifier,
+    Puback, Publish, StreamFault, Subscribe,
 };
 use std::alloc::{AllocError, Global};
 
 /// The longest client identifier.
 const LONGEST_IDENTIFIER: usize = 128;
-
-/// The first of the identifiers that are assigned to clients without one.
-const ASSIGNED_IDENTIFIER: &[u8] = b"auto-00000001";
-
-/// Reason Codes (section 2.4).
-const SUCCESS: u8 = 0x00;
-
-const GRANTED_QOS_1: u8 = 0x01;
-
-const NO_MATCHING_SUBSCRIBERS: u8 = 0x10;
-
-const MALFORMED_PACKET: u8 = 0x81;
-
-const PROTOCOL_ERROR: u8 = 0x82;
-
-const IMPLEMENTATION_SPECIFIC_ERROR: u8 = 0x83;
-
-const TOPIC_ALIAS_INVALID: u8 = 0x94;
-
-const PACKET_TOO_LARGE: u8 = 0x95;
-
-const QUOTA_EXCEEDED: u8 = 0x97;
-
-const RETAIN_NOT_SUPPORTED: u8 = 0x9A;
-
-const QOS_NOT_SUPPORTED: u8 = 0x9B;
-
-/// The least Reason Code of a PUBACK that refuses.
-const FIRST_FAILURE: u8 = 0x80;
 
 /// How far a connection has come.
 #[derive(Clone, Copy, Debug, PartialEq, Eq)]
@@ -57,25 +36,6 @@ pub enum Standing {
     Unconnected,
     Connected,
     Closed,
-}
-
-/// What a client asked for when it connected (section 3.1.2.11).
-#[derive(Clone, Copy, Debug, PartialEq, Eq)]
-pub struct Terms {
-    receive_maximum: u16,
-    /// Seconds. A session with 0 ends with its connection.
-    session_expiry_interval: u32,
-    /// Packets of 65,536 bytes too.
-    takes_all_packets: bool,
-}
-
-impl Terms {
-    /// Whether the expiry is given to a session that ends with its connection.
-    fn is_given_expiry(&self, expiry: u32) -> bool
-        ensures { result ≡ is_given_expiry expiry self.now }
-    {
-        expiry > 0 && self.session_expiry_interval == 0
-    }
 }
 
 /// A connection, the session on it, and the group whose member it is.
@@ -99,104 +59,6 @@ pub enum Next {
 pub struct Outs {
     pub packets: Vec<Packet>,
     pub next: Next,
-}
-
-/// The PUBLISH of a job: QoS 1, DUP 0, RETAIN 0.
-fn job(message: Message, identifier: PacketIdentifier) -> Packet
-    ensures { result ≡ job message identifier }
-{
-    let Message {
-        topic,
-        properties,
-        payload,
-    } = message;
-    Packet::Publish(Publish {
-        dup: false,
-        retain: false,
-        topic,
-        delivery: Delivery::AtLeastOnce(identifier),
-        properties: PublishProperties {
-            payload_format_indicator: properties.payload_format_indicator,
-            message_expiry_interval: None,
-            content_type: properties.content_type,
-            response_topic: properties.response_topic,
-            correlation_data: properties.correlation_data,
-            topic_alias: None,
-            user_properties: properties.user_properties,
-        },
-        payload,
-    })
-}
-
-/// The message of a PUBLISH.
-fn message_of(publish: Publish) -> Message
-    ensures { result ≡ message_of publish }
-{
-    Message {
-        topic: publish.topic,
-        properties: MessageProperties {
-            payload_format_indicator: publish.properties.payload_format_indicator,
-            content_type: publish.properties.content_type,
-            response_topic: publish.properties.response_topic,
-            correlation_data: publish.properties.correlation_data,
-            user_properties: publish.properties.user_properties,
-        },
-        payload: publish.payload,
-    }
-}
-
-/// The DISCONNECT with that Reason Code (section 3.14).
-fn disconnect(alloc: Global, reason_code: u8) -> Packet
-    ensures { result ≡ disconnect reason_code }
-{
-    Packet::Disconnect(Disconnect {
-        reason_code,
-        properties: DisconnectProperties {
-            session_expiry_interval: None,
-            reason_string: None,
-            user_properties: UserProperties::new(alloc),
-        },
-    })
-}
-
-/// The PUBACK with that Reason Code (section 3.4).
-fn puback(alloc: Global, packet_identifier: PacketIdentifier, reason_code: u8) -> Packet
-    ensures { result ≡ puback packet_identifier reason_code }
-{
-    Packet::Puback(Puback {
-        packet_identifier,
-        reason_code,
-        properties: PubackProperties {
-            reason_string: None,
-            user_properties: UserProperties::new(alloc),
-        },
-    })
-}
-
-/// The SUBACK of one entry.
-fn suback(
-    alloc: Global,
-    packet_identifier: PacketIdentifier,
-    code: u8,
-) -> Result<Packet, AllocError>
-    ensures { IfOk result (λ packet. packet ≡ suback packet_identifier code) }
-{
-    let codes = vec![in alloc; code]?;
-    let reason_codes = NonEmpty::from_vec(codes).ok_or(AllocError)?;
-    Ok(Packet::Suback(Suback {
-        packet_identifier,
-        reason_codes,
-    }))
-}
-
-/// Whether QoS 1 is asked for, and nothing else.
-fn asks_qos_1(options: &SubscriptionOptions) -> bool
-    ensures { result ≡ asks_qos_1 options.now }
-{
-    matches!(options.maximum_qos, QoS::AtLeastOnce)
-        && !options.no_local
-        && !options.retain_as_published
-        && matches!(options.retain_handling, RetainHandling::Send)
 }
 
 impl Connection {
@@ -520,121 +382,5 @@ impl Connection {
                 }
             },
         }
-    }
-}
-
-/// Whether the size is there and below the limit.
-fn is_size_under(limit: u32, size: Option<MaximumPacketSize>) -> bool
-    ensures { result ≡ is_under limit size }
-{
-    match size {
-        Some(size) => size.get() < limit,
-        None => false,
-    }
-}
-
-/// What a client asked for.
-fn terms_of(properties: &ConnectProperties) -> Terms
-    ensures { result ≡ terms_of properties.now }
-{
-    Terms {
-        receive_maximum: match properties.receive_maximum {
-            Some(maximum) => maximum.get(),
-            None => u16::MAX,
-        },
-        session_expiry_interval: properties.session_expiry_interval.unwrap_or(0),
-        takes_all_packets: !is_size_under(65_536, properties.maximum_packet_size),
-    }
-}
-
-/// The identifier that is assigned to a client without one.
-fn assigned_to(client_identifier: &[u8]) -> Option<Text>
-    ensures { result ≡ assigned_to client_identifier.now }
-{
-    if client_identifier.is_empty() {
-        Text::parse(Bytes::from_static(ASSIGNED_IDENTIFIER))
-    } else {
-        None
-    }
-}
-
-/// The Reason Code of a fault of the stream (section 4.13).
-fn fault_code(fault: StreamFault) -> u8
-    ensures { result ≡ fault_code fault }
-{
-    match fault {
-        StreamFault::Malformed => MALFORMED_PACKET,
-        StreamFault::Protocol => PROTOCOL_ERROR,
-        StreamFault::TooLarge => PACKET_TOO_LARGE,
-    }
-}
-
-/// The Reason Code with which a PUBLISH of QoS 1 closes the connection; `None` where it does not.
-fn closing_code(publish: &Publish) -> Option<u8>
-    ensures { result ≡ closing_code publish.now }
-{
-    if publish.retain {
-        return Some(RETAIN_NOT_SUPPORTED);
-    }
-    if publish.properties.topic_alias.is_some() {
-        return Some(TOPIC_ALIAS_INVALID);
-    }
-    let topic = publish.topic.as_bytes();
-    if topic.is_empty() {
-        return Some(PROTOCOL_ERROR);
-    }
-    if has_wildcard(topic) {
-        return Some(MALFORMED_PACKET);
-    }
-    None
-}
-
-/// The share of a SUBSCRIBE of one entry that asks for QoS 1 and nothing else.
-fn share_of(subscribe: &Subscribe) -> Result<Option<Share>, AllocError>
-    ensures { IfOk result (λ share. (identifier : ℕ) (story : Story) → entry_reply subscribe.now.subscriptions identifier story ≡ share_reply_if share identifier story) }
-{
-    let [entry] = subscribe.subscriptions.as_slice() else {
-        return Ok(None);
-    };
-    if !asks_qos_1(&entry.options) {
-        return Ok(None);
-    }
-    Ok(Share::parse(entry.filter.try_clone()?))
-}
-
-/// Hands out what waits, as long as the quota has room: the Receive Maximum, or 256 where that is greater.
-fn hand_out(
-    group: &mut Group,
-    window: &mut Window,
-    receive_maximum: u16,
-    packets: &mut Vec<Packet>,
-) -> Result<(), AllocError>
-    ensures { OnOk result ((story : Story) → story.standing ≡ Connected → receive_maximum ≡ story.terms.receive_maximum
-        → ShowsGroup story group.old → ShowsWindow (unacknowledged story) window.old
-        → HandsOut story packets.old.items packets.new.items group.new window.new) }
-{
-    let quota = quota_of(receive_maximum);
-    while window.len() < quota {
-        let Some(identifier) = window.free() else {
-            break;
-        };
-        let Some(message) = group.take() else {
-            break;
-        };
-        window.hold(identifier);
-        packets.push(job(message, identifier))?;
-    }
-    Ok(())
-}
-
-/// How many jobs may be unacknowledged at once.
-fn quota_of(receive_maximum: u16) -> usize
-    ensures value { result ≡ quota_of receive_maximum }
-    ensures small { result ≤ 256 }
-{
-    if receive_maximum < 256 {
-        usize::from(receive_maximum)
-    } else {
-        256
     }
 }

@@ -4,12 +4,17 @@
 mod connection;
 pub mod error;
 mod group;
+mod hand_outs;
 mod input;
 pub mod laws;
 mod output;
+mod packets;
+mod reason_code;
 mod report;
+mod requests;
 mod share;
 pub mod solo;
+mod terms;
 mod window;
 
 use error::SoloError;

@@ -1,6 +1,6 @@
 use Rattle.std.proofs.Common.{subst, sym}
 use Rattle.mqtt_wire.specs.declared.packet.Packet.{Packet}
-use Rattle.share_broker.specs.Replies.{Reply, closing_with}
+use Rattle.share_broker.specs.Reply.{Reply, closing_with}
 use Rattle.share_broker.specs.Shows.{Gives}
 use Rattle.share_broker.proofs.ReplyLaws.{others_close}
 use Rattle.share_broker.proofs.connection.Connection.later_reply.Goals as goal

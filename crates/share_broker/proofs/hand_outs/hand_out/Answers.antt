@@ -1,7 +1,7 @@
 use Rattle.std.proofs.Common.{sym, ap, ◌∙◌, arith}
 use Rattle.share_broker.specs.HandOuts.{quota_of}
 use Rattle.share_broker.proofs.HandOutLaws.{IsOnTheWay-step, HandsOut-empty, HandsOut-full, HandsOut-none_free}
-use Rattle.share_broker.proofs.connection.hand_out.Goals as goal
+use Rattle.share_broker.proofs.hand_outs.hand_out.Goals as goal
 
 pub loop-window-preserved : goal.loop-window-preserved
 loop-window-preserved c = λ story connected maximum group window.

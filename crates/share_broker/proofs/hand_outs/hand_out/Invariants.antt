@@ -2,7 +2,7 @@ use Rattle.std.proofs.Common.{◌≡◌, length}
 use Rattle.share_broker.specs.Story.{Story, unacknowledged}
 use Rattle.share_broker.specs.Shows.{ShowsGroup, ShowsWindow, IsOnTheWay}
 use Rattle.share_broker.specs.declared.connection.Standing.TheVariants.{Connected}
-use Rattle.share_broker.proofs.connection.hand_out.Given as goal
+use Rattle.share_broker.proofs.hand_outs.hand_out.Given as goal
 
 abbrev pub invariant-loop-window : goal.invariant-loop-window
 invariant-loop-window l =

@@ -1,0 +1,115 @@
+//! Runs of `solo` whose lines are not hex, and runs whose reader or writer fails.
+use super::{CONNECT, JOB, RUNS, SUBSCRIBE, join};
+use crate::error::SoloError;
+use crate::solo::solo;
+use std::io;
+use std::io::{ErrorKind, Read, Write};
+use std::test::Fail;
+
+#[test]
+fn bad_input(rt: HostRuntime) -> Result<(), Fail> {
+    let bad: [(&[u8], u64); 5] = [
+        (b"1", 1),
+        (b"10\n1", 2),
+        (b"\n\n0x\n", 3),
+        (b"10\r\n", 1),
+        (b"10 \n1", 1),
+    ];
+    for (input, line) in bad.iter() {
+        let mut writer = Vec::new(rt.alloc());
+        let ended = solo(rt.alloc(), &mut &input[..], &mut writer);
+        assert_eq!(rt; ended, Err(SoloError::Line(*line)));
+        assert_eq!(rt; writer.len(), 0);
+        assert_eq!(rt; SoloError::Line(*line).status(), 5);
+    }
+    Ok(())
+}
+
+/// A reader that gives some bytes and then fails.
+#[derive(Drop)]
+struct FailingReader<'a>(&'a [u8]);
+
+impl Read for FailingReader<'_> {
+    fn read(&mut self, buf: &mut [u8]) -> io::Result<usize> {
+        match self.0.read(buf) {
+            Ok(0) | Err(_) => Err(io::Error::from(ErrorKind::ConnectionReset)),
+            Ok(count) => Ok(count),
+        }
+    }
+}
+
+#[test]
+fn reader_fails(rt: HostRuntime) {
+    let mut writer = Vec::new(rt.alloc());
+    let ended = solo(rt.alloc(), &mut FailingReader(CONNECT), &mut writer);
+    assert_eq!(rt; ended, Err(SoloError::Device));
+    assert_eq!(rt; writer.len(), 0);
+    assert_eq!(rt; SoloError::Device.status(), 3);
+}
+
+/// A reader that never ends, and gives one byte a read.
+#[derive(Drop)]
+struct EndlessReader;
+
+impl Read for EndlessReader {
+    fn read(&mut self, buf: &mut [u8]) -> io::Result<usize> {
+        match buf.first_mut() {
+            Some(byte) => {
+                *byte = b'\n';
+                Ok(1)
+            }
+            None => Ok(0),
+        }
+    }
+}
+
+#[test]
+fn reader_never_ends(rt: HostRuntime) {
+    let mut writer = Vec::new(rt.alloc());
+    assert_eq!(rt;
+        solo(rt.alloc(), &mut EndlessReader, &mut writer),
+        Err(SoloError::Device)
+    );
+}
+
+/// A writer that takes some bytes, one a write, and then fails.
+#[derive(Drop)]
+struct FailingWriter {
+    taken: Vec<u8>,
+    room: usize,
+}
+
+impl Write for FailingWriter {
+    fn write(&mut self, buf: &[u8]) -> io::Result<usize> {
+        let Some(byte) = buf.first() else {
+            return Ok(0);
+        };
+        if self.taken.len() >= self.room {
+            return Err(io::Error::from(ErrorKind::BrokenPipe));
+        }
+        self.taken.push(*byte)?;
+        Ok(1)
+    }
+
+    fn flush(&mut self) -> io::Result<()> {
+        Ok(())
+    }
+}
+
+#[test]
+fn writer_fails(rt: HostRuntime) -> Result<(), Fail> {
+    let input = join(&rt, &[CONNECT, SUBSCRIBE, JOB])?;
+    let output = join(&rt, RUNS[3].output)?;
+    for room in 0..output.len() {
+        let mut writer = FailingWriter {
+            taken: Vec::new(rt.alloc()),
+            room,
+        };
+        assert_eq!(rt;
+            solo(rt.alloc(), &mut input.as_slice(), &mut writer),
+            Err(SoloError::Device)
+        );
+        assert_eq!(rt; writer.taken.as_slice(), &output[..room]);
+    }
+    Ok(())
+}
