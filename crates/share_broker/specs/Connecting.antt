@@ -1,5 +1,5 @@
 -- The reply to the first packet (sections 3.1 and 3.2).
-use Rattle.std.specs.Prelude.{ℕ, ◌==◌, nat_lt, codes, Bool, false, not, if◌then◌else◌, List, [], ◌∷◌, length, Option, Some, None, is_some}
+use Rattle.std.specs.Prelude.{ℕ, nat_lt, codes, Bool, false, not, if◌then◌else◌, List, [], ◌∷◌, length, Option, Some, None, is_some}
 use Rattle.mqtt_wire.specs.declared.packet.Connect.{Connect}
 use Rattle.mqtt_wire.specs.declared.packet.Connack.TheVariants.{Accepted, Refused}
 use Rattle.mqtt_wire.specs.declared.packet.ConnectRefusal.{ConnectRefusal}

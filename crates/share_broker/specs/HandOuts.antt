@@ -1,5 +1,5 @@
 -- Which messages go out after a packet, and under which identifiers (sections 2.2.1, 4.6 and 4.9).
-use Rattle.std.specs.Prelude.{ℕ, ◌-◌, ◌==◌, nat_lt, if◌then◌else◌, false, List, [], ◌∷◌, length, take, drop, count_by, unwrap_or, Option, Some, None}
+use Rattle.std.specs.Prelude.{ℕ, ◌-◌, ◌==◌, nat_lt, if◌then◌else◌, List, [], ◌∷◌, length, take, drop, count_by, unwrap_or, Option, Some, None}
 use Rattle.std.specs.List.{find, range_with_len}
 use Rattle.mqtt_wire.specs.declared.packet.Packet.{Packet}
 use Rattle.share_broker.specs.declared.connection.Standing.{Standing}

@@ -1,6 +1,11 @@
 //! A dispatcher for MQTT 5.0 shared subscriptions: the program `share_broker`.
 #![tactic(auto)]
 
+ghost use Rattle.std.specs.Prelude.{◌≡◌, map, string_bytes};
+ghost use Rattle.std.specs.Process.{exit_status};
+ghost use Rattle.std.specs.Vec.Iter.{into_iter_items};
+ghost use Rattle.share_broker.specs.Status.{asks_solo, status_of};
+
 mod connection;
 pub mod error;
 mod group;
@@ -18,22 +23,23 @@ mod terms;
 mod window;
 
 use error::SoloError;
+use std::env::Args;
 use std::io::ErrorKind;
 use std::process::ExitCode;
-use std::rt::Env;
 use std::{env, io};
 
 /// The status that the program ends with where its words are wrong.
 const USAGE: u8 = 2;
 
 fn main(rt: HostRuntime) -> ExitCode {
-    match is_solo(&rt) {
-        Ok(true) => {}
+    let is_solo = match env::args(&rt) {
+        Ok(words) => asks_solo(words),
         Err(e) if e.kind() == ErrorKind::OutOfMemory => return failure(&rt, SoloError::Memory),
-        Ok(false) | Err(_) => {
-            let _ = eprintln!(rt; "usage: share_broker solo < FILE");
-            return ExitCode::from(USAGE);
-        }
+        Err(_) => false,
+    };
+    if !is_solo {
+        let _ = eprintln!(rt; "usage: share_broker solo < FILE");
+        return ExitCode::from(USAGE);
     }
     match solo::solo(rt.alloc(), &mut rt.reader(), &mut io::writer(&rt)) {
         Ok(()) => ExitCode::SUCCESS,
@@ -42,15 +48,19 @@ fn main(rt: HostRuntime) -> ExitCode {
 }
 
 /// Whether the words behind the program's name are `solo` alone.
-fn is_solo(rt: &(impl Env + Alloc)) -> io::Result<bool> {
-    let mut words = env::args(rt)?;
-    let _name = words.next();
-    let is_first = words.next().is_some_and(|word| word.as_str() == "solo");
-    Ok(is_first && words.next().is_none())
+fn asks_solo(mut words: Args) -> bool
+    ensures { result ≡ asks_solo (map string_bytes (into_iter_items words)) }
+{
+    match (words.next(), words.next(), words.next()) {
+        (Some(_name), Some(word), None) => word.as_str() == "solo",
+        _ => false,
+    }
 }
 
 /// Says the error, and gives its status.
-fn failure(rt: &impl Eprint, error: SoloError) -> ExitCode {
+fn failure(rt: &impl Eprint, error: SoloError) -> ExitCode
+    ensures { exit_status result ≡ status_of error }
+{
     let _ = eprintln!(rt; "{error}");
     ExitCode::from(error.status())
 }

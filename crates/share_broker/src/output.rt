@@ -3,6 +3,7 @@ ghost use Rattle.std.specs.Prelude.{◌≡◌, [], ◌++◌, OnOk, OnErr, IfErr}
 ghost use Rattle.std.specs.Io.KnownBytes.{Appends};
 ghost use Rattle.share_broker.specs.Passing.{Passes, Begins};
 ghost use Rattle.share_broker.specs.Lines.{hex_line, IsNoLine};
+ghost use Rattle.share_broker.specs.declared.error.SoloError.TheVariants.{Device};
 
 use crate::error::SoloError;
 use std::alloc::Global;
@@ -26,11 +27,11 @@ impl Model for Output {
     ghost view = { λ a. a.waiting.items };
 }
 
-/// Writes all of the bytes. At a failure the writer has a beginning of them.
+/// Writes all of the bytes. At a failure, which is that of the device, the writer has a beginning of them.
 fn write_out<W: Write>(writer: &mut W, bytes: &[u8]) -> Result<(), SoloError>
     ensures ok { OnOk result (Appends (W.contents writer.old) (W.contents writer.new) bytes.now) }
     ensures err { OnErr result (Begins (W.contents writer.old) (W.contents writer.new) bytes.now) }
-    ensures no_line { IfErr result IsNoLine }
+    ensures device { IfErr result (λ e. e ≡ Device) }
 {
     let mut rest = bytes;
     for _ in 0..u64::MAX {
@@ -95,7 +96,7 @@ impl Output {
     pub fn finish<W: Write>(self, writer: &mut W) -> Result<(), SoloError>
         ensures ok { OnOk result (Appends (W.contents writer.old) (W.contents writer.new) self) }
         ensures err { OnErr result (Begins (W.contents writer.old) (W.contents writer.new) self) }
-        ensures no_line { IfErr result IsNoLine }
+        ensures device { IfErr result (λ e. e ≡ Device) }
     {
         write_out(writer, &self.waiting)?;
         writer.flush()?;

@@ -72,7 +72,7 @@ fn reader_never_ends(rt: HostRuntime) {
     );
 }
 
-/// A writer that takes some bytes, one a write, and then fails.
+/// A writer that takes some bytes, one a write, and then fails at each write and flush.
 #[derive(Drop)]
 struct FailingWriter {
     taken: Vec<u8>,
@@ -92,6 +92,9 @@ impl Write for FailingWriter {
     }
 
     fn flush(&mut self) -> io::Result<()> {
+        if self.taken.len() >= self.room {
+            return Err(io::Error::from(ErrorKind::BrokenPipe));
+        }
         Ok(())
     }
 }
@@ -100,7 +103,7 @@ impl Write for FailingWriter {
 fn writer_fails(rt: HostRuntime) -> Result<(), Fail> {
     let input = join(&rt, &[CONNECT, SUBSCRIBE, JOB])?;
     let output = join(&rt, RUNS[3].output)?;
-    for room in 0..output.len() {
+    for room in 0..=output.len() {
         let mut writer = FailingWriter {
             taken: Vec::new(rt.alloc()),
             room,
