@@ -28,8 +28,10 @@ job message identifier = packets.Publish (record {
 abbrev pub disconnect : ℕ → Packet
 disconnect code = packets.Disconnect (record { reason_code = code; properties = record { session_expiry_interval = None; reason_string = None; user_properties = [] } })
 
+-- 3.4: a PUBACK with that Reason Code
 abbrev pub puback : ℕ → ℕ → Packet
 puback identifier code = packets.Puback (record { packet_identifier = identifier; reason_code = code; properties = record { reason_string = None; user_properties = [] } })
 
+-- 3.9: a SUBACK of one entry
 abbrev pub suback : ℕ → ℕ → Packet
 suback identifier code = packets.Suback (record { packet_identifier = identifier; reason_codes = code ∷ [] })

@@ -1,4 +1,4 @@
--- The reply to each packet and to the end of the stream (chapters 3 and 4): what is not named here gets none, and closes the connection (profile, for now).
+-- The reply to each packet and to the end of the stream (chapters 3 and 4), and what a packet brings about in all.
 use Rattle.std.specs.Prelude.{ℕ, ◌==◌, ◌&&◌, nat_lt, Bool, if◌then◌else◌, ◌++◌, Option, Some, None, option_to_list}
 use Rattle.mqtt_wire.specs.declared.packet.ConnectRefusal.TheVariants.{ProtocolError}
 use Rattle.mqtt_wire.specs.declared.fault.StreamFault.{StreamFault}

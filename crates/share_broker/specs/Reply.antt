@@ -1,4 +1,4 @@
--- What a reply is: the packet that answers, if one does, and the story after it.
+-- What a reply is, and the two that close the connection.
 use Rattle.std.specs.Prelude.{Option, Some, None}
 use Rattle.mqtt_wire.specs.declared.packet.Packet.{Packet}
 use Rattle.share_broker.specs.declared.connection.Standing.TheVariants.{Closed}

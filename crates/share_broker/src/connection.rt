@@ -1,5 +1,5 @@
 //! One client's connection as a decision core: packets go in as values, and packets and a close come out.
-ghost use Rattle.std.specs.Prelude.{◌≡◌, ℕ, Some, IfOk, OnOk};
+ghost use Rattle.std.specs.Prelude.{◌≡◌, ℕ, Some, None, IsSome, IfOk, OnOk};
 ghost use Rattle.share_broker.specs.Story.{Story, opening, with_puback};
 ghost use Rattle.share_broker.specs.Packets.{suback};
 ghost use Rattle.share_broker.specs.Reply.{closing, closing_with};
@@ -158,7 +158,8 @@ impl Connection {
 
     /// Closes the connection with no answer.
     fn close(&mut self) -> Option<Packet>
-        ensures { (story : Story) → Shows story self.old → Gives (closing story) result self.new }
+        ensures answer { result ≡ None }
+        ensures gives { (story : Story) → Shows story self.old → Gives (closing story) result self.new }
     {
         self.standing = Standing::Closed;
         None
@@ -166,7 +167,8 @@ impl Connection {
 
     /// Closes the connection with this packet.
     fn close_with(&mut self, packet: Packet) -> Option<Packet>
-        ensures { (story : Story) → Shows story self.old → Gives (closing_with packet story) result self.new }
+        ensures answer { result ≡ Some packet }
+        ensures gives { (story : Story) → Shows story self.old → Gives (closing_with packet story) result self.new }
     {
         self.standing = Standing::Closed;
         Some(packet)
@@ -174,7 +176,8 @@ impl Connection {
 
     /// Closes the connection with a CONNACK that refuses.
     fn refuse(&mut self, refusal: ConnectRefusal) -> Option<Packet>
-        ensures { (story : Story) → Shows story self.old → Gives (refusing refusal story) result self.new }
+        ensures answer { result ≡ Some (Packet.Connack (Connack.Refused refusal)) }
+        ensures gives { (story : Story) → Shows story self.old → Gives (refusing refusal story) result self.new }
     {
         self.close_with(Packet::Connack(Connack::Refused(refusal)))
     }
@@ -213,7 +216,8 @@ impl Connection {
 
     /// Opens the connection with a new session.
     fn accept(&mut self, connect: &Connect) -> Option<Packet>
-        ensures { (story : Story) → Shows story self.old → Gives (accepting connect.now story) result self.new }
+        ensures answer { IsSome result }
+        ensures gives { (story : Story) → Shows story self.old → Gives (accepting connect.now story) result self.new }
     {
         self.standing = Standing::Connected;
         self.terms = terms_of(&connect.properties);
@@ -259,7 +263,8 @@ impl Connection {
 
     /// Closes the connection of a session that has this expiry from now on.
     fn close_with_expiry(&mut self, expiry: u32) -> Option<Packet>
-        ensures { (story : Story) → Shows story self.old → Gives (closing (with_expiry expiry story)) result self.new }
+        ensures answer { result ≡ None }
+        ensures gives { (story : Story) → Shows story self.old → Gives (closing (with_expiry expiry story)) result self.new }
     {
         self.terms.session_expiry_interval = expiry;
         self.standing = Standing::Closed;
