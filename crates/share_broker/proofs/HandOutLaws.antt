@@ -15,7 +15,7 @@ use Rattle.share_broker.specs.Names.{Share}
 use Rattle.share_broker.specs.Story.{Story, HandOut, is_open, open_identifiers, unacknowledged, with_hand_out, acknowledges, refuses}
 use Rattle.share_broker.specs.Packets.{job}
 use Rattle.share_broker.specs.HandOuts.{greatest_identifier, quota_of, quota, least_free, waiting, due, due_to, hand_out, sent_first, deliver}
-use Rattle.share_broker.specs.Shows.{ShowsWindow, ShowsGroup, HandsOut, IsOnTheWay}
+use Rattle.share_broker.specs.Shows.{ShowsWindow, ShowsGroup, HandsOut}
 use Rattle.share_broker.proofs.WindowLaws.{set_flags-full, not_true, least_free-at, ShowsWindow-hold}
 
 open-push : (jobs : List HandOut) (id : ℕ) → open_identifiers (jobs ++ (record { identifier = id; code = None }) ∷ []) ≡ open_identifiers jobs ++ id ∷ []
@@ -51,6 +51,16 @@ ShowsGroup-hand_out story group message rest id shows next =
       acknowledged = shows.acknowledged ∙ sym (sum_by_push (λ (j : HandOut). cond (acknowledges j.code) 1 0) story.handed_out new ∙ add-zero _);
       refused = shows.refused ∙ sym (sum_by_push (λ (j : HandOut). cond (refuses j.code) 1 0) story.handed_out new ∙ add-zero _);
     }
+
+-- On the way from a first story: what was sent, with what is still due, is what was due at first.
+pub record IsOnTheWay (first : Story) (before after : List Packet) (group : GroupState) (flags : List Bool) : Type 0 where
+  pub now : Story
+  pub group_now : ShowsGroup now group
+  pub window_now : ShowsWindow (unacknowledged now) flags
+  pub standing : now.standing ≡ first.standing
+  pub terms : now.terms ≡ first.terms
+  pub sent : after ++ (deliver now).sent ≡ before ++ (deliver first).sent
+  pub story : (deliver now).story ≡ (deliver first).story
 
 -- One message goes out.
 pub IsOnTheWay-next : (first : Story) (before after : List Packet) (group : GroupState) (flags : List Bool) (place : ℕ) (message : Message) (rest : List Message) → first.standing ≡ Connected → IsOnTheWay first before after group flags → length flags ≡ greatest_identifier → count_by (λ flag. flag) flags < quota first → position not flags ≡ Some place → group.waiting ≡ message ∷ rest → IsOnTheWay first before (after ++ job message (place + 1) ∷ []) (record group { waiting = rest }) (set flags place true)

@@ -46,7 +46,7 @@ accepting c story = record {
 abbrev pub refusing : ConnectRefusal → Story → Reply
 refusing refusal story = closing_with (packets.Connack (Refused refusal)) story
 
--- 3.1.4: a packet of less than 5 bytes holds no CONNACK, and one of less than 64 no PUBLISH (profile)
+-- 3.1.2.11.4 and 3.1.4: a packet of less than 5 bytes holds no CONNACK; a client that takes less than 64 is refused (profile)
 abbrev pub connect_reply : Connect → Story → Reply
 connect_reply c story =
     if is_under 5 c.properties.maximum_packet_size then closing story

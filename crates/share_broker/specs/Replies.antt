@@ -29,7 +29,7 @@ disconnect_reply None story = closing story
 disconnect_reply (Some expiry) story =
     if is_given_expiry expiry story.terms then closing_with (disconnect 0x82) story else closing (with_expiry expiry story)
 
--- the packets that an open connection takes; one that a client has no business to send closes it with 82 (3.1.0, 4.13)
+-- the packets that an open connection takes; one that a client has no business to send closes it with 82 (3.1, 4.13)
 abbrev pub later_reply : Packet → Story → Reply
 later_reply (packets.Publish publish) story = publish_reply publish.delivery publish story
 later_reply (packets.Puback p) story = record { packet = None; story = with_puback p.packet_identifier p.reason_code story }

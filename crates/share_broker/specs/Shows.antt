@@ -90,13 +90,3 @@ pub record HandsOut (story : Story) (before after : List Packet) (group : GroupS
   pub window_after : ShowsWindow (unacknowledged (deliver story).story) flags
   pub goes_on : (deliver story).story.standing ≡ story.standing
   pub keeps_terms : (deliver story).story.terms ≡ story.terms
-
--- On the way from a first story: what was sent, with what is still due, is what was due at first.
-pub record IsOnTheWay (first : Story) (before after : List Packet) (group : GroupState) (flags : List Bool) : Type 0 where
-  pub now : Story
-  pub group_now : ShowsGroup now group
-  pub window_now : ShowsWindow (unacknowledged now) flags
-  pub standing : now.standing ≡ first.standing
-  pub terms : now.terms ≡ first.terms
-  pub sent : after ++ (deliver now).sent ≡ before ++ (deliver first).sent
-  pub story : (deliver now).story ≡ (deliver first).story

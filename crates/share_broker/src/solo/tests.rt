@@ -106,7 +106,7 @@ const RUNS: [Run; 20] = [
         ],
     },
     Run {
-        name: "nothing after a close",
+        name: "nothing_after_a_close",
         input: &[CONNECT, SUBSCRIBE, b"E000\n", JOB],
         output: &[
             CONNACK,
@@ -115,17 +115,12 @@ const RUNS: [Run; 20] = [
         ],
     },
     Run {
-        name: "a second CONNECT",
-        input: &[CONNECT, SUBSCRIBE, CONNECT, JOB],
-        output: &[
-            CONNACK,
-            SUBACK,
-            b"e00182\n",
-            b"$share/g/job accepted 0 acknowledged 0 refused 0 held 0 queued 0 returned 0\n",
-        ],
+        name: "ping_and_second_connect",
+        input: &[CONNECT, b"C000\n", CONNECT, b"C000\n"],
+        output: &[CONNACK, b"d000\n", b"e00182\n"],
     },
     Run {
-        name: "a fault",
+        name: "nothing_after_a_fault",
         input: &[CONNECT, SUBSCRIBE, b"00\n", JOB],
         output: &[
             CONNACK,
@@ -135,7 +130,7 @@ const RUNS: [Run; 20] = [
         ],
     },
     Run {
-        name: "the same share, and another",
+        name: "same_share_and_another",
         input: &[
             CONNECT,
             SUBSCRIBE,
@@ -184,7 +179,7 @@ const RUNS: [Run; 20] = [
         ],
     },
     Run {
-        name: "a session that goes on",
+        name: "session_that_goes_on",
         input: &[
             b"101700044D5154540502003C081100000E1021000A00027731\n",
             SUBSCRIBE,
@@ -198,7 +193,7 @@ const RUNS: [Run; 20] = [
         ],
     },
     Run {
-        name: "a session that is ended at the end",
+        name: "session_ended_at_the_end",
         input: &[
             b"101700044D5154540502003C081100000E1021000A00027731\n",
             SUBSCRIBE,
@@ -213,7 +208,7 @@ const RUNS: [Run; 20] = [
         ],
     },
     Run {
-        name: "a client of small packets",
+        name: "client_of_small_packets",
         input: &[
             b"101400044D5154540502003C05270000004000027731\n",
             SUBSCRIBE,
@@ -232,7 +227,7 @@ const RUNS: [Run; 20] = [
         ],
     },
     Run {
-        name: "no CONNECT first",
+        name: "no_connect_first",
         input: &[SUBSCRIBE, CONNECT],
         output: &[],
     },
@@ -249,13 +244,17 @@ maximum_packet_size_4 first 101400044D5154540502003C05270000000400027731 -
 protocol_error first 101200044D5154540502003C0321000000027731 2003008200
 malformed first 100F00044D5154540503003C0000027731 -
 user_name_and_password first 101500044D51545405C2003C0000027731000175000170 200e00000b2401250027000100002900
-ping first C000 -
-ping connected C000 d000
+too_large first 32FDFF03 -
+client_identifier_of_129_bytes first 108E0100044D5154540502003C000081616161616161616161616161616161616161616161616161616161616161616161616161616161616161616161616161616161616161616161616161616161616161616161616161616161616161616161616161616161616161616161616161616161616161616161616161616161616161616161616161616161616161616161 2003008500
+ping_and_second_connect first C000 -
+older_version connected 100E00044D5154540402003C00027731 e00182
+with_a_will connected 100800044D5154540506 e00182
 length_not_minimal connected 829200 e00181
+length_not_minimal connected 00 e00181
 too_large connected 32FDFF03 e00195
-qos_0 connected 300700036A6F620041 e00183
-qos_2 connected 340900036A6F6200070041 e0019b
-retain connected 330900036A6F6200070041 e0019a
+unsupported_publishes connected 300700036A6F620041 e00183
+unsupported_publishes connected 340900036A6F6200070041 e0019b
+unsupported_publishes connected 330900036A6F6200070041 e0019a
 topic_alias connected 320C00036A6F6200070323000141 e00194
 empty_topic connected 3206000000070041 e00182
 wildcard_in_topic connected 320700012B00070041 e00181
@@ -321,17 +320,28 @@ fn replies(rt: HostRuntime) -> Result<(), Fail> {
     Ok(())
 }
 
-/// The digits of a stream, as lines of so many digits.
-fn in_lines(rt: &HostRuntime, digits: &[u8], size: usize) -> Result<Vec<u8>, AllocError> {
+/// What goes out for the digits in lines of so many bytes, where `solo` ends.
+fn run_in_lines(rt: &HostRuntime, digits: &[u8], bytes: usize) -> Result<Vec<u8>, SoloError> {
     let mut lines = Vec::new(rt.alloc());
-    for line in digits.chunks(size.max(1)) {
+    for line in digits.chunks((2 * bytes).max(1)) {
         lines.extend_from_slice(line)?;
         lines.push(b'\n')?;
     }
-    Ok(lines)
+    let mut writer = Vec::new(rt.alloc());
+    solo(rt.alloc(), &mut lines.as_slice(), &mut writer)?;
+    Ok(writer)
 }
 
-/// A stream in pieces of each size: of one byte, cut in two at each byte, and in one piece.
+/// What goes out for the digits in two lines, cut behind so many bytes, where `solo` ends.
+fn run_in_two(rt: &HostRuntime, digits: &[u8], bytes: usize) -> Result<Vec<u8>, SoloError> {
+    let (front, back) = digits.split_at((2 * bytes).min(digits.len()));
+    let lines = join(rt, &[front, b"\n", back])?;
+    let mut writer = Vec::new(rt.alloc());
+    solo(rt.alloc(), &mut lines.as_slice(), &mut writer)?;
+    Ok(writer)
+}
+
+/// A stream in lines of each size, from one byte to all of them, and cut in two at each byte.
 #[test]
 fn every_cutting(rt: HostRuntime) -> Result<(), Fail> {
     let input = join(&rt, &[CONNECT, SUBSCRIBE, JOB])?;
@@ -340,16 +350,25 @@ fn every_cutting(rt: HostRuntime) -> Result<(), Fail> {
     for digit in input.iter().filter(|digit| **digit != b'\n') {
         digits.push(*digit)?;
     }
-    for bytes in 1..49usize {
-        let lines = in_lines(&rt, &digits, 2 * bytes)?;
-        let mut writer = Vec::new(rt.alloc());
-        let ended = solo(rt.alloc(), &mut lines.as_slice(), &mut writer);
-        assert_eq!(rt; ended, Ok(()), "in lines of {bytes} bytes");
-        assert_eq!(rt;
-            writer.as_slice(),
-            output.as_slice(),
-            "in lines of {bytes} bytes"
-        );
+    for bytes in 0..49usize {
+        let written = run_in_lines(&rt, &digits, bytes + 1)?;
+        assert_eq!(rt; written.as_slice(), output.as_slice(), "in lines of {bytes} bytes and one");
+        let written = run_in_two(&rt, &digits, bytes)?;
+        assert_eq!(rt; written.as_slice(), output.as_slice(), "cut in two behind {bytes} bytes");
     }
+    Ok(())
+}
+
+/// 256 jobs are out and 1,024 wait: the next one is refused.
+#[test]
+fn full_queue(rt: HostRuntime) -> Result<(), Fail> {
+    let mut input = join(&rt, &[CONNECT, SUBSCRIBE])?;
+    for _ in 0..1_281u32 {
+        input.extend_from_slice(JOB)?;
+    }
+    let mut writer = Vec::new(rt.alloc());
+    solo(rt.alloc(), &mut input.as_slice(), &mut writer)?;
+    let end = b"4003000797\n$share/g/job accepted 1280 acknowledged 0 refused 0 held 0 queued 1024 returned 256\n";
+    assert!(rt; writer.ends_with(end));
     Ok(())
 }

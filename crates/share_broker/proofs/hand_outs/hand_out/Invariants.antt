@@ -1,6 +1,7 @@
 use Rattle.std.proofs.Common.{◌≡◌, length}
 use Rattle.share_broker.specs.Story.{Story, unacknowledged}
-use Rattle.share_broker.specs.Shows.{ShowsGroup, ShowsWindow, IsOnTheWay}
+use Rattle.share_broker.specs.Shows.{ShowsGroup, ShowsWindow}
+use Rattle.share_broker.proofs.HandOutLaws.{IsOnTheWay}
 use Rattle.share_broker.specs.declared.connection.Standing.TheVariants.{Connected}
 use Rattle.share_broker.proofs.hand_outs.hand_out.Given as goal
 

@@ -25,6 +25,14 @@ fn bad_input(rt: HostRuntime) -> Result<(), Fail> {
     Ok(())
 }
 
+#[test]
+fn texts_of_errors(rt: HostRuntime) -> Result<(), Fail> {
+    let line = SoloError::Line(1);
+    let text = format!(in rt.alloc(); "{}, {}, {line}", SoloError::Device, SoloError::Memory)?;
+    assert_eq!(rt; text.as_str(), "device, memory, input line 1");
+    Ok(())
+}
+
 /// A reader that gives some bytes and then fails.
 #[derive(Drop)]
 struct FailingReader<'a>(&'a [u8]);
@@ -47,29 +55,30 @@ fn reader_fails(rt: HostRuntime) {
     assert_eq!(rt; SoloError::Device.status(), 3);
 }
 
-/// A reader that never ends, and gives one byte a read.
+/// A reader that gives an empty line a read, so many times.
 #[derive(Drop)]
-struct EndlessReader;
+struct EmptyLines(u32);
 
-impl Read for EndlessReader {
+impl Read for EmptyLines {
     fn read(&mut self, buf: &mut [u8]) -> io::Result<usize> {
-        match buf.first_mut() {
-            Some(byte) => {
-                *byte = b'\n';
-                Ok(1)
-            }
-            None => Ok(0),
-        }
+        let (Some(byte), Some(left)) = (buf.first_mut(), self.0.checked_sub(1)) else {
+            return Ok(0);
+        };
+        *byte = b'\n';
+        self.0 = left;
+        Ok(1)
     }
 }
 
+/// The read that finds the end counts too.
 #[test]
-fn reader_never_ends(rt: HostRuntime) {
+fn most_reads(rt: HostRuntime) {
     let mut writer = Vec::new(rt.alloc());
-    assert_eq!(rt;
-        solo(rt.alloc(), &mut EndlessReader, &mut writer),
-        Err(SoloError::Device)
-    );
+    let ended = solo(rt.alloc(), &mut EmptyLines((1 << 20) - 1), &mut writer);
+    assert_eq!(rt; ended, Ok(()));
+    let ended = solo(rt.alloc(), &mut EmptyLines(1 << 20), &mut writer);
+    assert_eq!(rt; ended, Err(SoloError::Device));
+    assert_eq!(rt; writer.len(), 0);
 }
 
 /// A writer that takes some bytes, one a write, and then fails at each write and flush.
