@@ -2,3 +2,4 @@ pub mod LevelLaws
 pub mod ShareLaws
 pub mod SlotLaws
 pub mod MatchLaws
+pub mod SpellingLaws

@@ -1,7 +1,7 @@
 -- Laws of matching.
 use Rattle.std.proofs.Common.{◌≡◌, ℕ, ◌<◌, Bool, true, false, not, ◌&&◌, ◌||◌, cond, eqb, List, [], ◌∷◌, ◌++◌, length, refl, sym, ap, ◌∙◌, arith, inl, inr}
 use Rattle.std.specs.Prelude.{bytes_eq, ◌↔◌}
-use Rattle.std.specs.List.{list_any}
+use Rattle.std.specs.List.{list_any, join_with_byte}
 use Rattle.std.proofs.lemmas.Bool.{cases_Bool, and_parts, and_from, eqb-true, not-true}
 use Rattle.std.proofs.lemmas.Slice.Eq.{bytes_eq-Decides}
 use Rattle.mqtt_topic.specs.Levels.{onto_first, is_separator, levels_of, is_multi_level, admits, matches_levels, is_wildcard, begins, is_dollar, matches}
@@ -37,7 +37,7 @@ onto_other : (byte : ℕ) (levels more : List (List ℕ)) → 0 < length levels 
 onto_other byte [] more some = absurd (omega arith)
 onto_other byte (level ∷ levels) more some = refl
 
-some_level : (text : List ℕ) → 0 < length (levels_of text)
+pub some_level : (text : List ℕ) → 0 < length (levels_of text)
 some_level text = rw (levels_first text) (omega arith)
 
 at_byte : (byte : ℕ) (b : Bool) (levels : List (List ℕ)) (bytes : List ℕ) → levels ≡ levels_of bytes ++ (35 ∷ []) ∷ [] → cond b ([] ∷ levels) (onto_first byte levels) ≡ cond b ([] ∷ levels_of bytes) (onto_first byte (levels_of bytes)) ++ (35 ∷ []) ∷ []
@@ -116,30 +116,22 @@ one_level_matches name = (
 
 -- ---- filters without wildcards
 
--- the levels, joined by `/`
-join : List (List ℕ) → List ℕ
-join [] = []
-join (level ∷ []) = level
-join (level ∷ next ∷ levels) = level ++ 47 ∷ join (next ∷ levels)
-
-join_front : (byte : ℕ) (levels : List (List ℕ)) → 0 < length levels → join (onto_first byte levels) ≡ byte ∷ join levels
-unfolding join
+join_front : (byte : ℕ) (levels : List (List ℕ)) → 0 < length levels → join_with_byte 47 (onto_first byte levels) ≡ byte ∷ join_with_byte 47 levels
 join_front byte [] some = absurd (omega arith)
 join_front byte (level ∷ []) some = refl
 join_front byte (level ∷ next ∷ levels) some = refl
 
-join_new : (levels : List (List ℕ)) → 0 < length levels → join ([] ∷ levels) ≡ 47 ∷ join levels
-unfolding join
+join_new : (levels : List (List ℕ)) → 0 < length levels → join_with_byte 47 ([] ∷ levels) ≡ 47 ∷ join_with_byte 47 levels
 join_new [] some = absurd (omega arith)
 join_new (level ∷ levels) some = refl
 
-join_at : (byte : ℕ) (b : Bool) (bytes : List ℕ) → eqb byte 47 ≡ b → join (levels_of bytes) ≡ bytes → join (cond b ([] ∷ levels_of bytes) (onto_first byte (levels_of bytes))) ≡ byte ∷ bytes
+join_at : (byte : ℕ) (b : Bool) (bytes : List ℕ) → eqb byte 47 ≡ b → join_with_byte 47 (levels_of bytes) ≡ bytes → join_with_byte 47 (cond b ([] ∷ levels_of bytes) (onto_first byte (levels_of bytes))) ≡ byte ∷ bytes
 join_at byte true bytes is e =
-    join_new (levels_of bytes) (some_level bytes) ∙ ap (λ (x : ℕ). x ∷ join (levels_of bytes)) (sym (eqb-true byte 47 is)) ∙ ap (λ (r : List ℕ). byte ∷ r) e
+    join_new (levels_of bytes) (some_level bytes) ∙ ap (λ (x : ℕ). x ∷ join_with_byte 47 (levels_of bytes)) (sym (eqb-true byte 47 is)) ∙ ap (λ (r : List ℕ). byte ∷ r) e
 join_at byte false bytes is e = join_front byte (levels_of bytes) (some_level bytes) ∙ ap (λ (r : List ℕ). byte ∷ r) e
 
-join_levels : (text : List ℕ) → join (levels_of text) ≡ text
-unfolding levels_of join
+pub join_levels : (text : List ℕ) → join_with_byte 47 (levels_of text) ≡ text
+unfolding levels_of
 join_levels [] = refl
 join_levels (byte ∷ bytes) = join_at byte (is_separator byte) bytes refl (join_levels bytes)
 
@@ -213,6 +205,6 @@ plain_is filter name plain = rw (plain_start filter plain) refl
 pub one_name : (filter name : List ℕ) → is_plain filter ≡ true → (matches filter name ≡ true) ↔ (filter ≡ name)
 one_name filter name plain = (
   λ e. let same = same_levels (levels_of filter) (levels_of name) (plain_levels filter plain) (sym (plain_is filter name plain) ∙ e) in
-      sym (join_levels filter) ∙ ap join same ∙ join_levels name,
+      sym (join_levels filter) ∙ ap (join_with_byte 47) same ∙ join_levels name,
   λ e. plain_is filter name plain ∙ ap (λ (n : List ℕ). matches_levels (levels_of filter) (levels_of n)) (sym e) ∙ matches_itself (levels_of filter) (plain_levels filter plain),
 )

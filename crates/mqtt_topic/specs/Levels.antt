@@ -1,5 +1,6 @@
 -- Levels of a text, and which names a filter matches (section 4.7).
-use Rattle.std.specs.Prelude.{ℕ, ◌==◌, ◌&&◌, ◌||◌, not, bytes_eq, Bool, true, false, if◌then◌else◌, List, [], ◌∷◌, Option, Some, None}
+use Rattle.std.specs.Prelude.{◌≡◌, ℕ, ◌<◌, ◌==◌, ◌&&◌, ◌||◌, not, bytes_eq, Bool, true, false, if◌then◌else◌, List, [], ◌∷◌, length, Option, Some, None}
+use Rattle.std.specs.List.{All, list_any, join_with_byte}
 use Rattle.std.specs.Option.{option_map}
 use Rattle.std.specs.Borrow.{Bor}
 
@@ -16,6 +17,12 @@ is_separator byte = byte == 47
 unfoldable pub levels_of : List ℕ → List (List ℕ)
 levels_of [] = [] ∷ []
 levels_of (byte ∷ bytes) = if is_separator byte then [] ∷ levels_of bytes else onto_first byte (levels_of bytes)
+
+-- 4.7.1.1, as it reads: levels, at least one and none with a separator, which joined by separators are the text
+pub record IsCut (text : List ℕ) (levels : List (List ℕ)) : Type 0 where
+  pub some_level : 0 < length levels
+  pub one_level : All (λ level. list_any is_separator level ≡ false) levels
+  pub joined : join_with_byte 47 levels ≡ text
 
 -- the levels of what is left of a text, where a level is left
 abbrev pub levels_left : Option (List ℕ) → List (List ℕ)

@@ -1,5 +1,5 @@
 -- Which texts are topic names, filters and shares (sections 4.7.1, 4.7.3 and 4.8.2), and the first refusal of one that is none.
-use Rattle.std.specs.Prelude.{ℕ, ◌-◌, ◌&&◌, ◌||◌, nat_eq, not, bytes_eq, Bool, true, false, if◌then◌else◌, List, [], ◌∷◌, ◌+◌, take, drop, codes, position, Option, Some, None, Result, Ok, Err}
+use Rattle.std.specs.Prelude.{◌≡◌, ℕ, ◌-◌, ◌<◌, ◌&&◌, ◌||◌, nat_eq, not, bytes_eq, Bool, true, false, if◌then◌else◌, List, [], ◌∷◌, ◌+◌, ◌++◌, length, take, drop, codes, position, Option, Some, None, Result, Ok, Err}
 use Rattle.std.specs.List.{list_any, starts_with}
 use Rattle.mqtt_topic.specs.declared.error.TopicError.{TopicError}
 use Rattle.mqtt_topic.specs.declared.error.TopicError.TheVariants.{Empty, BadWildcard, BadShare, NotShared}
@@ -71,3 +71,13 @@ share_cut text rest (Some at) =
 -- 4.8.2: the share that a text is, `$share/NAME/FILTER`
 unfoldable pub share_of : List ℕ → Result Share TopicError
 share_of text = if starts_with nat_eq text (codes "$share/") then share_cut text (drop 7 text) (position is_separator (drop 7 text)) else Err NotShared
+
+-- 4.8.2, as it reads: the text is `$share/`, a Share Name, a `/` and a filter; the name has a character, and none of `/`, `+`
+-- and `#`
+pub record Spells (text : List ℕ) (share : Share) : Type 0 where
+  pub whole : share.text ≡ text
+  pub parts : text ≡ codes "$share/" ++ share.name ++ codes "/" ++ share.filter
+  pub some_name : 0 < length share.name
+  pub plain_name : is_plain share.name ≡ true
+  pub one_level : list_any is_separator share.name ≡ false
+  pub filter_is : filter_of share.filter ≡ Ok share.filter

@@ -15,8 +15,8 @@ mod topic_name;
 pub use error::TopicError;
 pub use filter::Filter;
 pub use laws::{
-    multi_level_matches_all, multi_level_matches_the_parent, plain_filters_match_one_name,
-    single_level_matches_one_level,
+    levels_are_cut, multi_level_matches_all, multi_level_matches_the_parent,
+    plain_filters_match_one_name, shares_are_spelled, single_level_matches_one_level,
 };
 pub use routes::Routes;
 pub use share::Share;
