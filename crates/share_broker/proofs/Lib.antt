@@ -10,3 +10,4 @@ pub mod SendLaws
 pub mod SoloLaws
 pub mod OutputLaws
 pub mod ReplyLaws
+pub mod RunLaws

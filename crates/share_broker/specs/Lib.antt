@@ -15,3 +15,4 @@ pub mod Report
 pub mod Output
 pub mod Shows
 pub mod UnderWay
+pub mod Runs

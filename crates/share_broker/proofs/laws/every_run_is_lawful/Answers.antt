@@ -1,0 +1,23 @@
+use Rattle.share_broker.proofs.RunLaws.{run_quota, run_identifiers, run_in_order, run_one_fate, run_eager, run_closed, run_output}
+use Rattle.share_broker.proofs.laws.every_run_is_lawful.Goals as goal
+
+pub returns-clause-quota : goal.returns-clause-quota
+returns-clause-quota c = run_quota
+
+pub returns-clause-identifiers : goal.returns-clause-identifiers
+returns-clause-identifiers c = run_identifiers
+
+pub returns-clause-in_order : goal.returns-clause-in_order
+returns-clause-in_order c = run_in_order
+
+pub returns-clause-one_fate : goal.returns-clause-one_fate
+returns-clause-one_fate c = run_one_fate
+
+pub returns-clause-eager : goal.returns-clause-eager
+returns-clause-eager c = run_eager
+
+pub returns-clause-closed : goal.returns-clause-closed
+returns-clause-closed c = run_closed
+
+pub returns-clause-output : goal.returns-clause-output
+returns-clause-output c = run_output
