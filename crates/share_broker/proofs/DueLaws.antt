@@ -8,11 +8,12 @@ use Rattle.std.proofs.lemmas.List.Quantifiers.{position-Some}
 use Rattle.mqtt_wire.specs.declared.packet.Packet.{Packet}
 use Rattle.share_broker.specs.declared.connection.Standing.{Standing}
 use Rattle.share_broker.specs.declared.connection.Standing.TheVariants.{Unconnected, Connected, Closed}
-use Rattle.share_broker.specs.declared.connection.Terms.{Terms}
+use Rattle.share_broker.specs.declared.terms.Terms.{Terms}
 use Rattle.share_broker.specs.declared.group.Message.{Message}
 use Rattle.share_broker.specs.Names.{Share}
 use Rattle.share_broker.specs.Story.{Story, HandOut, is_open, open_identifiers, unacknowledged, with_hand_out}
-use Rattle.share_broker.specs.HandOuts.{quota_of, quota, least_free, job, waiting, due_to, Turn, hand_out, deliver}
+use Rattle.share_broker.specs.HandOuts.{quota_of, quota, least_free, waiting, due_to, Turn, hand_out, deliver}
+use Rattle.share_broker.specs.Packets.{job}
 use Rattle.share_broker.specs.Shows.{ShowsWindow}
 use Rattle.share_broker.specs.Runs.{published, says_accepted}
 use Rattle.share_broker.proofs.WindowLaws.{set_flags-full, not_true, least_free-at, ShowsWindow-hold}

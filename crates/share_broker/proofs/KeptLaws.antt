@@ -6,12 +6,13 @@ use Rattle.std.proofs.lemmas.List.Sums.{length-filter, count_by-le-length}
 use Rattle.mqtt_wire.specs.declared.packet.Packet.{Packet}
 use Rattle.share_broker.specs.declared.connection.Standing.{Standing}
 use Rattle.share_broker.specs.declared.connection.Standing.TheVariants.{Unconnected}
-use Rattle.share_broker.specs.declared.connection.Terms.{Terms}
+use Rattle.share_broker.specs.declared.terms.Terms.{Terms}
 use Rattle.share_broker.specs.declared.group.Message.{Message}
 use Rattle.share_broker.specs.Names.{Share}
 use Rattle.share_broker.specs.Story.{Story, HandOut, opening, is_open, open_identifiers, unacknowledged, settled, with_puback}
-use Rattle.share_broker.specs.HandOuts.{quota_of, quota, times, job}
-use Rattle.share_broker.specs.Replies.{accepted_if}
+use Rattle.share_broker.specs.HandOuts.{quota_of, quota, times}
+use Rattle.share_broker.specs.Packets.{job}
+use Rattle.share_broker.specs.Publishing.{accepted_if}
 use Rattle.share_broker.specs.Shows.{ShowsWindow}
 use Rattle.share_broker.specs.Runs.{jobs_of}
 use Rattle.share_broker.proofs.WindowLaws.{weight_same, without, without-keep, times-cons, ShowsWindow-release}

@@ -14,12 +14,14 @@ use Rattle.mqtt_wire.specs.declared.packet.Packet.{Packet}
 use Rattle.mqtt_wire.specs.declared.packet.Packet.TheVariants as packets
 use Rattle.share_broker.specs.declared.connection.Standing.{Standing}
 use Rattle.share_broker.specs.declared.connection.Standing.TheVariants.{Unconnected, Connected, Closed}
-use Rattle.share_broker.specs.declared.connection.Terms.{Terms}
+use Rattle.share_broker.specs.declared.terms.Terms.{Terms}
 use Rattle.share_broker.specs.declared.group.Message.{Message}
 use Rattle.share_broker.specs.Names.{Share}
 use Rattle.share_broker.specs.Story.{Story, HandOut, opening, open_identifiers, unacknowledged, acknowledges, refuses}
 use Rattle.share_broker.specs.HandOuts.{quota, times, waiting, Turn, deliver}
-use Rattle.share_broker.specs.Replies.{Reply, closing, refusing, is_under, or_else, accepting, connect_reply, reply_at, reply, turn}
+use Rattle.share_broker.specs.Reply.{Reply, closing}
+use Rattle.share_broker.specs.Connecting.{refusing, is_under, or_else, accepting, connect_reply}
+use Rattle.share_broker.specs.Replies.{reply_at, reply, turn}
 use Rattle.share_broker.specs.Report.{report_of}
 use Rattle.share_broker.specs.Output.{lines_for, ending, output_from, solo_output}
 use Rattle.share_broker.specs.Shows.{ShowsWindow, times_in}

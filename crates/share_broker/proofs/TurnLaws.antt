@@ -16,12 +16,17 @@ use Rattle.mqtt_wire.specs.declared.packet.Packet.{Packet}
 use Rattle.mqtt_wire.specs.declared.packet.Packet.TheVariants as packets
 use Rattle.share_broker.specs.declared.connection.Standing.{Standing}
 use Rattle.share_broker.specs.declared.connection.Standing.TheVariants.{Unconnected, Connected, Closed}
-use Rattle.share_broker.specs.declared.connection.Terms.{Terms}
+use Rattle.share_broker.specs.declared.terms.Terms.{Terms}
 use Rattle.share_broker.specs.declared.group.Message.{Message}
 use Rattle.share_broker.specs.Names.{Share}
 use Rattle.share_broker.specs.Story.{Story, HandOut, open_identifiers, unacknowledged}
 use Rattle.share_broker.specs.HandOuts.{quota, waiting, Turn, deliver}
-use Rattle.share_broker.specs.Replies.{Reply, closing, closing_with, disconnect, refusing, is_under, message_of, accepted_if, publish_code, puback, message_reply, publish_reply_if, publish_reply, share_reply, share_reply_if, entry_reply, subscribe_reply, accepting, connect_reply, first_reply, with_expiry, disconnect_reply, later_reply, reply_at, reply, turn}
+use Rattle.share_broker.specs.Packets.{disconnect, puback}
+use Rattle.share_broker.specs.Reply.{Reply, closing, closing_with}
+use Rattle.share_broker.specs.Connecting.{refusing, is_under, accepting, connect_reply, first_reply}
+use Rattle.share_broker.specs.Publishing.{message_of, accepted_if, publish_code, message_reply, publish_reply_if, publish_reply}
+use Rattle.share_broker.specs.Subscribing.{share_reply, share_reply_if, entry_reply, subscribe_reply}
+use Rattle.share_broker.specs.Replies.{with_expiry, disconnect_reply, later_reply, reply_at, reply, turn}
 use Rattle.share_broker.specs.Runs.{is_publish, published, says_accepted, messages_in}
 use Rattle.share_broker.proofs.KeptLaws.{told, jobs-settled, Kept, Kept-same, Kept-accepted, told-accepted, Lasts, Lasts-same, Lasts-then, Lasts-settled, Kept-puback}
 use Rattle.share_broker.proofs.DueLaws.{delivered}

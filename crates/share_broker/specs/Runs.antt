@@ -5,8 +5,9 @@ use Rattle.mqtt_wire.specs.declared.packet.Packet.{Packet}
 use Rattle.mqtt_wire.specs.declared.packet.Packet.TheVariants.{Publish, Puback}
 use Rattle.share_broker.specs.declared.group.Message.{Message}
 use Rattle.share_broker.specs.Story.{Story, HandOut}
-use Rattle.share_broker.specs.HandOuts.{job}
-use Rattle.share_broker.specs.Replies.{message_of, turn}
+use Rattle.share_broker.specs.Packets.{job}
+use Rattle.share_broker.specs.Publishing.{message_of}
+use Rattle.share_broker.specs.Replies.{turn}
 
 -- the story after these packets, one after another
 abbrev pub after : List Packet → Story → Story

@@ -10,7 +10,7 @@ ghost use Rattle.share_broker.specs.Lines.{stream_of};
 ghost use Rattle.share_broker.specs.Names.{Share};
 ghost use Rattle.share_broker.specs.Story.{Story, HandOut, opening, unacknowledged};
 ghost use Rattle.share_broker.specs.HandOuts.{quota, waiting};
-ghost use Rattle.share_broker.specs.Replies.{or_else};
+ghost use Rattle.share_broker.specs.Connecting.{or_else};
 ghost use Rattle.share_broker.specs.Report.{report_of};
 ghost use Rattle.share_broker.specs.Output.{IsSoloOutput, lines_for, ending, solo_output};
 ghost use Rattle.share_broker.specs.Runs.{after, sent, published, jobs_of, answered};
