@@ -320,10 +320,10 @@ fn replies(rt: HostRuntime) -> Result<(), Fail> {
     Ok(())
 }
 
-/// What goes out for the digits in lines of so many bytes, where `solo` ends.
-fn run_in_lines(rt: &HostRuntime, digits: &[u8], bytes: usize) -> Result<Vec<u8>, SoloError> {
+/// What goes out for the digits in lines of that size, where `solo` ends.
+fn run_in_lines(rt: &HostRuntime, digits: &[u8], size: usize) -> Result<Vec<u8>, SoloError> {
     let mut lines = Vec::new(rt.alloc());
-    for line in digits.chunks((2 * bytes).max(1)) {
+    for line in digits.chunks(size.max(1)) {
         lines.extend_from_slice(line)?;
         lines.push(b'\n')?;
     }
@@ -332,9 +332,9 @@ fn run_in_lines(rt: &HostRuntime, digits: &[u8], bytes: usize) -> Result<Vec<u8>
     Ok(writer)
 }
 
-/// What goes out for the digits in two lines, cut behind so many bytes, where `solo` ends.
-fn run_in_two(rt: &HostRuntime, digits: &[u8], bytes: usize) -> Result<Vec<u8>, SoloError> {
-    let (front, back) = digits.split_at((2 * bytes).min(digits.len()));
+/// What goes out for the digits in two lines, cut at that place, where `solo` ends.
+fn run_in_two(rt: &HostRuntime, digits: &[u8], place: usize) -> Result<Vec<u8>, SoloError> {
+    let (front, back) = digits.split_at(place.min(digits.len()));
     let lines = join(rt, &[front, b"\n", back])?;
     let mut writer = Vec::new(rt.alloc());
     solo(rt.alloc(), &mut lines.as_slice(), &mut writer)?;
@@ -350,11 +350,19 @@ fn every_cutting(rt: HostRuntime) -> Result<(), Fail> {
     for digit in input.iter().filter(|digit| **digit != b'\n') {
         digits.push(*digit)?;
     }
-    for bytes in 0..49usize {
-        let written = run_in_lines(&rt, &digits, bytes + 1)?;
-        assert_eq!(rt; written.as_slice(), output.as_slice(), "in lines of {bytes} bytes and one");
-        let written = run_in_two(&rt, &digits, bytes)?;
-        assert_eq!(rt; written.as_slice(), output.as_slice(), "cut in two behind {bytes} bytes");
+    for bytes in 1..49usize {
+        let written = run_in_lines(&rt, &digits, 2 * bytes)?;
+        assert_eq!(rt;
+            written.as_slice(),
+            output.as_slice(),
+            "in lines of {bytes} bytes"
+        );
+        let written = run_in_two(&rt, &digits, 2 * bytes)?;
+        assert_eq!(rt;
+            written.as_slice(),
+            output.as_slice(),
+            "cut in two behind {bytes} bytes"
+        );
     }
     Ok(())
 }
@@ -368,7 +376,8 @@ fn full_queue(rt: HostRuntime) -> Result<(), Fail> {
     }
     let mut writer = Vec::new(rt.alloc());
     solo(rt.alloc(), &mut input.as_slice(), &mut writer)?;
-    let end = b"4003000797\n$share/g/job accepted 1280 acknowledged 0 refused 0 held 0 queued 1024 returned 256\n";
+    let end =
+        b"4003000797\n$share/g/job accepted 1280 acknowledged 0 refused 0 held 0 queued 1024 returned 256\n";
     assert!(rt; writer.ends_with(end));
     Ok(())
 }
