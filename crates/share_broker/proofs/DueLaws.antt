@@ -18,6 +18,7 @@ use Rattle.share_broker.specs.Shows.{ShowsWindow}
 use Rattle.share_broker.specs.Runs.{published, says_accepted}
 use Rattle.share_broker.proofs.WindowLaws.{set_flags-full, not_true, least_free-at, ShowsWindow-hold}
 use Rattle.share_broker.proofs.DeliveryLaws.{unconnected_apart}
+use Rattle.share_broker.proofs.FateLaws.{Tally, Tally-same, Tally-still, Tally-push}
 use Rattle.share_broker.proofs.KeptLaws.{told, jobs-hand_out, quota-few, Kept, Lasts, Lasts-same, Lasts-then, Lasts-push}
 
 -- ---- hand-outs
@@ -73,6 +74,7 @@ pub record Out (story : Story) (messages rest : List Message) (turn : Turn) : Ty
   pub standing : turn.story.standing ≡ story.standing
   pub terms : turn.story.terms ≡ story.terms
   pub lasts : Lasts story.handed_out turn.story.handed_out
+  pub tally : Tally story.handed_out turn.story.handed_out []
   pub count : length (unacknowledged turn.story) ≡ length (unacknowledged story) + length messages
 
 outs : (messages rest : List Message) (story : Story) → Kept story → story.standing ≡ Connected → waiting story ≡ messages ++ rest → length (unacknowledged story) + length messages ≤ quota story → Out story messages rest (hand_out messages story)
@@ -86,6 +88,7 @@ outs [] rest story kept connected wait room =
       standing = refl;
       terms = refl;
       lasts = Lasts-same story.handed_out;
+      tally = Tally-same story.handed_out;
       count = omega arith;
     }
 outs (message ∷ messages) rest story kept connected wait room =
@@ -106,6 +109,7 @@ outs (message ∷ messages) rest story kept connected wait room =
       standing = others.standing;
       terms = others.terms;
       lasts = Lasts-then story.handed_out (story.handed_out ++ new ∷ []) (hand_out messages next).story.handed_out (Lasts-push story.handed_out new) others.lasts;
+      tally = Tally-still story.handed_out (story.handed_out ++ new ∷ []) (hand_out messages next).story.handed_out [] (Tally-push story.handed_out id) others.tally;
       count = omega (arith, others.count, more);
     }
 
@@ -119,6 +123,7 @@ pub record Delivered (story : Story) (turn : Turn) : Type 0 where
   pub standing : turn.story.standing ≡ story.standing
   pub terms : turn.story.terms ≡ story.terms
   pub lasts : Lasts story.handed_out turn.story.handed_out
+  pub tally : Tally story.handed_out turn.story.handed_out []
 
 nothing_out : (story : Story) → Kept story → ((share : Share) → story.standing ≡ Connected → story.share ≡ Some share → ⊥) → Delivered story (record { sent = []; story = story })
 nothing_out story kept none =
@@ -131,6 +136,7 @@ nothing_out story kept none =
       standing = refl;
       terms = refl;
       lasts = Lasts-same story.handed_out;
+      tally = Tally-same story.handed_out;
     }
 
 some_out : (story : Story) → Kept story → story.standing ≡ Connected → Delivered story (hand_out (take (quota story - length (unacknowledged story)) (waiting story)) story)
@@ -152,6 +158,7 @@ some_out story kept connected =
       standing = out.standing;
       terms = out.terms;
       lasts = out.lasts;
+      tally = out.tally;
     }
 
 delivered_to : (standing : Standing) (share : Option Share) (story : Story) → story.standing ≡ standing → story.share ≡ share → Kept story → Delivered story (hand_out (due_to standing share story) story)

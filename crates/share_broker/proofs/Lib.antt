@@ -10,6 +10,7 @@ pub mod SendLaws
 pub mod SoloLaws
 pub mod OutputLaws
 pub mod ReplyLaws
+pub mod FateLaws
 pub mod KeptLaws
 pub mod DueLaws
 pub mod TurnLaws

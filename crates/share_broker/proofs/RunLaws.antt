@@ -25,10 +25,11 @@ use Rattle.share_broker.specs.Replies.{reply_at, reply, turn}
 use Rattle.share_broker.specs.Report.{report_of}
 use Rattle.share_broker.specs.Output.{lines_for, ending, output_from, solo_output}
 use Rattle.share_broker.specs.Shows.{ShowsWindow, times_in}
-use Rattle.share_broker.specs.Runs.{after, sent, is_publish, published, jobs_of, says_accepted, messages_in, answered}
+use Rattle.share_broker.specs.Runs.{after, sent, is_publish, published, jobs_of, says_accepted, messages_in, answered, settles, settling}
 use Rattle.share_broker.proofs.WindowLaws.{weight, weight_same, times-cons}
 use Rattle.share_broker.proofs.HandOutLaws.{deliver-nothing}
 use Rattle.share_broker.proofs.DeliveryLaws.{due-closed, unconnected_apart}
+use Rattle.share_broker.proofs.FateLaws.{Tally, Tally-same, Tally-then, shown_once}
 use Rattle.share_broker.proofs.KeptLaws.{told, quota-le, Kept, Kept-opening, Lasts, Lasts-same, Lasts-then}
 use Rattle.share_broker.proofs.DueLaws.{delivered}
 use Rattle.share_broker.proofs.TurnLaws.{connects, turned}
@@ -38,6 +39,7 @@ pub record Ran (story : Story) (packets : List Packet) : Type 0 where
   pub jobs : told (after packets story) ≡ told story ++ published (sent packets story)
   pub eager : (share : Share) → (after packets story).standing ≡ Connected → (after packets story).share ≡ Some share → (waiting (after packets story) ≡ []) ⊎ (length (unacknowledged (after packets story)) ≡ quota (after packets story))
   pub lasts : Lasts story.handed_out (after packets story).handed_out
+  pub tally : Tally story.handed_out (after packets story).handed_out (settling packets story)
   pub taken : (after packets story).accepted ≡ story.accepted ++ answered packets story
 
 ran : (packets : List Packet) (story : Story) → Kept story → ((share : Share) → story.standing ≡ Connected → story.share ≡ Some share → (waiting story ≡ []) ⊎ (length (unacknowledged story) ≡ quota story)) → Ran story packets
@@ -46,6 +48,7 @@ ran [] story kept eager = record {
   jobs = sym (append-nil (told story));
   eager = eager;
   lasts = Lasts-same story.handed_out;
+  tally = Tally-same story.handed_out;
   taken = sym (append-nil story.accepted);
 }
 ran (packet ∷ packets) story kept eager =
@@ -61,6 +64,7 @@ ran (packet ∷ packets) story kept eager =
           ∙ ap (λ (ps : List Packet). told story ++ ps) (sym (filter-append is_publish (turn packet story).sent (sent packets next)));
       eager = rest.eager;
       lasts = Lasts-then story.handed_out next.handed_out (after packets next).handed_out first.lasts rest.lasts;
+      tally = Tally-then story.handed_out next.handed_out (after packets next).handed_out (settles story.standing story packet) (settling packets next) first.tally rest.tally;
       taken = rest.taken ∙ ap (λ (ms : List Message). ms ++ answered packets next) first.taken ∙ append_assoc story.accepted now (answered packets next);
     }
 
@@ -74,6 +78,11 @@ run_quota packets = ((run packets).kept.room, quota-le (after packets opening).t
 
 pub run_accepted : (packets : List Packet) → (after packets opening).accepted ≡ answered packets opening
 run_accepted packets = (run packets).taken
+
+pub run_settled : (packets : List Packet) → let report = report_of (after packets opening) in (report.acknowledged ≡ count_by (λ puback. nat_lt puback.reason_code 128) (settling packets opening)) × (report.refused ≡ count_by (λ puback. not (nat_lt puback.reason_code 128)) (settling packets opening))
+run_settled packets =
+    let tally = (run packets).tally in
+    (tally.counts acknowledges refl ∙ omega arith, tally.counts refuses refl ∙ omega arith)
 
 pub run_final : (packets more : List Packet) (place code : ℕ) (d : HandOut) → let story = after packets opening in place < length story.handed_out → (get_or story.handed_out place d).code ≡ Some code → get_or (after more story).handed_out place d ≡ get_or story.handed_out place d
 run_final packets more =
@@ -100,14 +109,6 @@ twice_at (other ∷ ids) zero (suc j) id d less within one two = omega (arith, t
 twice_at (other ∷ ids) (suc i) zero id d less within one two = absurd (omega arith)
 twice_at (other ∷ ids) (suc i) (suc j) id d less within one two = omega (arith, times-cons id other ids, twice_at ids i j id d (omega arith) (omega arith) one two)
 
-weight-once : (b : Bool) → weight b ≤ 1
-weight-once true = omega arith
-weight-once false = omega arith
-
-times_in-once : (flags : List Bool) (id : ℕ) → times_in flags id ≤ 1
-times_in-once flags zero = omega arith
-times_in-once flags (suc place) = weight-once (get_or flags place false)
-
 times_in-within : (flags : List Bool) (id : ℕ) → 1 ≤ times_in flags id → (1 ≤ id) × (id ≤ length flags)
 times_in-within flags zero some = absurd (omega arith)
 times_in-within flags (suc place) some = (
@@ -127,7 +128,7 @@ shown_within ids flags shows size k d within =
 shown_apart : (ids : List ℕ) (flags : List Bool) → ShowsWindow ids flags → AllPairs (λ one other. one ≢ other) ids
 shown_apart ids flags shows i j d less within same =
     let id = get_or ids j d in
-    omega (arith, shows.each id, times_in-once flags id, twice_at ids i j id d less within same refl)
+    omega (arith, shown_once ids flags id shows, twice_at ids i j id d less within same refl)
 
 pub run_identifiers : (packets : List Packet) → let identifiers = unacknowledged (after packets opening) in All (λ identifier. (1 ≤ identifier) × (identifier ≤ 256)) identifiers × AllPairs (λ one other. one ≢ other) identifiers
 run_identifiers packets =

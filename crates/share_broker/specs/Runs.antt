@@ -1,11 +1,15 @@
--- A run: the story after some packets, and what is sent by them.
-use Rattle.std.specs.Prelude.{◌==◌, Bool, true, false, if◌then◌else◌, List, [], ◌∷◌, ◌++◌, map, filter}
+-- A run: the story after some packets, what is sent by them, and which of them are accepted and settle.
+use Rattle.std.specs.Prelude.{◌==◌, nat_lt, Bool, true, false, if◌then◌else◌, List, [], ◌∷◌, ◌++◌, map, filter}
 use Rattle.std.specs.List.{list_any, zip}
+use Rattle.mqtt_wire.specs.declared.packet.Puback.{Puback}
 use Rattle.mqtt_wire.specs.declared.packet.Packet.{Packet}
-use Rattle.mqtt_wire.specs.declared.packet.Packet.TheVariants.{Publish, Puback}
+use Rattle.mqtt_wire.specs.declared.packet.Packet.TheVariants as kinds
+use Rattle.share_broker.specs.declared.connection.Standing.{Standing}
+use Rattle.share_broker.specs.declared.connection.Standing.TheVariants.{Unconnected, Connected, Closed}
 use Rattle.share_broker.specs.declared.group.Message.{Message}
-use Rattle.share_broker.specs.Story.{Story, HandOut}
+use Rattle.share_broker.specs.Story.{Story, HandOut, unacknowledged}
 use Rattle.share_broker.specs.Packets.{job}
+use Rattle.share_broker.specs.HandOuts.{times}
 use Rattle.share_broker.specs.Publishing.{message_of}
 use Rattle.share_broker.specs.Replies.{turn}
 
@@ -20,7 +24,7 @@ sent [] story = []
 sent (packet ∷ packets) story = (turn packet story).sent ++ sent packets (turn packet story).story
 
 abbrev pub is_publish : Packet → Bool
-is_publish (Publish publish) = true
+is_publish (kinds.Publish publish) = true
 is_publish _ = false
 
 -- the PUBLISH packets among these, in order
@@ -33,12 +37,12 @@ jobs_of messages hand_outs = map (λ pair. job pair.0 pair.1.identifier) (zip me
 
 -- 3.4.2.1: a PUBACK of Reason Code 00, by which a publisher hears that its message was accepted
 abbrev pub says_accepted : Packet → Bool
-says_accepted (Puback p) = p.reason_code == 0
+says_accepted (kinds.Puback p) = p.reason_code == 0
 says_accepted _ = false
 
 -- the message of a PUBLISH
 abbrev pub messages_in : Packet → List Message
-messages_in (Publish publish) = message_of publish ∷ []
+messages_in (kinds.Publish publish) = message_of publish ∷ []
 messages_in _ = []
 
 -- the messages of the packets that were answered so, in order
@@ -46,3 +50,15 @@ abbrev pub answered : List Packet → Story → List Message
 answered [] story = []
 answered (packet ∷ packets) story =
     (if list_any says_accepted (turn packet story).sent then messages_in packet else []) ++ answered packets (turn packet story).story
+
+-- 4.3.2: the PUBACK that a packet is, where it comes on an open connection under an unacknowledged identifier
+abbrev pub settles : Standing → Story → Packet → List Puback
+settles Connected story (kinds.Puback p) = if nat_lt 0 (times p.packet_identifier (unacknowledged story)) then p ∷ [] else []
+settles Connected story _ = []
+settles Unconnected story packet = []
+settles Closed story packet = []
+
+-- these PUBACKs among the packets, in order
+abbrev pub settling : List Packet → Story → List Puback
+settling [] story = []
+settling (packet ∷ packets) story = settles story.standing story packet ++ settling packets (turn packet story).story

@@ -1,5 +1,5 @@
 //! Laws of the definitions: each is the contract of a function that does nothing.
-ghost use Rattle.std.specs.Prelude.{◌≡◌, ◌≢◌, ◌⊎◌, ◌+◌, ◌≤◌, ◌<◌, ◌++◌, ◌∷◌, List, [], ℕ, length, slice_index_or, Option, Some, Err};
+ghost use Rattle.std.specs.Prelude.{◌≡◌, ◌≢◌, ◌⊎◌, ◌+◌, ◌≤◌, ◌<◌, ◌++◌, ◌∷◌, List, [], ℕ, length, slice_index_or, count_by, nat_lt, not, Option, Some, Err};
 ghost use Rattle.std.specs.List.{All, AllPairs};
 ghost use Rattle.mqtt_wire.specs.declared.packet.Connect.{Connect};
 ghost use Rattle.mqtt_wire.specs.declared.packet.Packet.{Packet};
@@ -13,7 +13,7 @@ ghost use Rattle.share_broker.specs.HandOuts.{quota, waiting};
 ghost use Rattle.share_broker.specs.Connecting.{or_else};
 ghost use Rattle.share_broker.specs.Report.{report_of};
 ghost use Rattle.share_broker.specs.Output.{IsSoloOutput, lines_for, ending, solo_output};
-ghost use Rattle.share_broker.specs.Runs.{after, sent, published, jobs_of, answered};
+ghost use Rattle.share_broker.specs.Runs.{after, sent, published, jobs_of, answered, settling};
 
 /// Each input has a first line that is not hex, or an output; and it has one output at most.
 pub fn inputs_have_one_output()
@@ -32,6 +32,8 @@ pub fn inputs_have_one_output()
 /// - `in_order`: the PUBLISH packets that were sent are the first accepted messages, in order, one for each hand-out and
 ///   under its identifier. So none goes out twice, and none before an older one (section 4.6).
 /// - `one_fate`: the counts of the report add up to that of the accepted messages.
+/// - `settled`: as many messages are acknowledged as PUBACKs of a Reason Code below 80 hex came under an unacknowledged
+///   identifier, and as many refused as others came so (section 4.3.2).
 /// - `for_good`: a hand-out that is acknowledged or refused stays so, whatever packets follow.
 /// - `eager`: on an open connection with a share, a message waits only where as many are unacknowledged as may be.
 /// - `closed`: after the connection is closed, nothing is sent, and nothing changes.
@@ -49,6 +51,9 @@ pub fn every_run_is_lawful()
         × (published (sent packets opening) ≡ jobs_of story.accepted story.handed_out) }
     ensures one_fate { (packets : List Packet) → let report = report_of (after packets opening) in
         report.acknowledged + report.refused + report.held + report.queued + report.returned ≡ report.accepted }
+    ensures settled { (packets : List Packet) → let report = report_of (after packets opening) in
+        (report.acknowledged ≡ count_by (λ puback. nat_lt puback.reason_code 128) (settling packets opening))
+        × (report.refused ≡ count_by (λ puback. not (nat_lt puback.reason_code 128)) (settling packets opening)) }
     ensures for_good { (packets more : List Packet) (place code : ℕ) (one : HandOut) → let story = after packets opening in
         place < length story.handed_out → (slice_index_or story.handed_out place one).code ≡ Some code →
         slice_index_or (after more story).handed_out place one ≡ slice_index_or story.handed_out place one }

@@ -1,4 +1,4 @@
-use Rattle.share_broker.proofs.RunLaws.{run_receive_maximum, run_quota, run_identifiers, run_accepted, run_in_order, run_one_fate, run_final, run_eager, run_closed, run_output}
+use Rattle.share_broker.proofs.RunLaws.{run_receive_maximum, run_quota, run_identifiers, run_accepted, run_in_order, run_one_fate, run_settled, run_final, run_eager, run_closed, run_output}
 use Rattle.share_broker.proofs.laws.every_run_is_lawful.Goals as goal
 
 pub returns-clause-receive_maximum : goal.returns-clause-receive_maximum
@@ -18,6 +18,9 @@ returns-clause-in_order c = run_in_order
 
 pub returns-clause-one_fate : goal.returns-clause-one_fate
 returns-clause-one_fate c = run_one_fate
+
+pub returns-clause-settled : goal.returns-clause-settled
+returns-clause-settled c = run_settled
 
 pub returns-clause-for_good : goal.returns-clause-for_good
 returns-clause-for_good c = run_final
