@@ -133,7 +133,7 @@ IsBegun-ended stream first mid now waiting unread connection after fault packets
       begins = subst (Begins first now) (append_assoc way.told (lines_for sent) report) (Begins-longer first now (way.told ++ lines_for sent) report (Begins-then first mid now [] way.told waiting (lines_for sent) way.passes begun));
     }
 
-closed_turn : (packet : Packet) (story : Story) → story.standing ≡ Closed → turn packet story ≡ record { sent = []; story = story }
+pub closed_turn : (packet : Packet) (story : Story) → story.standing ≡ Closed → turn packet story ≡ record { sent = []; story = story }
 closed_turn packet story closed =
     let same : reply packet story ≡ record { packet = None; story = story } = ap (λ s. reply_at s packet story) closed in
     let none = deliver-nothing story (due-closed story closed) in

@@ -1,9 +1,8 @@
 -- What a story keeps as what is due goes out.
-use Rattle.std.proofs.Common.{◌≡◌, ℕ, suc, ◌+◌, ◌-◌, ◌<◌, ◌≤◌, Bool, true, false, not, List, [], ◌∷◌, ◌++◌, length, set, take, drop, map, filter, refl, sym, ap, subst, ◌∙◌, arith, inl, inr, ◌⊎◌, Option, Some, None, append_assoc, append-nil, length-set}
+use Rattle.std.proofs.Common.{◌≡◌, ℕ, suc, ◌+◌, ◌-◌, ◌<◌, ◌≤◌, Bool, true, false, not, List, [], ◌∷◌, ◌++◌, length, set, take, drop, refl, sym, ap, subst, ◌∙◌, arith, inl, inr, ◌⊎◌, Option, Some, None, append_assoc, append-nil, length-set}
 use Rattle.std.specs.List.{list_any, position}
 use Rattle.std.proofs.lemmas.Bool.{cases_lt}
-use Rattle.std.proofs.lemmas.List.{length_push, drop-drop, drop_all, length-drop, length-take, take-append-drop, map-append}
-use Rattle.std.proofs.lemmas.List.Elements.{filter-append}
+use Rattle.std.proofs.lemmas.List.{length_push, drop-drop, drop_all, length-drop, length-take, take-append-drop}
 use Rattle.std.proofs.lemmas.List.Quantifiers.{position-Some}
 use Rattle.mqtt_wire.specs.declared.packet.Packet.{Packet}
 use Rattle.share_broker.specs.declared.connection.Standing.{Standing}
@@ -11,22 +10,18 @@ use Rattle.share_broker.specs.declared.connection.Standing.TheVariants.{Unconnec
 use Rattle.share_broker.specs.declared.terms.Terms.{Terms}
 use Rattle.share_broker.specs.declared.group.Message.{Message}
 use Rattle.share_broker.specs.Names.{Share}
-use Rattle.share_broker.specs.Story.{Story, HandOut, is_open, open_identifiers, unacknowledged, with_hand_out}
+use Rattle.share_broker.specs.Story.{Story, HandOut, unacknowledged, with_hand_out}
 use Rattle.share_broker.specs.HandOuts.{quota_of, quota, least_free, waiting, due_to, Turn, hand_out, deliver}
 use Rattle.share_broker.specs.Packets.{job}
 use Rattle.share_broker.specs.Shows.{ShowsWindow}
 use Rattle.share_broker.specs.Runs.{published, says_accepted}
 use Rattle.share_broker.proofs.WindowLaws.{set_flags-full, not_true, least_free-at, ShowsWindow-hold}
 use Rattle.share_broker.proofs.DeliveryLaws.{unconnected_apart}
+use Rattle.share_broker.proofs.HandOutLaws.{open-push}
 use Rattle.share_broker.proofs.FateLaws.{Tally, Tally-same, Tally-still, Tally-push}
 use Rattle.share_broker.proofs.KeptLaws.{told, jobs-hand_out, quota-few, Kept, Lasts, Lasts-same, Lasts-then, Lasts-push}
 
 -- ---- hand-outs
-
-open-push : (hand_outs : List HandOut) (id : ℕ) → open_identifiers (hand_outs ++ (record { identifier = id; code = None }) ∷ []) ≡ open_identifiers hand_outs ++ id ∷ []
-open-push hand_outs id =
-    let new : HandOut = record { identifier = id; code = None } in
-    ap (map (λ (j : HandOut). j.identifier)) (filter-append is_open hand_outs (new ∷ [])) ∙ map-append (λ (j : HandOut). j.identifier) (filter is_open hand_outs) (new ∷ [])
 
 free : (ids : List ℕ) (flags : List Bool) → ShowsWindow ids flags → length flags ≡ 256 → length ids < 256 → (place : ℕ) × (position not flags ≡ Some place)
 free ids flags shows size less = at (position not flags) refl

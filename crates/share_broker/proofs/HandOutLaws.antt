@@ -18,7 +18,7 @@ use Rattle.share_broker.specs.HandOuts.{greatest_identifier, quota_of, quota, le
 use Rattle.share_broker.specs.Shows.{ShowsWindow, ShowsGroup, HandsOut}
 use Rattle.share_broker.proofs.WindowLaws.{set_flags-full, not_true, least_free-at, ShowsWindow-hold}
 
-open-push : (jobs : List HandOut) (id : ℕ) → open_identifiers (jobs ++ (record { identifier = id; code = None }) ∷ []) ≡ open_identifiers jobs ++ id ∷ []
+pub open-push : (jobs : List HandOut) (id : ℕ) → open_identifiers (jobs ++ (record { identifier = id; code = None }) ∷ []) ≡ open_identifiers jobs ++ id ∷ []
 open-push jobs id =
     let new : HandOut = record { identifier = id; code = None } in
     ap (map (λ (j : HandOut). j.identifier)) (filter-append is_open jobs (new ∷ [])) ∙ map-append (λ (j : HandOut). j.identifier) (filter is_open jobs) (new ∷ [])

@@ -46,11 +46,11 @@ abbrev pub scaled : Bool → ℕ → ℕ
 scaled true n = n
 scaled false n = 0
 
-scaled_zero : (b : Bool) → scaled b 0 ≡ 0
+pub scaled_zero : (b : Bool) → scaled b 0 ≡ 0
 scaled_zero true = refl
 scaled_zero false = refl
 
-scaled_more : (b : Bool) (n : ℕ) → scaled b (1 + n) ≡ weight b + scaled b n
+pub scaled_more : (b : Bool) (n : ℕ) → scaled b (1 + n) ≡ weight b + scaled b n
 scaled_more true n = refl
 scaled_more false n = refl
 
@@ -80,7 +80,7 @@ counted-settled_job test id code jobs i None none rest = elim (cases_eq i id) [
 ]
 
 -- a fate counts one more for each hand-out that is settled so
-counted-settled : (test : Option ℕ → Bool) (id code : ℕ) → test None ≡ false → (jobs : List HandOut) → counted test (map (settled id code) jobs) ≡ counted test jobs + scaled (test (Some code)) (times id (open_identifiers jobs))
+pub counted-settled : (test : Option ℕ → Bool) (id code : ℕ) → test None ≡ false → (jobs : List HandOut) → counted test (map (settled id code) jobs) ≡ counted test jobs + scaled (test (Some code)) (times id (open_identifiers jobs))
 counted-settled test id code none [] = omega (arith, scaled_zero (test (Some code)))
 counted-settled test id code none (job ∷ jobs) = counted-settled_job test id code jobs job.identifier job.code none (counted-settled test id code none jobs)
 

@@ -1,5 +1,5 @@
 -- What each run of packets keeps.
-use Rattle.std.proofs.Common.{◌≡◌, ℕ, zero, suc, ◌+◌, ◌<◌, ◌≤◌, Bool, true, false, not, cond, eqb, nat_lt, List, [], ◌∷◌, ◌++◌, length, get_or, refl, sym, ap, ◌∙◌, arith, inl, inr, ◌⊎◌, Option, Some, None, is_some, option_to_list, append_assoc, append-nil, count_by}
+use Rattle.std.proofs.Common.{◌≡◌, ℕ, zero, suc, ◌+◌, ◌<◌, ◌≤◌, Bool, true, false, not, cond, eqb, nat_lt, List, [], ◌∷◌, ◌++◌, length, get_or, refl, sym, ap, ◌∙◌, arith, inl, inr, ◌⊎◌, Option, Some, None, is_some, append_assoc, append-nil, count_by}
 use Rattle.std.specs.Prelude.{◌≢◌}
 use Rattle.std.specs.List.{All, AllPairs, list_any}
 use Rattle.std.proofs.lemmas.Bool.{cases_lt}
@@ -12,7 +12,6 @@ use Rattle.mqtt_wire.specs.declared.packet.Connect.{Connect}
 use Rattle.mqtt_wire.specs.declared.packet.ConnectRefusal.TheVariants.{ImplementationSpecificError, ClientIdentifierNotValid, BadAuthenticationMethod}
 use Rattle.mqtt_wire.specs.declared.packet.Packet.{Packet}
 use Rattle.mqtt_wire.specs.declared.packet.Packet.TheVariants as packets
-use Rattle.share_broker.specs.declared.connection.Standing.{Standing}
 use Rattle.share_broker.specs.declared.connection.Standing.TheVariants.{Unconnected, Connected, Closed}
 use Rattle.share_broker.specs.declared.terms.Terms.{Terms}
 use Rattle.share_broker.specs.declared.group.Message.{Message}
@@ -21,7 +20,7 @@ use Rattle.share_broker.specs.Story.{Story, HandOut, opening, open_identifiers, 
 use Rattle.share_broker.specs.HandOuts.{quota, times, waiting, Turn, deliver}
 use Rattle.share_broker.specs.Reply.{Reply, closing}
 use Rattle.share_broker.specs.Connecting.{refusing, is_under, or_else, accepting, connect_reply}
-use Rattle.share_broker.specs.Replies.{reply_at, reply, turn}
+use Rattle.share_broker.specs.Replies.{turn}
 use Rattle.share_broker.specs.Report.{report_of}
 use Rattle.share_broker.specs.Output.{lines_for, ending, output_from, solo_output}
 use Rattle.share_broker.specs.Shows.{ShowsWindow, times_in}
@@ -29,6 +28,7 @@ use Rattle.share_broker.specs.Runs.{after, sent, is_publish, published, jobs_of,
 use Rattle.share_broker.proofs.WindowLaws.{weight, weight_same, times-cons}
 use Rattle.share_broker.proofs.HandOutLaws.{deliver-nothing}
 use Rattle.share_broker.proofs.DeliveryLaws.{due-closed, unconnected_apart}
+use Rattle.share_broker.proofs.AnswerLaws.{closed_turn}
 use Rattle.share_broker.proofs.FateLaws.{Tally, Tally-same, Tally-then, shown_once}
 use Rattle.share_broker.proofs.KeptLaws.{told, quota-le, Kept, Kept-opening, Lasts, Lasts-same, Lasts-then}
 use Rattle.share_broker.proofs.DueLaws.{delivered}
@@ -173,14 +173,6 @@ run_one_fate packets =
     omega (arith, (run packets).kept.order, fates story.handed_out, held_or_returned (eqb story.terms.session_expiry_interval 0) (length (unacknowledged story)))
 
 -- ---- a closed connection
-
-closed_turn : (packet : Packet) (story : Story) → story.standing ≡ Closed → turn packet story ≡ record { sent = []; story = story }
-closed_turn packet story closed =
-    let same : reply packet story ≡ record { packet = None; story = story } = ap (λ (s : Standing). reply_at s packet story) closed in
-    ap (λ (r : Reply). turn_of r) same ∙ deliver-nothing story (due-closed story closed)
-  where
-    turn_of : Reply → Turn
-    turn_of r = record { sent = option_to_list r.packet ++ (deliver r.story).sent; story = (deliver r.story).story }
 
 pub run_closed : (story : Story) (packets : List Packet) → story.standing ≡ Closed → (sent packets story ≡ []) × (after packets story ≡ story)
 run_closed story [] closed = (refl, refl)
