@@ -83,7 +83,14 @@ publish_of all = record {
 }
 
 abbrev pub publish_list : PublishProperties → List ℕ
-publish_list p = optional PayloadFormatIndicator p.payload_format_indicator ++ (optional MessageExpiryInterval p.message_expiry_interval ++ (optional ContentType p.content_type ++ (optional ResponseTopic p.response_topic ++ (optional CorrelationData p.correlation_data ++ (optional TopicAlias p.topic_alias ++ (user_bytes p.user_properties))))))
+publish_list p =
+    optional PayloadFormatIndicator p.payload_format_indicator
+    ++ (optional MessageExpiryInterval p.message_expiry_interval
+    ++ (optional ContentType p.content_type
+    ++ (optional ResponseTopic p.response_topic
+    ++ (optional CorrelationData p.correlation_data
+    ++ (optional TopicAlias p.topic_alias
+    ++ user_bytes p.user_properties)))))
 
 -- 3.4.2.2 PUBACK
 abbrev pub puback_of : Properties → PubackProperties
