@@ -38,8 +38,8 @@ pub(crate) fn take_header(stream: &mut BytesMut) -> Result<Option<FixedHeader>, 
 
 /// Takes the body behind a header off the stream; `None` where it is not whole yet. An `Err` changes nothing.
 ///
-/// What is kept of a packet shares the bytes of its body, and may wait long. So a short body gets bytes of its own, and
-/// does not hold the piece of the stream that it came in; a longer one shares that.
+/// What is kept of a packet shares the bytes of its body, and may wait long. So a short body of which something may be kept
+/// gets bytes of its own, and does not hold the piece of the stream that it came in; another shares that.
 pub(crate) fn take_body(
     alloc: Global,
     header: FixedHeader,
@@ -51,13 +51,18 @@ pub(crate) fn take_body(
     if stream.len() < remaining {
         return Ok(None);
     }
-    if remaining > LONGEST_COPY {
+    if remaining > LONGEST_COPY || !may_be_kept(kind) {
         let body = stream.freeze_to(remaining)?;
         return Ok(Some(Frame { kind, body }));
     }
     let body = Bytes::copy_from_slice(alloc, &stream.as_slice()[..remaining])?;
     stream.advance(remaining);
     Ok(Some(Frame { kind, body }))
+}
+
+/// Whether a text or a payload of such a packet may be kept: an identifier, a filter, a message.
+fn may_be_kept(kind: Kind) -> bool {
+    matches!(kind, Kind::Connect | Kind::Publish(_) | Kind::Subscribe)
 }
 
 /// Reads the packet.

@@ -26,8 +26,8 @@ pub(crate) enum InHand {
 /// Cuts a stream of bytes into packets, in whatever pieces it comes.
 ///
 /// A contract sees it as the bytes that it has not read yet and the fault that it met, if it met one. The texts and the
-/// payload of a packet share the bytes of its body: those of the piece that it came in where it is long, and bytes of
-/// its own where it has at most 4,096.
+/// payload of a packet share the bytes of its body. A CONNECT, PUBLISH or SUBSCRIBE whose body has at most 4,096 of them
+/// gets bytes of its own; any other packet shares the piece that it came in.
 #[derive(Drop)]
 pub struct Splitter {
     alloc: Global,
