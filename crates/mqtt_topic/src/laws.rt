@@ -27,13 +27,14 @@ pub fn single_level_matches_one_level()
         ↔ ((list_any is_separator name ≡ false) × (begins is_dollar name ≡ false)) }
 {}
 
-/// The levels of a text are the one list of levels, none of them with a `/`, that joined by `/` are the text (section 4.7.1.1).
+/// The levels of a text are the one list of levels, at least one and none with a `/`, that joined by `/` are the text (section
+/// 4.7.1.1).
 pub fn levels_are_cut()
     ensures { (text : List ℕ) (levels : List (List ℕ)) → (levels_of text ≡ levels) ↔ IsCut text levels }
 {}
 
-/// A text is read as a share where it is `$share/`, the Share Name, `/` and the filter, the name without `/`, `+` and `#`, and
-/// then as no other (section 4.8.2).
+/// A text is read as a share where it is `$share/`, the Share Name, `/` and the filter, the name with a character and without
+/// `/`, `+` and `#`, the filter one that may be, and then as no other (section 4.8.2).
 pub fn shares_are_spelled()
     ensures { (text : List ℕ) (share : Share) → (share_of text ≡ Ok share) ↔ Spells text share }
 {}

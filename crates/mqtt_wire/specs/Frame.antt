@@ -56,7 +56,7 @@ bytes_in_hand Nothing = []
 bytes_in_hand (Headed header) = header_bytes header
 bytes_in_hand (Whole frame) = frame_bytes frame
 
--- a packet in hand is no longer than what is read
+-- the body of a packet in hand is no longer than the longest that is read
 abbrev pub IsInHand : InHand → Type 0
 IsInHand Nothing = Unit {0}
 IsInHand (Headed header) = header.remaining ≤ maximum_remaining_length
@@ -88,7 +88,7 @@ WantsMore Nothing stream = IsOpen stream
 WantsMore (Headed header) stream = IsOpen (header_bytes header ++ stream)
 WantsMore (Whole frame) stream = Unit {0}
 
--- the same of reaching for the whole packet
+-- what reaching for the whole packet answers: what is in hand then, and the stream
 abbrev pub ReachesPacket : InHand → List ℕ → Result (Unit {0}) Fault → InHand → List ℕ → Type 0
 ReachesPacket hand old (Ok done) left new = Keeps hand old left new × WantsMore left new
 ReachesPacket hand old (Err (Stream fault)) left new = Keeps hand old left new × FaultAt fault (bytes_in_hand left ++ new)

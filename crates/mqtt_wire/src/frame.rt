@@ -39,7 +39,7 @@ pub(crate) fn take_header(stream: &mut BytesMut) -> Result<Option<FixedHeader>, 
 /// Takes the body behind a header off the stream; `None` where it is not whole yet. An `Err` changes nothing.
 ///
 /// What is kept of a packet shares the bytes of its body, and may wait long. So a short body of which something may be kept
-/// gets bytes of its own, and does not hold the piece of the stream that it came in; another shares that.
+/// gets bytes of its own, and does not hold the pieces that it came in; any other body shares those of the stream.
 pub(crate) fn take_body(
     alloc: Global,
     header: FixedHeader,

@@ -6,7 +6,7 @@
 //! Every kind of packet that a client sends is read, with every property and every rule on a value; the types keep the
 //! rules, so that a packet that breaks one cannot be made. What a client has no business to send is read as
 //! [`Packet::Foreign`], a CONNECT of another version as [`Packet::OtherVersion`], one with a will as [`Packet::WithWill`]:
-//! their bodies are not looked at.
+//! what they say beyond that is not looked at.
 #![tactic(auto)]
 
 mod binary;

@@ -12,7 +12,7 @@ use bytes::BytesMut;
 use std::alloc::Global;
 use std::marker::Model;
 
-/// What was taken off the stream of the packet in front, and was not answered yet.
+/// What was taken of the packet in front, and was not answered yet.
 #[derive(Debug, Drop)]
 pub(crate) enum InHand {
     /// Nothing: the header is not whole yet.
@@ -27,7 +27,7 @@ pub(crate) enum InHand {
 ///
 /// A contract sees it as the bytes that it has not read yet and the fault that it met, if it met one. The texts and the
 /// payload of a packet share the bytes of its body. A CONNECT, PUBLISH or SUBSCRIBE whose body has at most 4,096 of them
-/// gets bytes of its own; any other packet shares the piece that it came in.
+/// gets bytes of its own; any other packet shares those of the stream.
 #[derive(Drop)]
 pub struct Splitter {
     alloc: Global,

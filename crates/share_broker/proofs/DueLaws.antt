@@ -65,7 +65,7 @@ pub record Out (story : Story) (messages rest : List Message) (turn : Turn) : Ty
   pub jobs : told turn.story ≡ told story ++ published turn.sent
   pub left : waiting turn.story ≡ rest
   pub accepted : turn.story.accepted ≡ story.accepted
-  pub untold : list_any says_accepted turn.sent ≡ false
+  pub untold : (identifier : ℕ) → list_any (says_accepted identifier) turn.sent ≡ false
   pub standing : turn.story.standing ≡ story.standing
   pub terms : turn.story.terms ≡ story.terms
   pub lasts : Lasts story.handed_out turn.story.handed_out
@@ -79,7 +79,7 @@ outs [] rest story kept connected wait room =
       jobs = sym (append-nil (told story));
       left = wait;
       accepted = refl;
-      untold = refl;
+      untold = λ identifier. refl;
       standing = refl;
       terms = refl;
       lasts = Lasts-same story.handed_out;
@@ -114,7 +114,7 @@ pub record Delivered (story : Story) (turn : Turn) : Type 0 where
   pub jobs : told turn.story ≡ told story ++ published turn.sent
   pub eager : (share : Share) → turn.story.standing ≡ Connected → turn.story.share ≡ Some share → (waiting turn.story ≡ []) ⊎ (length (unacknowledged turn.story) ≡ quota turn.story)
   pub accepted : turn.story.accepted ≡ story.accepted
-  pub untold : list_any says_accepted turn.sent ≡ false
+  pub untold : (identifier : ℕ) → list_any (says_accepted identifier) turn.sent ≡ false
   pub standing : turn.story.standing ≡ story.standing
   pub terms : turn.story.terms ≡ story.terms
   pub lasts : Lasts story.handed_out turn.story.handed_out
@@ -127,7 +127,7 @@ nothing_out story kept none =
       jobs = sym (append-nil (told story));
       eager = λ share connected bound. absurd (none share connected bound);
       accepted = refl;
-      untold = refl;
+      untold = λ identifier. refl;
       standing = refl;
       terms = refl;
       lasts = Lasts-same story.handed_out;

@@ -18,7 +18,7 @@ use Rattle.share_broker.proofs.WindowLaws.{weight, weight_at, without, without-s
 abbrev job_of : ℕ → Option ℕ → HandOut
 job_of identifier code = record { identifier = identifier; code = code }
 
-same_test : (a b : ℕ) → a ≡ b → eqb a b ≡ true
+pub same_test : (a b : ℕ) → a ≡ b → eqb a b ≡ true
 same_test a b same = grind (arith, nat_tests)
 
 apart_test : (a b : ℕ) → (a ≡ b → ⊥) → eqb a b ≡ false

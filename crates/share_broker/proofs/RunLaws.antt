@@ -1,7 +1,7 @@
 -- What each run of packets keeps.
 use Rattle.std.proofs.Common.{◌≡◌, ℕ, zero, suc, ◌+◌, ◌<◌, ◌≤◌, Bool, true, false, not, cond, eqb, nat_lt, List, [], ◌∷◌, ◌++◌, length, get_or, refl, sym, ap, ◌∙◌, arith, inl, inr, ◌⊎◌, Option, Some, None, is_some, append_assoc, append-nil, count_by}
 use Rattle.std.specs.Prelude.{◌≢◌}
-use Rattle.std.specs.List.{All, AllPairs, list_any}
+use Rattle.std.specs.List.{All, AllPairs}
 use Rattle.std.proofs.lemmas.Bool.{cases_lt}
 use Rattle.std.proofs.lemmas.List.{get_or_past}
 use Rattle.std.proofs.lemmas.List.Concat.{flat_map-append}
@@ -24,7 +24,7 @@ use Rattle.share_broker.specs.Replies.{turn}
 use Rattle.share_broker.specs.Report.{report_of}
 use Rattle.share_broker.specs.Output.{lines_for, ending, output_from, solo_output}
 use Rattle.share_broker.specs.Shows.{ShowsWindow, times_in}
-use Rattle.share_broker.specs.Runs.{after, sent, is_publish, published, jobs_of, says_accepted, messages_in, answered, settles, settling}
+use Rattle.share_broker.specs.Runs.{after, sent, is_publish, published, jobs_of, accepted_in, answered, settles, settling}
 use Rattle.share_broker.proofs.WindowLaws.{weight, weight_same, times-cons}
 use Rattle.share_broker.proofs.HandOutLaws.{deliver-nothing}
 use Rattle.share_broker.proofs.DeliveryLaws.{due-closed, unconnected_apart}
@@ -55,7 +55,7 @@ ran (packet ∷ packets) story kept eager =
     let first = turned packet story kept in
     let next = (turn packet story).story in
     let rest = ran packets next first.kept first.eager in
-    let now = cond (list_any says_accepted (turn packet story).sent) (messages_in packet) [] in
+    let now = accepted_in packet (turn packet story).sent in
     record {
       kept = rest.kept;
       jobs = rest.jobs

@@ -29,7 +29,8 @@ disconnect_reply None story = closing story
 disconnect_reply (Some expiry) story =
     if is_given_expiry expiry story.terms then closing_with (disconnect 0x82) story else closing (with_expiry expiry story)
 
--- the packets that an open connection takes; one that a client has no business to send closes it with 82 (3.1, 4.13)
+-- the packets that an open connection takes; one that a client has no business to send closes it with 82 (3.1, 4.13); an
+-- UNSUBSCRIBE closes it with no answer (profile, for now)
 abbrev pub later_reply : Packet → Story → Reply
 later_reply (packets.Publish publish) story = publish_reply publish.delivery publish story
 later_reply (packets.Puback p) story = record { packet = None; story = with_puback p.packet_identifier p.reason_code story }
@@ -54,7 +55,7 @@ fault_code Malformed = 0x81
 fault_code Protocol = 0x82
 fault_code TooLarge = 0x95
 
--- 4.13.1: a fault closes the connection; a client that is not connected hears of a protocol error alone
+-- 4.13.1: a fault closes the connection; a client that is not connected hears of a protocol error alone (profile)
 abbrev pub fault_at : Standing → StreamFault → Story → Reply
 fault_at Unconnected Malformed story = closing story
 fault_at Unconnected Protocol story = refusing ProtocolError story

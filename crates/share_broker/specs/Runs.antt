@@ -1,6 +1,9 @@
 -- A run: the story after some packets, what is sent by them, and which of them are accepted and settle.
-use Rattle.std.specs.Prelude.{◌==◌, nat_lt, Bool, true, false, if◌then◌else◌, List, [], ◌∷◌, ◌++◌, map, filter}
+use Rattle.std.specs.Prelude.{ℕ, ◌==◌, ◌&&◌, nat_lt, Bool, true, false, if◌then◌else◌, List, [], ◌∷◌, ◌++◌, map, filter}
 use Rattle.std.specs.List.{list_any, zip}
+use Rattle.mqtt_wire.specs.declared.packet.Delivery.{Delivery}
+use Rattle.mqtt_wire.specs.declared.packet.Delivery.TheVariants.{AtMostOnce, AtLeastOnce, ExactlyOnce}
+use Rattle.mqtt_wire.specs.declared.packet.Publish.{Publish}
 use Rattle.mqtt_wire.specs.declared.packet.Puback.{Puback}
 use Rattle.mqtt_wire.specs.declared.packet.Packet.{Packet}
 use Rattle.mqtt_wire.specs.declared.packet.Packet.TheVariants as kinds
@@ -31,25 +34,29 @@ is_publish _ = false
 abbrev pub published : List Packet → List Packet
 published packets = filter is_publish packets
 
--- the messages as they go out, the first under the identifier of the first hand-out, and so on: as many as there are hand-outs
+-- the messages as they go out, the first under the identifier of the first hand-out, and so on: as many as there are of both
 abbrev pub jobs_of : List Message → List HandOut → List Packet
 jobs_of messages hand_outs = map (λ pair. job pair.0 pair.1.identifier) (zip messages hand_outs)
 
--- 3.4.2.1: a PUBACK of Reason Code 00, by which a publisher hears that its message was accepted
-abbrev pub says_accepted : Packet → Bool
-says_accepted (kinds.Puback p) = p.reason_code == 0
-says_accepted _ = false
+-- 3.4.2.1: a PUBACK of Reason Code 00 under this identifier, by which its publisher hears that a message was accepted
+abbrev pub says_accepted : ℕ → Packet → Bool
+says_accepted identifier (kinds.Puback p) = (p.reason_code == 0) && (p.packet_identifier == identifier)
+says_accepted identifier _ = false
 
--- the message of a PUBLISH
-abbrev pub messages_in : Packet → List Message
-messages_in (kinds.Publish publish) = message_of publish ∷ []
-messages_in _ = []
+-- the message of a PUBLISH, where it has an identifier and such a PUBACK is among what was sent
+abbrev pub accepted_from : Delivery → Publish → List Packet → List Message
+accepted_from (AtLeastOnce identifier) publish packets = if list_any (says_accepted identifier) packets then message_of publish ∷ [] else []
+accepted_from AtMostOnce publish packets = []
+accepted_from (ExactlyOnce identifier) publish packets = []
 
--- the messages of the packets that were answered so, in order
+abbrev pub accepted_in : Packet → List Packet → List Message
+accepted_in (kinds.Publish publish) packets = accepted_from publish.delivery publish packets
+accepted_in _ packets = []
+
+-- the messages of the packets that were answered so, each in its own turn, in order
 abbrev pub answered : List Packet → Story → List Message
 answered [] story = []
-answered (packet ∷ packets) story =
-    (if list_any says_accepted (turn packet story).sent then messages_in packet else []) ++ answered packets (turn packet story).story
+answered (packet ∷ packets) story = accepted_in packet (turn packet story).sent ++ answered packets (turn packet story).story
 
 -- 4.3.2: the PUBACK that a packet is, where it comes on an open connection under an unacknowledged identifier
 abbrev pub settles : Standing → Story → Packet → List Puback

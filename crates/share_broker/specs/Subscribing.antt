@@ -12,7 +12,7 @@ use Rattle.share_broker.specs.Story.{Story}
 use Rattle.share_broker.specs.Packets.{suback}
 use Rattle.share_broker.specs.Reply.{Reply, closing}
 
--- 3.9.3: a first share is bound and gets 01, the bound one gets 01 again, and another 97
+-- 3.9.3: a first share is bound and gets 01, the bound one gets 01 again, and another 97 (profile, for now)
 abbrev pub share_reply : Option Share → ℕ → Share → Story → Reply
 share_reply None identifier share story =
     record { packet = Some (suback identifier 1); story = record story { share = Some share } }

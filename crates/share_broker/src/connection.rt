@@ -127,7 +127,8 @@ impl Connection {
         }
     }
 
-    /// The report line of the group, where one is bound, once the connection and its session have ended.
+    /// The report line of the group, where one is bound, once the input has ended: what is unacknowledged then is held, or
+    /// returned where the session ends with its connection.
     pub fn report(&self, alloc: Global) -> Result<Vec<u8>, AllocError>
         ensures { IfOk result (λ lines. (story : Story) → Shows story self.now → lines.items ≡ report_lines story.share (report_of story)) }
     {

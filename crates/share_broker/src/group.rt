@@ -38,13 +38,13 @@ pub struct MessageProperties {
 /// Why a message was not accepted.
 #[derive(Clone, Copy, Debug, PartialEq, Eq, Drop, Error)]
 pub enum NotTaken {
-    /// 501: the capacity's number of messages wait.
+    /// As many messages wait as may.
     #[error("the queue is full")]
     Full,
-    /// 502: 2^20 messages were accepted.
+    /// 2^20 messages were accepted.
     #[error("the numbers are used up")]
     LifeSpent,
-    /// 503: an allocation was refused.
+    /// An allocation was refused.
     #[error("out of memory")]
     Memory,
 }

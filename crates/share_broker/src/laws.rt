@@ -25,10 +25,10 @@ pub fn inputs_have_one_output()
 ///
 /// - `receive_maximum`: no more hand-outs are unacknowledged than the Receive Maximum of the CONNECT, or than 65535 where it
 ///   has none (sections 3.1.2.11.3 and 4.9).
-/// - `quota`: they are at most the quota, which is at most the Receive Maximum that the story has.
+/// - `quota`: they are at most the quota: the Receive Maximum that the story has, cut to 256.
 /// - `identifiers`: the unacknowledged identifiers are 1 to 256, and no two are equal (section 2.2.1).
-/// - `accepted`: the accepted messages are those that came and were answered by a PUBACK of Reason Code 00, in order, and no
-///   others (section 3.4.2.1).
+/// - `accepted`: the accepted messages are those whose PUBLISH was answered, in its own turn, by a PUBACK of Reason Code 00
+///   under its identifier, in order, and no others (section 3.4.2.1).
 /// - `in_order`: the PUBLISH packets that were sent are the first accepted messages, in order, one for each hand-out and
 ///   under its identifier. So none goes out twice, and none before an older one (section 4.6).
 /// - `one_fate`: the counts of the report add up to that of the accepted messages.
