@@ -1,7 +1,5 @@
 -- The job at a place of a list of runs.
-use Rattle.std.proofs.Common.{◌≡◌, ℕ, zero, suc, ◌+◌, ◌-◌, ◌<◌, ◌≤◌, List, [], ◌∷◌, ◌++◌, length, drop, get_or, slice_get, Some, All, refl, sym, ap, ◌∙◌, arith}
-use Rattle.std.proofs.lemmas.List.{drop_more}
-use Rattle.std.proofs.lemmas.List.Elements.{All-get_or}
+use Rattle.std.proofs.Common.{◌≡◌, ℕ, zero, suc, ◌+◌, ◌-◌, ◌<◌, ◌≤◌, List, [], ◌∷◌, ◌++◌, length, slice_get, Some, refl, sym, ap, ◌∙◌, arith}
 use Rattle.std.proofs.lemmas.Option.{slice_get-get_or}
 use Rattle.dispatch_core.specs.declared.event.Job.{Job}
 use Rattle.dispatch_core.specs.declared.runs.Run.{Run}
@@ -18,26 +16,17 @@ slice_get-append_right [] ys k le = let e : k ≡ k - 0 = omega arith in ap (sli
 slice_get-append_right (x ∷ xs) ys zero le = absurd (omega arith)
 slice_get-append_right (x ∷ xs) ys (suc k) le = let e : k - length xs ≡ suc k - suc (length xs) = omega arith in slice_get-append_right xs ys k (omega arith) ∙ ap (slice_get ys) e
 
-module _ (runs : List Run) (index : ℕ) (d : Run) (within : index < length runs) where
-  left : jobs_of (drop index runs) ≡ jobs_of_run (get_or runs index d) ++ jobs_of (drop (index + 1) runs)
-  left = ap jobs_of (drop_more runs index d within)
+module _ (run : Run) (rest : List Run) (ahead jobs : ℕ) (count : jobs ≡ length (jobs_of_run run)) where
+  pub fits_there : IsFilled run → ahead < jobs → run.from + ahead < 18446744073709551616
+  fits_there full less = omega (arith, length-jobs_from run.port run.from (run.last + 1 - run.from), full.not_empty, full.small)
 
-  pub fits_there : (ahead jobs : ℕ) → All IsFilled runs → jobs ≡ length (jobs_of_run (get_or runs index d)) → ahead < jobs → (get_or runs index d).from + ahead < 18446744073709551616
-  fits_there ahead jobs filled count less =
-      let r = get_or runs index d in
-      let full = All-get_or IsFilled runs index d within filled in
-      omega (arith, length-jobs_from r.port r.from (r.last + 1 - r.from), full.not_empty, full.small)
-
-  pub job_there : (ahead jobs : ℕ) → jobs ≡ length (jobs_of_run (get_or runs index d)) → ahead < jobs → slice_get (jobs_of (drop index runs)) ahead ≡ Some (record { port = (get_or runs index d).port; number = (get_or runs index d).from + ahead })
-  job_there ahead jobs count less =
-      let r = get_or runs index d in
+  pub job_there : ahead < jobs → slice_get (jobs_of (run ∷ rest)) ahead ≡ Some (record { port = run.port; number = run.from + ahead })
+  job_there less =
       let some : Job = record { port = 0; number = 0 } in
-      let n = r.last + 1 - r.from in
-      let few : ahead < length (jobs_of_run r) = omega arith in
-      ap (λ js. slice_get js ahead) left ∙ slice_get-append_left (jobs_of_run r) (jobs_of (drop (index + 1) runs)) ahead few
-      ∙ slice_get-get_or (jobs_of_run r) ahead some few ∙ ap Some (get_or-jobs_from r.port r.from n ahead some (omega (arith, length-jobs_from r.port r.from n)))
+      let n = run.last + 1 - run.from in
+      let few : ahead < length (jobs_of_run run) = omega arith in
+      slice_get-append_left (jobs_of_run run) (jobs_of rest) ahead few
+      ∙ slice_get-get_or (jobs_of_run run) ahead some few ∙ ap Some (get_or-jobs_from run.port run.from n ahead some (omega (arith, length-jobs_from run.port run.from n)))
 
-  pub job_behind : (ahead jobs : ℕ) → jobs ≡ length (jobs_of_run (get_or runs index d)) → jobs ≤ ahead → slice_get (jobs_of (drop index runs)) ahead ≡ slice_get (jobs_of (drop (index + 1) runs)) (ahead - jobs)
-  job_behind ahead jobs count le =
-      let r = get_or runs index d in
-      ap (λ js. slice_get js ahead) left ∙ slice_get-append_right (jobs_of_run r) (jobs_of (drop (index + 1) runs)) ahead (omega arith) ∙ ap (λ n. slice_get (jobs_of (drop (index + 1) runs)) (ahead - n)) (sym count)
+  pub job_behind : jobs ≤ ahead → slice_get (jobs_of (run ∷ rest)) ahead ≡ slice_get (jobs_of rest) (ahead - jobs)
+  job_behind le = slice_get-append_right (jobs_of_run run) (jobs_of rest) ahead (omega arith) ∙ ap (λ n. slice_get (jobs_of rest) (ahead - n)) (sym count)

@@ -25,4 +25,5 @@ run_more events at d old new within run step =
 
 pub stops : (events : List Event) (at : ℕ) (d : Event) (state : GroupState) (error : StepError) → at < length events → IsRun (take at events) state → IsRefused state (get_or events at d) error → Fails events (placed at error)
 stops events at d state (Stuck why) within run stuck = record { event = get_or events at d; there = slice_get-get_or events at d within; state = state; before = run; stuck = stuck }
-stops events at d state Memory within run refused = tt
+stops events at d state Memory within run refused =
+    record { event = get_or events at d; there = slice_get-get_or events at d within; state = state; before = run; may = refused.0; takes = refused.1 }

@@ -7,8 +7,9 @@ use Rattle.dispatch_core.specs.declared.runs.Run.{Run}
 use Rattle.dispatch_core.specs.JobRuns.{jobs_of, jobs_of_run, IsFilled, EachBefore, BeginsBefore, LiesApart, HasBefore, HasBehind, JoinsRuns}
 use Rattle.dispatch_core.specs.JobRuns.{alone}
 use Rattle.dispatch_core.specs.Joining.{IsPlaceOf, EndsBefore, BeginsBehind, PutsIn, Joins}
+use Rattle.dispatch_core.specs.Merging.{BeginsAfter}
 use Rattle.dispatch_core.proofs.JobLists.{Covers, IsCovered, covered_contains, contains_covered, jobs_of-append}
-use Rattle.dispatch_core.proofs.Orders.{All-front, All-back, each_front, each_back, each_across, each_between, begins_by_true, begins_by_false, BeginsAfter}
+use Rattle.dispatch_core.proofs.Orders.{All-front, All-back, each_front, each_back, each_across, each_between, begins_by_true, begins_by_false}
 
 -- a run ends before a job
 abbrev pub LiesBefore : Run → Job → Type 0

@@ -6,8 +6,9 @@ use Rattle.dispatch_core.specs.declared.runs.Run.{Run}
 use Rattle.dispatch_core.specs.JobRuns.{jobs_from, jobs_of_run, IsFilled, EachBefore, BeginsBefore, LiesApart}
 use Rattle.dispatch_core.specs.JobRuns.{alone}
 use Rattle.dispatch_core.specs.Joining.{EndsBefore, BeginsBehind, Joins}
+use Rattle.dispatch_core.specs.Merging.{BeginsAfter}
 use Rattle.dispatch_core.proofs.JobLists.{touching_runs}
-use Rattle.dispatch_core.proofs.Orders.{All-front, All-back, each_front, each_back, each_across, across_first, BeginsAfter}
+use Rattle.dispatch_core.proofs.Orders.{All-front, All-back, each_front, each_back, each_across, across_first}
 use Rattle.dispatch_core.proofs.Joined.{At, joined, apart_front, apart_back, no_before, no_behind, has_before, has_behind}
 
 pub filled_alone : (job : Job) → job.number < 18446744073709551615 → IsFilled (alone job)

@@ -1,5 +1,5 @@
 -- Lists in which something holds of each element and each one behind it.
-use Rattle.std.proofs.Common.{◌≡◌, ◌<◌, ◌≤◌, ◌⊎◌, ◌&&◌, true, false, eqb, leb, List, [], ◌∷◌, ◌++◌, All, inl, inr, ⊎_elim, arith}
+use Rattle.std.proofs.Common.{◌≡◌, ◌<◌, ◌≤◌, ◌&&◌, true, false, eqb, leb, List, [], ◌∷◌, ◌++◌, All, inl, inr, ⊎_elim, arith}
 use Rattle.std.proofs.lemmas.Bool.{cases_lt}
 use Rattle.std.proofs.lemmas.Bool.Decides.{nat_tests}
 use Rattle.std.proofs.lemmas.List.Elements.{All-nil, All-cons, All-head, All-tail, All-append, All-weaker}
@@ -8,6 +8,7 @@ use Rattle.dispatch_core.specs.declared.runs.Run.{Run}
 use Rattle.dispatch_core.specs.JobRuns.{EachBefore, BeginsBefore}
 use Rattle.dispatch_core.specs.JobRuns.{alone}
 use Rattle.dispatch_core.specs.Joining.{begins_by, covers}
+use Rattle.dispatch_core.specs.Merging.{BeginsAfter}
 use Rattle.dispatch_core.proofs.JobLists.{Covers}
 
 -- the parts of a list
@@ -60,9 +61,6 @@ begins_by_true job run is =
     (λ (less : run.port < job.port). inl less)
     (λ (more : job.port ≤ run.port). let port : run.port ≡ job.port = grind (arith, nat_tests) in let from : run.from ≤ job.number = grind (arith, nat_tests) in inr (port, from))
     (cases_lt run.port job.port)
-
-abbrev pub BeginsAfter : Run → Job → Type 0
-BeginsAfter run job = (job.port < run.port) ⊎ ((job.port ≡ run.port) × (job.number < run.from))
 
 pub begins_by_false : (job : Job) (run : Run) → begins_by job run ≡ false → BeginsAfter run job
 begins_by_false job run is =

@@ -1,5 +1,5 @@
 -- How a list of jobs is kept, after each of its calls.
-use Rattle.std.proofs.Common.{◌≡◌, ℕ, zero, suc, ◌+◌, ◌-◌, ◌<◌, ◌≤◌, ◌⊎◌, ◌&&◌, ◌||◌, Bool, true, false, eqb, cond, List, [], ◌∷◌, ◌++◌, length, take, drop, slice_get, insert, Option, Some, None, IsPermutation, All, Contains, refl, sym, ap, ◌∙◌, subst, inl, inr, ⊎_elim, arith, take-append-drop}
+use Rattle.std.proofs.Common.{◌≡◌, ℕ, zero, suc, ◌+◌, ◌-◌, ◌<◌, ◌≤◌, ◌⊎◌, ◌&&◌, ◌||◌, Bool, true, false, eqb, cond, List, [], ◌∷◌, ◌++◌, length, take, drop, slice_get, Option, Some, None, IsPermutation, All, Contains, refl, sym, ap, ◌∙◌, subst, inl, inr, ⊎_elim, arith, take-append-drop}
 use Rattle.std.specs.List.{list_any}
 use Rattle.std.proofs.lemmas.Bool.{cases_Bool, false≢true}
 use Rattle.std.proofs.lemmas.List.Elements.{All-cons, All-head, All-tail, All-append, All-weaker}
@@ -8,8 +8,9 @@ use Rattle.dispatch_core.specs.declared.event.Job.{Job}
 use Rattle.dispatch_core.specs.declared.runs.Run.{Run}
 use Rattle.dispatch_core.specs.JobRuns.{alone, jobs_of, count_of, NoneTwice, IsFilled, EachBefore, BeginsBefore, LiesApart, AreKept, JoinsRuns}
 use Rattle.dispatch_core.specs.Joining.{covers, IsPlaceOf, PutsIn, Joins, IsStored}
+use Rattle.dispatch_core.specs.Merging.{BeginsAfter}
 use Rattle.dispatch_core.proofs.JobLists.{Covers, IsCovered, covered_contains, contains_covered, count_of-append, count_of-cons, count_of_contained}
-use Rattle.dispatch_core.proofs.Orders.{BeginsAfter, All-front, All-back, each_front, each_back, each_across, each_between, across_first, begins_by_true, begins_by_false, covers_true}
+use Rattle.dispatch_core.proofs.Orders.{All-front, All-back, each_front, each_back, each_across, each_between, across_first, begins_by_true, begins_by_false, covers_true}
 use Rattle.dispatch_core.proofs.Joined.{covered_front, covered_back, covered_parts, puts_in, uncovered_by_later}
 use Rattle.dispatch_core.proofs.JoinedCases.{filled_alone, job_alone, begins_later}
 
@@ -59,33 +60,37 @@ stored_in_room runs same capacity more has_repeats is within stored =
     subst (λ rs. IsStored rs more has_repeats) (sym is) (record { filled = stored.filled; in_order = stored.in_order; apart = stored.apart; repeats = stored.repeats; within = within })
 
 -- a job with a run of its own
-own_puts_in : (old new : List Run) (job : Job) (place : ℕ) → new ≡ insert old place (alone job) → PutsIn (jobs_of old) job (jobs_of new)
-own_puts_in old new job place is =
-    puts_in old new (take place old) [] (drop place old) (alone job) job (sym (take-append-drop place old)) is (record { before = []; behind = []; was = refl; is = job_alone job })
+own_puts_in : (old new front back : List Run) (job : Job) → old ≡ front ++ back → new ≡ front ++ alone job ∷ back → PutsIn (jobs_of old) job (jobs_of new)
+own_puts_in old new front back job was is = puts_in old new front [] back (alone job) job was is (record { before = []; behind = []; was = refl; is = job_alone job })
 
-pub own_jobs : (old new : List Run) (job : Job) (place : ℕ) → new ≡ insert old place (alone job) → IsPermutation (job ∷ jobs_of old) (jobs_of new)
-own_jobs old new job place is = puts_in_permutes (jobs_of old) (jobs_of new) job (own_puts_in old new job place is)
+pub own_jobs : (old new front back : List Run) (job : Job) → old ≡ front ++ back → new ≡ front ++ alone job ∷ back → IsPermutation (job ∷ jobs_of old) (jobs_of new)
+own_jobs old new front back job was is = puts_in_permutes (jobs_of old) (jobs_of new) job (own_puts_in old new front back job was is)
 
 pub own_joins : (old : List Run) (job : Job) (P : Type 0) → Contains (jobs_of old) job → NoneTwice (job ∷ jobs_of old) → P
 own_joins old job P has none = absurd (twice (jobs_of old) job has none)
 
-pub own_stored : (old new : List Run) (job : Job) (place capacity : ℕ) (has_repeats : Bool) → IsStored old capacity has_repeats → IsPlaceOf old job place → Contains (jobs_of old) job → job.number < 18446744073709551615 → new ≡ insert old place (alone job) → length new ≤ capacity → IsStored new capacity true
-own_stored old new job place capacity has_repeats stored at has small is within =
-    let parts = take-append-drop place old in
-    let front = take place old in
-    let back = drop place old in
-    let filled = subst (All IsFilled) (sym parts) stored.filled in
-    let sorted = subst (EachBefore BeginsBefore) (sym parts) stored.in_order in
+pub own_repeats : (old new front back : List Run) (job : Job) (capacity : ℕ) (has_repeats : Bool) → IsStored old capacity has_repeats → (has_repeats ≡ true) ⊎ Contains (jobs_of old) job → old ≡ front ++ back → new ≡ front ++ alone job ∷ back → ¬ NoneTwice (jobs_of new)
+own_repeats old new front back job capacity has_repeats stored why was is =
+    let put = own_puts_in old new front back job was is in
+    ⊎_elim (λ (some : has_repeats ≡ true). still_twice (jobs_of old) (jobs_of new) job put (stored.repeats some)) (λ (has : Contains (jobs_of old) job). twice_new (jobs_of old) (jobs_of new) job put has) why
+
+pub own_stored : (old new front back : List Run) (job : Job) (capacity : ℕ) (has_repeats : Bool) → IsStored old capacity has_repeats → (has_repeats ≡ true) ⊎ Contains (jobs_of old) job → All (λ r. BeginsBefore r (alone job)) front → All (λ r. BeginsAfter r job) back → job.number < 18446744073709551615 → old ≡ front ++ back → new ≡ front ++ alone job ∷ back → length new ≤ capacity → IsStored new capacity true
+own_stored old new front back job capacity has_repeats stored why before behind small was is within =
+    let filled = subst (All IsFilled) was stored.filled in
+    let sorted = subst (EachBefore BeginsBefore) was stored.in_order in
     record {
       filled = subst (All IsFilled) (sym is) (All-append IsFilled front (alone job ∷ back) (All-front IsFilled front back filled) (All-cons IsFilled (alone job) back (filled_alone job small) (All-back IsFilled front back filled)));
       in_order = subst (EachBefore BeginsBefore) (sym is)
-          (each_between BeginsBefore front (alone job) back (each_front BeginsBefore front back sorted) (each_back BeginsBefore front back sorted) (each_across BeginsBefore front back sorted)
-          (All-weaker _ (λ r. BeginsBefore r (alone job)) (begins_by_true job) front at.front)
-          (All-weaker _ (BeginsBefore (alone job)) (λ r later. begins_later job r (begins_by_false job r later)) back at.back));
+          (each_between BeginsBefore front (alone job) back (each_front BeginsBefore front back sorted) (each_back BeginsBefore front back sorted) (each_across BeginsBefore front back sorted) before
+          (All-weaker (λ r. BeginsAfter r job) (BeginsBefore (alone job)) (begins_later job) back behind));
       apart = λ none. absurd (false≢true (sym none));
-      repeats = λ _. twice_new (jobs_of old) (jobs_of new) job (own_puts_in old new job place is) has;
+      repeats = λ _. own_repeats old new front back job capacity has_repeats stored why was is;
       within = within;
     }
+
+pub own_counts : (old : List Run) (job : Job) (capacity : ℕ) (has_repeats : Bool) (P : Type 0) → IsStored old capacity has_repeats → (has_repeats ≡ true) ⊎ Contains (jobs_of old) job → NoneTwice (job ∷ jobs_of old) → P
+own_counts old job capacity has_repeats P stored why none =
+    ⊎_elim (λ (some : has_repeats ≡ true). absurd (stored.repeats some (fewer_once (jobs_of old) job none))) (λ (has : Contains (jobs_of old) job). own_joins old job P has none) why
 
 -- a job that was not there
 pub joined_jobs : (old new : List Run) (job : Job) → Joins old job new → IsPermutation (job ∷ jobs_of old) (jobs_of new)

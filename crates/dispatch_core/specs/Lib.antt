@@ -4,8 +4,11 @@ pub mod Reasons
 pub mod History
 pub mod Lawful
 pub mod Mentions
+pub mod Told
 pub mod Refusals
 pub mod JobRuns
 pub mod Joining
+pub mod Merging
 pub mod Rows
+pub mod Walks
 pub mod Layout

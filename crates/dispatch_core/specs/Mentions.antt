@@ -26,6 +26,26 @@ first_member_of (Back member job) = None
 first_member_of (Again member job) = None
 first_member_of Close = None
 
+-- the job that an event names; a new job is named by its port alone
+abbrev pub named_job : Event → Option Job
+named_job (Accept port) = None
+named_job (First member job) = Some job
+named_job (Ack member job) = Some job
+named_job (Refuse member job) = Some job
+named_job (Back member job) = Some job
+named_job (Again member job) = Some job
+named_job Close = None
+
+-- the member that an event names
+abbrev pub named_member : Event → Option ℕ
+named_member (Accept port) = None
+named_member (First member job) = Some member
+named_member (Ack member job) = Some member
+named_member (Refuse member job) = Some member
+named_member (Back member job) = Some member
+named_member (Again member job) = Some member
+named_member Close = None
+
 -- the event hands this job out, for the first time or again
 abbrev pub HandsOutJob : Job → Event → Type 0
 HandsOutJob job (Accept port) = ⊥

@@ -11,9 +11,10 @@ number_of step.Memory = 302
 
 abbrev pub replay_number_of : ReplayError → ℕ
 replay_number_of (replay.Stuck at why) = 301
-replay_number_of replay.Memory = 302
+replay_number_of (replay.Memory at) = 302
+replay_number_of replay.NoState = 302
 
 -- the refusal of the event at this place
 abbrev pub placed : ℕ → StepError → ReplayError
 placed at (step.Stuck why) = replay.Stuck at why
-placed at step.Memory = replay.Memory
+placed at step.Memory = replay.Memory at

@@ -48,9 +48,13 @@ pub enum ReplayError {
     /// 301: no step allows the event at this place of the list; all before it may happen.
     #[error("event {at} may not happen: {why}")]
     Stuck { at: usize, why: Why },
-    /// 302: memory was wanted and refused.
-    #[error("out of memory")]
-    Memory,
+    /// 302: memory was refused to the event at this place of the list. It may happen, and so may all before
+    /// it.
+    #[error("out of memory at event {at}")]
+    Memory { at: usize },
+    /// 302: memory was refused to the state before the first event.
+    #[error("out of memory before the first event")]
+    NoState,
 }
 
 /// Why there is no room for what is to be kept. Nothing has changed then.
@@ -89,7 +93,7 @@ impl StepError {
     {
         match self {
             StepError::Stuck { why } => ReplayError::Stuck { at, why },
-            StepError::Memory => ReplayError::Memory,
+            StepError::Memory => ReplayError::Memory { at },
         }
     }
 }
@@ -101,7 +105,7 @@ impl ReplayError {
     {
         match self {
             ReplayError::Stuck { .. } => 301,
-            ReplayError::Memory => 302,
+            ReplayError::Memory { .. } | ReplayError::NoState => 302,
         }
     }
 }
@@ -115,10 +119,10 @@ impl From<AllocError> for StepError {
 }
 
 impl From<RoomError> for ReplayError {
-    ghost from_gives = { λ _ result. result ≡ replay_error.Memory };
+    ghost from_gives = { λ _ result. result ≡ replay_error.NoState };
 
     fn from(_error: RoomError) -> ReplayError {
-        ReplayError::Memory
+        ReplayError::NoState
     }
 }
 

@@ -1,6 +1,7 @@
 //! Jobs, what happens to them, and where they are.
-ghost use Rattle.std.specs.Prelude.{◌↔◌, IsTrue};
+ghost use Rattle.std.specs.Prelude.{◌≡◌, ◌↔◌, IsTrue};
 ghost use Rattle.dispatch_core.specs.Step.{IsInRange, NeedsOpen};
+ghost use Rattle.dispatch_core.specs.Mentions.{named_job, named_member};
 
 /// How many ports a group has: they are numbered from 0 to 63 (profile).
 pub const PORTS: u8 = 64;
@@ -54,6 +55,34 @@ pub enum Spot {
 }
 
 impl Event {
+    /// The job that it names. `Accept` names a new job by its port alone, and `Close` names none.
+    pub fn job(self) -> Option<Job>
+        ensures { result ≡ named_job self }
+    {
+        match self {
+            Event::Accept { .. } | Event::Close => None,
+            Event::First { job, .. }
+            | Event::Ack { job, .. }
+            | Event::Refuse { job, .. }
+            | Event::Back { job, .. }
+            | Event::Again { job, .. } => Some(job),
+        }
+    }
+
+    /// The member that it names; `Accept` and `Close` name none.
+    pub fn member(self) -> Option<u8>
+        ensures { result ≡ named_member self }
+    {
+        match self {
+            Event::Accept { .. } | Event::Close => None,
+            Event::First { member, .. }
+            | Event::Ack { member, .. }
+            | Event::Refuse { member, .. }
+            | Event::Back { member, .. }
+            | Event::Again { member, .. } => Some(member),
+        }
+    }
+
     /// Whether the port and the member that it names are there.
     pub(crate) fn is_in_range(self) -> bool
         ensures { IsTrue result ↔ IsInRange self }

@@ -13,8 +13,9 @@ use std::alloc::Global;
 /// # Errors
 ///
 /// 301 [`ReplayError::Stuck`] with the place of the first event that may not happen, and the first
-/// reason that holds. 302 [`ReplayError::Memory`] where memory was refused; then nothing is said of the
-/// events.
+/// reason that holds. 302 [`ReplayError::Memory`] with the place of the event to which memory was refused:
+/// it may happen, and the events before it are a run. 302 [`ReplayError::NoState`] where there is no
+/// memory for the empty group.
 pub fn replay(alloc: Global, events: &[Event]) -> Result<State, ReplayError>
     ensures run { IfOk result (IsRun events.now) }
     ensures stuck { IfErr result (Fails events.now) }

@@ -1,8 +1,10 @@
 //! Sorted runs: where a job belongs among them, and how it is joined with those that it touches.
-ghost use Rattle.std.specs.Prelude.{◌≡◌, ◌<◌, ◌≤◌, ◌+◌, ◌++◌, ◌↔◌, length, IsTrue, MatchBool, All, take, drop, vec_len, vec_capacity, Contains, insert};
+ghost use Rattle.std.specs.Prelude.{◌≡◌, false, ◌<◌, ◌≤◌, ◌+◌, ◌++◌, ◌↔◌, length, IsTrue, MatchBool, All, take, drop, vec_len, vec_capacity, Contains, insert};
 ghost use Rattle.std.specs.List.{list_any};
 ghost use Rattle.dispatch_core.specs.JobRuns.{alone, jobs_of, IsFilled, EachBefore, BeginsBefore, LiesApart};
-ghost use Rattle.dispatch_core.specs.Joining.{covers, begins_by, IsPlaceOf, EndsBefore, BeginsBehind, Joins, LiesClear, AreJoined};
+ghost use Rattle.dispatch_core.specs.Joining.{covers, begins_by, IsPlaceOf, EndsBefore, BeginsBehind, Joins};
+ghost use Rattle.dispatch_core.specs.Merging.{merged, TakesBehind, Lengthens, IsOpened, Shortens, GetsOwnIf, first_of};
+ghost use Rattle.dispatch_core.specs.Walks.{IsBehindFirst};
 
 use crate::event::Job;
 use crate::runs::Run;
@@ -20,8 +22,8 @@ impl Run {
     }
 
     /// Its first job.
-    fn first(&self) -> Job
-        ensures { result ≡ record { port = self.now.port; number = self.now.from } }
+    pub(crate) fn first(&self) -> Job
+        ensures { result ≡ first_of self.now }
     {
         Job {
             port: self.port,
@@ -29,8 +31,22 @@ impl Run {
         }
     }
 
+    /// What is left of it behind its first job, if anything is.
+    pub(crate) fn behind_first(self) -> Option<Run>
+        requires { IsFilled self }
+        ensures { IsBehindFirst self result }
+    {
+        if self.from == self.last {
+            return None;
+        }
+        Some(Run {
+            from: self.from + 1,
+            ..self
+        })
+    }
+
     /// Whether it begins at this job, or before it.
-    fn begins_by(&self, job: Job) -> bool
+    pub(crate) fn begins_by(&self, job: Job) -> bool
         ensures { result ≡ begins_by job self.now }
     {
         self.port < job.port || (self.port == job.port && self.from <= job.number)
@@ -44,17 +60,46 @@ pub(crate) fn any_has(runs: &[Run], job: Job) -> bool
     runs.iter().any(|run| run.contains(job))
 }
 
-/// Whether one of the runs has this job, where they lie apart.
-pub(crate) fn finds(runs: &[Run], job: Job) -> bool
-    requires sorted { EachBefore BeginsBefore runs.now }
+/// Whether one of the runs has this job, where they lie apart and so many of them begin by it.
+pub(crate) fn has_at(runs: &[Run], place: usize, job: Job) -> bool
+    requires place { IsPlaceOf runs.now job place }
     requires apart { EachBefore LiesApart runs.now }
     ensures { IsTrue result ↔ Contains (jobs_of runs.now) job }
 {
-    let (front, _behind) = runs.split_at(place_of(runs, job));
+    let (front, _behind) = runs.split_at(place);
     match front.last() {
         Some(run) => run.contains(job),
         None => false,
     }
+}
+
+/// Whether one of two lists of runs that are one has this job, where they lie apart.
+pub(crate) fn has_either(settled: &[Run], recent: &[Run], job: Job) -> bool
+    requires sorted { EachBefore BeginsBefore (merged settled.now recent.now) }
+    requires apart { EachBefore LiesApart (merged settled.now recent.now) }
+    ensures { IsTrue result ↔ Contains (jobs_of (merged settled.now recent.now)) job }
+{
+    has_at(settled, place_of(settled, job), job) || has_at(recent, place_of(recent, job), job)
+}
+
+/// Whether the job gets a run of its own: it is there, or some job is there twice.
+pub(crate) fn gets_own(
+    has_repeats: bool,
+    settled: &[Run],
+    recent: &[Run],
+    place: usize,
+    near: usize,
+    job: Job,
+) -> bool
+    requires place { IsPlaceOf settled.now job place }
+    requires near { IsPlaceOf recent.now job near }
+    requires apart { has_repeats ≡ false → EachBefore LiesApart (merged settled.now recent.now) }
+    ensures { GetsOwnIf has_repeats (jobs_of (merged settled.now recent.now)) job result }
+{
+    if has_repeats {
+        return true;
+    }
+    has_at(settled, place, job) || has_at(recent, near, job)
 }
 
 /// How many of the sorted runs begin at this job or before it.
@@ -66,7 +111,7 @@ pub(crate) fn place_of(runs: &[Run], job: Job) -> usize
 }
 
 /// Whether the last of these runs ends right before the job.
-fn ends_before(runs: &[Run], job: Job) -> bool
+pub(crate) fn ends_before(runs: &[Run], job: Job) -> bool
     requires { All IsFilled runs.now }
     ensures { MatchBool result (EndsBefore runs.now job) (¬ EndsBefore runs.now job) }
 {
@@ -87,27 +132,98 @@ fn begins_behind(runs: &[Run], job: Job) -> bool
     }
 }
 
-/// Puts a job that is not there into sorted runs, and joins it with the runs that it touches. It takes no
-/// memory: there is room for one more.
-pub(crate) fn join(runs: &mut Vec<Run>, job: Job)
-    requires filled { All IsFilled runs.old.items }
-    requires sorted { EachBefore BeginsBefore runs.old.items }
-    requires absent { ¬ Contains (jobs_of runs.old.items) job }
+/// Takes the run right behind the job out, if there is one, and gives its last number. So many of the runs
+/// begin by the job.
+fn take_behind(runs: &mut Vec<Run>, place: usize, job: Job) -> Option<u64>
+    requires within { place ≤ vec_len runs.old }
     requires small { job.number < u64.MAX }
-    requires room { vec_len runs.old < vec_capacity runs.old }
-    ensures joined { Joins runs.old.items job runs.new.items }
+    ensures taken { TakesBehind runs.old.items place job result runs.new.items }
     ensures capacity { vec_capacity runs.new ≡ vec_capacity runs.old }
 {
-    let place = place_of(runs, job);
-    let (front, back) = runs.split_at(place);
-    match (ends_before(front, job), begins_behind(back, job)) {
-        (true, true) => {
-            let behind = runs.remove(place);
-            runs[place - 1].last = behind.last;
-        }
-        (true, false) => runs[place - 1].last = job.number,
-        (false, true) => runs[place].from = job.number,
-        (false, false) => insert_at(runs, place, Run::of(job)),
+    let (_front, back) = runs.split_at(place);
+    if !begins_behind(back, job) {
+        return None;
+    }
+    Some(runs.remove(place).last)
+}
+
+/// Lets the run that ends right before the job go on to this last number, and tells whether there is one.
+/// So many of the runs begin by the job.
+fn lengthen(runs: &mut Vec<Run>, place: usize, job: Job, last: u64) -> bool
+    requires within { place ≤ vec_len runs.old }
+    requires filled { All IsFilled (take place runs.old.items) }
+    ensures lengthened { Lengthens runs.old.items place job last result runs.new.items }
+    ensures capacity { vec_capacity runs.new ≡ vec_capacity runs.old }
+{
+    let (front, _back) = runs.split_at(place);
+    if !ends_before(front, job) {
+        return false;
+    }
+    runs[place - 1].last = last;
+    true
+}
+
+/// Puts a job that is not there into two lists that are one, and joins it with the runs that it touches in
+/// either. `place` settled runs and `near` recent ones begin by it. It takes no memory: there is room for
+/// one more recent run.
+pub(crate) fn join(
+    settled: &mut Vec<Run>,
+    recent: &mut Vec<Run>,
+    place: usize,
+    near: usize,
+    job: Job,
+)
+    requires filled { All IsFilled (merged settled.old.items recent.old.items) }
+    requires sorted { EachBefore BeginsBefore (merged settled.old.items recent.old.items) }
+    requires apart { EachBefore LiesApart (merged settled.old.items recent.old.items) }
+    requires place { IsPlaceOf settled.old.items job place }
+    requires near { IsPlaceOf recent.old.items job near }
+    requires absent { ¬ Contains (jobs_of (merged settled.old.items recent.old.items)) job }
+    requires small { job.number < u64.MAX }
+    requires room { vec_len recent.old < vec_capacity recent.old }
+    ensures joined { Joins (merged settled.old.items recent.old.items) job (merged settled.new.items recent.new.items) }
+    ensures settled { vec_capacity settled.new ≡ vec_capacity settled.old }
+    ensures recent { vec_capacity recent.new ≡ vec_capacity recent.old }
+{
+    let last = take_either(settled, recent, place, near, job);
+    if lengthen(settled, place, job, last) || lengthen(recent, near, job, last) {
+        return;
+    }
+    let run = Run {
+        port: job.port,
+        from: job.number,
+        last,
+    };
+    insert_at(recent, near, run);
+}
+
+/// Takes the run right behind the job out of the list that has it, and gives the last number to which the
+/// job's run goes then.
+fn take_either(
+    settled: &mut Vec<Run>,
+    recent: &mut Vec<Run>,
+    place: usize,
+    near: usize,
+    job: Job,
+) -> u64
+    requires filled { All IsFilled (merged settled.old.items recent.old.items) }
+    requires apart { EachBefore LiesApart (merged settled.old.items recent.old.items) }
+    requires place { IsPlaceOf settled.old.items job place }
+    requires near { IsPlaceOf recent.old.items job near }
+    requires small { job.number < u64.MAX }
+    ensures opened { IsOpened (merged (drop place settled.old.items) (drop near recent.old.items)) job result
+        (merged (drop place settled.new.items) (drop near recent.new.items)) }
+    ensures settled { Shortens settled.old.items place job settled.new.items }
+    ensures recent { Shortens recent.old.items near job recent.new.items }
+    ensures settled_capacity { vec_capacity settled.new ≡ vec_capacity settled.old }
+    ensures recent_capacity { vec_capacity recent.new ≡ vec_capacity recent.old }
+{
+    match take_behind(settled, place, job) {
+        Some(last) => last,
+        None => match take_behind(recent, near, job) {
+            Some(last) => last,
+            None => job.number,
+        },
     }
 }
 
@@ -122,36 +238,4 @@ pub(crate) fn insert_at(runs: &mut Vec<Run>, place: usize, run: Run)
         Ok(()) => (),
         Err(_) => unreachable!(),
     }
-}
-
-/// Puts more runs behind these. It takes no memory: there is room for them.
-pub(crate) fn append(runs: &mut Vec<Run>, more: &[Run])
-    requires { vec_len runs.old + length more.now ≤ vec_capacity runs.old }
-    ensures items { runs.new.items ≡ runs.old.items ++ more.now }
-    ensures capacity { vec_capacity runs.new ≡ vec_capacity runs.old }
-{
-    for run in more {
-        runs.push_reserved(*run);
-    }
-}
-
-/// Joins runs that touch, of sorted ones that have no job in common.
-pub(crate) fn join_touching(runs: &mut Vec<Run>)
-    requires filled { All IsFilled runs.old.items }
-    requires clear { EachBefore LiesClear runs.old.items }
-    ensures joined { AreJoined runs.old.items runs.new.items }
-    ensures capacity { vec_capacity runs.new ≡ vec_capacity runs.old }
-{
-    let mut kept = 0;
-    for place in 0..runs.len() {
-        let run = runs[place];
-        let (joined, _rest) = runs.split_at(kept);
-        if ends_before(joined, run.first()) {
-            runs[kept - 1].last = run.last;
-        } else {
-            runs[kept] = run;
-            kept += 1;
-        }
-    }
-    runs.truncate(kept);
 }

@@ -2,13 +2,14 @@
 //! beginning on. Each is the contract of a function that does nothing. They are stated over the
 //! definitions that the contracts of [`State`](crate::State) and [`replay`](crate::replay) cite, so
 //! they are about what these do.
-ghost use Rattle.std.specs.Prelude.{◌≡◌, ◌≢◌, ◌↔◌, ℕ, true, List, ◌∷◌, ◌++◌, Some, All};
-ghost use Rattle.dispatch_core.specs.GroupState.{GroupState, spot_of, firsts_of, accepted_of};
+ghost use Rattle.std.specs.Prelude.{◌≡◌, ◌≢◌, ◌<◌, ◌↔◌, ℕ, true, List, [], ◌∷◌, ◌++◌, Some, IsSome, All};
+ghost use Rattle.dispatch_core.specs.GroupState.{GroupState, IsEmpty, spot_of, firsts_of, accepted_of};
 ghost use Rattle.dispatch_core.specs.Step.{Step, MayHappen, NeedsOpen, KeepsMark};
 ghost use Rattle.dispatch_core.specs.Reasons.{Hinders};
 ghost use Rattle.dispatch_core.specs.History.{IsRun, StopsAt};
 ghost use Rattle.dispatch_core.specs.Lawful.{IsLawful};
 ghost use Rattle.dispatch_core.specs.Mentions.{job_of, first_member_of, HandsOutJob, accepts_of, AreSame};
+ghost use Rattle.dispatch_core.specs.Told.{firsts_in, job_after, spot_after, NoneNames};
 
 use crate::error::Why;
 use crate::event::{Event, Job, Spot};
@@ -56,6 +57,28 @@ pub fn keeping_law()
         (member : ℕ) → first_member_of event ≢ Some member → firsts_of new member ≡ firsts_of old member }
     ensures mark { (old : GroupState) (event : Event) (new : GroupState) → Step old event new →
         event ≢ Event.Close → KeepsMark old new }
+{}
+
+/// **The events tell the state.** A job was accepted exactly where its number is below the count of its
+/// port's `Accept` events; a member's first hand-outs are the jobs of its `First` events, in their order;
+/// and a job is where its last event left it: the `Accept` whose number it has, or the last event that
+/// names it.
+pub fn telling_law()
+    ensures accepted { (events : List Event) (state : GroupState) → IsRun events state →
+        (job : Job) → IsSome (spot_of state job) ↔ (job.number < accepts_of events job.port) }
+    ensures firsts { (events : List Event) (state : GroupState) → IsRun events state →
+        (member : ℕ) → firsts_of state member ≡ firsts_in events member }
+    ensures spot { (before behind : List Event) (event : Event) (job : Job) (state : GroupState) →
+        IsRun (before ++ event ∷ behind) state → job_after before event ≡ Some job →
+        NoneNames job behind → spot_of state job ≡ spot_after event }
+{}
+
+/// **A run and one more step is a run**, and the events of an empty group are none. So who does one step
+/// with each event has a run.
+pub fn growing_law()
+    ensures begins { (state : GroupState) → IsEmpty state → IsRun [] state }
+    ensures goes_on { (events : List Event) (old : GroupState) (event : Event) (new : GroupState) →
+        IsRun events old → Step old event new → IsRun (events ++ event ∷ []) new }
 {}
 
 /// **The events fix the state.** Two states that the same events lead to cannot be told apart. So a

@@ -13,6 +13,23 @@
 //! [`Runs`] is a list of jobs for those who count what was settled. It is kept as stretches of
 //! consecutive numbers, each of them a [`Run`] of numbers.
 //!
+//! A job that comes back from one member is handed out again to another:
+//!
+//! ```
+//! let first = Job { port: 2, number: 0 };
+//! let state = replay(
+//!     alloc,
+//!     &[
+//!         Event::Accept { port: 2 },
+//!         Event::First { member: 0, job: first },
+//!         Event::Back { member: 0, job: first },
+//!         Event::Again { member: 1, job: first },
+//!     ],
+//! )?;
+//! assert_eq!(rt; state.spot(first), Some(Spot::Held(1)));
+//! assert_eq!(rt; state.firsts(0), [first].as_slice());
+//! ```
+//!
 //! Nothing here waits, reads a clock or knows of threads.
 #![tactic(auto)]
 
@@ -22,15 +39,15 @@ mod history;
 mod joining;
 pub mod laws;
 mod member;
+mod merging;
 mod port;
 mod runs;
 mod state;
+mod walks;
 
 pub use error::{ReplayError, RoomError, StepError, Why};
 pub use event::{Event, Job, MEMBERS, PORTS, Spot};
 pub use history::replay;
 pub use runs::{Run, Runs};
 pub use state::State;
-
-#[cfg(test)]
-mod tests;
+pub use walks::{InOrder, Jobs};

@@ -1,12 +1,14 @@
 //! Lists of jobs, kept as runs of consecutive numbers.
-ghost use Rattle.std.specs.Prelude.{◌≡◌, ◌<◌, ◌≤◌, ◌+◌, ◌↔◌, [], ◌∷◌, ◌++◌, length, IsTrue, OnOk, OnErr, All, Contains, slice_get};
+ghost use Rattle.std.specs.Prelude.{◌≡◌, ◌<◌, ◌≤◌, ◌+◌, ◌*◌, ◌↔◌, [], ◌∷◌, ◌++◌, length, IsTrue, OnOk, OnErr, All, Contains, slice_get};
 ghost use Rattle.std.specs.List.Sorted.{IsPermutation};
 ghost use Rattle.dispatch_core.specs.JobRuns.{jobs_of, jobs_of_run, IsFilled, AreKept, NoneTwice, GetsOwnRun, JoinsRuns};
 ghost use Rattle.dispatch_core.specs.Joining.{covers};
 
 use crate::error::RoomError;
 use crate::event::Job;
-use crate::joining::{any_has, append, finds, insert_at, join, join_touching, place_of};
+use crate::joining::{any_has, gets_own, has_either, insert_at, join, place_of};
+use crate::merging::{join_touching, make_way, merge_into, recent_room, settle};
+use crate::walks::{InOrder, Jobs, job_at};
 use std::alloc::Global;
 use std::marker::Model;
 
@@ -48,21 +50,26 @@ impl Run {
 /// number of runs for which there is room. No call but [`Runs::reserve`] takes memory.
 #[derive(Debug, Drop)]
 pub struct Runs {
-    runs: Vec<Run>,
+    // The runs lie in two sorted lists that are seen as one, so that a new run moves only the recent ones.
+    settled: Vec<Run>,
+    recent: Vec<Run>,
     // Some job is there twice, so one run lies in another. Else no two runs touch.
     has_repeats: bool,
 }
 
 impl Model for Runs {
-    ghost use Rattle.std.specs.Prelude.{vec_len, vec_capacity, ◌-◌};
+    ghost use Rattle.std.specs.Prelude.{vec_len, vec_capacity, ◌-◌, ◌+◌};
     ghost use Rattle.dispatch_core.specs.JobRuns.{JobRuns};
-    ghost use Rattle.dispatch_core.specs.Joining.{IsStored};
+    ghost use Rattle.dispatch_core.specs.Merging.{merged, IsKeptIn};
 
     ghost Value = { JobRuns };
 
-    ghost view = { λ r. record { runs = r.runs.items; spare = vec_capacity r.runs - vec_len r.runs } };
+    ghost view = { λ r. record {
+      runs = merged r.settled.items r.recent.items;
+      spare = vec_capacity r.settled - (vec_len r.settled + vec_len r.recent);
+    } };
 
-    ghost invariant = { λ r. IsStored r.runs.items (vec_capacity r.runs) r.has_repeats };
+    ghost invariant = { λ r. IsKeptIn r.settled.items r.recent.items (vec_capacity r.settled) (vec_capacity r.recent) r.has_repeats };
 }
 
 impl Runs {
@@ -71,12 +78,14 @@ impl Runs {
         ensures { result ≡ record { runs = []; spare = 0 } }
     {
         Runs {
-            runs: Vec::new(alloc),
+            settled: Vec::new(alloc),
+            recent: Vec::new(alloc),
             has_repeats: false,
         }
     }
 
-    /// Makes room for so many more runs.
+    /// Makes room for so many more runs, of whatever ports: a run takes 24 bytes, and up to 1024 of them take
+    /// as many once more.
     ///
     /// # Errors
     ///
@@ -88,7 +97,16 @@ impl Runs {
         ensures err { OnErr result (self.new ≡ self.old) }
         ensures full { OnErr result (self.old.spare < count) }
     {
-        self.runs.reserve(count)?;
+        if count <= self.spare() {
+            // More room for recent runs is welcome, and not needed.
+            let _ = self.recent.reserve(recent_room(count));
+            return Ok(());
+        }
+        let Some(wanted) = count.checked_add(self.recent.len()) else {
+            return Err(RoomError::Memory);
+        };
+        self.recent.reserve(recent_room(count))?;
+        self.settled.reserve(wanted)?;
         Ok(())
     }
 
@@ -96,16 +114,23 @@ impl Runs {
     pub fn spare(&self) -> usize
         ensures { result ≡ self.now.spare }
     {
-        self.runs.capacity() - self.runs.len()
+        self.settled.capacity() - (self.settled.len() + self.recent.len())
     }
 
     /// The runs, in rising order of port and first number. Where no job is there twice, the runs of a port
     /// never touch.
-    pub fn runs(&self) -> &[Run]
-        ensures value { result.now ≡ self.now.runs }
+    pub fn runs(&self) -> InOrder<'_>
+        ensures value { result ≡ self.now.runs }
         ensures kept { AreKept self.now.runs }
     {
-        self.runs.as_slice()
+        InOrder::of(&self.settled, &self.recent)
+    }
+
+    /// The jobs, run after run.
+    pub fn jobs(&self) -> Jobs<'_>
+        ensures { result ≡ jobs_of self.now.runs }
+    {
+        Jobs::of(self.runs())
     }
 
     /// Whether the job is there. Where no job is there twice, this looks at as many runs as their number
@@ -114,15 +139,18 @@ impl Runs {
         ensures { IsTrue result ↔ Contains (jobs_of self.now.runs) job }
     {
         if self.has_repeats {
-            any_has(&self.runs, job)
+            any_has(&self.settled, job) || any_has(&self.recent, job)
         } else {
-            finds(&self.runs, job)
+            has_either(&self.settled, &self.recent, job)
         }
     }
 
     /// Puts a job into the list. It joins the runs that it touches; one that is there already gets a run of
-    /// its own. Where it joins the run before it, as at the end of the last run of its port, this costs no
-    /// more than [`Runs::contains`]; else it may move the runs behind it.
+    /// its own, and so does each job from then on.
+    ///
+    /// It costs no more than [`Runs::contains`] where the job joins the run before it, as at the end of its
+    /// port. Where it gets a run of its own, it moves recent runs, of which there are at most 1024, and each
+    /// 1024th time it goes over all runs. Where it joins the run behind it, it may move all that follow.
     ///
     /// There is room for a run, as [`Runs::spare`] tells, and the number is below 2^64 - 1.
     pub fn add(&mut self, job: Job)
@@ -137,12 +165,21 @@ impl Runs {
         ensures joins { NoneTwice (job ∷ jobs_of self.old.runs) →
             JoinsRuns (jobs_of self.old.runs) job (length self.old.runs) (length self.new.runs) }
     {
-        if self.contains(job) {
-            let place = place_of(&self.runs, job);
-            insert_at(&mut self.runs, place, Run::of(job));
+        make_way(&mut self.settled, &mut self.recent);
+        let place = place_of(&self.settled, job);
+        let near = place_of(&self.recent, job);
+        if gets_own(
+            self.has_repeats,
+            &self.settled,
+            &self.recent,
+            place,
+            near,
+            job,
+        ) {
+            insert_at(&mut self.recent, near, Run::of(job));
             self.has_repeats = true;
         } else {
-            join(&mut self.runs, job);
+            join(&mut self.settled, &mut self.recent, place, near, job);
         }
     }
 
@@ -150,24 +187,24 @@ impl Runs {
     pub fn len(&self) -> u128
         ensures { result ≡ length (jobs_of self.now.runs) }
     {
-        count(&self.runs)
+        count(&self.settled) + count(&self.recent)
     }
 
     /// Whether there is no job.
     pub fn is_empty(&self) -> bool
         ensures { IsTrue result ↔ (jobs_of self.now.runs ≡ []) }
     {
-        self.runs().is_empty()
+        self.settled.is_empty() && self.recent.is_empty()
     }
 
     /// The job at this place of the list, from 0; `None` from [`Runs::len`] on.
     pub fn job_at(&self, at: u128) -> Option<Job>
         ensures { result ≡ slice_get (jobs_of self.now.runs) at }
     {
-        job_at(&self.runs, at)
+        job_at(self.runs(), at)
     }
 
-    /// Puts all jobs of another list into this one. It takes as long as sorting the runs of both.
+    /// Puts all jobs of another list into this one. It goes over the runs of both a fixed number of times.
     ///
     /// The two together have no job twice, and there is room for the other's runs, as [`Runs::spare`] tells.
     pub fn merge(&mut self, other: Runs)
@@ -177,39 +214,22 @@ impl Runs {
         ensures room { length self.new.runs + self.new.spare ≡ length self.old.runs + self.old.spare }
         ensures grown { length self.new.runs ≤ length self.old.runs + length other.runs }
     {
-        append(&mut self.runs, other.runs());
-        self.runs.sort_unstable();
-        join_touching(&mut self.runs);
+        settle(&mut self.settled, &mut self.recent);
+        merge_into(&mut self.settled, &other.settled);
+        merge_into(&mut self.settled, &other.recent);
+        join_touching(&mut self.settled);
     }
 }
 
 /// How many jobs the runs have.
 fn count(runs: &[Run]) -> u128
     requires { All IsFilled runs.now }
-    ensures { result ≡ length (jobs_of runs.now) }
+    ensures jobs { result ≡ length (jobs_of runs.now) }
+    ensures bound { result ≤ 18446744073709551615 * length runs.now }
 {
     let mut jobs: u128 = 0;
     for run in runs {
         jobs += u128::from(run.len());
     }
     jobs
-}
-
-/// The job at this place of the list.
-fn job_at(runs: &[Run], at: u128) -> Option<Job>
-    requires { All IsFilled runs.now }
-    ensures { result ≡ slice_get (jobs_of runs.now) at }
-{
-    let mut ahead = at;
-    for run in runs {
-        let jobs = u128::from(run.len());
-        if ahead < jobs {
-            return Some(Job {
-                port: run.port,
-                number: run.from + ahead as u64,
-            });
-        }
-        ahead -= jobs;
-    }
-    None
 }

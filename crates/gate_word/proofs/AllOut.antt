@@ -15,8 +15,8 @@ adds_none Outside none = refl
 adds_none Inside none = absurd (omega arith)
 adds_none Bouncing none = absurd (omega arith)
 
-pub all_outside : (word : ℕ) (views : List View) → GateLaw word views → word ≡ 1 → (is_shut word ≡ true) × All IsOutside views
-all_outside word views law one = (
+pub all_outside : (seats word : ℕ) (views : List View) → GateLaw seats word views → word ≡ 1 → (is_shut word ≡ true) × All IsOutside views
+all_outside seats word views law one = (
   ap (λ (n : ℕ). shut_bit n == 1) one,
   λ k d lt.
       let part : away (get_or views k d) ≤ sum_by away views = get_or-le-sum_by away views k d lt in
@@ -31,8 +31,8 @@ none_away (v ∷ vs) outside =
     let others = none_away vs (All-tail IsOutside v vs outside) in
     omega (arith, sum_by-cons away v vs)
 
-pub is_one : (word : ℕ) (views : List View) → GateLaw word views → (is_shut word ≡ true) × All IsOutside views → word ≡ 1
-is_one word views law shut =
+pub is_one : (seats word : ℕ) (views : List View) → GateLaw seats word views → (is_shut word ≡ true) × All IsOutside views → word ≡ 1
+is_one seats word views law shut =
     let bit : shut_bit word ≡ 1 = eqb-true (shut_bit word) 1 shut.0 in
     let none = none_away views shut.1 in
     let is = law.counted in

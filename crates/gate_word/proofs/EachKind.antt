@@ -19,37 +19,37 @@ use Rattle.gate_word.proofs.Keeps.{bit-add, bit-sub, bit-shut, shut_again, has_t
 use Rattle.gate_word.proofs.Grows.{opens, keeps_cut, keeps_token}
 
 -- no new view
-alone : (word : ℕ) (views : List View) → GateLaw word views → GateLaw word (views ++ [])
-alone word views law = subst (GateLaw word) (sym (append-nil views)) law
+alone : (seats word : ℕ) (views : List View) → GateLaw seats word views → GateLaw seats word (views ++ [])
+alone seats word views law = subst (GateLaw seats word) (sym (append-nil views)) law
 
-module _ (word : ℕ) (views : List View) (place : ℕ) (v : View) (law : GateLaw word views) (at : get_elem? views place ≡ some v) where
-  pub keeps_kind : (kind : Kind) → May kind word v → GateLaw (word_after kind word) (views_after kind word views place v)
-  keeps_kind Cut may = keeps_cut word views place v law at may.1 may.0
-  keeps_kind Enter may = alone _ _ (keeps_enter word views place v law at may.1 may.0 may.2)
-  keeps_kind Bounce may = alone _ _ (keeps_bounce word views place v law at may.1 may.0)
-  keeps_kind TakeOff may = alone _ _ (keeps_take_off word views place v law at may)
-  keeps_kind Leave may = alone _ _ (keeps_leave word views place v law at may)
-  keeps_kind SetBit may = alone _ _ (keeps_shut word views place v law at)
-  keeps_kind LookDrained may = alone _ _ (keeps_look word views place v law at)
-  keeps_kind Look may = alone _ _ (keeps_look word views place v law at)
+module _ (seats word : ℕ) (views : List View) (place : ℕ) (v : View) (law : GateLaw seats word views) (at : get_elem? views place ≡ some v) where
+  pub keeps_kind : (kind : Kind) → May kind word v → GateLaw seats (word_after kind word) (views_after kind word views place v)
+  keeps_kind Cut may = keeps_cut seats word views place v law at may.1 may.0
+  keeps_kind Enter may = alone _ _ _ (keeps_enter seats word views place v law at may.1 may.0 may.2)
+  keeps_kind Bounce may = alone _ _ _ (keeps_bounce seats word views place v law at may.1 may.0)
+  keeps_kind TakeOff may = alone _ _ _ (keeps_take_off seats word views place v law at may)
+  keeps_kind Leave may = alone _ _ _ (keeps_leave seats word views place v law at may)
+  keeps_kind SetBit may = alone _ _ _ (keeps_shut seats word views place v law at may)
+  keeps_kind LookDrained may = alone _ _ _ (keeps_look seats word views place v law at)
+  keeps_kind Look may = alone _ _ _ (keeps_look seats word views place v law at)
   keeps_kind Witness may =
-      subst (λ (same : List View). GateLaw word (same ++ token ∷ [])) (sym (set_again views place v at)) (keeps_token word views place v law at may)
+      subst (λ (same : List View). GateLaw seats word (same ++ token v.seats ∷ [])) (sym (set_again views place v at)) (keeps_token seats word views place v law at may)
 
   -- no step opens a shut gate
   pub stays_shut : (kind : Kind) → May kind word v → is_shut word ≡ true → is_shut (word_after kind word) ≡ true
   stays_shut Cut may shut = shut
   stays_shut Enter may shut = shut_again word _ (bit-add word) shut
   stays_shut Bounce may shut = shut_again word _ (bit-add word) shut
-  stays_shut TakeOff may shut = shut_again word _ (bit-sub word (has_two word views place v law at (ap adds may))) shut
-  stays_shut Leave may shut = shut_again word _ (bit-sub word (has_two word views place v law at (ap adds may))) shut
+  stays_shut TakeOff may shut = shut_again word _ (bit-sub word (has_two seats word views place v law at (ap adds may))) shut
+  stays_shut Leave may shut = shut_again word _ (bit-sub word (has_two seats word views place v law at (ap adds may))) shut
   stays_shut SetBit may shut = ap (λ (bit : ℕ). bit == 1) (bit-shut word)
   stays_shut LookDrained may shut = shut
   stays_shut Look may shut = shut
   stays_shut Witness may shut = shut
 
-pub schedule_keeps : (seats word : ℕ) (views : List View) → Reaches seats word views → GateLaw word views
+pub schedule_keeps : (seats word : ℕ) (views : List View) → Reaches seats word views → GateLaw seats word views
 schedule_keeps seats word views (opened few) = opens seats few
-schedule_keeps seats word views (made kind place v before at may) = keeps_kind _ _ place v (schedule_keeps seats _ _ before) at kind may
+schedule_keeps seats word views (made kind place v before at may) = keeps_kind seats _ _ place v (schedule_keeps seats _ _ before) at kind may
 
 pub starts : (seats : ℕ) → seats ≤ 80 → HasPast seats (opening (0 ∷ []) [] (all_seats seats))
 starts seats few = (0, refl, opened few)

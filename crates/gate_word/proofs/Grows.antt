@@ -10,22 +10,24 @@ use Rattle.gate_word.specs.declared.step.View.{View}
 use Rattle.gate_word.specs.Steps.{standing_of, saw_drained}
 use Rattle.gate_word.specs.Steps.Standing.{Outside, Inside}
 use Rattle.gate_word.specs.Seats.{adds, away, has_number, all_seats, cut_seat, rest_after_cut, token}
-use Rattle.gate_word.specs.GateLaw.{GateLaw, IsNotInside, NobodyIsInside, KnowsShut, HasShut, KnowsDrained}
+use Rattle.gate_word.specs.GateLaw.{GateLaw, IsNotInside, NobodyIsInside, KnowsShut, HasShut, IsSeatIfAway, KnowsDrained}
 use Rattle.gate_word.proofs.Places.{all_at, any_at, any_front, sum_at}
 
 all_push : (P : View → Type 0) (views : List View) (u : View) → All P views → P u → All P (views ++ u ∷ [])
 all_push P views u all this = All-append P views (u ∷ []) all (All-cons P u [] this (All-nil P))
 
 -- a view comes that is no seat's, and knows no more than the law says
-keeps_push : (word : ℕ) (views : List View) (u : View) → GateLaw word views
-    → away u ≡ 0 → ((number : ℕ) → has_number number u ≡ 0) → KnowsShut word u → KnowsDrained word views u → IsNotInside u
-    → GateLaw word (views ++ u ∷ [])
-keeps_push word views u law outside no_number shut drained not_inside =
+keeps_push : (seats word : ℕ) (views : List View) (u : View) → GateLaw seats word views
+    → u.seats ≡ seats → away u ≡ 0 → ((number : ℕ) → has_number number u ≡ 0) → KnowsShut word u → KnowsDrained word views u → IsNotInside u
+    → GateLaw seats word (views ++ u ∷ [])
+keeps_push seats word views u law same outside no_number shut drained not_inside =
     let nobody : NobodyIsInside views → NobodyIsInside (views ++ u ∷ []) = λ nobody. all_push IsNotInside views u nobody not_inside in
     record {
+      few = law.few;
       counted = omega (arith, sum_by_push away views u, law.counted);
       numbers = (λ number. let was = law.numbers number in omega (arith, sum_by_push (has_number number) views u, no_number number));
-      seated = all_push (λ v. away v ≤ v.count) views u law.seated (omega arith);
+      seated = all_push IsSeatIfAway views u law.seated (λ in_it. absurd (omega arith));
+      total = all_push (λ v. v.seats ≡ seats) views u law.total same;
       shut = all_push (KnowsShut word) views u law.shut shut;
       shut_by = (λ shut. any_front HasShut views u (law.shut_by shut));
       drained = all_push (KnowsDrained word (views ++ u ∷ [])) views u
@@ -33,14 +35,15 @@ keeps_push word views u law outside no_number shut drained not_inside =
           (λ mark. let known = drained mark in (known.0, nobody known.1));
     }
 
-no_number : (number : ℕ) → has_number number token ≡ 0
-no_number number = grind (arith, nat_tests)
+no_number : (number seats : ℕ) → has_number number (token seats) ≡ 0
+no_number number seats = grind (arith, nat_tests)
 
-pub keeps_token : (word : ℕ) (views : List View) (place : ℕ) (v : View) → GateLaw word views → get_elem? views place ≡ some v
-    → saw_drained v.steps ≡ true → GateLaw word (views ++ token ∷ [])
-keeps_token word views place v law at saw =
+pub keeps_token : (seats word : ℕ) (views : List View) (place : ℕ) (v : View) → GateLaw seats word views → get_elem? views place ≡ some v
+    → saw_drained v.steps ≡ true → GateLaw seats word (views ++ token v.seats ∷ [])
+keeps_token seats word views place v law at saw =
     let known = all_at (KnowsDrained word views) views place v at law.drained saw in
-    keeps_push word views token law refl no_number (λ _. known.0) (λ _. known) (λ inside. absurd (cc))
+    let same = all_at (λ u. u.seats ≡ seats) views place v at law.total in
+    keeps_push seats word views (token v.seats) law same refl (λ number. no_number number v.seats) (λ _. known.0) (λ _. known) (λ inside. absurd (cc))
 
 -- the numbers of a seat that is cut off and of what is left are those that there were
 cut_numbers : (number : ℕ) (v : View) → 2 ≤ v.count → has_number number (rest_after_cut v) + has_number number (cut_seat v) ≡ has_number number v
@@ -51,9 +54,9 @@ cut_numbers number v two = numbers number v.first v.count two
         ≡ (if nat_le first k && nat_lt k (first + count) then 1 else 0)
     numbers k first count two = grind (arith, nat_tests)
 
-pub keeps_cut : (word : ℕ) (views : List View) (place : ℕ) (v : View) → GateLaw word views → get_elem? views place ≡ some v
-    → 2 ≤ v.count → standing_of v.steps ≡ Outside → GateLaw word (set views place (rest_after_cut v) ++ cut_seat v ∷ [])
-keeps_cut word views place v law at two outside =
+pub keeps_cut : (seats word : ℕ) (views : List View) (place : ℕ) (v : View) → GateLaw seats word views → get_elem? views place ≡ some v
+    → 2 ≤ v.count → standing_of v.steps ≡ Outside → GateLaw seats word (set views place (rest_after_cut v) ++ cut_seat v ∷ [])
+keeps_cut seats word views place v law at two outside =
     let w = rest_after_cut v in
     let u = cut_seat v in
     let left = set views place w in
@@ -61,18 +64,21 @@ keeps_cut word views place v law at two outside =
     let not_inside : IsNotInside v = λ inside. let never : Outside ≡ Inside = sym outside ∙ inside in absurd (cc) in
     let nobody : NobodyIsInside views → NobodyIsInside (left ++ u ∷ []) =
     λ nobody. all_push IsNotInside left u (All-set IsNotInside views place w not_inside nobody) (λ inside. absurd (cc)) in
+    let same = all_at (λ t. t.seats ≡ seats) views place v at law.total in
     record {
+      few = law.few;
       counted = (let sum = sum_at away views place v w at in let was = law.counted in omega (arith, sum_by_push away left u));
       numbers = (λ number.
           let sum = sum_at (has_number number) views place v w at in
           let was = law.numbers number in
           let same = cut_numbers number v two in
           omega (arith, sum_by_push (has_number number) left u));
-      seated = all_push (λ t. away t ≤ t.count) left u (All-set (λ t. away t ≤ t.count) views place w (omega arith) law.seated) (omega arith);
+      seated = all_push IsSeatIfAway left u (All-set IsSeatIfAway views place w (λ in_it. absurd (omega arith)) law.seated) (λ in_it. refl);
+      total = all_push (λ t. t.seats ≡ seats) left u (All-set (λ t. t.seats ≡ seats) views place w same law.total) same;
       shut = all_push (KnowsShut word) left u
           (All-set (KnowsShut word) views place w (all_at (KnowsShut word) views place v at law.shut) law.shut)
           (λ mark. absurd (true≢false (sym mark)));
-      shut_by = (λ shut. any_front HasShut left u (any_at HasShut views place v w at (λ marked. marked) (law.shut_by shut)));
+      shut_by = (λ shut. any_front HasShut left u (any_at HasShut views place v w at (λ marked. absurd (omega (arith, marked.0))) (law.shut_by shut)));
       drained = all_push (KnowsDrained word (left ++ u ∷ [])) left u
           (All-set (KnowsDrained word (left ++ u ∷ [])) views place w
           (λ mark. let known = all_at (KnowsDrained word views) views place v at law.drained mark in (known.0, nobody known.1))
@@ -81,18 +87,20 @@ keeps_cut word views place v law at two outside =
     }
 
 -- the gate as it is opened
-pub opens : (count : ℕ) → count ≤ 80 → GateLaw 0 (all_seats count ∷ [])
+pub opens : (count : ℕ) → count ≤ 80 → GateLaw count 0 (all_seats count ∷ [])
 opens count most =
     let v = all_seats count in
     let none : (P : View → Type 0) → P v → All P (v ∷ []) = λ P this. All-cons P v [] this (All-nil P) in
     record {
+      few = most;
       counted = refl;
-      numbers = (λ number. numbers number count most);
-      seated = none (λ u. away u ≤ u.count) (omega arith);
+      numbers = (λ number. numbers number count);
+      seated = none IsSeatIfAway (λ in_it. absurd (omega arith));
+      total = none (λ u. u.seats ≡ count) refl;
       shut = none (KnowsShut 0) (λ mark. absurd (true≢false (sym mark)));
       shut_by = (λ shut. absurd (true≢false (sym shut)));
       drained = none (KnowsDrained 0 (v ∷ [])) (λ mark. absurd (true≢false (sym mark)));
     }
   where
-    numbers : (k count : ℕ) → count ≤ 80 → 0 + (if nat_le 0 k && nat_lt k (0 + count) then 1 else 0) ≤ (if nat_lt k 80 then 1 else 0)
-    numbers k count most = grind (arith, nat_tests)
+    numbers : (k count : ℕ) → 0 + (if nat_le 0 k && nat_lt k (0 + count) then 1 else 0) ≡ (if nat_lt k count then 1 else 0)
+    numbers k count = grind (arith, nat_tests)

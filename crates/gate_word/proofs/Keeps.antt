@@ -14,7 +14,7 @@ use Rattle.gate_word.specs.declared.step.Step.TheVariants.{Entered, Bounced, Tak
 use Rattle.gate_word.specs.Steps.{shut_bit, is_shut, standing_of, is_shutting, has_shut, found_shut, knows_shut, saw_drained}
 use Rattle.gate_word.specs.Steps.Standing.{Outside, Inside, Bouncing}
 use Rattle.gate_word.specs.Seats.{stepped, adds, away, has_number}
-use Rattle.gate_word.specs.GateLaw.{GateLaw, IsNotInside, NobodyIsInside, KnowsShut, HasShut, KnowsDrained}
+use Rattle.gate_word.specs.GateLaw.{GateLaw, IsNotInside, NobodyIsInside, KnowsShut, HasShut, IsSeatIfAway, KnowsDrained}
 use Rattle.gate_word.proofs.AllOut.{all_outside}
 use Rattle.gate_word.proofs.Places.{within, all_at, any_at, sum_at, at_most}
 
@@ -41,28 +41,31 @@ knows_more true found before mark known = known refl
 knows_more false true before mark known = refl
 knows_more false false before mark known = known mark
 
-module _ (word : ℕ) (views : List View) (place : ℕ) (v : View) (law : GateLaw word views) (at : get_elem? views place ≡ some v) where
+module _ (seats word : ℕ) (views : List View) (place : ℕ) (v : View) (law : GateLaw seats word views) (at : get_elem? views place ≡ some v) where
   keeps_set : (next : ℕ) (step : Step)
       → next + 2 * away v + shut_bit word ≡ word + 2 * away (stepped step v) + shut_bit next
-      → away (stepped step v) ≤ v.count
+      → (away (stepped step v) ≡ 1 → v.count ≡ 1)
       → (is_shut word ≡ true → is_shut next ≡ true)
       → (knows_shut (step ∷ v.steps) ≡ true → is_shut next ≡ true)
-      → (is_shut next ≡ true → (is_shut word ≡ true) ⊎ (has_shut (step ∷ v.steps) ≡ true))
+      → (is_shut next ≡ true → (is_shut word ≡ true) ⊎ HasShut (stepped step v))
       → (saw_drained (step ∷ v.steps) ≡ true → (is_shut word ≡ true) × NobodyIsInside views)
       → (is_shut word ≡ true → IsNotInside v → IsNotInside (stepped step v))
-      → GateLaw next (set views place (stepped step v))
+      → GateLaw seats next (set views place (stepped step v))
   keeps_set next step counts seat stays knows set_by saw not_inside =
       let w = stepped step v in
       let nobody : is_shut word ≡ true → NobodyIsInside views → NobodyIsInside (set views place w) =
       λ shut nobody. All-set IsNotInside views place w (not_inside shut (all_at IsNotInside views place v at nobody)) nobody in
       record {
+        few = law.few;
         counted = (let sum = sum_at away views place v w at in let was = law.counted in omega arith);
         numbers = (λ number. let sum = sum_at (has_number number) views place v w at in let was = law.numbers number in omega arith);
-        seated = All-set (λ u. away u ≤ u.count) views place w seat law.seated;
+        seated = All-set IsSeatIfAway views place w seat law.seated;
+        total = All-set (λ u. u.seats ≡ seats) views place w (all_at (λ u. u.seats ≡ seats) views place v at law.total) law.total;
         shut = All-set (KnowsShut next) views place w knows (λ k d lt mark. stays (law.shut k d lt mark));
         shut_by = (λ shut. ⊎_elim
-            (λ (was : is_shut word ≡ true). any_at HasShut views place v w at (λ marked. ap (λ (b : Bool). is_shutting step || b) marked ∙ or-true (is_shutting step)) (law.shut_by was))
-            (λ (marked : has_shut (step ∷ v.steps) ≡ true). any-set HasShut views place w (within views place v at) marked)
+            (λ (was : is_shut word ≡ true). any_at HasShut views place v w at
+            (λ marked. (marked.0, ap (λ (b : Bool). is_shutting step || b) marked.1 ∙ or-true (is_shutting step))) (law.shut_by was))
+            (λ (marked : HasShut w). any-set HasShut views place w (within views place v at) marked)
             (set_by shut));
         drained = All-set (KnowsDrained next (set views place w)) views place w
             (λ mark. let known = saw mark in (stays known.0, nobody known.0 known.1))
@@ -76,24 +79,24 @@ module _ (word : ℕ) (views : List View) (place : ℕ) (v : View) (law : GateLa
   saw_at : saw_drained v.steps ≡ true → (is_shut word ≡ true) × NobodyIsInside views
   saw_at = all_at (KnowsDrained word views) views place v at law.drained
 
-  seat_at : away v ≤ v.count
-  seat_at = all_at (λ u. away u ≤ u.count) views place v at law.seated
+  seat_at : away v ≡ 1 → v.count ≡ 1
+  seat_at = all_at IsSeatIfAway views place v at law.seated
 
   -- 2 more, by a seat that was outside
-  adds_two : (step : Step) → 1 ≤ v.count → away v ≡ 0 → away (stepped step v) ≡ 1
+  adds_two : (step : Step) → v.count ≡ 1 → away v ≡ 0 → away (stepped step v) ≡ 1
       → (knows_shut (step ∷ v.steps) ≡ true → is_shut word ≡ true)
       → (saw_drained (step ∷ v.steps) ≡ true → saw_drained v.steps ≡ true)
       → (is_shut word ≡ true → IsNotInside (stepped step v))
-      → GateLaw (word + 2) (set views place (stepped step v))
+      → GateLaw seats (word + 2) (set views place (stepped step v))
   adds_two step one outside away_now knows saw not_inside =
       let bit = bit-add word in
       let stays = shut_again word (word + 2) bit in
-      keeps_set (word + 2) step (omega arith) (omega arith) stays (λ mark. stays (knows mark)) (λ shut. inl (shut_again _ word (sym bit) shut)) (λ mark. saw_at (saw mark)) (λ shut _. not_inside shut)
+      keeps_set (word + 2) step (omega arith) (λ _. one) stays (λ mark. stays (knows mark)) (λ shut. inl (shut_again _ word (sym bit) shut)) (λ mark. saw_at (saw mark)) (λ shut _. not_inside shut)
 
-  pub keeps_enter : 1 ≤ v.count → standing_of v.steps ≡ Outside → is_shut word ≡ false → GateLaw (word + 2) (set views place (stepped (Entered word) v))
+  pub keeps_enter : v.count ≡ 1 → standing_of v.steps ≡ Outside → is_shut word ≡ false → GateLaw seats (word + 2) (set views place (stepped (Entered word) v))
   keeps_enter one outside is_open = adds_two (Entered word) one (ap adds outside) refl knows_at (λ mark. mark) (λ shut. absurd (true≢false (sym shut ∙ is_open)))
 
-  pub keeps_bounce : 1 ≤ v.count → standing_of v.steps ≡ Outside → GateLaw (word + 2) (set views place (stepped (Bounced word) v))
+  pub keeps_bounce : v.count ≡ 1 → standing_of v.steps ≡ Outside → GateLaw seats (word + 2) (set views place (stepped (Bounced word) v))
   keeps_bounce one outside = adds_two (Bounced word) one (ap adds outside) refl knows_at (λ mark. mark) (λ _ inside. absurd (cc))
 
   -- who is not outside has added 2, which the word has
@@ -107,33 +110,33 @@ module _ (word : ℕ) (views : List View) (place : ℕ) (v : View) (law : GateLa
   takes_two : (step : Step) → away v ≡ 1 → standing_of (step ∷ v.steps) ≡ Outside
       → (knows_shut (step ∷ v.steps) ≡ true → is_shut word ≡ true)
       → (saw_drained (step ∷ v.steps) ≡ true → saw_drained v.steps ≡ true)
-      → GateLaw (word - 2) (set views place (stepped step v))
+      → GateLaw seats (word - 2) (set views place (stepped step v))
   takes_two step one outside knows saw =
       let two = has_two one in
       let none : away (stepped step v) ≡ 0 = ap adds outside in
       let bit = bit-sub word two in
       let stays = shut_again word (word - 2) bit in
-      keeps_set (word - 2) step (omega arith) (omega arith) stays (λ mark. stays (knows mark)) (λ shut. inl (shut_again _ word (sym bit) shut)) (λ mark. saw_at (saw mark))
+      keeps_set (word - 2) step (omega arith) (λ in_it. absurd (omega arith)) stays (λ mark. stays (knows mark)) (λ shut. inl (shut_again _ word (sym bit) shut)) (λ mark. saw_at (saw mark))
       (λ _ _ inside. let never : Outside ≡ Inside = sym outside ∙ inside in absurd (cc))
 
-  pub keeps_take_off : standing_of v.steps ≡ Bouncing → GateLaw (word - 2) (set views place (stepped (TakenOff word) v))
+  pub keeps_take_off : standing_of v.steps ≡ Bouncing → GateLaw seats (word - 2) (set views place (stepped (TakenOff word) v))
   keeps_take_off bouncing = takes_two (TakenOff word) (ap adds bouncing) refl knows_at (λ mark. mark)
 
-  pub keeps_leave : standing_of v.steps ≡ Inside → GateLaw (word - 2) (set views place (stepped (Left word) v))
+  pub keeps_leave : standing_of v.steps ≡ Inside → GateLaw seats (word - 2) (set views place (stepped (Left word) v))
   keeps_leave inside = takes_two (Left word) (ap adds inside) refl knows_at (λ mark. mark)
 
-  pub keeps_shut : GateLaw (word + (1 - shut_bit word)) (set views place (stepped (Shut word) v))
-  keeps_shut =
+  pub keeps_shut : v.count ≡ 1 → GateLaw seats (word + (1 - shut_bit word)) (set views place (stepped (Shut word) v))
+  keeps_shut one =
       let bit = bit-shut word in
       let low : shut_bit word < 2 = omega arith in
       let closed : is_shut (word + (1 - shut_bit word)) ≡ true = ap (λ (bit : ℕ). bit == 1) bit in
-      keeps_set (word + (1 - shut_bit word)) (Shut word) (omega arith) seat_at (λ _. closed) (λ _. closed) (λ _. inr refl) saw_at (λ _ not_inside. not_inside)
+      keeps_set (word + (1 - shut_bit word)) (Shut word) (omega arith) seat_at (λ _. closed) (λ _. closed) (λ _. inr (one, refl)) saw_at (λ _ not_inside. not_inside)
 
-  pub keeps_look : GateLaw word (set views place (stepped (Looked word) v))
+  pub keeps_look : GateLaw seats word (set views place (stepped (Looked word) v))
   keeps_look = keeps_set word (Looked word) refl seat_at (λ shut. shut) knows_at (λ shut. inl shut) (saw_now (word == 1) refl) (λ _ not_inside. not_inside)
     where
       saw_now : (b : Bool) → (word == 1) ≡ b → (b || saw_drained v.steps) ≡ true → (is_shut word ≡ true) × NobodyIsInside views
       saw_now true one mark =
-          let out = all_outside word views law (eqb-true word 1 one) in
+          let out = all_outside seats word views law (eqb-true word 1 one) in
           (out.0, λ k d lt inside. let outside = out.1 k d lt in let never : Outside ≡ Inside = sym outside ∙ inside in absurd (cc))
       saw_now false other mark = saw_at mark

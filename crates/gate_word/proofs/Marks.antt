@@ -24,7 +24,7 @@ shut_mark old new made = ap has_shut (steps_are SetBit old new made)
 
 pub drained_mark : (old new : Seat) → Makes LookDrained old new → saw_drained new.steps ≡ true
 drained_mark old new made =
-    ap saw_drained (steps_are LookDrained old new made) ∙ ap (λ (n : ℕ). (n == 1) || saw_drained old.steps) made.2
+    ap saw_drained (steps_are LookDrained old new made) ∙ ap (λ (n : ℕ). (n == 1) || saw_drained old.steps) made.2.0
 
 -- a mark that some step left stays, whatever step comes behind it
 any_stays : (mark : Step → Bool) (kind : Kind) (found : ℕ) (old : Seat) → list_any mark old.steps ≡ true → list_any mark (view_after kind found (view_of old)).steps ≡ true

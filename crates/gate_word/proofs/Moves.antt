@@ -32,7 +32,7 @@ At = State (Unit {0}) View
 
 -- what the machine makes of the word is what a step of this kind makes of it, and the seat may make that step
 abbrev IsStep : ℕ → View → (ℕ → ℕ) → (ℕ → Kind) → Type 0
-IsStep place v f kind = (word : ℕ) (views : List View) → GateLaw word views → get_elem? views place ≡ some v
+IsStep place v f kind = (seats word : ℕ) (views : List View) → GateLaw seats word views → get_elem? views place ≡ some v
     → May (kind word) word v × (f word ≡ word_after (kind word) word) × (new_views (kind word) v ≡ [])
 
 steps : (seats slots place : ℕ) (me : Known) (f : ℕ → ℕ) (kind : ℕ → Kind) → IsStep place me.0 f kind → Allows (HasPast seats) slots place me 0 f (Tells kind me)
@@ -40,7 +40,10 @@ steps seats slots place me f kind is_step s past _ at _ =
     let word : ℕ = get_or s.words 0 0 in
     let found : past.0 ≡ word = sym (ap (λ (words : List ℕ). get_or words 0 0) past.1) in
     let reached : Reaches seats word s.views = subst (λ (n : ℕ). Reaches seats n s.views) found past.2 in
-    let is = is_step word s.views (schedule_keeps seats word s.views reached) at in
+    let law = schedule_keeps seats word s.views reached in
+    let is = is_step seats word s.views law at in
+    let total : me.0.seats ≡ seats = all_at (λ v. v.seats ≡ seats) s.views place me.0 at law.total in
+    let own : Reaches me.0.seats word s.views = subst (λ (n : ℕ). Reaches n word s.views) (sym total) reached in
     let w = view_after (kind word) word me.0 in
     let alone : set s.views place w ++ new_views (kind word) me.0 ≡ set s.views place w =
     ap (λ (new : List View). set s.views place w ++ new) is.2 ∙ append-nil (set s.views place w) in
@@ -50,13 +53,13 @@ steps seats slots place me f kind is_step s past _ at _ =
       keeps,
       tt,
       (f word, ap (λ (words : List ℕ). set words 0 (f word)) past.1, goes_on),
-      ((seats, s.views, place, reached, at), is.0, refl),
+      ((s.views, place, own, at), is.0, refl),
     )
 
-pub enters : (seats slots place : ℕ) (me : Known) → 1 ≤ me.0.count → standing_of me.0.steps ≡ Outside
+pub enters : (seats slots place : ℕ) (me : Known) → me.0.count ≡ 1 → standing_of me.0.steps ≡ Outside
     → Allows (HasPast seats) slots place me 0 (λ n. (n + 2) % 2 ^ 64) (Tells entry me)
-enters seats slots place me one outside = steps seats slots place me (λ n. (n + 2) % 2 ^ 64) entry (λ word views law at.
-    let room = small word views law in
+enters seats slots place me one outside = steps seats slots place me (λ n. (n + 2) % 2 ^ 64) entry (λ seats word views law at.
+    let room = small seats word views law in
     let whole : (word + 2) % 18446744073709551616 ≡ word + 2 = omega arith in
     goes word whole (is_shut word) refl)
   where
@@ -71,11 +74,11 @@ less_two word two most = omega arith
 
 pub takes_off : (seats slots place : ℕ) (me : Known) → standing_of me.0.steps ≡ Bouncing → Allows (HasPast seats) slots place me 0 (λ n. (n + (2 ^ 64 - 2)) % 2 ^ 64) (Tells (λ _. TakeOff) me)
 takes_off seats slots place me bouncing = steps seats slots place me (λ n. (n + (2 ^ 64 - 2)) % 2 ^ 64) (λ _. TakeOff)
-    (λ word views law at. (bouncing, less_two word (has_two word views place me.0 law at (ap adds bouncing)) (small word views law), refl))
+    (λ seats word views law at. (bouncing, less_two word (has_two seats word views place me.0 law at (ap adds bouncing)) (small seats word views law), refl))
 
 pub leaves : (seats slots place : ℕ) (me : Known) → standing_of me.0.steps ≡ Inside → Allows (HasPast seats) slots place me 0 (λ n. (n + (2 ^ 64 - 2)) % 2 ^ 64) (Tells (λ _. Leave) me)
 leaves seats slots place me inside = steps seats slots place me (λ n. (n + (2 ^ 64 - 2)) % 2 ^ 64) (λ _. Leave)
-    (λ word views law at. (inside, less_two word (has_two word views place me.0 law at (ap adds inside)) (small word views law), refl))
+    (λ seats word views law at. (inside, less_two word (has_two seats word views place me.0 law at (ap adds inside)) (small seats word views law), refl))
 
 -- setting bit 0
 or_one : (word : ℕ) → bit_or word 1 ≡ word + (1 - shut_bit word)
@@ -85,40 +88,41 @@ or_one word =
     let bit : word % 2 < 2 = omega arith in
     omega arith
 
-pub shuts : (seats slots place : ℕ) (me : Known) → Allows (HasPast seats) slots place me 0 (λ n. bit_or n 1) (Tells (λ _. SetBit) me)
-shuts seats slots place me = steps seats slots place me (λ n. bit_or n 1) (λ _. SetBit) (λ word views law at. (tt, or_one word, refl))
+pub shuts : (seats slots place : ℕ) (me : Known) → me.0.count ≡ 1 → Allows (HasPast seats) slots place me 0 (λ n. bit_or n 1) (Tells (λ _. SetBit) me)
+shuts seats slots place me one = steps seats slots place me (λ n. bit_or n 1) (λ _. SetBit) (λ seats word views law at. (one, or_one word, refl))
 
-pub looks : (seats slots place : ℕ) (me : Known) → Allows (HasPast seats) slots place me 0 (λ n. n) (Tells look me)
-looks seats slots place me = steps seats slots place me (λ n. n) look (λ word views law at. goes word (word == 1) refl)
+pub looks : (seats slots place : ℕ) (me : Known) → me.0.count ≡ 1 → Allows (HasPast seats) slots place me 0 (λ n. n) (Tells look me)
+looks seats slots place me one = steps seats slots place me (λ n. n) look (λ seats word views law at. goes word (word == 1) refl)
   where
     goes : (word : ℕ) (b : Bool) → (word == 1) ≡ b
         → May (if b then LookDrained else Look) word me.0 × (word ≡ word_after (if b then LookDrained else Look) word) × (new_views (if b then LookDrained else Look) me.0 ≡ [])
-    goes word true is = (eqb-true word 1 is, refl, refl)
-    goes word false is = (eqb-false word 1 is, refl, refl)
+    goes word true is = ((eqb-true word 1 is, one), refl, refl)
+    goes word false is = ((eqb-false word 1 is, one), refl, refl)
 
 pub cuts : (seats place : ℕ) (v : View) → 2 ≤ v.count → standing_of v.steps ≡ Outside → Splits (HasPast seats) place v (rest_after_cut v) (cut_seat v)
 cuts seats place v two outside s past at = (past.0, past.1, made Cut place v past.2 at (outside, two))
 
-pub witnesses : (seats place : ℕ) (v : View) → saw_drained v.steps ≡ true → Splits (HasPast seats) place v v token
+pub witnesses : (seats place : ℕ) (v : View) → saw_drained v.steps ≡ true → Splits (HasPast seats) place v v (token v.seats)
 witnesses seats place v saw s past at = (past.0, past.1, made Witness place v past.2 at saw)
 
 -- who saw the gate drained, and who is inside, are never both there
-excluded : (word : ℕ) (views : List View) (one other : ℕ) (inside drained : View) → GateLaw word views
+excluded : (seats word : ℕ) (views : List View) (one other : ℕ) (inside drained : View) → GateLaw seats word views
     → get_elem? views one ≡ some inside → standing_of inside.steps ≡ Inside → get_elem? views other ≡ some drained → saw_drained drained.steps ≡ true → ⊥
-excluded word views one other inside drained law at is there saw =
+excluded seats word views one other inside drained law at is there saw =
     all_at IsNotInside views one inside at (all_at (KnowsDrained word views) views other drained there law.drained saw).1 is
 
-pub clashes : (seats place other : ℕ) (v : View) → standing_of v.steps ≡ Inside → Joins (HasPast seats) place v other token (clash v token) token
-clashes seats place other v inside s past at apart there =
-    let before : get_elem? s.views other ≡ some token = ⊎_elim (λ (t : (other ≡ place) × (clash v token ≡ token)). absurd (apart t.0)) (λ t. t.1) (at_set s.views place other (clash v token) token there) in
-    absurd (excluded past.0 s.views place other v token (schedule_keeps seats past.0 s.views past.2) at inside before refl)
+pub clashes : (seats place other : ℕ) (v w : View) → standing_of v.steps ≡ Inside → saw_drained w.steps ≡ true
+    → Joins (HasPast seats) place v other w (clash v w) (token 0)
+clashes seats place other v w inside saw s past at apart there =
+    let before : get_elem? s.views other ≡ some w = ⊎_elim (λ (t : (other ≡ place) × (clash v w ≡ w)). absurd (apart t.0)) (λ t. t.1) (at_set s.views place other (clash v w) w there) in
+    absurd (excluded seats past.0 s.views place other v w (schedule_keeps seats past.0 s.views past.2) at inside before saw)
 
-pub never : (seats slots place : ℕ) (me : Known) (v : View) (f : ℕ → ℕ) (told : ℕ → Known → Type 0) → standing_of v.steps ≡ Inside → me.0 ≡ clash v token
+pub never : (seats slots place : ℕ) (me : Known) (v w : View) (f : ℕ → ℕ) (told : ℕ → Known → Type 0) → standing_of v.steps ≡ Inside → me.0 ≡ clash v w
     → Allows (HasPast seats) slots place me 0 f told
-never seats slots place me v f told inside is s past _ at _ =
-    let here : get_elem? s.views place ≡ some (clash v token) = at ∙ ap some is in
-    absurd (excluded past.0 s.views place place (clash v token) (clash v token) (schedule_keeps seats past.0 s.views past.2) here inside here refl)
+never seats slots place me v w f told inside is s past _ at _ =
+    let here : get_elem? s.views place ≡ some (clash v w) = at ∙ ap some is in
+    absurd (excluded seats past.0 s.views place place (clash v w) (clash v w) (schedule_keeps seats past.0 s.views past.2) here inside here refl)
 
 -- a seat that knows that the gate is shut finds it shut
 pub finds_shut : (found : ℕ) (v : View) → Moment found v → knows_shut v.steps ≡ true → is_shut found ≡ true
-finds_shut found v moment = all_at (KnowsShut found) moment.1 moment.2 v moment.4 (schedule_keeps moment.0 found moment.1 moment.3).shut
+finds_shut found v moment = all_at (KnowsShut found) moment.0 moment.1 v moment.3 (schedule_keeps v.seats found moment.0 moment.2).shut

@@ -1,5 +1,5 @@
--- Since seat numbers are distinct and below 80, at most 80 seats are not outside.
-use Rattle.std.proofs.Common.{◌≡◌, ℕ, zero, suc, ◌+◌, ◌<◌, ◌≤◌, ⊎_elim, List, [], ◌∷◌, length, get_or, ap, arith}
+-- Since seat numbers are distinct and below that of the seats, which is 80 at most, at most 80 seats are not outside.
+use Rattle.std.proofs.Common.{◌≡◌, ℕ, zero, suc, ◌+◌, ◌<◌, ◌≤◌, ⊎_elim, zero-le, List, [], ◌∷◌, length, get_or, refl, ap, arith}
 use Rattle.std.specs.Prelude.{All, sum_by}
 use Rattle.std.proofs.lemmas.Bool.{cases_lt}
 use Rattle.std.proofs.lemmas.Bool.Decides.{nat_tests}
@@ -9,7 +9,7 @@ use Rattle.gate_word.specs.declared.step.View.{View}
 use Rattle.gate_word.specs.Steps.{shut_bit, Standing, standing_of}
 use Rattle.gate_word.specs.Steps.Standing.{Outside, Inside, Bouncing}
 use Rattle.gate_word.specs.Seats.{adds, away, has_number}
-use Rattle.gate_word.specs.GateLaw.{GateLaw}
+use Rattle.gate_word.specs.GateLaw.{GateLaw, IsSeatIfAway}
 
 -- the sum of f over the numbers below n
 below : ℕ → (ℕ → ℕ) → ℕ
@@ -34,9 +34,9 @@ unfolding below
 below_add zero f g h sums = omega arith
 below_add (suc n) f g h sums = let less = below_add n f g h sums in let here = sums n in omega arith
 
--- a number of a view is below 80
-first_below : (word : ℕ) (views : List View) → GateLaw word views → (k : ℕ) (d : View) → k < length views → 1 ≤ (get_or views k d).count → (get_or views k d).first < 80
-first_below word views law k d lt some_seat =
+-- a number of a view is below that of the seats
+first_below : (seats word : ℕ) (views : List View) → GateLaw seats word views → (k : ℕ) (d : View) → k < length views → 1 ≤ (get_or views k d).count → (get_or views k d).first < seats
+first_below seats word views law k d lt some_seat =
     let v = get_or views k d in
     let has : has_number v.first v ≡ 1 = grind (arith, nat_tests) in
     let part : has_number v.first v ≤ sum_by (has_number v.first) views = get_or-le-sum_by (has_number v.first) views k d lt in
@@ -48,13 +48,18 @@ adds_most Outside = omega arith
 adds_most Inside = omega arith
 adds_most Bouncing = omega arith
 
+counts : (standing : Standing) (count : ℕ) → (adds standing ≡ 1 → count ≡ 1) → adds standing ≤ count
+counts Outside count one = zero-le
+counts Inside count one = let is = one refl in omega arith
+counts Bouncing count one = let is = one refl in omega arith
+
 -- each view that is not outside has a number of its own among those below n
-away_below : (n : ℕ) (views : List View) → All (λ v. away v ≤ v.count) views → All (λ v. 1 ≤ v.count → v.first < n) views
+away_below : (n : ℕ) (views : List View) → All IsSeatIfAway views → All (λ v. 1 ≤ v.count → v.first < n) views
     → sum_by away views ≤ below n (λ k. sum_by (has_number k) views)
 away_below n [] seated small = omega arith
 away_below n (v ∷ vs) seated small =
-    let less = away_below n vs (All-tail (λ u. away u ≤ u.count) v vs seated) (All-tail (λ u. 1 ≤ u.count → u.first < n) v vs small) in
-    let seat = All-head (λ u. away u ≤ u.count) v vs seated in
+    let less = away_below n vs (All-tail IsSeatIfAway v vs seated) (All-tail (λ u. 1 ≤ u.count → u.first < n) v vs small) in
+    let seat = counts (standing_of v.steps) v.count (All-head IsSeatIfAway v vs seated) in
     let first = All-head (λ u. 1 ≤ u.count → u.first < n) v vs small in
     let parts = below_add n (λ k. sum_by (has_number k) (v ∷ vs)) (λ k. has_number k v) (λ k. sum_by (has_number k) vs) (λ k. sum_by-cons (has_number k) v vs) in
     let one : away v ≤ below n (λ k. has_number k v) = ⊎_elim
@@ -68,10 +73,11 @@ away_below n (v ∷ vs) seated small =
     omega (arith, sum_by-cons away v vs)
 
 -- so the word is at most 161, and adding 2 doesn't wrap
-pub small : (word : ℕ) (views : List View) → GateLaw word views → word < 162
-small word views law =
+pub small : (seats word : ℕ) (views : List View) → GateLaw seats word views → word < 162
+small seats word views law =
     let bit : shut_bit word < 2 = omega arith in
-    let less = away_below 80 views law.seated (first_below word views law) in
-    let most = below_most 80 (λ k. sum_by (has_number k) views) (λ k. let most = law.numbers k in grind (arith, nat_tests)) in
+    let less = away_below seats views law.seated (first_below seats word views law) in
+    let most = below_most seats (λ k. sum_by (has_number k) views) (λ k. let most = law.numbers k in grind (arith, nat_tests)) in
+    let few = law.few in
     let is = law.counted in
     omega arith

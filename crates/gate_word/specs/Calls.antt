@@ -8,7 +8,7 @@ use Rattle.gate_word.specs.Schedules.{Moment}
 -- the seat made one step of this kind, at a moment at which it might, and no other
 abbrev pub Makes : Kind → Seat → Seat → Type 0
 Makes kind old new =
-    (found : ℕ) × Moment found (view_of old) × May kind found (view_of old) × (new ≡ seat_of old.gate (view_after kind found (view_of old)))
+    (found : ℕ) × Moment found (view_of old) × May kind found (view_of old) × (new ≡ seat_of old.gate.word (view_after kind found (view_of old)))
 
 -- the gate was open, and the seat is inside
 abbrev pub Enters : Seat → Seat → Type 0

@@ -18,20 +18,27 @@ NobodyIsInside views = All IsNotInside views
 abbrev pub KnowsShut : ℕ → View → Type 0
 KnowsShut word v = knows_shut v.steps ≡ true → is_shut word ≡ true
 
+-- one seat, which shut the gate
 abbrev pub HasShut : View → Type 0
-HasShut v = has_shut v.steps ≡ true
+HasShut v = (v.count ≡ 1) × (has_shut v.steps ≡ true)
+
+-- what is not outside is one seat
+abbrev pub IsSeatIfAway : View → Type 0
+IsSeatIfAway v = away v ≡ 1 → v.count ≡ 1
 
 -- who saw the gate drained knows that the bit is set and that nobody is inside
 abbrev pub KnowsDrained : ℕ → List View → View → Type 0
 KnowsDrained word views v = saw_drained v.steps ≡ true → (is_shut word ≡ true) × NobodyIsInside views
 
-pub record GateLaw (word : ℕ) (views : List View) : Type 0 where
+pub record GateLaw (seats word : ℕ) (views : List View) : Type 0 where
+  pub few : seats ≤ 80
   -- the word is twice the number of seats that are not outside, plus the shut bit
   pub counted : word ≡ 2 * sum_by away views + shut_bit word
-  -- each number below 80 is one seat's at most, and no seat has another
-  pub numbers : (number : ℕ) → sum_by (has_number number) views ≤ (if nat_lt number 80 then 1 else 0)
-  -- what is not outside is a seat
-  pub seated : All (λ v. away v ≤ v.count) views
+  -- each number below that of the seats is one view's, and no view has another: no seat is hidden, and none is there twice
+  pub numbers : (number : ℕ) → sum_by (has_number number) views ≡ (if nat_lt number seats then 1 else 0)
+  pub seated : All IsSeatIfAway views
+  -- each view says how many seats there are
+  pub total : All (λ v. v.seats ≡ seats) views
   -- the gate is shut where somebody shut it, and nowhere else
   pub shut : All (KnowsShut word) views
   pub shut_by : is_shut word ≡ true → Any HasShut views

@@ -21,16 +21,16 @@ pub data Kind : Type 0 where
   Look : Kind
   Witness : Kind
 
--- where the word is this number, a seat with the view v may make the step
+-- where the word is this number, the holder of the view v may make the step: but for the cutting and the token, one seat
 abbrev pub May : Kind → ℕ → View → Type 0
 May Cut word v = (standing_of v.steps ≡ Outside) × (2 ≤ v.count)
-May Enter word v = (standing_of v.steps ≡ Outside) × (1 ≤ v.count) × (is_shut word ≡ false)
-May Bounce word v = (standing_of v.steps ≡ Outside) × (1 ≤ v.count) × (is_shut word ≡ true)
+May Enter word v = (standing_of v.steps ≡ Outside) × (v.count ≡ 1) × (is_shut word ≡ false)
+May Bounce word v = (standing_of v.steps ≡ Outside) × (v.count ≡ 1) × (is_shut word ≡ true)
 May TakeOff word v = standing_of v.steps ≡ Bouncing
 May Leave word v = standing_of v.steps ≡ Inside
-May SetBit word v = Unit {0}
-May LookDrained word v = word ≡ 1
-May Look word v = word ≢ 1
+May SetBit word v = v.count ≡ 1
+May LookDrained word v = (word ≡ 1) × (v.count ≡ 1)
+May Look word v = (word ≢ 1) × (v.count ≡ 1)
 May Witness word v = saw_drained v.steps ≡ true
 
 -- what the step makes of the word
@@ -60,7 +60,7 @@ view_after Witness word v = v
 -- and the view that it brings
 abbrev pub new_views : Kind → View → List View
 new_views Cut v = cut_seat v ∷ []
-new_views Witness v = token ∷ []
+new_views Witness v = token v.seats ∷ []
 new_views _ v = []
 
 -- all views, where the seat at this place makes the step

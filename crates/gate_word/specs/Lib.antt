@@ -4,4 +4,5 @@ pub mod Kinds
 pub mod Schedules
 pub mod GateLaw
 pub mod Calls
+pub mod Visits
 pub mod Rule

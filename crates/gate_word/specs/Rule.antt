@@ -53,4 +53,4 @@ IsBounced me = IsOneSeat Bouncing me
 
 -- what stands behind a token
 abbrev pub IsToken : Me (Unit {0}) View → Type 0
-IsToken me = me ≡ (token, [])
+IsToken me = me ≡ (token me.0.seats, [])

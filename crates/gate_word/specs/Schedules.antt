@@ -13,6 +13,6 @@ pub data Reaches (seats : ℕ) : ℕ → List View → Type 0 where
       Reaches seats word views → get_elem? views place ≡ some v → May kind word v →
       Reaches seats (word_after kind word) (views_after kind word views place v)
 
--- a moment of some schedule, at which the word is this number and some seat has this view
+-- a moment of some schedule of a gate with as many seats as the view says, at which the word is this number and somebody has this view
 abbrev pub Moment : ℕ → View → Type 0
-Moment word v = (seats : ℕ) × (views : List View) × (place : ℕ) × Reaches seats word views × (get_elem? views place ≡ some v)
+Moment word v = (views : List View) × (place : ℕ) × Reaches v.seats word views × (get_elem? views place ≡ some v)

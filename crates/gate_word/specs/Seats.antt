@@ -7,9 +7,10 @@ use Rattle.gate_word.specs.declared.step.View.{View}
 use Rattle.gate_word.specs.Steps.{Standing, standing_of}
 use Rattle.gate_word.specs.Steps.Standing.{Outside, Inside, Bouncing}
 
--- which gate it is: what no other gate shares with it
-abbrev pub GateId : Type 0
-GateId = TableId
+-- which gate it is: its word, which no other gate shares with it, and how many seats it was opened with
+pub record GateId : Type 0 where
+  pub word : TableId
+  pub seats : ℕ
 
 -- a seat, as a value of its own or inside a turn: its gate, its number, and the steps that it has made, the newest first
 pub record Seat : Type 0 where
@@ -30,31 +31,34 @@ pub record AreNewSeats (gate : GateId) (count : ℕ) (seats : List Seat) : Type 
 abbrev pub AreSeatsOf : GateId → List Seat → Type 0
 AreSeatsOf gate seats = All (λ seat. seat.gate ≡ gate) seats
 
--- the view of a seat, and the seat that such a view is of
+-- the view of a seat, the seat that such a view is of, and the gate of a view
 abbrev pub view_of : Seat → View
-view_of seat = record { first = seat.number; count = 1; steps = seat.steps }
+view_of seat = record { seats = seat.gate.seats; first = seat.number; count = 1; steps = seat.steps }
 
-abbrev pub seat_of : GateId → View → Seat
-seat_of gate v = record { gate = gate; number = v.first; steps = v.steps }
+abbrev pub gate_of : TableId → View → GateId
+gate_of word v = record { word = word; seats = v.seats }
+
+abbrev pub seat_of : TableId → View → Seat
+seat_of word v = record { gate = gate_of word v; number = v.first; steps = v.steps }
 
 -- the view of who has all seats
 abbrev pub all_seats : ℕ → View
-all_seats count = record { first = 0; count = count; steps = [] }
+all_seats seats = record { seats = seats; first = 0; count = seats; steps = [] }
 
 -- the view of the first of some seats, cut off from the others, and that of the others
 abbrev pub cut_seat : View → View
-cut_seat v = record { first = v.first; count = 1; steps = [] }
+cut_seat v = record { seats = v.seats; first = v.first; count = 1; steps = [] }
 
 abbrev pub rest_after_cut : View → View
-rest_after_cut v = record { first = v.first + 1; count = v.count - 1; steps = v.steps }
+rest_after_cut v = record { seats = v.seats; first = v.first + 1; count = v.count - 1; steps = v.steps }
 
--- the view in a token: no seat, and a look that found 1
-abbrev pub token : View
-token = record { first = 0; count = 0; steps = Looked 1 ∷ [] }
+-- the view in a token of a gate with so many seats: no seat, and a look that found 1
+abbrev pub token : ℕ → View
+token seats = record { seats = seats; first = 0; count = 0; steps = Looked 1 ∷ [] }
 
 -- the view after one step more
 abbrev pub stepped : Step → View → View
-stepped step v = record { first = v.first; count = v.count; steps = step ∷ v.steps }
+stepped step v = record { seats = v.seats; first = v.first; count = v.count; steps = step ∷ v.steps }
 
 -- 1 for a seat that has added 2 to the word and not taken it off
 abbrev pub adds : Standing → ℕ

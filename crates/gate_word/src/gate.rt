@@ -17,7 +17,8 @@ pub const MOST_SEATS: usize = 80;
 
 /// A gate, which threads share by reference.
 ///
-/// Contracts see it as its identity, which no other gate has. Its seats, turns and tokens show the gate that they are of.
+/// Contracts see it as its identity, which no other gate has, and which says how many seats it has. Its seats, turns
+/// and tokens show the gate that they are of. A gate is `Send` and `Sync`.
 #[derive(Drop)]
 pub struct Gate {
     word: Word,
@@ -29,14 +30,15 @@ impl Model for Gate {
 
     ghost Value = { GateId };
 
-    ghost view = { λ g. g.word.shared.table_id };
+    ghost view = { λ g. record { word = g.word.shared.table_id; seats = g.word.shared.key } };
 
     ghost invariant = { λ g. g.word.shared.table_id.words ≡ 1 };
 }
 
 impl Gate {
-    /// An open gate with nobody inside, and its seats, of which there are 1 to [`MOST_SEATS`]. They are numbered from 0 on,
-    /// in the order of the list. Takes the memory for the word and for the list.
+    /// An open gate with nobody inside, and its seats, of which there are 1 to [`MOST_SEATS`]. They are numbered from
+    /// 0 on, in the order of the list, and there are no others, so that nobody else can shut the gate or stand inside.
+    /// Takes the memory for the word and for the list.
     ///
     /// # Errors
     ///
@@ -44,6 +46,7 @@ impl Gate {
     #[tactic(auto, using(crate::proofs::EachKind::starts))]
     pub fn open(alloc: Global, seats: usize) -> Result<(Gate, Vec<GateSeat>), GateError>
         requires { (1 ≤ seats) × (seats ≤ MOST_SEATS) }
+        ensures total { IfOk result (λ opened. opened.0.seats ≡ seats) }
         ensures seats { IfOk result (λ opened. AreNewSeats opened.0 seats opened.1.items) }
         ensures gate { IfOk result (λ opened. AreSeatsOf opened.0 opened.1.items) }
     {
@@ -64,8 +67,8 @@ impl Gate {
     ///
     /// # Errors
     ///
-    /// 401 [`Refused`]: the gate was shut at the step. The seat is handed back, and knows that the gate is shut. This comes
-    /// to every seat that shut the gate or found it shut before.
+    /// 401 [`Refused`]: the gate was shut at the step. The seat is handed back, and knows that the gate is shut. This
+    /// comes to every seat that shut the gate or found it shut before.
     pub fn enter(&self, seat: GateSeat) -> Result<Turn, Refused>
         requires { seat.gate ≡ self.now }
         ensures answer { MatchResult result (Enters seat) (λ refused. IsRefused seat refused.seat) }
@@ -113,8 +116,8 @@ impl Gate {
         GateSeat { pass }
     }
 
-    /// Shuts the gate for good: from now on every [`Gate::enter`] is refused. Where it is shut already this leaves the word
-    /// as it is.
+    /// Shuts the gate for good: from now on every [`Gate::enter`] is refused. Where it is shut already this leaves the
+    /// word as it is.
     pub fn shut(&self, seat: &mut GateSeat)
         requires { seat.old.gate ≡ self.now }
         ensures { Shuts seat.old seat.new }
@@ -122,8 +125,8 @@ impl Gate {
         word::shut(&self.word, &mut seat.pass);
     }
 
-    /// Looks whether the gate is shut and everybody is outside. `None` where it is open, or where some seat is inside or has
-    /// been refused and not yet taken off what it added: a later look may find it drained.
+    /// Looks whether the gate is shut and everybody is outside. `None` where it is open, or where some seat is inside
+    /// or has been refused and not yet taken off what it added: a later look may find it drained.
     pub fn drained(&self, seat: &mut GateSeat) -> Option<Drained>
         requires { seat.old.gate ≡ self.now }
         ensures { Looks seat.old result seat.new }
@@ -156,8 +159,8 @@ impl Gate {
         }
     }
 
-    /// No turn is out once a token was given. What this ensures is false, so there is no call of it in any run; a caller that
-    /// holds both has what it needs to show that it is not reached.
+    /// No turn is out once a token was given. What this ensures is false, so there is no call of it in any run; a
+    /// caller that holds both has what it needs to show that it is not reached.
     pub fn refute(&self, drained: &mut Drained, turn: &mut Turn)
         requires drained { drained.old ≡ self.now }
         requires turn { turn.old.gate ≡ self.now }

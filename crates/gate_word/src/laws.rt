@@ -13,22 +13,23 @@ ghost use Rattle.gate_word.specs.Schedules.{Reaches};
 ghost use Rattle.gate_word.specs.Calls.{Makes};
 
 /// **The gate law.** Whatever steps the seats of a gate make, in whatever order, between any two of them the word is
-/// twice the number of seats that are not outside, plus the shut bit; no two seats have one number, and all numbers are
-/// below 80; the bit is set where somebody shut the gate, and nowhere else, and who shut it or found it shut knows that;
-/// and once somebody saw it drained, the bit is set and nobody is inside (`holds`). The word is 1 exactly where the gate is
-/// shut and everybody is outside (`drained`). A gate that is shut is never open again (`stays_shut`).
+/// twice the number of seats that are not outside, plus the shut bit; each number below that of the gate's seats is
+/// one seat's, and no seat has another, so that none is hidden and none is there twice; the bit is set where one of
+/// them shut the gate, and nowhere else, and who shut it or found it shut knows that; and once somebody saw it
+/// drained, the bit is set and nobody is inside (`holds`). The word is 1 exactly where the gate is shut and everybody
+/// is outside (`drained`). A gate that is shut is never open again (`stays_shut`).
 pub fn gate_law()
-    ensures holds { (seats word : ℕ) (views : List View) → Reaches seats word views → GateLaw word views }
+    ensures holds { (seats word : ℕ) (views : List View) → Reaches seats word views → GateLaw seats word views }
     ensures drained { (seats word : ℕ) (views : List View) → Reaches seats word views →
         (word ≡ 1) ↔ ((is_shut word ≡ true) × All IsOutside views) }
-    ensures stays_shut { (kind : Kind) (word : ℕ) (views : List View) (place : ℕ) (v : View) →
-        GateLaw word views → get_elem? views place ≡ some v → May kind word v →
+    ensures stays_shut { (kind : Kind) (seats word : ℕ) (views : List View) (place : ℕ) (v : View) →
+        GateLaw seats word views → get_elem? views place ≡ some v → May kind word v →
         is_shut word ≡ true → is_shut (word_after kind word) ≡ true }
 {}
 
 /// The marks of a seat. Who was refused found the gate shut, who shut it has shut it, and who found the word 1 saw it
-/// drained (`refused`, `shut`, `drained`); no step takes a mark away (`shut_stays`, `found_stays`, `drained_stays`); and
-/// who shut the gate or found it shut doesn't get in again (`kept_out`).
+/// drained (`refused`, `shut`, `drained`); no step takes a mark away (`shut_stays`, `found_stays`, `drained_stays`);
+/// and who shut the gate or found it shut doesn't get in again (`kept_out`).
 pub fn marks()
     ensures refused { (old new : Seat) → Makes Bounce old new → found_shut new.steps ≡ true }
     ensures shut { (old new : Seat) → Makes SetBit old new → has_shut new.steps ≡ true }

@@ -4,7 +4,8 @@ use std::fmt;
 use std::fmt::{Debug, Formatter};
 use std::marker::Model;
 
-/// One of a gate's seats, outside the gate. It takes no bytes, and may go to another thread.
+/// One of a gate's seats, outside the gate. It takes no bytes, and may go to another thread: it is `Send`, and not
+/// `Sync`, so what keeps a seat and is shared by threads keeps it under a lock.
 ///
 /// Contracts see it as a `Seat`: the gate that it is of, its number, and the steps that it has made, the newest first,
 /// each with the number that it found in the gate's word.
@@ -30,8 +31,8 @@ impl Debug for GateSeat {
     }
 }
 
-/// A seat that is inside its gate. It takes no bytes, and may go to another thread. It can't be dropped: it ends in
-/// [`Gate::leave`](crate::Gate::leave).
+/// A seat that is inside its gate. It takes no bytes, and may go to another thread: it is `Send`, and not `Sync`. It
+/// can't be dropped: it ends in [`Gate::leave`](crate::Gate::leave).
 ///
 /// Contracts see it as they see the seat.
 pub struct Turn {
@@ -65,8 +66,9 @@ impl Model for Bounced {
     ghost invariant = { λ s. IsBounced s.pass.me };
 }
 
-/// The token that a gate is shut and nobody is inside it, now and for ever: where there is one, there is no [`Turn`] of its
-/// gate ([`Gate::refute`](crate::Gate::refute)). It takes no bytes, and may go to another thread.
+/// The token that a gate is shut and nobody is inside it, now and for ever: where there is one, there is no [`Turn`]
+/// of its gate ([`Gate::refute`](crate::Gate::refute)). It takes no bytes, and may go to another thread: it is `Send`,
+/// and not `Sync`.
 ///
 /// Contracts see it as the gate that it is of.
 #[derive(Drop)]
@@ -75,12 +77,12 @@ pub struct Drained {
 }
 
 impl Model for Drained {
-    ghost use Rattle.gate_word.specs.Seats.{GateId};
+    ghost use Rattle.gate_word.specs.Seats.{GateId, gate_of};
     ghost use Rattle.gate_word.specs.Rule.{IsToken};
 
     ghost Value = { GateId };
 
-    ghost view = { λ d. d.pass.table_id };
+    ghost view = { λ d. gate_of d.pass.table_id d.pass.me.0 };
 
     ghost invariant = { λ d. IsToken d.pass.me };
 }

@@ -17,9 +17,10 @@ pub enum Step {
     Looked(u64),
 }
 
-/// What the holder of some seats knows: their numbers, which are `count` from `first` on, and the steps that were
-/// made, the newest first.
+/// What the holder of some seats knows: how many seats its gate has, the numbers of its own, which are `count` from
+/// `first` on, and the steps that were made, the newest first.
 pub struct View {
+    pub seats: u64,
     pub first: u64,
     pub count: u64,
     pub steps: LinkedList<Step>,

@@ -1,11 +1,12 @@
-//! The word: a table of `atomic_table` with one word and no slot, under a rule, and the steps on it. The rule is that some
-//! schedule leads to what is there, so each step owes the table that it is one of a schedule. It tells which one it was.
+//! The word: a table of `atomic_table` with one word and no slot, under a rule, and the steps on it. The rule is that
+//! some schedule leads to what is there, so each step owes the table that it is one of a schedule. It tells which one
+//! it was.
 ghost use Rattle.std.specs.Prelude.{◌≡◌, ◌≤◌, ◌%◌, true, []};
 ghost use Rattle.gate_word.specs.Steps.{standing_of, knows_shut, saw_drained};
 ghost use Rattle.gate_word.specs.Steps.Standing.{Outside, Inside, Bouncing};
 ghost use Rattle.gate_word.specs.Seats.{cut_seat, rest_after_cut, token};
 ghost use Rattle.gate_word.specs.Kinds.Kind.{TakeOff, Leave, SetBit};
-ghost use Rattle.gate_word.specs.Rule.{IsPassOf, entry, look, Tells, clash};
+ghost use Rattle.gate_word.specs.Rule.{IsPassOf, IsToken, entry, look, Tells, clash};
 
 use crate::step::View;
 use atomic_table::{Join, Play, Seat, Split, Table, TableRule};
@@ -94,7 +95,7 @@ impl Split<View> for Witnessing {
 
     ghost left = { λ v. v };
 
-    ghost right = { λ _. token };
+    ghost right = { λ v. token v.seats };
 }
 
 /// Puts a turn's view and a token's into one, which the law allows nobody to have.
@@ -106,7 +107,7 @@ impl Join<View> for Clashing {
 
     ghost both = { clash };
 
-    ghost spent = { token };
+    ghost spent = { token 0 };
 }
 
 /// A step that nobody can make.
@@ -125,7 +126,7 @@ pub const SHUT: u64 = 1;
 /// Adds 2, and answers the number that was there.
 pub fn add(word: &Word, pass: &mut Pass) -> u64
     requires word { IsPassOf word.now.shared.table_id pass.old.table_id }
-    requires seat { (1 ≤ pass.old.me.0.count) × (standing_of pass.old.me.0.steps ≡ Outside) }
+    requires seat { (pass.old.me.0.count ≡ 1) × (standing_of pass.old.me.0.steps ≡ Outside) }
     ensures same { pass.new.table_id ≡ pass.old.table_id }
     ensures told { Tells entry pass.old.me result pass.new.me }
     ensures shut { knows_shut pass.old.me.0.steps ≡ true → result % 2 ≡ 1 }
@@ -155,7 +156,8 @@ pub fn leave(word: &Word, pass: &mut Pass) -> u64
 
 /// Sets the shut bit, and answers the number that was there.
 pub fn shut(word: &Word, pass: &mut Pass) -> u64
-    requires { IsPassOf word.now.shared.table_id pass.old.table_id }
+    requires word { IsPassOf word.now.shared.table_id pass.old.table_id }
+    requires seat { pass.old.me.0.count ≡ 1 }
     ensures same { pass.new.table_id ≡ pass.old.table_id }
     ensures told { Tells (λ _. SetBit) pass.old.me result pass.new.me }
 {
@@ -164,7 +166,8 @@ pub fn shut(word: &Word, pass: &mut Pass) -> u64
 
 /// The number that is there.
 pub fn look_at(word: &Word, pass: &mut Pass) -> u64
-    requires { IsPassOf word.now.shared.table_id pass.old.table_id }
+    requires word { IsPassOf word.now.shared.table_id pass.old.table_id }
+    requires seat { pass.old.me.0.count ≡ 1 }
     ensures same { pass.new.table_id ≡ pass.old.table_id }
     ensures told { Tells look pass.old.me result pass.new.me }
 {
@@ -188,7 +191,7 @@ pub fn witness(word: &Word, pass: &mut Pass) -> Pass
     requires seat { saw_drained pass.old.me.0.steps ≡ true }
     ensures same { (pass.new.table_id ≡ pass.old.table_id) × (result.table_id ≡ pass.old.table_id) }
     ensures rest { pass.new.me ≡ pass.old.me }
-    ensures token { result.me ≡ (token, []) }
+    ensures token { result.me ≡ (token pass.old.me.0.seats, []) }
 {
     word.shared.split_seat::<Witnessing>(pass)
 }
@@ -196,7 +199,7 @@ pub fn witness(word: &Word, pass: &mut Pass) -> Pass
 /// A turn and a token are never both there.
 pub fn refute(word: &Word, turn: &mut Pass, drained: Pass)
     requires turn { IsPassOf word.now.shared.table_id turn.old.table_id × (standing_of turn.old.me.0.steps ≡ Inside) }
-    requires drained { IsPassOf word.now.shared.table_id drained.table_id × (drained.me ≡ (token, [])) }
+    requires drained { IsPassOf word.now.shared.table_id drained.table_id × IsToken drained.me }
     ensures { ⊥ }
 {
     word.shared.join_seat::<Clashing>(turn, drained);

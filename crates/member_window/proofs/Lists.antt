@@ -1,9 +1,9 @@
 -- Identifiers of entries: which are there, that they differ, and what is left without one.
-use Rattle.std.proofs.Common.{◌≡◌, ◌≢◌, ◌⊎◌, ℕ, zero, suc, ◌+◌, ◌<◌, ◌≤◌, ◌==◌, not, Bool, true, false, cond, replicate, set, List, [], ◌∷◌, ◌++◌, map, length, take, slice_index_or, Option, Some, None, MatchOption, Contains, All, refl, sym, ap, ◌∙◌, subst, inl, inr, ⊎_elim, arith, eq-eqb, ne_eqb, length-set, get_or-set_same, get_or-set_other}
-use Rattle.std.proofs.lemmas.Bool.{cases_eq, false≢true}
-use Rattle.std.proofs.lemmas.List.{length-map, get_or-map, get_or_default, get_or-replicate, length-replicate, map_push, take_more}
-use Rattle.std.proofs.lemmas.List.Elements.{Contains-push_cases as contains_push_cases, Contains-append_left, Contains-append_right, Contains-get_or, Contains-push}
-use Rattle.std.specs.List.{remove, HoldsAt, AllWithin}
+use Rattle.std.proofs.Common.{◌≡◌, ◌≢◌, ◌⊎◌, ℕ, zero, suc, ◌<◌, ◌≤◌, ◌==◌, not, Bool, true, false, cond, List, [], ◌∷◌, ◌++◌, map, length, slice_index_or, Contains, All, refl, sym, ap, ◌∙◌, subst, inl, inr, ⊎_elim, arith, eq-eqb, ne_eqb}
+use Rattle.std.proofs.lemmas.Bool.{cases_eq}
+use Rattle.std.proofs.lemmas.List.{length-map, get_or-map, get_or_default}
+use Rattle.std.proofs.lemmas.List.Elements.{Contains-push_cases as contains_push_cases, Contains-append_left, Contains-append_right, Contains-get_or}
+use Rattle.std.specs.List.{remove, HoldsAt}
 use Rattle.member_window.specs.Identifiers.{identifiers, entries_without, identifiers_without, AreDistinct}
 
 pub contains_here : {X : Type 0} (x : X) (xs : List X) → Contains (x ∷ xs) x
@@ -141,59 +141,6 @@ contains_identifier {T} es k item h =
     let f : ℕ × T → ℕ = λ e. e.0 in
     let long : length (map f es) ≡ length es = length-map es f in
     subst (λ (x : ℕ). Contains (map f es) x) (get_or-map f es h.0 (k, item) k h.1 ∙ ap f h.2) (Contains-get_or (map f es) h.0 k (omega (arith, h.1)))
-
--- one more entry
-pub identifiers_more : {T : Type 0} (es : List (ℕ × T)) (place : ℕ) (e : ℕ × T) → place < length es → e ≡ slice_index_or es place e → identifiers (take (place + 1) es) ≡ identifiers (take place es) ++ e.0 ∷ []
-identifiers_more {T} es place e lt read =
-    let f : ℕ × T → ℕ = λ e. e.0 in
-    ap (map f) (take_more es place e lt) ∙ map_push f (take place es) (slice_index_or es place e) ∙ ap (λ x. identifiers (take place es) ++ x ∷ []) (ap f (sym read))
-
--- what a search for an identifier says
-absent_within : {T : Type 0} (es : List (ℕ × T)) (k : ℕ) → AllWithin (λ e. e.0 ≢ k) es 0 (length es) → ¬ Contains (identifiers es) k
-absent_within [] k none c = contains_nil k c
-absent_within (e ∷ es) k none c =
-    ⊎_elim
-    (λ (here : e.0 ≡ k). none 0 e (omega arith) (omega arith) here)
-    (λ (later : Contains (identifiers es) k). absent_within es k (λ j d low high. none (suc j) d (omega arith) (omega arith)) later)
-    (contains_cons_cases e.0 (identifiers es) k c)
-
-pub found_or_absent : {T : Type 0} (es : List (ℕ × T)) (k : ℕ) (answer : Option ℕ) → MatchOption answer (AllWithin (λ e. e.0 ≢ k) es 0 (length es)) (λ place. (place < length es) × HoldsAt (λ e. e.0 ≡ k) es place × AllWithin (λ e. e.0 ≢ k) es 0 place) → MatchOption answer (¬ Contains (identifiers es) k) (λ place. (place < length es) × HoldsAt (λ e. e.0 ≡ k) es place)
-found_or_absent es k None h = absent_within es k h
-found_or_absent es k (Some place) h = (h.0, h.1)
-
--- which identifiers are marked
-pub record AreMarked (marks : List Bool) (js : List ℕ) : Type 0 where
-  pub long : length marks ≡ 257
-  pub marked : (k : ℕ) → k < 257 → slice_index_or marks k false ≡ true → Contains js k
-  pub unmarked : (k : ℕ) → k < 257 → Contains js k → slice_index_or marks k false ≡ true
-
-pub none_marked : AreMarked (replicate 257 false) []
-none_marked =
-    record {
-      long = length-replicate 257 false;
-      marked = λ k lt e. absurd (false≢true (sym (get_or-replicate 257 k false false lt) ∙ e));
-      unmarked = λ k lt c. absurd (contains_nil k c);
-    }
-
-pub marked_more : (marks : List Bool) (js : List ℕ) (j : ℕ) → AreMarked marks js → j < 257 → AreMarked (set marks j true) (js ++ j ∷ [])
-marked_more marks js j h small =
-    record {
-      long = length-set marks j true ∙ h.long;
-      marked = λ k lt e.
-          ⊎_elim
-          (λ (same : k ≡ j). subst (λ x. Contains (js ++ j ∷ []) x) (sym same) (Contains-push js j))
-          (λ (other : k ≢ j). Contains-append_left js (j ∷ []) k (h.marked k lt (sym (get_or-set_other marks j k true false other) ∙ e)))
-          (cases_eq k j);
-      unmarked = λ k lt c.
-          ⊎_elim
-          (λ (same : k ≡ j). ap (λ x. slice_index_or (set marks j true) x false) same ∙ get_or-set_same marks j true false (let long = h.long in omega arith))
-          (λ (other : k ≢ j).
-          ⊎_elim
-          (λ (before : Contains js k). get_or-set_other marks j k true false other ∙ h.unmarked k lt before)
-          (λ (here : j ≡ k). absurd (other (sym here)))
-          (contains_push_cases js j k c))
-          (cases_eq k j);
-    }
 
 -- where an entry was found by its identifier
 pub held_there : {T : Type 0} (es : List (ℕ × T)) (place : ℕ) (k : ℕ) → place < length es → HoldsAt (λ entry. entry.0 ≡ k) es place → (e : ℕ × T) → e ≡ slice_index_or es place e → Contains es (k, e.1)

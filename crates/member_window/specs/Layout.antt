@@ -8,10 +8,9 @@ abbrev pub contents_of : {T : Type 0} → List (ℕ × T) → ℕ → Option ℕ
 contents_of entries owed quota retired =
     record { owed = take owed entries; waiting = drop owed entries; quota = quota; retired = retired }
 
--- there is a reserved place for each of 256 entries
-pub record IsKept {T : Type 0} (entries : List (ℕ × T)) (capacity owed : ℕ) (quota : Option ℕ) (retired : Bool) : Type 0 where
+-- no more is owed than is held, and what holds of every window
+pub record IsKept {T : Type 0} (entries : List (ℕ × T)) (owed : ℕ) (quota : Option ℕ) (retired : Bool) : Type 0 where
   pub within : owed ≤ length entries
-  pub reserved : 256 ≤ capacity
   pub sound : IsSound (contents_of entries owed quota retired)
 
 -- a window is stored as the tuple of its fields

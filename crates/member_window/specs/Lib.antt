@@ -5,4 +5,6 @@ pub mod Contents
 pub mod Calls
 pub mod Runs
 pub mod Loan
+pub mod Free
+pub mod Order
 pub mod Layout

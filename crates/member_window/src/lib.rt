@@ -10,16 +10,25 @@
 //! The items need be neither copied nor dropped. All memory is taken by [`Window::new`]; no later
 //! call takes any, and none waits.
 //!
+//! ```
+//! let mut window = Window::new(rt.alloc())?;
+//! window.up(1); // a connection, with a Receive Maximum of 1
+//! assert_eq!(rt; window.put(0x41), Ok(1));
+//! assert_eq!(rt; window.put(0x42), Err(0x42)); // there is no room
+//! assert_eq!(rt; window.ack(1), Some(0x41));
+//! assert_eq!(rt; window.put(0x42), Ok(1));
+//! ```
+//!
 //! The laws are in [`laws`]: every transcript of calls is legal, and what that means.
 #![tactic(auto)]
 
+mod entries;
 mod error;
-mod identifiers;
+mod free;
 pub mod laws;
+mod rows;
+mod state;
 mod window;
 
 pub use error::WindowError;
 pub use window::{CAPACITY, Window};
-
-#[cfg(test)]
-mod tests;

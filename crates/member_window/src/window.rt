@@ -1,10 +1,9 @@
 //! The window of a session.
 ghost use Rattle.std.specs.Prelude.{◌≡◌, ◌↔◌, ℕ, false, [], length, IfOk, IfSome, IsSome, IsTrue, MatchBool, MatchOption, slice_get};
 
+use crate::entries::Entries;
 use crate::error::WindowError;
-use crate::identifiers::{least_free, place_of};
 use std::alloc::Global;
-use std::collections::VecDeque;
 use std::marker::Model;
 
 /// How many items a window keeps: 256. It is also the greatest quota and the greatest packet
@@ -22,11 +21,9 @@ pub const CAPACITY: usize = 256;
 /// A window whose items can't be dropped can't be dropped either: [`Window::end`] ends an empty one.
 #[derive(Drop)]
 pub struct Window<T> {
-    // What is held, in order of first sending.
-    entries: VecDeque<(u16, T)>,
-    // How many of these, from the oldest on, were sent on this connection. Resends go oldest first,
-    // and a fresh item is sent only when none waits, so these are always the first.
-    owed: usize,
+    // What is held, in order of first sending. Resends go oldest first, and a fresh item is sent only when none waits,
+    // so those that were sent on this connection are always the first.
+    entries: Entries<T>,
     // How many may be owed at once, while a connection is up.
     quota: Option<usize>,
     // The session is ending.
@@ -34,7 +31,6 @@ pub struct Window<T> {
 }
 
 impl<T> Model for Window<T> {
-    ghost use Rattle.std.specs.VecDeque.{deque_capacity};
     ghost use Rattle.member_window.specs.Contents.{Contents};
     ghost use Rattle.member_window.specs.Layout.{contents_code, contents_of, IsKept};
 
@@ -42,9 +38,9 @@ impl<T> Model for Window<T> {
 
     ghost coded = { contents_code T.code };
 
-    ghost view = { λ w. contents_of w.entries.items w.owed w.quota w.retired };
+    ghost view = { λ w. contents_of w.entries.all w.entries.owed w.quota w.retired };
 
-    ghost invariant = { λ w. IsKept w.entries.items (deque_capacity w.entries) w.owed w.quota w.retired };
+    ghost invariant = { λ w. IsKept w.entries.all w.entries.owed w.quota w.retired };
 }
 
 impl<T> Window<T> {
@@ -63,10 +59,11 @@ impl<T> Window<T> {
     pub fn new(alloc: Global) -> Result<Window<T>, WindowError>
         ensures { IfOk result (λ window. window ≡ new_contents) }
     {
-        let entries = VecDeque::with_capacity(alloc, CAPACITY).map_err(|_| WindowError::Memory)?;
+        let Ok(entries) = Entries::new(alloc) else {
+            return Err(WindowError::Memory);
+        };
         Ok(Window {
             entries,
-            owed: 0,
             quota: None,
             retired: false,
         })
@@ -83,7 +80,7 @@ impl<T> Window<T> {
         ensures sound { IsSound self.old }
     {
         self.quota = Some(usize::from(receive_maximum).min(CAPACITY));
-        self.owed = 0; // every item waits again
+        self.entries.wait(); // every item waits again
     }
 
     /// The connection ends. Nothing is owed, every item waits, and there is no quota. Where no
@@ -92,7 +89,7 @@ impl<T> Window<T> {
         ensures { self.new ≡ after_down self.old }
     {
         self.quota = None;
-        self.owed = 0; // nothing is owed without a connection
+        self.entries.wait(); // nothing is owed without a connection
     }
 
     /// Whether a fresh item may be sent: a connection is up, no item waits, and fewer items are owed
@@ -100,7 +97,7 @@ impl<T> Window<T> {
     pub fn room(&self) -> bool
         ensures { IsTrue result ↔ HasRoom self.now }
     {
-        self.has_quota() && self.owed == self.entries.len()
+        self.has_quota() && self.entries.owed() == self.entries.len()
     }
 
     /// A fresh item is sent, with DUP 0, under the packet identifier that is given: the least from 1
@@ -116,10 +113,7 @@ impl<T> Window<T> {
         if !self.room() {
             return Err(item);
         }
-        let identifier = least_free(&self.entries);
-        self.entries.push_back_reserved((identifier, item));
-        self.owed += 1;
-        Ok(identifier)
+        Ok(self.entries.push(item))
     }
 
     /// The first waiting item is sent again, with DUP 1, under its own packet identifier, and is
@@ -142,9 +136,8 @@ impl<T> Window<T> {
         requires { self.old.retired ≡ false }
         ensures { Acks self.old identifier result self.new }
     {
-        let place = place_of(&self.entries, identifier)?;
-        self.owed -= usize::from(place < self.owed);
-        let (_, item) = self.entries.remove(place)?;
+        let place = self.entries.place_of(identifier)?;
+        let (_, item) = self.entries.remove(place);
         Some(item)
     }
 
@@ -159,7 +152,10 @@ impl<T> Window<T> {
         ensures restorable { IfSome result (λ entry. MayRestore self.new entry.0) }
     {
         self.retired = true;
-        self.entries.pop_front()
+        if self.entries.len() == 0 {
+            return None;
+        }
+        Some(self.entries.remove(0))
     }
 
     /// Puts an item back in front of the others.
@@ -170,7 +166,7 @@ impl<T> Window<T> {
         requires { MayRestore self.old identifier }
         ensures { self.new ≡ after_restore self.old identifier item }
     {
-        self.entries.push_front_reserved((identifier, item));
+        self.entries.push_front(identifier, item);
     }
 
     /// Whether the session is ending: [`Window::take_first`] was called. No connection is up then.
@@ -200,7 +196,7 @@ impl<T> Window<T> {
     pub fn is_empty(&self) -> bool
         ensures { IsTrue result ↔ (held_of self.now ≡ []) }
     {
-        self.entries.is_empty()
+        self.entries.len() == 0
     }
 
     /// A look at the item at this place in order of first sending, from 0, with its packet
@@ -208,8 +204,7 @@ impl<T> Window<T> {
     pub fn get(&self, place: usize) -> Option<(u16, &T)>
         ensures { lent_entry result ≡ slice_get (held_of self.now) place }
     {
-        let (identifier, item) = self.entries.get(place)?;
-        Some((*identifier, item))
+        self.entries.get(place)
     }
 
     /// Ends a window that holds nothing, as [`Window::is_empty`] tells.
@@ -218,7 +213,6 @@ impl<T> Window<T> {
     {
         let Window {
             entries,
-            owed: _,
             quota: _,
             retired: _,
         } = self;
@@ -229,7 +223,8 @@ impl<T> Window<T> {
     fn has_quota(&self) -> bool
         ensures { IsTrue result ↔ HasQuota self.now }
     {
-        self.quota.is_some_and(|quota| self.owed < quota)
+        let owed = self.entries.owed();
+        self.quota.is_some_and(|quota| owed < quota)
     }
 
     /// Owes the first waiting item, and gives its place.
@@ -239,11 +234,11 @@ impl<T> Window<T> {
             × (self.new ≡ after_resend self.old (Some entry))
             × (slice_get (held_of self.new) place ≡ Some entry)) }
     {
-        if !self.has_quota() || self.owed == self.entries.len() {
+        let place = self.entries.owed();
+        if !self.has_quota() || place == self.entries.len() {
             return None;
         }
-        let place = self.owed;
-        self.owed += 1;
+        self.entries.owe_next();
         Some(place)
     }
 }

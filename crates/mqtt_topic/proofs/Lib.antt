@@ -3,3 +3,4 @@ pub mod ShareLaws
 pub mod SlotLaws
 pub mod MatchLaws
 pub mod SpellingLaws
+pub mod RouteLaws

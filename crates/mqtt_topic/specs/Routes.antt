@@ -1,5 +1,6 @@
 -- The table of routes: which slot a share is bound to, and which slots a name is routed to (profile).
 use Rattle.std.specs.Prelude.{◌≡◌, ℕ, zero, suc, ◌+◌, ◌*◌, ◌/◌, ◌%◌, ◌<◌, ◌==◌, ◌⊎◌, bytes_eq, Bool, true, false, if◌then◌else◌, List, [], ◌∷◌, ◌++◌, length, map, position, Option, Some, None, Result, Ok, Err}
+use Rattle.std.specs.List.{AllByRecursion}
 use Rattle.mqtt_topic.specs.declared.error.TopicError.{TopicError}
 use Rattle.mqtt_topic.specs.declared.error.TopicError.TheVariants as error
 use Rattle.mqtt_topic.specs.Levels.{matches}
@@ -12,6 +13,11 @@ most_routes = 8
 -- the slot that a share is bound to: two shares are one where their texts are one
 abbrev pub slot_of : List ℕ → List Share → Option ℕ
 slot_of text shares = position (λ share. bytes_eq share.text text) shares
+
+-- no share has the text of one behind it
+abbrev pub AreDistinct : List Share → Type 0
+AreDistinct [] = Unit {0}
+AreDistinct (share ∷ others) = AllByRecursion (λ other. bytes_eq share.text other.text ≡ false) others × AreDistinct others
 
 -- for each bound slot, whether its filter matches the name
 abbrev pub routed : List ℕ → List Share → List Bool

@@ -4,10 +4,11 @@ ghost use Rattle.mqtt_topic.specs.declared.error.TopicError.TheVariants as error
 ghost use Rattle.std.specs.Prelude.{◌≡◌};
 ghost use Rattle.mqtt_topic.specs.Refusals.{number_of};
 
+use mqtt_wire::Text;
 use std::alloc::AllocFailed;
 use thiserror::Error;
 
-/// The refusals of this crate. A refused call changes nothing.
+/// Why a call of this crate is refused. A refused call changes nothing.
 #[derive(Clone, Copy, Debug, PartialEq, Eq, Error)]
 pub enum TopicError {
     /// 201: a topic name or a filter has at least one character (section 4.7.3).
@@ -52,5 +53,22 @@ impl<T: Drop> From<AllocFailed<T>> for TopicError {
 
     fn from(_error: AllocFailed<T>) -> TopicError {
         TopicError::Memory
+    }
+}
+
+/// A text that was refused, and why.
+#[derive(Debug, Drop)]
+pub struct RefusedText {
+    /// The text as it was given.
+    pub text: Text,
+    /// Why it was refused.
+    pub error: TopicError,
+}
+
+impl From<RefusedText> for TopicError {
+    ghost from_gives = { λ refused result. result ≡ refused.error };
+
+    fn from(refused: RefusedText) -> TopicError {
+        refused.error
     }
 }

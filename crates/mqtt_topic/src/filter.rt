@@ -3,8 +3,9 @@
 ghost use Rattle.std.specs.Prelude.{◌≡◌, Ok};
 ghost use Rattle.mqtt_topic.specs.Levels.{levels_of, levels_left, text_left, matches};
 ghost use Rattle.mqtt_topic.specs.Names.{is_placed, are_placed, filter_of, checked};
+ghost use Rattle.mqtt_topic.specs.Refusals.{ParseAnswers};
 
-use crate::error::TopicError;
+use crate::error::{RefusedText, TopicError};
 use crate::levels::{has_wildcard, is_multi_level, matches, split_level};
 use crate::topic_name::TopicName;
 use mqtt_wire::Text;
@@ -28,12 +29,15 @@ impl Model for Filter {
 }
 
 impl Filter {
-    /// The filter that the text is. Refusals: 201 where it is empty, 202 where a wildcard stands out of place.
-    pub fn parse(text: Text) -> Result<Filter, TopicError>
-        ensures { result ≡ filter_of text }
+    /// The filter that the text is. Refusals: 201 where it is empty, 202 where a wildcard stands out of place; the text comes
+    /// back.
+    pub fn parse(text: Text) -> Result<Filter, RefusedText>
+        ensures { ParseAnswers text result (filter_of text) }
     {
-        check_filter(text.as_bytes())?;
-        Ok(Filter { text })
+        match check_filter(text.as_bytes()) {
+            Ok(()) => Ok(Filter { text }),
+            Err(error) => Err(RefusedText { text, error }),
+        }
     }
 
     /// The bytes of the filter, as UTF-8.

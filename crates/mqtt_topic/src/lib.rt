@@ -8,11 +8,9 @@ mod levels;
 mod routes;
 mod share;
 mod slots;
-#[cfg(test)]
-mod tests;
 mod topic_name;
 
-pub use error::TopicError;
+pub use error::{RefusedText, TopicError};
 pub use filter::Filter;
 pub use laws::{
     levels_are_cut, multi_level_matches_all, multi_level_matches_the_parent,

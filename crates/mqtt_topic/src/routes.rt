@@ -1,7 +1,7 @@
 //! The table of routes: which share is bound to which slot.
 
-ghost use Rattle.std.specs.Prelude.{◌≡◌, [], ◌<◌, ◌≤◌, length, position};
-ghost use Rattle.mqtt_topic.specs.Routes.{slot_of, routed, byte_of, sets_of, places_of, BindAnswers};
+ghost use Rattle.std.specs.Prelude.{◌≡◌, [], ◌<◌, ◌≤◌, length, position, All, IfOk, IfSome};
+ghost use Rattle.mqtt_topic.specs.Routes.{slot_of, routed, byte_of, sets_of, places_of, AreDistinct, BindAnswers};
 
 use crate::error::TopicError;
 use crate::share::Share;
@@ -22,12 +22,13 @@ pub struct Routes {
 impl Model for Routes {
     ghost use Rattle.std.specs.Prelude.{List, length, ◌≤◌};
     ghost use Rattle.mqtt_topic.specs.Names.{Share};
+    ghost use Rattle.mqtt_topic.specs.Routes.{AreDistinct};
 
     ghost Value = { List Share };
 
     ghost view = { λ routes. routes.shares.items };
 
-    ghost invariant = { λ routes. length routes.shares.items ≤ 8 };
+    ghost invariant = { λ routes. (length routes.shares.items ≤ 8) × AreDistinct routes.shares.items };
 }
 
 impl Routes {
@@ -43,7 +44,8 @@ impl Routes {
     /// Binds the share: the slot that it is bound to already, or the least free one. Refusals: 205 where all eight slots are
     /// bound to other shares, 206 where memory is refused; then nothing has changed.
     pub fn bind(&mut self, share: Share) -> Result<u8, TopicError>
-        ensures { BindAnswers self.old share result self.new }
+        ensures answer { BindAnswers self.old share result self.new }
+        ensures small { IfOk result (λ slot. slot < 8) }
     {
         if let Some(slot) = self.find(&share) {
             return Ok(slot);
@@ -58,23 +60,27 @@ impl Routes {
 
     /// The slot that the share is bound to; `None` where it is bound to none.
     pub fn find(&self, share: &Share) -> Option<u8>
-        ensures { result ≡ slot_of share.now.text self.now }
+        ensures value { result ≡ slot_of share.now.text self.now }
+        ensures small { IfSome result (λ slot. slot < 8) }
     {
         let text = share.text();
         let slot = place_of(self.shares.as_slice(), text)?;
         Some(slot as u8)
     }
 
-    /// The bound shares, the one of slot n at place n.
+    /// The bound shares, the one of slot n at place n: eight at most, and no two of one text.
     pub fn shares(&self) -> &[Share]
-        ensures { result.now ≡ self.now }
+        ensures value { result.now ≡ self.now }
+        ensures few { length result.now ≤ 8 }
+        ensures distinct { AreDistinct result.now }
     {
         self.shares.as_slice()
     }
 
     /// The bound slots whose filter matches the name. It takes no memory.
     pub fn matching(&self, name: &TopicName) -> Slots
-        ensures { result ≡ places_of 0 (routed name.now self.now) }
+        ensures value { result ≡ places_of 0 (routed name.now self.now) }
+        ensures small { All (λ slot. slot < 8) result }
     {
         Slots::from_byte(byte_of(self.shares.as_slice(), name))
     }

@@ -3,8 +3,9 @@
 ghost use Rattle.std.specs.Prelude.{◌≡◌, ◌+◌, ◌≤◌, ◌<◌, List, ℕ, Ok, length, drop, position, IfOk};
 ghost use Rattle.mqtt_topic.specs.Levels.{is_separator, matches};
 ghost use Rattle.mqtt_topic.specs.Names.{share_of, share_cut, share_from, moved};
+ghost use Rattle.mqtt_topic.specs.Refusals.{ParseAnswers};
 
-use crate::error::TopicError;
+use crate::error::{RefusedText, TopicError};
 use crate::filter::check_filter;
 use crate::levels::{has_wildcard, matches, separator_at};
 use crate::topic_name::TopicName;
@@ -35,12 +36,14 @@ impl Model for Share {
 
 impl Share {
     /// The share that the text is. Refusals, in this order: 204 where it does not begin with `$share/`; 203 where the name is
-    /// empty, has a wildcard, or no `/` follows it; 201 or 202 for the filter.
-    pub fn parse(text: Text) -> Result<Share, TopicError>
-        ensures { result ≡ share_of text }
+    /// empty, has a wildcard, or no `/` follows it; 201 or 202 for the filter. The text comes back.
+    pub fn parse(text: Text) -> Result<Share, RefusedText>
+        ensures { ParseAnswers text result (share_of text) }
     {
-        let filter_at = filter_at(text.as_bytes())?;
-        Ok(Share { text, filter_at })
+        match filter_at(text.as_bytes()) {
+            Ok(filter_at) => Ok(Share { text, filter_at }),
+            Err(error) => Err(RefusedText { text, error }),
+        }
     }
 
     /// The whole text, as UTF-8.

@@ -1,6 +1,6 @@
 //! Sets of slots.
 
-ghost use Rattle.std.specs.Prelude.{◌≡◌, ◌≤◌};
+ghost use Rattle.std.specs.Prelude.{◌≡◌, ◌≤◌, ◌↔◌, [], length, Contains, IsTrue};
 ghost use Rattle.std.specs.Iterator.{YieldsFirst, item_count};
 ghost use Rattle.mqtt_topic.specs.Routes.{slots_in};
 
@@ -29,9 +29,31 @@ impl Slots {
         Slots { byte }
     }
 
+    /// How many slots there are.
+    pub fn len(&self) -> usize
+        ensures { result ≡ length self.now }
+    {
+        self.iter().count()
+    }
+
+    /// Whether there is no slot.
+    pub fn is_empty(&self) -> bool
+        ensures { IsTrue result ↔ (self.now ≡ []) }
+    {
+        self.byte == 0
+    }
+
+    /// Whether the slot is there.
+    pub fn contains(&self, slot: u8) -> bool
+        ensures { IsTrue result ↔ Contains self.now slot }
+    {
+        self.iter().any(|other| other == slot)
+    }
+
     /// The slots, in rising order.
     pub fn iter(&self) -> SlotIter
-        ensures { result ≡ self.now }
+        ensures slots { result ≡ self.now }
+        ensures few { length result ≤ 8 }
     {
         SlotIter {
             byte: self.byte,

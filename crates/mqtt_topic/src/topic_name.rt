@@ -2,8 +2,9 @@
 
 ghost use Rattle.std.specs.Prelude.{◌≡◌, Ok};
 ghost use Rattle.mqtt_topic.specs.Names.{name_of, checked};
+ghost use Rattle.mqtt_topic.specs.Refusals.{ParseAnswers};
 
-use crate::error::TopicError;
+use crate::error::{RefusedText, TopicError};
 use crate::levels::has_wildcard;
 use mqtt_wire::Text;
 use std::marker::Model;
@@ -26,12 +27,14 @@ impl Model for TopicName {
 }
 
 impl TopicName {
-    /// The topic name that the text is. Refusals: 201 where it is empty, 202 where a wildcard is in it.
-    pub fn parse(text: Text) -> Result<TopicName, TopicError>
-        ensures { result ≡ name_of text }
+    /// The topic name that the text is. Refusals: 201 where it is empty, 202 where a wildcard is in it; the text comes back.
+    pub fn parse(text: Text) -> Result<TopicName, RefusedText>
+        ensures { ParseAnswers text result (name_of text) }
     {
-        check_name(text.as_bytes())?;
-        Ok(TopicName { text })
+        match check_name(text.as_bytes()) {
+            Ok(()) => Ok(TopicName { text }),
+            Err(error) => Err(RefusedText { text, error }),
+        }
     }
 
     /// The bytes of the name, as UTF-8.

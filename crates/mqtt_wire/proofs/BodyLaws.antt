@@ -24,7 +24,8 @@ use Rattle.mqtt_wire.specs.Sections.{properties_at}
 use Rattle.mqtt_wire.specs.PropertyLists.{publish_of, puback_of, subscribe_of, unsubscribe_of, disconnect_of}
 use Rattle.mqtt_wire.specs.Bodies.{delivery_at, publish_body_at, reason_at, puback_at, disconnect_at, subscription_at, entries_at, subscribe_at, unsubscribe_at, body_at}
 use Rattle.mqtt_wire.specs.Writing.{qos_of, delivery_bytes, subscription_bytes, flags_of, packet_byte}
-use Rattle.mqtt_wire.specs.Spelling.{IsIdentifier, IsDelivery, IsFiltered, IsFromClient, SpellsPublish, SpellsPuback, SpellsDisconnect, SpellsSubscribe, SpellsUnsubscribe, SpellsBody}
+use Rattle.mqtt_wire.specs.Spelling.{SpellsPublish, SpellsPuback, SpellsDisconnect, SpellsSubscribe, SpellsUnsubscribe, SpellsBody}
+use Rattle.mqtt_wire.specs.Ranges.{IsIdentifier, IsDelivery, IsFiltered, IsFromClient}
 use Rattle.mqtt_wire.specs.Stream.{AreBytes}
 use Rattle.mqtt_wire.proofs.Steps.{bind_ok, ok_is, Front}
 use Rattle.mqtt_wire.proofs.FieldLaws.{text_takes, identifier_takes, text_again, identifier_again}

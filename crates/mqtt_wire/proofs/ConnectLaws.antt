@@ -19,9 +19,10 @@ use Rattle.mqtt_wire.specs.declared.properties.Properties.{Properties}
 use Rattle.mqtt_wire.specs.Sections.{properties_at, SpellsProperties}
 use Rattle.mqtt_wire.specs.PropertyLists.{bytes_if, connect_of}
 use Rattle.mqtt_wire.specs.Protocol.{is_mqtt_5, are_connect_flags, has_will}
-use Rattle.mqtt_wire.specs.Bodies.{expect, connect_payload_at, connect_fields_at, connect_5_at, connect_at}
+use Rattle.mqtt_wire.specs.ConnectBody.{expect, connect_payload_at, connect_fields_at, connect_5_at, connect_at}
 use Rattle.mqtt_wire.specs.Writing.{protocol, connect_flags, connect_payload, packet_byte}
-use Rattle.mqtt_wire.specs.Spelling.{IsFromClient, SpellsBody, SpellsConnect, SpellsOtherVersion, SpellsWithWill}
+use Rattle.mqtt_wire.specs.Spelling.{SpellsBody, SpellsConnect, SpellsOtherVersion, SpellsWithWill}
+use Rattle.mqtt_wire.specs.Ranges.{IsFromClient}
 use Rattle.mqtt_wire.specs.Stream.{AreBytes}
 use Rattle.mqtt_wire.proofs.Steps.{bind_ok, ok_is, Front, Front-then}
 use Rattle.mqtt_wire.proofs.Variable.{chosen}

@@ -9,7 +9,7 @@ use Rattle.mqtt_wire.specs.Forms.{utf8_string, IsText}
 use Rattle.mqtt_wire.specs.Fields.{Field, byte_at, text_at}
 use Rattle.mqtt_wire.specs.Bodies.{options_at, subscription_at, entries_within, at_least_one, entries_at}
 use Rattle.mqtt_wire.specs.Writing.{options_byte, subscription_bytes}
-use Rattle.mqtt_wire.specs.Spelling.{IsFiltered}
+use Rattle.mqtt_wire.specs.Ranges.{IsFiltered}
 use Rattle.mqtt_wire.specs.Stream.{AreBytes}
 use Rattle.mqtt_wire.proofs.Steps.{bind_ok, ok_is, Front, Front-then}
 use Rattle.mqtt_wire.proofs.FieldLaws.{byte_takes, byte_again, text_takes, text_shorter, text_again}

@@ -6,7 +6,7 @@ use Rattle.std.proofs.lemmas.List.{take_at, drop_at, take-append-drop}
 use Rattle.mqtt_wire.specs.Forms.{u16_bytes, u32_bytes, binary_data, utf8_string, is_text, variable_byte_integer, IsText, IsBinary}
 use Rattle.mqtt_wire.specs.Fields.{Field, byte_at, u16_at, u32_at, binary_at, text_at, not_zero, identifier_at, flag_at, variable_at, whole, variable_field_at}
 use Rattle.mqtt_wire.specs.Kinds.{bit}
-use Rattle.mqtt_wire.specs.Spelling.{IsIdentifier}
+use Rattle.mqtt_wire.specs.Ranges.{IsIdentifier}
 use Rattle.mqtt_wire.specs.Stream.{AreBytes}
 use Rattle.mqtt_wire.specs.declared.fault.StreamFault.TheVariants.{Protocol}
 use Rattle.mqtt_wire.proofs.Steps.{bind_ok, unless_ok, if_ok, ok_is, drop_bytes, rest_bytes, Front}

@@ -11,10 +11,14 @@ pub mod OptionLaws
 pub mod EntryLaws
 pub mod ConnectLaws
 pub mod PropertyListLaws
+pub mod OrderLaws
+pub mod FirstFaultLaws
 pub mod ReasonLaws
+pub mod FitLaws
 pub mod BodyLaws
 pub mod NextLaws
 pub mod WritingLaws
 pub mod PropertySizeLaws
+pub mod ShortLaws
 pub mod StreamLaws
 pub mod PieceLaws

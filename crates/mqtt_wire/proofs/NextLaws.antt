@@ -17,11 +17,12 @@ use Rattle.mqtt_wire.specs.Kinds.{first_byte}
 use Rattle.mqtt_wire.specs.Bodies.{body_at}
 use Rattle.mqtt_wire.specs.Writing.{framed}
 use Rattle.mqtt_wire.specs.Spelling.{Spells}
-use Rattle.mqtt_wire.specs.Stream.{Header, header_at, Frames, IsOpen, FaultAt, AreBytes, Unread}
+use Rattle.mqtt_wire.specs.Stream.{Header, header_at, Frames, HoldsPacket, IsOpen, FaultAt, AreBytes, Unread}
 use Rattle.mqtt_wire.specs.Frame.{header_with, header_bytes, frame_bytes, bytes_in_hand, IsInHand, IsHeld, Keeps, TakesFrame, TakesPacket, unread}
 use Rattle.mqtt_wire.proofs.Steps.{drop_bytes, take_bytes}
 use Rattle.mqtt_wire.proofs.Variable.{at_most_three, at_least_three}
 use Rattle.mqtt_wire.proofs.HeaderLaws.{header_takes, header_again}
+use Rattle.mqtt_wire.proofs.FitLaws.{spelled_fits}
 use Rattle.mqtt_wire.proofs.BodyLaws.{body_takes}
 
 -- ---- sizes
@@ -74,6 +75,18 @@ frame_header frame rest small =
     ap header_at (append_assoc (first_byte frame.kind ∷ variable_byte_integer (length frame.body)) frame.body rest)
     ∙ header_again frame.kind (length frame.body) (frame.body ++ rest) small
 
+-- a frame is a whole packet in front of the bytes
+pub frame_holds : (frame : Frame) (rest : List ℕ) → length frame.body ≤ 65532 → HoldsPacket (frame_bytes frame ++ rest)
+frame_holds frame rest small = (
+  record { kind = frame.kind; remaining = length frame.body; rest = frame.body ++ rest },
+  record { found = frame_header frame rest small; whole = omega (arith, length-append frame.body rest) },
+)
+
+-- a header with a whole body behind it is one too
+pub headed_holds : (header : FixedHeader) (rest : List ℕ) → header.remaining ≤ 65532 → header.remaining ≤ length rest → HoldsPacket (header_bytes header ++ rest)
+headed_holds header rest small whole =
+    (header_with header rest, record { found = header_again header.kind header.remaining rest small; whole = whole })
+
 -- a fault in the body of a frame stands in front of the bytes
 pub frame_fault : (frame : Frame) (rest : List ℕ) (fault : StreamFault) → length frame.body ≤ 65532 → body_at frame.kind frame.body ≡ Err fault → FaultAt fault (frame_bytes frame ++ rest)
 frame_fault frame rest fault small e =
@@ -87,6 +100,7 @@ frame_spells frame packet small fits e =
     let b = body_takes frame.kind frame.body packet fits e in
     record {
       client = b.client;
+      fits = spelled_fits packet frame.body b.spelled;
       body = frame.body;
       spelled = b.spelled;
       parts = ap (λ (first : ℕ). framed first frame.body) (sym b.byte);
@@ -157,7 +171,7 @@ takes_frame hand old frame new packet held keeps e =
 -- what is in hand could not be read
 pub frame_fails : (hand : InHand) (old : List ℕ) (frame : Frame) (new : List ℕ) (fault : Fault) → IsHeld hand old → Keeps hand old (Whole frame) new → Fails fault (body_at frame.kind frame.body) → TakesPacket hand old (Err fault) (Whole frame) new
 frame_fails hand old frame new Memory held keeps e =
-    (still_held hand old (Whole frame) new held keeps, (refl, same_unread hand old (Whole frame) new None keeps))
+    (still_held hand old (Whole frame) new held keeps, (refl, subst HoldsPacket keeps.same (frame_holds frame new keeps.small), same_unread hand old (Whole frame) new None keeps))
 frame_fails hand old frame new (Stream fault) held keeps e = (
   still_held hand old (Whole frame) new held keeps,
   (

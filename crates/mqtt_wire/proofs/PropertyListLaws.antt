@@ -18,7 +18,8 @@ use Rattle.mqtt_wire.specs.declared.packet_properties.UnsubscribeProperties.{Uns
 use Rattle.mqtt_wire.specs.declared.packet_properties.DisconnectProperties.{DisconnectProperties}
 use Rattle.mqtt_wire.specs.Properties.{name_of, may_come, nothing, with_property}
 use Rattle.mqtt_wire.specs.Sections.{property_bytes, IsProperty, properties, SpellsProperties}
-use Rattle.mqtt_wire.specs.PropertyLists.{optional, user_bytes, authentication_bytes, Fits, ArePairs, AuthenticationFits, authentication_of, connect_from, connect_of, connect_list, ConnectFits, publish_of, publish_list, PublishFits, puback_of, puback_list, PubackFits, subscribe_of, subscribe_list, SubscribeFits, unsubscribe_of, unsubscribe_list, UnsubscribeFits, disconnect_of, disconnect_list, DisconnectFits}
+use Rattle.mqtt_wire.specs.PropertyLists.{optional, user_bytes, authentication_bytes, authentication_of, connect_from, connect_of, connect_list, publish_of, publish_list, puback_of, puback_list, subscribe_of, subscribe_list, unsubscribe_of, unsubscribe_list, disconnect_of, disconnect_list}
+use Rattle.mqtt_wire.specs.Ranges.{Fits, ArePairs, AuthenticationFits, ConnectFits, PublishFits, PubackFits, SubscribeFits, UnsubscribeFits, DisconnectFits}
 use Rattle.mqtt_wire.proofs.SectionLaws.{Gathered}
 
 -- nothing more

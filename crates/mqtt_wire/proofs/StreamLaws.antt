@@ -11,7 +11,7 @@ use Rattle.mqtt_wire.specs.Forms.{variable_byte_integer}
 use Rattle.mqtt_wire.specs.Kinds.{first_byte}
 use Rattle.mqtt_wire.specs.Bodies.{body_at}
 use Rattle.mqtt_wire.specs.Writing.{packet_byte, framed, connect_body, publish_body, written_body, written, reason_bytes}
-use Rattle.mqtt_wire.specs.Spelling.{IsFromClient, PropertiesFit, SpellsConnect, SpellsPublish, SpellsPuback, SpellsSubscribe, SpellsUnsubscribe, SpellsDisconnect, SpellsBody, Spells}
+use Rattle.mqtt_wire.specs.Spelling.{SpellsConnect, SpellsPublish, SpellsPuback, SpellsSubscribe, SpellsUnsubscribe, SpellsDisconnect, SpellsBody, Spells}
 use Rattle.mqtt_wire.specs.Stream.{Header, header_at, Frames, IsOpen, FaultAt, EndsAs, Begins, Reads, Reading, AreBytes}
 use Rattle.mqtt_wire.specs.Frame.{frame_bytes}
 use Rattle.mqtt_wire.proofs.BodyLaws.{body_again}
@@ -23,7 +23,8 @@ use Rattle.mqtt_wire.specs.declared.packet.Unsubscribe.{Unsubscribe}
 use Rattle.mqtt_wire.specs.declared.packet.Disconnect.{Disconnect}
 use Rattle.mqtt_wire.specs.declared.property.Section.TheVariants as sections
 use Rattle.mqtt_wire.specs.Sections.{properties}
-use Rattle.mqtt_wire.specs.PropertyLists.{connect_list, publish_list, puback_list, subscribe_list, unsubscribe_list, disconnect_list, ConnectFits, PublishFits, PubackFits, SubscribeFits, UnsubscribeFits, DisconnectFits}
+use Rattle.mqtt_wire.specs.PropertyLists.{connect_list, publish_list, puback_list, subscribe_list, unsubscribe_list, disconnect_list}
+use Rattle.mqtt_wire.specs.Ranges.{ConnectFits, PublishFits, PubackFits, SubscribeFits, UnsubscribeFits, DisconnectFits, IsFromClient, PropertiesFit}
 use Rattle.mqtt_wire.proofs.ReasonLaws.{reason_written}
 use Rattle.mqtt_wire.proofs.PropertyListLaws.{spelled, all_of_connect, connect_gathered, connect_back, all_of_publish, publish_gathered, publish_back, all_of_puback, puback_gathered, puback_back, all_of_subscribe, subscribe_gathered, subscribe_back, all_of_unsubscribe, unsubscribe_gathered, unsubscribe_back, all_of_disconnect, disconnect_gathered, disconnect_back}
 use Rattle.mqtt_wire.proofs.ConnectLaws.{shortest_other_version, shortest_with_will}
@@ -279,7 +280,7 @@ written_body_spells packets.WithWill client fits = shortest_with_will
 pub written_spells : (packet : Packet) → IsFromClient packet → PropertiesFit packet → length (written packet) ≤ 65536 → Spells packet (written packet)
 unfolding written
 written_spells packet client fits small =
-    record { client = client; body = written_body packet; spelled = written_body_spells packet client fits; parts = refl; size = small }
+    record { client = client; fits = fits; body = written_body packet; spelled = written_body_spells packet client fits; parts = refl; size = small }
 
 pub read_again : (packet : Packet) (after : List ℕ) (all : List Packet) (rest : List ℕ) (fault : Option StreamFault) → IsFromClient packet → PropertiesFit packet → length (written packet) ≤ 65536 → Reads (written packet ++ after) all rest fault → (others : List Packet) × (all ≡ packet ∷ others) × Reads after others rest fault
 read_again packet after [] rest fault client fits small reads =

@@ -1,23 +1,22 @@
 -- How many bytes each body is written in, and steps of writing.
-use Rattle.std.proofs.Common.{◌≡◌, ℕ, zero, suc, ◌+◌, ◌-◌, ◌/◌, ◌%◌, ◌<◌, ◌≤◌, List, [], ◌∷◌, ◌++◌, length, get_or, take, Option, Some, None, Result, Ok, Err, refl, ap, ◌∙◌, arith, le-ltb, length-append}
-use Rattle.std.specs.Prelude.{OnOk, MatchOption}
+use Rattle.std.proofs.Common.{◌≡◌, ℕ, zero, suc, ◌+◌, ◌-◌, ◌/◌, ◌%◌, ◌<◌, ◌≤◌, List, [], ◌∷◌, ◌++◌, length, get_or, take, Option, Some, None, refl, ap, ◌∙◌, append_assoc, arith, le-ltb, length-append}
+use Rattle.std.specs.Prelude.{MatchOption, Vec}
+use Rattle.std.specs.declared.alloc.Global.{Global}
 use Rattle.std.specs.List.{flat_map}
 use Rattle.std.proofs.lemmas.List.Folds.{length-flat_map-take}
 use Rattle.mqtt_wire.specs.declared.packet.Connect.{Connect}
 use Rattle.mqtt_wire.specs.declared.packet.Connack.TheVariants.{Accepted, Refused}
 use Rattle.mqtt_wire.specs.declared.packet.Acceptance.{Acceptance}
 use Rattle.mqtt_wire.specs.declared.packet.ConnectRefusal.{ConnectRefusal}
+use Rattle.mqtt_wire.specs.declared.packet.Packet.{Packet}
 use Rattle.mqtt_wire.specs.declared.packet.Publish.{Publish}
 use Rattle.mqtt_wire.specs.declared.packet.Subscription.{Subscription}
 use Rattle.mqtt_wire.specs.Forms.{u16_bytes, binary_data, utf8_string, variable_bytes, variable_limit, variable_byte_integer}
-use Rattle.mqtt_wire.specs.Writing.{connack_properties, connack_body, connect_payload, delivery_bytes, reason_bytes, options_byte, subscription_bytes, connect_body, publish_body}
+use Rattle.mqtt_wire.specs.Buffers.{Appends}
+use Rattle.mqtt_wire.specs.Connacks.{connack_properties, connack_body}
+use Rattle.mqtt_wire.specs.Writing.{connect_payload, delivery_bytes, reason_bytes, options_byte, subscription_bytes, connect_body, publish_body, written_body, written, remaining_length}
 use Rattle.mqtt_wire.specs.Sections.{properties}
 use Rattle.mqtt_wire.specs.PropertyLists.{bytes_if, connect_list, publish_list}
-
--- what holds at Ok, and more
-pub on_ok : {A E P Q : Type 0} (r : Result A E) → (P → Q) → OnOk r P → OnOk r Q
-on_ok (Ok x) f p = f p
-on_ok (Err e) f p = p
 
 -- the next byte of a Variable Byte Integer
 pub next_byte : (more n : ℕ) → 128 ≤ n → n < variable_limit more → variable_bytes more n ≡ (n % 128 + 128) ∷ variable_bytes (more - 1) (n / 128)
@@ -88,3 +87,17 @@ filter_within filters i filter lt is =
 pub sized : (found : Option ℕ) (size remaining : ℕ) → size ≡ remaining → MatchOption found (268435455 < size) (λ n. (n ≡ size) × (size ≤ 268435455)) → MatchOption found (268435455 < remaining) (λ n. (n ≡ remaining) × (n ≤ 268435455))
 sized None size remaining same h = omega arith
 sized (Some n) size remaining same h = (h.0 ∙ same, omega arith)
+
+-- what is written behind what was written
+pub appends_both : (old middle new : Vec ℕ Global) (first others : List ℕ) →
+    Appends old first middle → Appends middle others new → Appends old (first ++ others) new
+appends_both old middle new first others a b = record {
+  items = b.items ∙ ap (λ (o : List ℕ). o ++ others) a.items ∙ append_assoc old.items first others;
+  len = omega (arith, a.len, b.len, length-append first others);
+  capacity = omega (arith, a.capacity, b.capacity);
+}
+
+-- a packet has its header and its Remaining Length
+pub written_length : (packet : Packet) → length (written packet) ≡ 1 + length (variable_byte_integer (remaining_length packet)) + remaining_length packet
+unfolding written remaining_length
+written_length packet = omega (arith, length-append (variable_byte_integer (length (written_body packet))) (written_body packet))

@@ -12,7 +12,8 @@ use Rattle.mqtt_wire.specs.declared.packet.Packet.{Packet}
 use Rattle.mqtt_wire.specs.Forms.{variable_byte_integer}
 use Rattle.mqtt_wire.specs.Kinds.{first_byte}
 use Rattle.mqtt_wire.specs.Writing.{framed}
-use Rattle.mqtt_wire.specs.Stream.{Header, IsOpen, FaultAt, AreBytes, Unread, NextAnswers, header_at, maximum_remaining_length}
+use Rattle.mqtt_wire.specs.Spelling.{Spells}
+use Rattle.mqtt_wire.specs.Stream.{Header, HoldsPacket, IsOpen, FaultAt, AreBytes, Unread, NextAnswers, header_at, maximum_remaining_length}
 
 -- a header that was read, with the bytes behind it
 abbrev pub header_with : FixedHeader → List ℕ → Header
@@ -41,7 +42,7 @@ pub record TakesFrame (header : FixedHeader) (old : List ℕ) (frame : Frame) (n
 abbrev pub TakesBody : {E : Type 0} → FixedHeader → List ℕ → Result (Option Frame) E → List ℕ → Type 0
 TakesBody header old (Ok (Some frame)) new = TakesFrame header old frame new
 TakesBody header old (Ok None) new = (length old < header.remaining) × (new ≡ old)
-TakesBody header old (Err e) new = new ≡ old
+TakesBody header old (Err e) new = (header.remaining ≤ length old) × (new ≡ old)
 
 -- the bytes of a header, and those of a frame, as they stood on the stream
 abbrev pub header_bytes : FixedHeader → List ℕ
@@ -92,13 +93,18 @@ WantsMore (Whole frame) stream = Unit {0}
 abbrev pub ReachesPacket : InHand → List ℕ → Result (Unit {0}) Fault → InHand → List ℕ → Type 0
 ReachesPacket hand old (Ok done) left new = Keeps hand old left new × WantsMore left new
 ReachesPacket hand old (Err (Stream fault)) left new = Keeps hand old left new × FaultAt fault (bytes_in_hand left ++ new)
-ReachesPacket hand old (Err Memory) left new = Keeps hand old left new
+ReachesPacket hand old (Err Memory) left new = Keeps hand old left new × HoldsPacket (bytes_in_hand left ++ new)
 
 -- the fault of the stream that an answer tells
 abbrev pub fault_in : Result (Option Packet) Fault → Option StreamFault
 fault_in (Ok found) = None
 fault_in (Err (Stream fault)) = Some fault
 fault_in (Err Memory) = None
+
+-- a short packet was taken from the front, where it stood; else nothing has changed
+abbrev pub TakesShort : List ℕ → Option Packet → List ℕ → Type 0
+TakesShort old (Some packet) new = (front : List ℕ) × Spells packet front × (old ≡ front ++ new)
+TakesShort old None new = new ≡ old
 
 -- what is unread: the bytes in hand and those behind them
 abbrev pub unread : InHand → List ℕ → Option StreamFault → Unread

@@ -1,6 +1,6 @@
--- The properties of each packet: which of a section's they are, the one order in which they are written, and their ranges.
-use Rattle.std.specs.Prelude.{ℕ, List, [], ◌++◌, Option, Some, None, IfSome, Result, Ok, Err}
-use Rattle.std.specs.List.{flat_map, AllByRecursion}
+-- The properties of each packet: which of a section's they are, and the one order in which they are written.
+use Rattle.std.specs.Prelude.{◌≡◌, ℕ, List, [], ◌++◌, Option, Some, None, Result, Ok, Err}
+use Rattle.std.specs.List.{flat_map}
 use Rattle.mqtt_wire.specs.declared.fault.StreamFault.{StreamFault}
 use Rattle.mqtt_wire.specs.declared.fault.StreamFault.TheVariants.{Protocol}
 use Rattle.mqtt_wire.specs.declared.property.Property.{Property}
@@ -14,8 +14,9 @@ use Rattle.mqtt_wire.specs.declared.packet_properties.PubackProperties.{PubackPr
 use Rattle.mqtt_wire.specs.declared.packet_properties.SubscribeProperties.{SubscribeProperties}
 use Rattle.mqtt_wire.specs.declared.packet_properties.UnsubscribeProperties.{UnsubscribeProperties}
 use Rattle.mqtt_wire.specs.declared.packet_properties.DisconnectProperties.{DisconnectProperties}
-use Rattle.mqtt_wire.specs.Forms.{IsText}
-use Rattle.mqtt_wire.specs.Sections.{property_bytes, IsPair, IsProperty}
+use Rattle.mqtt_wire.specs.declared.fault.Fault.{Fault}
+use Rattle.mqtt_wire.specs.Faults.{Fails}
+use Rattle.mqtt_wire.specs.Sections.{property_bytes}
 
 -- a field that may be left out
 abbrev pub bytes_if : {A : Type 0} → (A → List ℕ) → Option A → List ℕ
@@ -82,6 +83,11 @@ publish_of all = record {
   user_properties = all.user_properties;
 }
 
+-- what taking them gives, where they are taken with no list of all properties
+abbrev pub GivesPublish : Result PublishProperties Fault → List ℕ → Result (Properties × List ℕ) StreamFault → Type 0
+GivesPublish (Ok properties) rest field = (all : Properties) × (properties ≡ publish_of all) × (field ≡ Ok (all, rest))
+GivesPublish (Err e) rest field = Fails e field
+
 abbrev pub publish_list : PublishProperties → List ℕ
 publish_list p =
     optional PayloadFormatIndicator p.payload_format_indicator
@@ -131,49 +137,3 @@ disconnect_of all = record {
 
 abbrev pub disconnect_list : DisconnectProperties → List ℕ
 disconnect_list p = optional SessionExpiryInterval p.session_expiry_interval ++ (optional ReasonString p.reason_string ++ (user_bytes p.user_properties))
-
--- a property that is there is in the range of its type
-abbrev pub Fits : {A : Type 0} → (A → Property) → Option A → Type 0
-Fits make value = IfSome value (λ x. IsProperty (make x))
-
-abbrev pub ArePairs : List Pair → Type 0
-ArePairs pairs = AllByRecursion IsPair pairs
-
-abbrev pub AuthenticationFits : Option Authentication → Type 0
-AuthenticationFits None = Unit {0}
-AuthenticationFits (Some a) = IsText a.method × Fits AuthenticationData a.authentication_data
-
-pub record ConnectFits (p : ConnectProperties) : Type 0 where
-  pub session_expiry_interval : Fits SessionExpiryInterval p.session_expiry_interval
-  pub authentication : AuthenticationFits p.authentication
-  pub request_problem_information : Fits RequestProblemInformation p.request_problem_information
-  pub request_response_information : Fits RequestResponseInformation p.request_response_information
-  pub receive_maximum : Fits ReceiveMaximum p.receive_maximum
-  pub topic_alias_maximum : Fits TopicAliasMaximum p.topic_alias_maximum
-  pub user_properties : ArePairs p.user_properties
-  pub maximum_packet_size : Fits MaximumPacketSize p.maximum_packet_size
-
-pub record PublishFits (p : PublishProperties) : Type 0 where
-  pub payload_format_indicator : Fits PayloadFormatIndicator p.payload_format_indicator
-  pub message_expiry_interval : Fits MessageExpiryInterval p.message_expiry_interval
-  pub content_type : Fits ContentType p.content_type
-  pub response_topic : Fits ResponseTopic p.response_topic
-  pub correlation_data : Fits CorrelationData p.correlation_data
-  pub topic_alias : Fits TopicAlias p.topic_alias
-  pub user_properties : ArePairs p.user_properties
-
-pub record PubackFits (p : PubackProperties) : Type 0 where
-  pub reason_string : Fits ReasonString p.reason_string
-  pub user_properties : ArePairs p.user_properties
-
-pub record SubscribeFits (p : SubscribeProperties) : Type 0 where
-  pub subscription_identifier : Fits SubscriptionIdentifier p.subscription_identifier
-  pub user_properties : ArePairs p.user_properties
-
-pub record UnsubscribeFits (p : UnsubscribeProperties) : Type 0 where
-  pub user_properties : ArePairs p.user_properties
-
-pub record DisconnectFits (p : DisconnectProperties) : Type 0 where
-  pub session_expiry_interval : Fits SessionExpiryInterval p.session_expiry_interval
-  pub reason_string : Fits ReasonString p.reason_string
-  pub user_properties : ArePairs p.user_properties

@@ -1,9 +1,6 @@
 -- Which bytes spell a packet of a client (chapter 3).
-use Rattle.std.specs.Prelude.{◌≡◌, ℕ, ◌<◌, ◌≤◌, ◌^◌, false, IsTrue, List, [], ◌∷◌, ◌++◌, length, IfSome, Ok}
-use Rattle.std.specs.List.{flat_map, AllByRecursion}
-use Rattle.mqtt_wire.specs.declared.packet.Delivery.{Delivery}
-use Rattle.mqtt_wire.specs.declared.packet.Delivery.TheVariants.{AtMostOnce, AtLeastOnce, ExactlyOnce}
-use Rattle.mqtt_wire.specs.declared.packet.Subscription.{Subscription}
+use Rattle.std.specs.Prelude.{◌≡◌, ℕ, ◌≤◌, false, IsTrue, List, [], ◌∷◌, ◌++◌, length, Ok}
+use Rattle.std.specs.List.{flat_map}
 use Rattle.mqtt_wire.specs.declared.packet.Packet.{Packet}
 use Rattle.mqtt_wire.specs.declared.packet.Packet.TheVariants as packets
 use Rattle.mqtt_wire.specs.declared.packet.Connect.{Connect}
@@ -17,51 +14,11 @@ use Rattle.mqtt_wire.specs.declared.property.Section.TheVariants as sections
 use Rattle.mqtt_wire.specs.declared.properties.Properties.{Properties}
 use Rattle.mqtt_wire.specs.Properties.{nothing}
 use Rattle.mqtt_wire.specs.Sections.{SpellsProperties}
-use Rattle.mqtt_wire.specs.PropertyLists.{connect_of, publish_of, puback_of, subscribe_of, unsubscribe_of, disconnect_of, ConnectFits, PublishFits, PubackFits, SubscribeFits, UnsubscribeFits, DisconnectFits}
-use Rattle.mqtt_wire.specs.Forms.{u16_bytes, utf8_string, IsText, IsBinary}
+use Rattle.mqtt_wire.specs.PropertyLists.{connect_of, publish_of, puback_of, subscribe_of, unsubscribe_of, disconnect_of}
+use Rattle.mqtt_wire.specs.Forms.{u16_bytes, utf8_string, IsText}
 use Rattle.mqtt_wire.specs.Protocol.{is_mqtt_5, are_connect_flags, has_will}
+use Rattle.mqtt_wire.specs.Ranges.{IsFromClient, PropertiesFit}
 use Rattle.mqtt_wire.specs.Writing.{protocol, connect_flags, connect_payload, delivery_bytes, subscription_bytes, packet_byte, framed}
-
--- 2.2.1: a Packet Identifier is not 0 and fits two bytes
-abbrev pub IsIdentifier : ℕ → Type 0
-IsIdentifier number = (0 < number) × (number < 2 ^ 16)
-
--- the identifier of a PUBLISH, where there is one, is one
-abbrev pub IsDelivery : Delivery → Type 0
-IsDelivery AtMostOnce = Unit {0}
-IsDelivery (AtLeastOnce identifier) = IsIdentifier identifier
-IsDelivery (ExactlyOnce identifier) = IsIdentifier identifier
-
-abbrev pub IsFiltered : Subscription → Type 0
-IsFiltered subscription = IsText subscription.filter
-
--- the packet is one that reading makes of a client's bytes, and its fields are in the range of their types; codes,
--- versions and payloads are bytes wherever the spelling is one of bytes
-abbrev pub IsFromClient : Packet → Type 0
-IsFromClient (packets.Connect c) = IsText c.client_identifier × (c.keep_alive < 2 ^ 16) × IfSome c.user_name IsText × IfSome c.password IsBinary
-IsFromClient (packets.Connack c) = ⊥
-IsFromClient (packets.Publish p) = IsText p.topic × IsDelivery p.delivery
-IsFromClient (packets.Puback p) = IsIdentifier p.packet_identifier
-IsFromClient (packets.Subscribe s) = IsIdentifier s.packet_identifier × (0 < length s.subscriptions) × AllByRecursion IsFiltered s.subscriptions
-IsFromClient (packets.Suback s) = ⊥
-IsFromClient (packets.Unsubscribe u) = IsIdentifier u.packet_identifier × (0 < length u.filters) × AllByRecursion IsText u.filters
-IsFromClient (packets.Unsuback u) = ⊥
-IsFromClient packets.Pingreq = Unit {0}
-IsFromClient packets.Pingresp = ⊥
-IsFromClient (packets.Disconnect d) = Unit {0}
-IsFromClient (packets.Foreign kind) = Unit {0}
-IsFromClient (packets.OtherVersion version) = Unit {0}
-IsFromClient packets.WithWill = Unit {0}
-
--- its properties are in the range of their types too
-abbrev pub PropertiesFit : Packet → Type 0
-PropertiesFit (packets.Connect c) = ConnectFits c.properties
-PropertiesFit (packets.Publish p) = PublishFits p.properties
-PropertiesFit (packets.Puback p) = PubackFits p.properties
-PropertiesFit (packets.Subscribe s) = SubscribeFits s.properties
-PropertiesFit (packets.Unsubscribe u) = UnsubscribeFits u.properties
-PropertiesFit (packets.Disconnect d) = DisconnectFits d.properties
-PropertiesFit _ = Unit {0}
 
 -- 3.4.2 and 3.14.2: a Reason Code of 0 may be left out, and so may an empty section of properties behind it
 abbrev pub SpellsReason : Section → ℕ → Properties → List ℕ → Type 0
@@ -147,6 +104,7 @@ maximum_packet_size = 65536
 -- 2.1: the bytes are a whole packet: its header and a body of it, of at most 65,536 bytes in all
 pub record Spells (packet : Packet) (bytes : List ℕ) : Type 0 where
   pub client : IsFromClient packet
+  pub fits : PropertiesFit packet
   pub body : List ℕ
   pub spelled : SpellsBody packet body
   pub parts : bytes ≡ framed (packet_byte packet) body

@@ -43,6 +43,10 @@ pub record Frames (bytes : List ℕ) (header : Header) : Type 0 where
   pub found : header_at bytes ≡ Ok (Some header)
   pub whole : header.remaining ≤ length header.rest
 
+-- a whole packet stands in front, lawful or not
+abbrev pub HoldsPacket : List ℕ → Type 0
+HoldsPacket bytes = (header : Header) × Frames bytes header
+
 -- the bytes begin a packet, show no fault and are not a whole packet yet
 abbrev pub IsOpen : List ℕ → Type 0
 IsOpen bytes = (header_at bytes ≡ Ok None) ⊎ ((header : Header) × (header_at bytes ≡ Ok (Some header)) × (length header.rest < header.remaining))
@@ -91,7 +95,7 @@ abbrev pub NextAnswers : Unread → Result (Option Packet) Fault → Unread → 
 NextAnswers old (Ok (Some packet)) new = Takes old packet new
 NextAnswers old (Ok None) new = (old.fault ≡ None) × IsOpen old.bytes × (new ≡ old)
 NextAnswers old (Err (Stream fault)) new = Stops old fault new
-NextAnswers old (Err Memory) new = (old.fault ≡ None) × (new ≡ old)
+NextAnswers old (Err Memory) new = (old.fault ≡ None) × HoldsPacket old.bytes × (new ≡ old)
 
 -- what `feed` answers, and what is unread then
 abbrev pub FeedAnswers : Unread → List ℕ → Result (Unit {0}) Fault → Unread → Type 0

@@ -1,5 +1,5 @@
 -- The one form in which each packet is written (chapter 3).
-use Rattle.std.specs.Prelude.{ℕ, ◌+◌, ◌*◌, ◌==◌, codes, if◌then◌else◌, List, [], ◌∷◌, ◌++◌, length, is_some}
+use Rattle.std.specs.Prelude.{ℕ, zero, suc, ◌+◌, ◌*◌, ◌==◌, codes, nat_lt, if◌then◌else◌, List, [], ◌∷◌, ◌++◌, length, is_some}
 use Rattle.std.specs.List.{flat_map}
 use Rattle.mqtt_wire.specs.declared.packet.QoS.{QoS}
 use Rattle.mqtt_wire.specs.declared.packet.QoS.TheVariants as qos
@@ -8,12 +8,10 @@ use Rattle.mqtt_wire.specs.declared.packet.RetainHandling.TheVariants.{Send, Sen
 use Rattle.mqtt_wire.specs.declared.packet.Delivery.{Delivery}
 use Rattle.mqtt_wire.specs.declared.packet.Delivery.TheVariants.{AtMostOnce, AtLeastOnce, ExactlyOnce}
 use Rattle.mqtt_wire.specs.declared.packet.Connect.{Connect}
-use Rattle.mqtt_wire.specs.declared.packet.Connack.{Connack}
-use Rattle.mqtt_wire.specs.declared.packet.Connack.TheVariants.{Accepted, Refused}
-use Rattle.mqtt_wire.specs.declared.packet.Acceptance.{Acceptance}
-use Rattle.mqtt_wire.specs.declared.packet.ConnectRefusal.{ConnectRefusal}
-use Rattle.mqtt_wire.specs.declared.packet.ConnectRefusal.TheVariants as refusals
 use Rattle.mqtt_wire.specs.declared.packet.Publish.{Publish}
+use Rattle.mqtt_wire.specs.declared.packet.Puback.{Puback}
+use Rattle.mqtt_wire.specs.declared.packet.Subscribe.{Subscribe}
+use Rattle.mqtt_wire.specs.declared.packet.Unsubscribe.{Unsubscribe}
 use Rattle.mqtt_wire.specs.declared.packet.Subscription.{Subscription}
 use Rattle.mqtt_wire.specs.declared.packet.SubscriptionOptions.{SubscriptionOptions}
 use Rattle.mqtt_wire.specs.declared.packet.Packet.{Packet}
@@ -21,33 +19,11 @@ use Rattle.mqtt_wire.specs.declared.packet.Packet.TheVariants as packets
 use Rattle.mqtt_wire.specs.declared.packet.ForeignKind.TheVariants as foreign
 use Rattle.mqtt_wire.specs.declared.kind.Kind.TheVariants as kinds
 use Rattle.mqtt_wire.specs.declared.kind.PublishFlags.{PublishFlags}
-use Rattle.mqtt_wire.specs.Forms.{u16_bytes, u32_bytes, variable_byte_integer, binary_data, utf8_string}
+use Rattle.mqtt_wire.specs.Forms.{u16_bytes, variable_byte_integer, binary_data, utf8_string}
 use Rattle.mqtt_wire.specs.Sections.{properties}
 use Rattle.mqtt_wire.specs.PropertyLists.{bytes_if, connect_list, publish_list, puback_list, subscribe_list, unsubscribe_list, disconnect_list}
+use Rattle.mqtt_wire.specs.Connacks.{connack_body}
 use Rattle.mqtt_wire.specs.Kinds.{bit, qos_bits, foreign_byte, first_byte}
-
--- 3.2.2.3.7: the identifier that was assigned
-abbrev pub assigned : List ℕ → List ℕ
-assigned identifier = 0x12 ∷ utf8_string identifier
-
--- 3.2.2.3: an identifier that was assigned, and what the broker offers: Maximum QoS 1, Retain Available 0, Maximum
--- Packet Size 65,536, Subscription Identifiers Available 0
-abbrev pub connack_properties : Acceptance → List ℕ
-connack_properties a = bytes_if assigned a.assigned_client_identifier ++ 0x24 ∷ 1 ∷ 0x25 ∷ 0 ∷ 0x27 ∷ u32_bytes 65536 ++ 0x29 ∷ 0 ∷ []
-
--- 3.2.2.2: the Reason Code of a refusal
-abbrev pub refusal_code : ConnectRefusal → ℕ
-refusal_code refusals.ProtocolError = 0x82
-refusal_code refusals.ImplementationSpecificError = 0x83
-refusal_code refusals.UnsupportedProtocolVersion = 0x84
-refusal_code refusals.ClientIdentifierNotValid = 0x85
-refusal_code refusals.ServerBusy = 0x89
-refusal_code refusals.BadAuthenticationMethod = 0x8C
-
--- 3.2: Session Present, the Reason Code and the properties
-abbrev pub connack_body : Connack → List ℕ
-connack_body (Accepted a) = bit a.session_present ∷ 0 ∷ properties (connack_properties a)
-connack_body (Refused refusal) = 0 ∷ refusal_code refusal ∷ properties []
 
 -- 3.3.1.2: the quality of service of a PUBLISH
 abbrev pub qos_of : Delivery → QoS
@@ -61,10 +37,15 @@ delivery_bytes AtMostOnce = []
 delivery_bytes (AtLeastOnce identifier) = u16_bytes identifier
 delivery_bytes (ExactlyOnce identifier) = u16_bytes identifier
 
--- 3.4.2 and 3.14.2: an empty section is left out, and then a Reason Code of 0 too
+-- 3.4.2 and 3.14.2: the Reason Code, and the length of so many bytes of properties; with none the length is left out, and
+-- then a Reason Code of 0 too
+abbrev pub reason_front : ℕ → ℕ → List ℕ
+reason_front code zero = if code == 0 then [] else code ∷ []
+reason_front code (suc size) = code ∷ variable_byte_integer (suc size)
+
+-- .. and the properties behind them
 abbrev pub reason_bytes : ℕ → List ℕ → List ℕ
-reason_bytes code [] = if code == 0 then [] else code ∷ []
-reason_bytes code (byte ∷ list) = code ∷ properties (byte ∷ list)
+reason_bytes code list = reason_front code (length list) ++ list
 
 abbrev pub retain_handling_bits : RetainHandling → ℕ
 retain_handling_bits Send = 0
@@ -99,17 +80,33 @@ connect_body c = protocol ++ (connect_flags c ∷ u16_bytes c.keep_alive ++ (pro
 abbrev pub publish_body : Publish → List ℕ
 publish_body p = utf8_string p.topic ++ (delivery_bytes p.delivery ++ (properties (publish_list p.properties) ++ p.payload))
 
+-- 3.4.2: identifier, and the Reason Code with the properties
+abbrev pub puback_body : Puback → List ℕ
+puback_body p = u16_bytes p.packet_identifier ++ reason_bytes p.reason_code (puback_list p.properties)
+
+-- 3.8.2 and 3.8.3: identifier, properties, entries
+abbrev pub subscribe_body : Subscribe → List ℕ
+subscribe_body s = u16_bytes s.packet_identifier ++ (properties (subscribe_list s.properties) ++ flat_map subscription_bytes s.subscriptions)
+
+-- 3.9.2 and 3.9.3, 3.11.2 and 3.11.3: identifier, no properties, and a Reason Code for each entry
+abbrev pub codes_body : ℕ → List ℕ → List ℕ
+codes_body identifier codes = u16_bytes identifier ++ (properties [] ++ codes)
+
+-- 3.10.2 and 3.10.3: identifier, properties, filters
+abbrev pub unsubscribe_body : Unsubscribe → List ℕ
+unsubscribe_body u = u16_bytes u.packet_identifier ++ (properties (unsubscribe_list u.properties) ++ flat_map utf8_string u.filters)
+
 -- The body in which a packet is written. Of one whose body is not looked at when it is read, it is the shortest that is
 -- read so.
 abbrev pub written_body : Packet → List ℕ
 written_body (packets.Connect c) = connect_body c
 written_body (packets.Connack c) = connack_body c
 written_body (packets.Publish p) = publish_body p
-written_body (packets.Puback p) = u16_bytes p.packet_identifier ++ reason_bytes p.reason_code (puback_list p.properties)
-written_body (packets.Subscribe s) = u16_bytes s.packet_identifier ++ (properties (subscribe_list s.properties) ++ flat_map subscription_bytes s.subscriptions)
-written_body (packets.Suback s) = u16_bytes s.packet_identifier ++ (properties [] ++ s.reason_codes)
-written_body (packets.Unsubscribe u) = u16_bytes u.packet_identifier ++ (properties (unsubscribe_list u.properties) ++ flat_map utf8_string u.filters)
-written_body (packets.Unsuback u) = u16_bytes u.packet_identifier ++ (properties [] ++ u.reason_codes)
+written_body (packets.Puback p) = puback_body p
+written_body (packets.Subscribe s) = subscribe_body s
+written_body (packets.Suback s) = codes_body s.packet_identifier s.reason_codes
+written_body (packets.Unsubscribe u) = unsubscribe_body u
+written_body (packets.Unsuback u) = codes_body u.packet_identifier u.reason_codes
 written_body packets.Pingreq = []
 written_body packets.Pingresp = []
 written_body (packets.Disconnect d) = reason_bytes d.reason_code (disconnect_list d.properties)
@@ -149,3 +146,7 @@ written packet = framed (packet_byte packet) (written_body packet)
 -- the Remaining Length in which a packet is written (2.1.4)
 unfoldable pub remaining_length : Packet → ℕ
 remaining_length packet = length (written_body packet)
+
+-- how many bytes a packet is written in: the greatest number of a `u64` where its Remaining Length can't be said (2.1.4)
+unfoldable pub written_size : Packet → ℕ
+written_size packet = if nat_lt 268435455 (remaining_length packet) then 18446744073709551615 else length (written packet)

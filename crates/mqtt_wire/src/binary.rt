@@ -7,7 +7,7 @@ use std::alloc::AllocError;
 use std::marker::Model;
 
 /// At most 65,535 bytes, shared as those of a [`Text`](crate::Text) are (section 1.5.6).
-#[derive(Debug, Drop)]
+#[derive(Debug, Drop, PartialEq, Eq, Hash)]
 pub struct Binary {
     bytes: Bytes,
 }
@@ -20,6 +20,8 @@ impl Model for Binary {
     ghost view = { λ binary. binary.bytes };
 
     ghost invariant = { λ binary. length binary.bytes < 2 ^ 16 };
+
+    ghost inverse = { λ bytes. record { bytes = bytes } };
 }
 
 impl Binary {

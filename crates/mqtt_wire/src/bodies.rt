@@ -3,9 +3,12 @@
 
 ghost use Rattle.std.specs.Prelude.{◌≡◌, ◌<◌, List, ℕ, length, OnOk};
 ghost use Rattle.mqtt_wire.specs.Faults.{Gives, GivesField, ReadsField};
+ghost use Rattle.mqtt_wire.specs.PropertyLists.{GivesPublish};
+ghost use Rattle.mqtt_wire.specs.Sections.{properties_at};
 ghost use Rattle.mqtt_wire.specs.Fields.{Field, text_at};
 ghost use Rattle.mqtt_wire.specs.Protocol.{are_connect_flags};
-ghost use Rattle.mqtt_wire.specs.Bodies.{expect, connect_payload_at, connect_fields_at, connect_5_at, connect_at, delivery_at, publish_body_at, last_properties_at, reason_at, puback_at, disconnect_at, retain_handling_at, options_at, subscription_at, entries_within, at_least_one, entries_at, subscribe_at, unsubscribe_at, body_at};
+ghost use Rattle.mqtt_wire.specs.Bodies.{delivery_at, publish_body_at, last_properties_at, reason_at, puback_at, disconnect_at, retain_handling_at, options_at, subscription_at, entries_within, at_least_one, entries_at, subscribe_at, unsubscribe_at, body_at};
+ghost use Rattle.mqtt_wire.specs.ConnectBody.{expect, connect_payload_at, connect_fields_at, connect_5_at, connect_at};
 
 use crate::binary::Binary;
 use crate::fault::{Fault, StreamFault};
@@ -18,8 +21,10 @@ use crate::packet::{
     Connect, Delivery, Disconnect, Packet, Puback, Publish, QoS, RetainHandling, Subscribe,
     Subscription, SubscriptionOptions, Unsubscribe,
 };
+use crate::packet_properties::PublishProperties;
 use crate::properties::Properties;
 use crate::property::Section;
+use crate::reason_code::ReasonCode;
 use crate::sections::read_properties;
 use crate::text::Text;
 use bytes::Bytes;
@@ -29,7 +34,7 @@ use std::alloc::Global;
 const PROTOCOL_VERSION: u8 = 5;
 
 /// The payload of a CONNECT (section 3.1.3).
-#[derive(Debug, Drop)]
+#[derive(Drop)]
 pub(crate) struct ConnectPayload {
     client_identifier: Text,
     user_name: Option<Text>,
@@ -68,7 +73,7 @@ fn expected(holds: bool) -> Result<(), StreamFault>
 }
 
 /// Reads a CONNECT (section 3.1). Behind another protocol name or version nothing is looked at.
-#[tactic(auto, unfolding(crate::specs::Bodies::connect_at))]
+#[tactic(auto, unfolding(crate::specs::ConnectBody::connect_at))]
 fn read_connect(alloc: Global, mut body: Bytes) -> Result<Packet, Fault>
     ensures { Gives (λ packet. packet) result (connect_at body) }
 {
@@ -82,7 +87,7 @@ fn read_connect(alloc: Global, mut body: Bytes) -> Result<Packet, Fault>
 }
 
 /// Reads what stands behind the version 5. Behind a will flag nothing is looked at.
-#[tactic(auto, unfolding(crate::specs::Bodies::connect_5_at))]
+#[tactic(auto, unfolding(crate::specs::ConnectBody::connect_5_at))]
 fn read_connect_5(alloc: Global, mut body: Bytes) -> Result<Packet, Fault>
     ensures { Gives (λ packet. packet) result (connect_5_at body) }
 {
@@ -103,7 +108,7 @@ fn are_connect_flags(flags: u8) -> bool
 }
 
 /// Reads what stands behind the connect flags of a CONNECT without a will (sections 3.1.2.10 and 3.1.3).
-#[tactic(auto, unfolding(crate::specs::Bodies::connect_fields_at))]
+#[tactic(auto, unfolding(crate::specs::ConnectBody::connect_fields_at))]
 fn read_connect_fields(alloc: Global, flags: u8, mut body: Bytes) -> Result<Connect, Fault>
     ensures { Gives (λ packet. packet) result (connect_fields_at flags body) }
 {
@@ -121,7 +126,7 @@ fn read_connect_fields(alloc: Global, flags: u8, mut body: Bytes) -> Result<Conn
 }
 
 /// Reads the payload of a CONNECT, all of it: the client identifier, the user name and the password (section 3.1.3).
-#[tactic(auto, unfolding(crate::specs::Bodies::connect_payload_at))]
+#[tactic(auto, unfolding(crate::specs::ConnectBody::connect_payload_at))]
 fn read_connect_payload(flags: u8, mut body: Bytes) -> Result<ConnectPayload, Fault>
     ensures { Gives (λ payload. payload) result (connect_payload_at flags body) }
 {
@@ -155,7 +160,7 @@ fn read_publish(alloc: Global, flags: PublishFlags, mut body: Bytes) -> Result<P
 {
     let topic = read_text(&mut body)?;
     let delivery = read_delivery(flags.qos, &mut body)?;
-    let properties = read_properties(alloc, Section::Publish, &mut body)?.into_publish();
+    let properties = read_publish_properties(alloc, &mut body)?;
     Ok(Publish {
         dup: flags.dup,
         retain: flags.retain,
@@ -166,15 +171,30 @@ fn read_publish(alloc: Global, flags: PublishFlags, mut body: Bytes) -> Result<P
     })
 }
 
+/// Takes the properties of a PUBLISH. Most have none, and a length of 0 says so.
+fn read_publish_properties(alloc: Global, body: &mut Bytes) -> Result<PublishProperties, Fault>
+    ensures { GivesPublish result body.new (properties_at Section.Publish body.old) }
+{
+    if let [0, ..] = body.as_slice() {
+        body.advance(1);
+        return Ok(PublishProperties::new(alloc));
+    }
+    Ok(read_properties(alloc, Section::Publish, body)?.into_publish())
+}
+
 /// Reads the reason code and the properties that end a PUBACK or a DISCONNECT (sections 3.4.2 and 3.14.2).
 #[tactic(auto, unfolding(crate::specs::Bodies::reason_at))]
-fn read_reason(alloc: Global, section: Section, mut body: Bytes) -> Result<(u8, Properties), Fault>
+fn read_reason(
+    alloc: Global,
+    section: Section,
+    mut body: Bytes,
+) -> Result<(ReasonCode, Properties), Fault>
     ensures { Gives (λ reason. reason) result (reason_at section body) }
 {
     let code = match body.as_slice() {
-        [] => return Ok((0, Properties::nothing(alloc))),
-        [code] => return Ok((*code, Properties::nothing(alloc))),
-        [code, ..] => *code,
+        [] => return Ok((ReasonCode::SUCCESS, Properties::nothing(alloc))),
+        [code] => return Ok((ReasonCode::new(*code), Properties::nothing(alloc))),
+        [code, ..] => ReasonCode::new(*code),
     };
     body.advance(1);
     let properties = read_last_properties(alloc, section, body)?;

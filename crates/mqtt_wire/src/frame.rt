@@ -13,11 +13,8 @@ use crate::packet::Packet;
 use bytes::{Bytes, BytesMut};
 use std::alloc::{AllocError, Global};
 
-/// The longest body that gets bytes of its own.
-const LONGEST_COPY: usize = 4_096;
-
 /// A whole packet: its kind and its body.
-#[derive(Debug, Drop)]
+#[derive(Drop)]
 pub(crate) struct Frame {
     pub(crate) kind: Kind,
     pub(crate) body: Bytes,
@@ -36,12 +33,14 @@ pub(crate) fn take_header(stream: &mut BytesMut) -> Result<Option<FixedHeader>, 
     Ok(Some(header))
 }
 
-/// Takes the body behind a header off the stream; `None` where it is not whole yet. An `Err` changes nothing.
+/// Takes the body behind a header off the stream, whose buffer has so many bytes; `None` where it is not whole yet. An `Err`
+/// comes only where it is, and changes nothing.
 ///
-/// What is kept of a packet shares the bytes of its body, and may wait long. So a short body of which something may be kept
-/// gets bytes of its own, and does not hold the pieces that it came in; any other body shares those of the stream.
+/// What is kept of a packet shares the bytes of its body, and may wait long. So a body of which something may be kept gets
+/// bytes of its own where it is less than half of the buffer; any other body shares those of the stream.
 pub(crate) fn take_body(
     alloc: Global,
+    block: usize,
     header: FixedHeader,
     stream: &mut BytesMut,
 ) -> Result<Option<Frame>, AllocError>
@@ -51,7 +50,7 @@ pub(crate) fn take_body(
     if stream.len() < remaining {
         return Ok(None);
     }
-    if remaining > LONGEST_COPY || !may_be_kept(kind) {
+    if remaining >= block / 2 || !may_be_kept(kind) {
         let body = stream.freeze_to(remaining)?;
         return Ok(Some(Frame { kind, body }));
     }

@@ -12,7 +12,7 @@ use crate::kind::{Kind, kind_of};
 const MAXIMUM_REMAINING_LENGTH: u32 = 65_532;
 
 /// What a fixed header says.
-#[derive(Clone, Copy, Debug)]
+#[derive(Clone, Copy)]
 pub(crate) struct FixedHeader {
     pub(crate) kind: Kind,
     pub(crate) remaining: usize,

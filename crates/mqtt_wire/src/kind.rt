@@ -6,7 +6,7 @@ ghost use Rattle.mqtt_wire.specs.Kinds.{kind_at, publish_at, qos_at};
 use crate::packet::{ForeignKind, QoS};
 
 /// The kinds of packet that are read, with the flags of a PUBLISH.
-#[derive(Clone, Copy, Debug, PartialEq, Eq)]
+#[derive(Clone, Copy)]
 pub(crate) enum Kind {
     Connect,
     Publish(PublishFlags),
@@ -20,7 +20,7 @@ pub(crate) enum Kind {
 }
 
 /// The flags of a PUBLISH (section 3.3.1).
-#[derive(Clone, Copy, Debug, PartialEq, Eq)]
+#[derive(Clone, Copy)]
 pub(crate) struct PublishFlags {
     pub(crate) dup: bool,
     pub(crate) qos: QoS,

@@ -11,7 +11,9 @@
 
 mod binary;
 mod bodies;
+mod body_writing;
 mod fault;
+mod field_writing;
 mod fields;
 mod frame;
 mod header;
@@ -19,17 +21,18 @@ mod identifier;
 mod kind;
 mod laws;
 mod non_empty;
+mod offer;
 mod packet;
 mod packet_properties;
 mod properties;
 mod property;
 mod property_sizes;
 mod property_writing;
+mod reason_code;
 mod sections;
+mod short;
 mod sizes;
 mod splitter;
-#[cfg(test)]
-mod tests;
 mod text;
 mod user_properties;
 mod values;
@@ -39,9 +42,11 @@ pub use binary::Binary;
 pub use fault::{Fault, StreamFault};
 pub use identifier::PacketIdentifier;
 pub use laws::{
-    spellings_are_told_apart, streams_have_one_reading, written_packets_are_read_again,
+    first_fault_counts, pieces_are_read_as_the_whole, spellings_are_told_apart,
+    streams_have_one_reading, written_packets_are_read_again, written_properties_rise,
 };
 pub use non_empty::NonEmpty;
+pub use offer::Offer;
 pub use packet::{
     Acceptance, Connack, Connect, ConnectRefusal, Delivery, Disconnect, ForeignKind, Packet,
     Puback, Publish, QoS, RetainHandling, Suback, Subscribe, Subscription, SubscriptionOptions,
@@ -51,8 +56,9 @@ pub use packet_properties::{
     Authentication, ConnectProperties, DisconnectProperties, PubackProperties, PublishProperties,
     SubscribeProperties, UnsubscribeProperties,
 };
+pub use reason_code::ReasonCode;
 pub use splitter::Splitter;
 pub use text::Text;
 pub use user_properties::{UserProperties, UserProperty};
 pub use values::{MaximumPacketSize, ReceiveMaximum, SubscriptionIdentifier};
-pub use writing::encode;
+pub use writing::{encode, encode_into, encoded_size};

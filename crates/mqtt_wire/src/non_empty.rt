@@ -1,5 +1,6 @@
 //! Lists of at least one item, as the payloads of SUBSCRIBE and SUBACK are (sections 3.8.3 and 3.9.3).
 
+ghost use Rattle.std.specs.Cmp.Lexicographic.{pointwise, lists_per};
 ghost use Rattle.std.specs.Prelude.{◌≡◌, ◌<◌, ◌↔◌, length, IsSome, IfSome};
 
 use std::marker::Model;
@@ -47,5 +48,15 @@ impl<T> NonEmpty<T> {
         ensures { result.items ≡ self }
     {
         self.items
+    }
+}
+
+impl<T: PartialEq> PartialEq for NonEmpty<T> {
+    ghost eq = { pointwise T.eq };
+
+    ghost laws = { lists_per T.laws };
+
+    fn eq(&self, other: &NonEmpty<T>) -> bool {
+        self.as_slice() == other.as_slice()
     }
 }

@@ -3,10 +3,12 @@
 use crate::binary::Binary;
 use crate::identifier::PacketIdentifier;
 use crate::non_empty::NonEmpty;
+use crate::offer::Offer;
 use crate::packet_properties::{
     ConnectProperties, DisconnectProperties, PubackProperties, PublishProperties,
     SubscribeProperties, UnsubscribeProperties,
 };
+use crate::reason_code::ReasonCode;
 use crate::text::Text;
 use bytes::Bytes;
 
@@ -33,7 +35,7 @@ pub enum Delivery {
 }
 
 /// CONNECT (section 3.1) of version 5, without a will.
-#[derive(Debug, Drop)]
+#[derive(Debug, Drop, PartialEq)]
 pub struct Connect {
     /// An earlier session of the client is discarded (section 3.1.2.4).
     pub clean_start: bool,
@@ -49,7 +51,7 @@ pub struct Connect {
 }
 
 /// CONNACK (section 3.2).
-#[derive(Debug, Drop)]
+#[derive(Debug, Drop, PartialEq)]
 pub enum Connack {
     /// The connection is accepted: Reason Code 00.
     Accepted(Acceptance),
@@ -57,13 +59,14 @@ pub enum Connack {
     Refused(ConnectRefusal),
 }
 
-/// What a CONNACK that accepts says: what the broker offers stands in its properties.
-#[derive(Debug, Drop)]
+/// What a CONNACK that accepts says.
+#[derive(Debug, Drop, PartialEq)]
 pub struct Acceptance {
     /// Section 3.2.2.1.1.
     pub session_present: bool,
-    /// The identifier that the broker gave to a client without one (section 3.2.2.3.7).
+    /// The identifier that the server gave to a client without one (section 3.2.2.3.7).
     pub assigned_client_identifier: Option<Text>,
+    pub offer: Offer,
 }
 
 /// Why a CONNECT is refused (section 3.2.2.2).
@@ -84,7 +87,7 @@ pub enum ConnectRefusal {
 }
 
 /// PUBLISH (section 3.3).
-#[derive(Debug, Drop)]
+#[derive(Debug, Drop, PartialEq)]
 pub struct Publish {
     /// It may have been sent before (section 3.3.1.1).
     pub dup: bool,
@@ -98,10 +101,10 @@ pub struct Publish {
 }
 
 /// PUBACK (section 3.4).
-#[derive(Debug, Drop)]
+#[derive(Debug, Drop, PartialEq)]
 pub struct Puback {
     pub packet_identifier: PacketIdentifier,
-    pub reason_code: u8,
+    pub reason_code: ReasonCode,
     pub properties: PubackProperties,
 }
 
@@ -129,14 +132,14 @@ pub struct SubscriptionOptions {
 }
 
 /// One entry of a SUBSCRIBE (section 3.8.3).
-#[derive(Debug, Drop)]
+#[derive(Debug, Drop, PartialEq)]
 pub struct Subscription {
     pub filter: Text,
     pub options: SubscriptionOptions,
 }
 
 /// SUBSCRIBE (section 3.8).
-#[derive(Debug, Drop)]
+#[derive(Debug, Drop, PartialEq)]
 pub struct Subscribe {
     pub packet_identifier: PacketIdentifier,
     pub properties: SubscribeProperties,
@@ -144,14 +147,14 @@ pub struct Subscribe {
 }
 
 /// SUBACK (section 3.9): one code for each entry of the SUBSCRIBE, in its order.
-#[derive(Debug, Drop)]
+#[derive(Debug, Drop, PartialEq)]
 pub struct Suback {
     pub packet_identifier: PacketIdentifier,
-    pub reason_codes: NonEmpty<u8>,
+    pub reason_codes: NonEmpty<ReasonCode>,
 }
 
 /// UNSUBSCRIBE (section 3.10).
-#[derive(Debug, Drop)]
+#[derive(Debug, Drop, PartialEq)]
 pub struct Unsubscribe {
     pub packet_identifier: PacketIdentifier,
     pub properties: UnsubscribeProperties,
@@ -159,16 +162,16 @@ pub struct Unsubscribe {
 }
 
 /// UNSUBACK (section 3.11): one code for each filter of the UNSUBSCRIBE, in its order.
-#[derive(Debug, Drop)]
+#[derive(Debug, Drop, PartialEq)]
 pub struct Unsuback {
     pub packet_identifier: PacketIdentifier,
-    pub reason_codes: NonEmpty<u8>,
+    pub reason_codes: NonEmpty<ReasonCode>,
 }
 
 /// DISCONNECT (section 3.14).
-#[derive(Debug, Drop)]
+#[derive(Debug, Drop, PartialEq)]
 pub struct Disconnect {
-    pub reason_code: u8,
+    pub reason_code: ReasonCode,
     pub properties: DisconnectProperties,
 }
 
@@ -189,7 +192,7 @@ pub enum ForeignKind {
 /// A control packet (section 2.1), by its type.
 ///
 /// The last three are what reading makes of packets whose bodies are not looked at.
-#[derive(Debug, Drop)]
+#[derive(Debug, Drop, PartialEq)]
 pub enum Packet {
     Connect(Connect),
     Connack(Connack),

@@ -17,7 +17,7 @@ use crate::values::{MaximumPacketSize, ReceiveMaximum, SubscriptionIdentifier};
 use std::alloc::{AllocError, Global};
 
 /// What the properties of a section say. Which of them a packet may have is its section's matter.
-#[derive(Debug, Drop)]
+#[derive(Drop)]
 pub(crate) struct Properties {
     payload_format_indicator: Option<u8>,
     message_expiry_interval: Option<u32>,

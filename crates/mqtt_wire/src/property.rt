@@ -9,7 +9,7 @@ use crate::user_properties::UserProperty;
 use crate::values::{MaximumPacketSize, ReceiveMaximum, SubscriptionIdentifier};
 
 /// In which packet a section of properties stands.
-#[derive(Clone, Copy, Debug, PartialEq, Eq)]
+#[derive(Clone, Copy)]
 pub(crate) enum Section {
     Connect,
     Publish,
@@ -20,7 +20,7 @@ pub(crate) enum Section {
 }
 
 /// What a property is of.
-#[derive(Clone, Copy, Debug, PartialEq, Eq)]
+#[derive(Clone, Copy)]
 pub(crate) enum PropertyName {
     PayloadFormatIndicator,
     MessageExpiryInterval,
@@ -42,7 +42,7 @@ pub(crate) enum PropertyName {
 }
 
 /// A property with its value.
-#[derive(Debug, Drop)]
+#[derive(Drop)]
 pub(crate) enum Property {
     PayloadFormatIndicator(u8),
     MessageExpiryInterval(u32),

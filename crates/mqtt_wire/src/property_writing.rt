@@ -1,13 +1,21 @@
 //! Writers of the properties of each packet, in rising order of their identifiers (section 2.2.2).
 
-ghost use Rattle.std.specs.Prelude.{◌≡◌, ◌<◌, ◌^◌, ◌++◌, ◌∷◌, [], length, OnOk};
-ghost use Rattle.mqtt_wire.specs.Forms.{u16_bytes, u32_bytes, binary_data, utf8_string, variable_byte_integer};
+ghost use Rattle.std.specs.Prelude.{◌<◌, ◌^◌, ◌++◌, ◌∷◌, [], length, IfSome};
+ghost use Rattle.mqtt_wire.specs.Buffers.{HasRoom, Appends};
+ghost use Rattle.mqtt_wire.specs.Forms.{u16_bytes, u32_bytes, binary_data, utf8_string, variable_byte_integer, IsText, IsBinary};
 ghost use Rattle.mqtt_wire.specs.Kinds.{bit};
-ghost use Rattle.mqtt_wire.specs.Sections.{pair_bytes, properties};
-ghost use Rattle.mqtt_wire.specs.Writing.{reason_bytes};
+ghost use Rattle.mqtt_wire.specs.Sections.{pair_bytes, properties, IsPair};
+ghost use Rattle.mqtt_wire.specs.Ranges.{ArePairs, AuthenticationFits, ConnectFits, PublishFits, PubackFits, SubscribeFits, UnsubscribeFits, DisconnectFits};
+ghost use Rattle.mqtt_wire.specs.Connacks.{connack_properties, offer_bytes, unless_available};
+ghost use Rattle.mqtt_wire.specs.Writing.{reason_front, reason_bytes};
 ghost use Rattle.mqtt_wire.specs.PropertyLists.{bytes_if, user_bytes, authentication_bytes, connect_list, publish_list, puback_list, subscribe_list, unsubscribe_list, disconnect_list};
 
 use crate::binary::Binary;
+use crate::field_writing::{
+    put_binary, put_byte, put_bytes, put_text, put_u16, put_u32, put_variable_byte_integer,
+};
+use crate::offer::Offer;
+use crate::packet::{Acceptance, QoS};
 use crate::packet_properties::{
     Authentication, ConnectProperties, DisconnectProperties, PubackProperties, PublishProperties,
     SubscribeProperties, UnsubscribeProperties,
@@ -16,11 +24,11 @@ use crate::property_sizes::{
     connect_list_size, disconnect_list_size, puback_list_size, publish_list_size,
     subscribe_list_size, unsubscribe_list_size,
 };
+use crate::reason_code::ReasonCode;
+use crate::sizes::connack_properties_size;
 use crate::text::Text;
 use crate::user_properties::UserProperty;
 use crate::values::{MaximumPacketSize, ReceiveMaximum, SubscriptionIdentifier};
-use crate::writing::{put_binary, put_text, put_u16, put_u32, put_variable_byte_integer};
-use std::alloc::AllocError;
 
 /// Property Identifiers (table 2-4).
 const PAYLOAD_FORMAT_INDICATOR: u8 = 0x01;
@@ -36,6 +44,8 @@ const CORRELATION_DATA: u8 = 0x09;
 const SUBSCRIPTION_IDENTIFIER: u8 = 0x0B;
 
 const SESSION_EXPIRY_INTERVAL: u8 = 0x11;
+
+const ASSIGNED_CLIENT_IDENTIFIER: u8 = 0x12;
 
 const AUTHENTICATION_METHOD: u8 = 0x15;
 
@@ -53,333 +63,388 @@ const TOPIC_ALIAS_MAXIMUM: u8 = 0x22;
 
 const TOPIC_ALIAS: u8 = 0x23;
 
+const MAXIMUM_QOS: u8 = 0x24;
+
+const RETAIN_AVAILABLE: u8 = 0x25;
+
 const USER_PROPERTY: u8 = 0x26;
 
 const MAXIMUM_PACKET_SIZE: u8 = 0x27;
 
+const SUBSCRIPTION_IDENTIFIERS_AVAILABLE: u8 = 0x29;
+
 /// Writes the section of a CONNECT (section 3.1.2.11).
-pub(crate) fn put_connect_properties(
-    out: &mut Vec<u8>,
-    list: &ConnectProperties,
-) -> Result<(), AllocError>
-    requires { length (connect_list list.now) < 268435456 }
-    ensures { OnOk result (out.new.items ≡ out.old.items ++ properties (connect_list list.now)) }
+pub(crate) fn put_connect_properties(out: &mut Vec<u8>, list: &ConnectProperties)
+    requires size { length (connect_list list.now) < 268435456 }
+    requires room { HasRoom out.old (properties (connect_list list.now)) }
+    ensures appended { Appends out.old (properties (connect_list list.now)) out.new }
+    ensures fits { ConnectFits list.now }
 {
-    put_variable_byte_integer(out, 3, connect_list_size(list) as u32)?;
-    put_connect_list(out, list)
+    put_variable_byte_integer(out, 3, connect_list_size(list) as u32);
+    put_connect_list(out, list);
+}
+
+/// Writes the section of a CONNACK that accepts (section 3.2.2.3).
+pub(crate) fn put_connack_properties(out: &mut Vec<u8>, acceptance: &Acceptance)
+    requires { HasRoom out.old (properties (connack_properties acceptance.now)) }
+    ensures { Appends out.old (properties (connack_properties acceptance.now)) out.new }
+{
+    put_variable_byte_integer(out, 3, connack_properties_size(acceptance) as u32);
+    put_text_if(
+        out,
+        ASSIGNED_CLIENT_IDENTIFIER,
+        &acceptance.assigned_client_identifier,
+    );
+    put_offer(out, &acceptance.offer);
+}
+
+/// Writes what a server offers, and nothing of what a client takes to be offered anyway.
+fn put_offer(out: &mut Vec<u8>, offer: &Offer)
+    requires { HasRoom out.old (offer_bytes offer.now) }
+    ensures { Appends out.old (offer_bytes offer.now) out.new }
+{
+    match offer.maximum_qos {
+        QoS::AtMostOnce => put_bytes(out, &[MAXIMUM_QOS, 0]),
+        QoS::AtLeastOnce => put_bytes(out, &[MAXIMUM_QOS, 1]),
+        QoS::ExactlyOnce => {}
+    }
+    put_unless(out, RETAIN_AVAILABLE, offer.retain_available);
+    put_maximum_packet_size(out, offer.maximum_packet_size);
+    put_unless(
+        out,
+        SUBSCRIPTION_IDENTIFIERS_AVAILABLE,
+        offer.subscription_identifiers_available,
+    );
+}
+
+/// Writes that something is not available, where it is not.
+fn put_unless(out: &mut Vec<u8>, identifier: u8, available: bool)
+    requires { HasRoom out.old (unless_available identifier available) }
+    ensures { Appends out.old (unless_available identifier available) out.new }
+{
+    if !available {
+        put_bytes(out, &[identifier, 0]);
+    }
 }
 
 /// Writes the section of a PUBLISH (section 3.3.2.3).
-pub(crate) fn put_publish_properties(
-    out: &mut Vec<u8>,
-    list: &PublishProperties,
-) -> Result<(), AllocError>
-    requires { length (publish_list list.now) < 268435456 }
-    ensures { OnOk result (out.new.items ≡ out.old.items ++ properties (publish_list list.now)) }
+pub(crate) fn put_publish_properties(out: &mut Vec<u8>, list: &PublishProperties)
+    requires size { length (publish_list list.now) < 268435456 }
+    requires room { HasRoom out.old (properties (publish_list list.now)) }
+    ensures appended { Appends out.old (properties (publish_list list.now)) out.new }
+    ensures fits { PublishFits list.now }
 {
-    put_variable_byte_integer(out, 3, publish_list_size(list) as u32)?;
-    put_publish_list(out, list)
+    put_variable_byte_integer(out, 3, publish_list_size(list) as u32);
+    put_publish_list(out, list);
 }
 
 /// Writes the section of a SUBSCRIBE (section 3.8.2.1).
-pub(crate) fn put_subscribe_properties(
-    out: &mut Vec<u8>,
-    list: &SubscribeProperties,
-) -> Result<(), AllocError>
-    requires { length (subscribe_list list.now) < 268435456 }
-    ensures { OnOk result (out.new.items ≡ out.old.items ++ properties (subscribe_list list.now)) }
+pub(crate) fn put_subscribe_properties(out: &mut Vec<u8>, list: &SubscribeProperties)
+    requires size { length (subscribe_list list.now) < 268435456 }
+    requires room { HasRoom out.old (properties (subscribe_list list.now)) }
+    ensures appended { Appends out.old (properties (subscribe_list list.now)) out.new }
+    ensures fits { SubscribeFits list.now }
 {
-    put_variable_byte_integer(out, 3, subscribe_list_size(list) as u32)?;
-    put_subscribe_list(out, list)
+    put_variable_byte_integer(out, 3, subscribe_list_size(list) as u32);
+    put_subscribe_list(out, list);
 }
 
 /// Writes the section of an UNSUBSCRIBE (section 3.10.2.1).
-pub(crate) fn put_unsubscribe_properties(
-    out: &mut Vec<u8>,
-    list: &UnsubscribeProperties,
-) -> Result<(), AllocError>
-    requires { length (unsubscribe_list list.now) < 268435456 }
-    ensures { OnOk result (out.new.items ≡ out.old.items ++ properties (unsubscribe_list list.now)) }
+pub(crate) fn put_unsubscribe_properties(out: &mut Vec<u8>, list: &UnsubscribeProperties)
+    requires size { length (unsubscribe_list list.now) < 268435456 }
+    requires room { HasRoom out.old (properties (unsubscribe_list list.now)) }
+    ensures appended { Appends out.old (properties (unsubscribe_list list.now)) out.new }
+    ensures fits { UnsubscribeFits list.now }
 {
-    put_variable_byte_integer(out, 3, unsubscribe_list_size(list) as u32)?;
-    put_unsubscribe_list(out, list)
+    put_variable_byte_integer(out, 3, unsubscribe_list_size(list) as u32);
+    put_unsubscribe_list(out, list);
 }
 
 /// Writes the reason code and the properties of a PUBACK (section 3.4.2).
-pub(crate) fn put_puback_reason(
-    out: &mut Vec<u8>,
-    code: u8,
-    list: &PubackProperties,
-) -> Result<(), AllocError>
-    requires { length (puback_list list.now) < 268435456 }
-    ensures { OnOk result (out.new.items ≡ out.old.items ++ reason_bytes code (puback_list list.now)) }
+pub(crate) fn put_puback_reason(out: &mut Vec<u8>, code: ReasonCode, list: &PubackProperties)
+    requires size { length (puback_list list.now) < 268435456 }
+    requires room { HasRoom out.old (reason_bytes code (puback_list list.now)) }
+    ensures appended { Appends out.old (reason_bytes code (puback_list list.now)) out.new }
+    ensures fits { PubackFits list.now }
 {
-    let size = puback_list_size(list);
-    if size == 0 {
-        return put_code(out, code);
-    }
-    out.push(code)?;
-    put_variable_byte_integer(out, 3, size as u32)?;
-    put_puback_list(out, list)
+    put_reason(out, code, puback_list_size(list));
+    put_puback_list(out, list);
 }
 
 /// Writes the reason code and the properties of a DISCONNECT (section 3.14.2).
 pub(crate) fn put_disconnect_reason(
     out: &mut Vec<u8>,
-    code: u8,
+    code: ReasonCode,
     list: &DisconnectProperties,
-) -> Result<(), AllocError>
-    requires { length (disconnect_list list.now) < 268435456 }
-    ensures { OnOk result (out.new.items ≡ out.old.items ++ reason_bytes code (disconnect_list list.now)) }
+)
+    requires size { length (disconnect_list list.now) < 268435456 }
+    requires room { HasRoom out.old (reason_bytes code (disconnect_list list.now)) }
+    ensures appended { Appends out.old (reason_bytes code (disconnect_list list.now)) out.new }
+    ensures fits { DisconnectFits list.now }
 {
-    let size = disconnect_list_size(list);
-    if size == 0 {
-        return put_code(out, code);
-    }
-    out.push(code)?;
-    put_variable_byte_integer(out, 3, size as u32)?;
-    put_disconnect_list(out, list)
+    put_reason(out, code, disconnect_list_size(list));
+    put_disconnect_list(out, list);
 }
 
-/// Writes a reason code without properties behind it: 0 is left out.
-fn put_code(out: &mut Vec<u8>, code: u8) -> Result<(), AllocError>
-    ensures { OnOk result (out.new.items ≡ out.old.items ++ reason_bytes code []) }
+/// Writes a reason code, and the length of so many bytes of properties behind it. With none the length is left out, and then
+/// a code of 0 too.
+fn put_reason(out: &mut Vec<u8>, code: ReasonCode, size: usize)
+    requires size { size < 268435456 }
+    requires room { HasRoom out.old (reason_front code size) }
+    ensures { Appends out.old (reason_front code size) out.new }
 {
-    if code != 0 {
-        out.push(code)?;
+    if size > 0 {
+        put_byte(out, code.get());
+        put_variable_byte_integer(out, 3, size as u32);
+    } else if code != ReasonCode::SUCCESS {
+        put_byte(out, code.get());
     }
-    Ok(())
 }
 
 /// Writes those of a CONNECT.
-fn put_connect_list(out: &mut Vec<u8>, properties: &ConnectProperties) -> Result<(), AllocError>
-    ensures { OnOk result (out.new.items ≡ out.old.items ++ connect_list properties.now) }
+fn put_connect_list(out: &mut Vec<u8>, properties: &ConnectProperties)
+    requires { HasRoom out.old (connect_list properties.now) }
+    ensures appended { Appends out.old (connect_list properties.now) out.new }
+    ensures fits { ConnectFits properties.now }
 {
     put_u32_if(
         out,
         SESSION_EXPIRY_INTERVAL,
         properties.session_expiry_interval,
-    )?;
-    put_authentication(out, &properties.authentication)?;
+    );
+    put_authentication(out, &properties.authentication);
     put_flag_if(
         out,
         REQUEST_PROBLEM_INFORMATION,
         properties.request_problem_information,
-    )?;
+    );
     put_flag_if(
         out,
         REQUEST_RESPONSE_INFORMATION,
         properties.request_response_information,
-    )?;
-    put_receive_maximum(out, properties.receive_maximum)?;
-    put_u16_if(out, TOPIC_ALIAS_MAXIMUM, properties.topic_alias_maximum)?;
-    put_user_properties(out, properties.user_properties.as_slice())?;
-    put_maximum_packet_size(out, properties.maximum_packet_size)
+    );
+    put_receive_maximum(out, properties.receive_maximum);
+    put_u16_if(out, TOPIC_ALIAS_MAXIMUM, properties.topic_alias_maximum);
+    put_user_properties(out, properties.user_properties.as_slice());
+    put_maximum_packet_size(out, properties.maximum_packet_size);
 }
 
 /// Writes those of a PUBLISH.
-fn put_publish_list(out: &mut Vec<u8>, properties: &PublishProperties) -> Result<(), AllocError>
-    ensures { OnOk result (out.new.items ≡ out.old.items ++ publish_list properties.now) }
+fn put_publish_list(out: &mut Vec<u8>, properties: &PublishProperties)
+    requires { HasRoom out.old (publish_list properties.now) }
+    ensures appended { Appends out.old (publish_list properties.now) out.new }
+    ensures fits { PublishFits properties.now }
 {
     put_byte_if(
         out,
         PAYLOAD_FORMAT_INDICATOR,
         properties.payload_format_indicator,
-    )?;
+    );
     put_u32_if(
         out,
         MESSAGE_EXPIRY_INTERVAL,
         properties.message_expiry_interval,
-    )?;
-    put_text_if(out, CONTENT_TYPE, &properties.content_type)?;
-    put_text_if(out, RESPONSE_TOPIC, &properties.response_topic)?;
-    put_binary_if(out, CORRELATION_DATA, &properties.correlation_data)?;
-    put_u16_if(out, TOPIC_ALIAS, properties.topic_alias)?;
-    put_user_properties(out, properties.user_properties.as_slice())
+    );
+    put_text_if(out, CONTENT_TYPE, &properties.content_type);
+    put_text_if(out, RESPONSE_TOPIC, &properties.response_topic);
+    put_binary_if(out, CORRELATION_DATA, &properties.correlation_data);
+    put_u16_if(out, TOPIC_ALIAS, properties.topic_alias);
+    put_user_properties(out, properties.user_properties.as_slice());
 }
 
 /// Writes those of a PUBACK.
-fn put_puback_list(out: &mut Vec<u8>, properties: &PubackProperties) -> Result<(), AllocError>
-    ensures { OnOk result (out.new.items ≡ out.old.items ++ puback_list properties.now) }
+fn put_puback_list(out: &mut Vec<u8>, properties: &PubackProperties)
+    requires { HasRoom out.old (puback_list properties.now) }
+    ensures appended { Appends out.old (puback_list properties.now) out.new }
+    ensures fits { PubackFits properties.now }
 {
-    put_text_if(out, REASON_STRING, &properties.reason_string)?;
-    put_user_properties(out, properties.user_properties.as_slice())
+    put_text_if(out, REASON_STRING, &properties.reason_string);
+    put_user_properties(out, properties.user_properties.as_slice());
 }
 
 /// Writes those of a SUBSCRIBE.
-fn put_subscribe_list(out: &mut Vec<u8>, properties: &SubscribeProperties) -> Result<(), AllocError>
-    ensures { OnOk result (out.new.items ≡ out.old.items ++ subscribe_list properties.now) }
+fn put_subscribe_list(out: &mut Vec<u8>, properties: &SubscribeProperties)
+    requires { HasRoom out.old (subscribe_list properties.now) }
+    ensures appended { Appends out.old (subscribe_list properties.now) out.new }
+    ensures fits { SubscribeFits properties.now }
 {
-    put_subscription_identifier(out, properties.subscription_identifier)?;
-    put_user_properties(out, properties.user_properties.as_slice())
+    put_subscription_identifier(out, properties.subscription_identifier);
+    put_user_properties(out, properties.user_properties.as_slice());
 }
 
 /// Writes those of an UNSUBSCRIBE.
-fn put_unsubscribe_list(
-    out: &mut Vec<u8>,
-    properties: &UnsubscribeProperties,
-) -> Result<(), AllocError>
-    ensures { OnOk result (out.new.items ≡ out.old.items ++ unsubscribe_list properties.now) }
+fn put_unsubscribe_list(out: &mut Vec<u8>, properties: &UnsubscribeProperties)
+    requires { HasRoom out.old (unsubscribe_list properties.now) }
+    ensures appended { Appends out.old (unsubscribe_list properties.now) out.new }
+    ensures fits { UnsubscribeFits properties.now }
 {
-    put_user_properties(out, properties.user_properties.as_slice())
+    put_user_properties(out, properties.user_properties.as_slice());
 }
 
 /// Writes those of a DISCONNECT.
-fn put_disconnect_list(
-    out: &mut Vec<u8>,
-    properties: &DisconnectProperties,
-) -> Result<(), AllocError>
-    ensures { OnOk result (out.new.items ≡ out.old.items ++ disconnect_list properties.now) }
+fn put_disconnect_list(out: &mut Vec<u8>, properties: &DisconnectProperties)
+    requires { HasRoom out.old (disconnect_list properties.now) }
+    ensures appended { Appends out.old (disconnect_list properties.now) out.new }
+    ensures fits { DisconnectFits properties.now }
 {
     put_u32_if(
         out,
         SESSION_EXPIRY_INTERVAL,
         properties.session_expiry_interval,
-    )?;
-    put_text_if(out, REASON_STRING, &properties.reason_string)?;
-    put_user_properties(out, properties.user_properties.as_slice())
+    );
+    put_text_if(out, REASON_STRING, &properties.reason_string);
+    put_user_properties(out, properties.user_properties.as_slice());
 }
 
 /// Writes a property that is a byte, where it is there.
-fn put_byte_if(out: &mut Vec<u8>, identifier: u8, value: Option<u8>) -> Result<(), AllocError>
-    ensures { OnOk result (out.new.items ≡ out.old.items ++ bytes_if (λ x. identifier ∷ x ∷ []) value) }
+fn put_byte_if(out: &mut Vec<u8>, identifier: u8, value: Option<u8>)
+    requires { HasRoom out.old (bytes_if (λ x. identifier ∷ x ∷ []) value) }
+    ensures { Appends out.old (bytes_if (λ x. identifier ∷ x ∷ []) value) out.new }
 {
     if let Some(byte) = value {
-        out.push(identifier)?;
-        out.push(byte)?;
+        put_byte(out, identifier);
+        put_byte(out, byte);
     }
-    Ok(())
 }
 
 /// Writes a property that is 0 or 1, where it is there.
-fn put_flag_if(out: &mut Vec<u8>, identifier: u8, value: Option<bool>) -> Result<(), AllocError>
-    ensures { OnOk result (out.new.items ≡ out.old.items ++ bytes_if (λ x. identifier ∷ bit x ∷ []) value) }
+fn put_flag_if(out: &mut Vec<u8>, identifier: u8, value: Option<bool>)
+    requires { HasRoom out.old (bytes_if (λ x. identifier ∷ bit x ∷ []) value) }
+    ensures { Appends out.old (bytes_if (λ x. identifier ∷ bit x ∷ []) value) out.new }
 {
     if let Some(flag) = value {
-        out.push(identifier)?;
-        out.push(u8::from(flag))?;
+        put_byte(out, identifier);
+        put_byte(out, u8::from(flag));
     }
-    Ok(())
 }
 
 /// Writes a property that is a Two Byte Integer, where it is there.
-fn put_u16_if(out: &mut Vec<u8>, identifier: u8, value: Option<u16>) -> Result<(), AllocError>
-    ensures { OnOk result (out.new.items ≡ out.old.items ++ bytes_if (λ x. identifier ∷ u16_bytes x) value) }
+fn put_u16_if(out: &mut Vec<u8>, identifier: u8, value: Option<u16>)
+    requires { HasRoom out.old (bytes_if (λ x. identifier ∷ u16_bytes x) value) }
+    ensures appended { Appends out.old (bytes_if (λ x. identifier ∷ u16_bytes x) value) out.new }
+    ensures fits { IfSome value (λ x. x < 2 ^ 16) }
 {
     let Some(number) = value else {
-        return Ok(());
+        return;
     };
-    out.push(identifier)?;
-    put_u16(out, number)
+    put_byte(out, identifier);
+    put_u16(out, number);
 }
 
 /// Writes a property that is a Four Byte Integer, where it is there.
-fn put_u32_if(out: &mut Vec<u8>, identifier: u8, value: Option<u32>) -> Result<(), AllocError>
-    ensures { OnOk result (out.new.items ≡ out.old.items ++ bytes_if (λ x. identifier ∷ u32_bytes x) value) }
+fn put_u32_if(out: &mut Vec<u8>, identifier: u8, value: Option<u32>)
+    requires { HasRoom out.old (bytes_if (λ x. identifier ∷ u32_bytes x) value) }
+    ensures appended { Appends out.old (bytes_if (λ x. identifier ∷ u32_bytes x) value) out.new }
+    ensures fits { IfSome value (λ x. x < 2 ^ 32) }
 {
     let Some(number) = value else {
-        return Ok(());
+        return;
     };
-    out.push(identifier)?;
-    put_u32(out, number)
+    put_byte(out, identifier);
+    put_u32(out, number);
 }
 
 /// Writes a property that is a UTF-8 Encoded String, where it is there.
-fn put_text_if(out: &mut Vec<u8>, identifier: u8, value: &Option<Text>) -> Result<(), AllocError>
-    ensures { OnOk result (out.new.items ≡ out.old.items ++ bytes_if (λ x. identifier ∷ utf8_string x) value.now) }
+fn put_text_if(out: &mut Vec<u8>, identifier: u8, value: &Option<Text>)
+    requires { HasRoom out.old (bytes_if (λ x. identifier ∷ utf8_string x) value.now) }
+    ensures appended { Appends out.old (bytes_if (λ x. identifier ∷ utf8_string x) value.now) out.new }
+    ensures fits { IfSome value.now IsText }
 {
     let Some(text) = value else {
-        return Ok(());
+        return;
     };
-    out.push(identifier)?;
-    put_text(out, text)
+    put_byte(out, identifier);
+    put_text(out, text);
 }
 
 /// Writes a property that is Binary Data, where it is there.
-fn put_binary_if(
-    out: &mut Vec<u8>,
-    identifier: u8,
-    value: &Option<Binary>,
-) -> Result<(), AllocError>
-    ensures { OnOk result (out.new.items ≡ out.old.items ++ bytes_if (λ x. identifier ∷ binary_data x) value.now) }
+fn put_binary_if(out: &mut Vec<u8>, identifier: u8, value: &Option<Binary>)
+    requires { HasRoom out.old (bytes_if (λ x. identifier ∷ binary_data x) value.now) }
+    ensures appended { Appends out.old (bytes_if (λ x. identifier ∷ binary_data x) value.now) out.new }
+    ensures fits { IfSome value.now IsBinary }
 {
     let Some(binary) = value else {
-        return Ok(());
+        return;
     };
-    out.push(identifier)?;
-    put_binary(out, binary)
+    put_byte(out, identifier);
+    put_binary(out, binary);
 }
 
 /// Writes the Receive Maximum, where it is there.
-fn put_receive_maximum(out: &mut Vec<u8>, value: Option<ReceiveMaximum>) -> Result<(), AllocError>
-    ensures { OnOk result (out.new.items ≡ out.old.items ++ bytes_if (λ x. 0x21 ∷ u16_bytes x) value) }
+fn put_receive_maximum(out: &mut Vec<u8>, value: Option<ReceiveMaximum>)
+    requires { HasRoom out.old (bytes_if (λ x. 0x21 ∷ u16_bytes x) value) }
+    ensures appended { Appends out.old (bytes_if (λ x. 0x21 ∷ u16_bytes x) value) out.new }
+    ensures fits { IfSome value (λ x. (0 < x) × (x < 2 ^ 16)) }
 {
     let Some(maximum) = value else {
-        return Ok(());
+        return;
     };
-    out.push(RECEIVE_MAXIMUM)?;
-    put_u16(out, maximum.get())
+    put_byte(out, RECEIVE_MAXIMUM);
+    put_u16(out, maximum.get());
 }
 
 /// Writes the Maximum Packet Size, where it is there.
-fn put_maximum_packet_size(
-    out: &mut Vec<u8>,
-    value: Option<MaximumPacketSize>,
-) -> Result<(), AllocError>
-    ensures { OnOk result (out.new.items ≡ out.old.items ++ bytes_if (λ x. 0x27 ∷ u32_bytes x) value) }
+fn put_maximum_packet_size(out: &mut Vec<u8>, value: Option<MaximumPacketSize>)
+    requires { HasRoom out.old (bytes_if (λ x. 0x27 ∷ u32_bytes x) value) }
+    ensures appended { Appends out.old (bytes_if (λ x. 0x27 ∷ u32_bytes x) value) out.new }
+    ensures fits { IfSome value (λ x. (0 < x) × (x < 2 ^ 32)) }
 {
     let Some(maximum) = value else {
-        return Ok(());
+        return;
     };
-    out.push(MAXIMUM_PACKET_SIZE)?;
-    put_u32(out, maximum.get())
+    put_byte(out, MAXIMUM_PACKET_SIZE);
+    put_u32(out, maximum.get());
 }
 
 /// Writes the Subscription Identifier, where it is there.
-fn put_subscription_identifier(
-    out: &mut Vec<u8>,
-    value: Option<SubscriptionIdentifier>,
-) -> Result<(), AllocError>
-    ensures { OnOk result (out.new.items ≡ out.old.items ++ bytes_if (λ x. 0x0B ∷ variable_byte_integer x) value) }
+fn put_subscription_identifier(out: &mut Vec<u8>, value: Option<SubscriptionIdentifier>)
+    requires { HasRoom out.old (bytes_if (λ x. 0x0B ∷ variable_byte_integer x) value) }
+    ensures appended { Appends out.old (bytes_if (λ x. 0x0B ∷ variable_byte_integer x) value) out.new }
+    ensures fits { IfSome value (λ x. (0 < x) × (x < 2 ^ 28)) }
 {
     let Some(identifier) = value else {
-        return Ok(());
+        return;
     };
-    out.push(SUBSCRIPTION_IDENTIFIER)?;
-    put_variable_byte_integer(out, 3, identifier.get())
+    put_byte(out, SUBSCRIPTION_IDENTIFIER);
+    put_variable_byte_integer(out, 3, identifier.get());
 }
 
 /// Writes the authentication method and its data, where they are there.
-fn put_authentication(out: &mut Vec<u8>, value: &Option<Authentication>) -> Result<(), AllocError>
-    ensures { OnOk result (out.new.items ≡ out.old.items ++ authentication_bytes value.now) }
+fn put_authentication(out: &mut Vec<u8>, value: &Option<Authentication>)
+    requires { HasRoom out.old (authentication_bytes value.now) }
+    ensures appended { Appends out.old (authentication_bytes value.now) out.new }
+    ensures fits { AuthenticationFits value.now }
 {
     let Some(authentication) = value else {
-        return Ok(());
+        return;
     };
-    out.push(AUTHENTICATION_METHOD)?;
-    put_text(out, &authentication.method)?;
+    put_byte(out, AUTHENTICATION_METHOD);
+    put_text(out, &authentication.method);
     put_binary_if(
         out,
         AUTHENTICATION_DATA,
         &authentication.authentication_data,
-    )
+    );
 }
 
 /// Writes User Properties, in their order.
-fn put_user_properties(out: &mut Vec<u8>, properties: &[UserProperty]) -> Result<(), AllocError>
-    ensures { OnOk result (out.new.items ≡ out.old.items ++ user_bytes properties.now) }
+fn put_user_properties(out: &mut Vec<u8>, properties: &[UserProperty])
+    requires { HasRoom out.old (user_bytes properties.now) }
+    ensures appended { Appends out.old (user_bytes properties.now) out.new }
+    ensures fits { ArePairs properties.now }
 {
     for property in properties {
-        put_user_property(out, property)?;
+        put_user_property(out, property);
     }
-    Ok(())
 }
 
 /// Writes a User Property.
-fn put_user_property(out: &mut Vec<u8>, property: &UserProperty) -> Result<(), AllocError>
-    ensures { OnOk result (out.new.items ≡ out.old.items ++ 0x26 ∷ pair_bytes property.now) }
+fn put_user_property(out: &mut Vec<u8>, property: &UserProperty)
+    requires { HasRoom out.old (0x26 ∷ pair_bytes property.now) }
+    ensures appended { Appends out.old (0x26 ∷ pair_bytes property.now) out.new }
+    ensures fits { IsPair property.now }
 {
-    out.push(USER_PROPERTY)?;
-    put_text(out, &property.name)?;
-    put_text(out, &property.value)
+    put_byte(out, USER_PROPERTY);
+    put_text(out, &property.name);
+    put_text(out, &property.value);
 }

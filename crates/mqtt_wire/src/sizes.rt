@@ -4,19 +4,22 @@ ghost use Rattle.std.specs.Prelude.{◌≡◌, ◌<◌, ◌≤◌, ◌+◌, ◌^
 ghost use Rattle.std.specs.List.{flat_map};
 ghost use Rattle.mqtt_wire.specs.PropertyLists.{bytes_if};
 ghost use Rattle.mqtt_wire.specs.Sizes.{greatest};
-ghost use Rattle.mqtt_wire.specs.Writing.{subscription_bytes, delivery_bytes, reason_bytes, connect_payload, connack_properties, connack_body, remaining_length};
+ghost use Rattle.mqtt_wire.specs.Connacks.{connack_properties, connack_body, offer_bytes};
+ghost use Rattle.mqtt_wire.specs.Writing.{subscription_bytes, delivery_bytes, reason_bytes, connect_payload, remaining_length};
 ghost use Rattle.mqtt_wire.specs.Forms.{utf8_string, binary_data};
 
 use crate::binary::Binary;
-use crate::packet::{Acceptance, Connack, Connect, Delivery, Packet, Subscription};
+use crate::offer::Offer;
+use crate::packet::{Acceptance, Connack, Connect, Delivery, Packet, QoS, Subscription};
 use crate::property_sizes::{
     connect_list_size, disconnect_list_size, puback_list_size, publish_list_size, section_size,
     subscribe_list_size, unsubscribe_list_size, variable_size,
 };
+use crate::reason_code::ReasonCode;
 use crate::text::Text;
 
 /// The greatest number that a Variable Byte Integer can say, and so the greatest Remaining Length (section 1.5.5).
-pub(crate) const MAXIMUM_VARIABLE_BYTE_INTEGER: usize = 268_435_455;
+const MAXIMUM_VARIABLE_BYTE_INTEGER: usize = 268_435_455;
 
 /// The Remaining Length in which the packet is written; `None` where four bytes cannot say it.
 #[tactic(auto, unfolding(crate::specs::Writing::remaining_length))]
@@ -110,10 +113,34 @@ pub(crate) fn connack_properties_size(acceptance: &Acceptance) -> usize
     ensures value { result ≡ length (connack_properties acceptance.now) }
     ensures small { result < 2 ^ 17 }
 {
-    match &acceptance.assigned_client_identifier {
-        Some(identifier) => 14 + identifier.as_bytes().len(),
-        None => 11,
-    }
+    let assigned = match &acceptance.assigned_client_identifier {
+        Some(identifier) => 3 + identifier.as_bytes().len(),
+        None => 0,
+    };
+    assigned + offer_size(&acceptance.offer)
+}
+
+/// How many bytes the properties take that say what a server offers.
+fn offer_size(offer: &Offer) -> usize
+    ensures value { result ≡ length (offer_bytes offer.now) }
+    ensures small { result ≤ 11 }
+{
+    let maximum_qos = match offer.maximum_qos {
+        QoS::AtMostOnce | QoS::AtLeastOnce => 2,
+        QoS::ExactlyOnce => 0,
+    };
+    let retain = if offer.retain_available { 0 } else { 2 };
+    let maximum_packet_size = if offer.maximum_packet_size.is_some() {
+        5
+    } else {
+        0
+    };
+    let identifiers = if offer.subscription_identifiers_available {
+        0
+    } else {
+        2
+    };
+    maximum_qos + retain + maximum_packet_size + identifiers
 }
 
 /// The size, where four bytes can say it.
@@ -139,13 +166,13 @@ fn delivery_size(delivery: &Delivery) -> usize
 }
 
 /// How many bytes a reason code takes, with so many bytes of properties; `None` where four bytes cannot say how many.
-fn reason_size(code: u8, list: usize) -> Option<usize>
+fn reason_size(code: ReasonCode, list: usize) -> Option<usize>
     ensures { (bytes : List ℕ) → list ≡ min (length bytes) greatest → MatchOption result
         (MAXIMUM_VARIABLE_BYTE_INTEGER < length (reason_bytes code bytes))
         (λ size. (size ≡ length (reason_bytes code bytes)) × (size ≤ 268435460)) }
 {
     if list == 0 {
-        return Some(if code == 0 { 0 } else { 1 });
+        return Some(if code == ReasonCode::SUCCESS { 0 } else { 1 });
     }
     Some(1 + section_size(list)?)
 }

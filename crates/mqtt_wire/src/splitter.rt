@@ -8,12 +8,13 @@ use crate::fault::{Fault, StreamFault};
 use crate::frame::{Frame, read_frame, take_body, take_header};
 use crate::header::FixedHeader;
 use crate::packet::Packet;
+use crate::short::take_short;
 use bytes::BytesMut;
 use std::alloc::Global;
 use std::marker::Model;
 
 /// What was taken of the packet in front, and was not answered yet.
-#[derive(Debug, Drop)]
+#[derive(Drop)]
 pub(crate) enum InHand {
     /// Nothing: the header is not whole yet.
     Nothing,
@@ -26,13 +27,16 @@ pub(crate) enum InHand {
 /// Cuts a stream of bytes into packets, in whatever pieces it comes.
 ///
 /// A contract sees it as the bytes that it has not read yet and the fault that it met, if it met one. The texts and the
-/// payload of a packet share the bytes of its body. A CONNECT, PUBLISH or SUBSCRIBE whose body has at most 4,096 of them
-/// gets bytes of its own; any other packet shares those of the stream.
+/// payload of a packet share the bytes of its body. The body of a CONNECT, PUBLISH or SUBSCRIBE that is less than half of the
+/// stream's buffer gets bytes of its own, so that what is kept of it keeps no more than twice its size; any other shares
+/// those of the stream.
 #[derive(Drop)]
 pub struct Splitter {
     alloc: Global,
     in_hand: InHand,
     stream: BytesMut,
+    // The most bytes that the stream's buffer had room for.
+    block: usize,
     fault: Option<StreamFault>,
 }
 
@@ -58,6 +62,7 @@ impl Splitter {
             alloc,
             in_hand: InHand::Nothing,
             stream: BytesMut::new(alloc),
+            block: 0,
             fault: None,
         }
     }
@@ -71,20 +76,22 @@ impl Splitter {
             return Err(Fault::Stream(fault));
         }
         self.stream.extend_from_slice(piece)?;
+        self.block = self.block.max(self.stream.capacity());
         Ok(())
     }
 
     /// Takes the next packet from the front; `None` where it is not whole yet.
     ///
-    /// A fault of the stream stands for good: every later call answers it again. After [`Fault::Memory`] nothing has
-    /// changed, and the call may be made again.
+    /// What it answers fits its types, so what [`encode_into`](crate::encode_into) writes of it is read again. A fault of the
+    /// stream stands for good: every later call answers it again. [`Fault::Memory`] comes only where a whole packet is in
+    /// front; nothing has changed then, and the call may be made again.
     pub fn next(&mut self) -> Result<Option<Packet>, Fault>
         ensures { NextAnswers self.old result self.new }
     {
         if let Some(fault) = self.fault {
             return Err(Fault::Stream(fault));
         }
-        let answer = take_packet(self.alloc, &mut self.in_hand, &mut self.stream);
+        let answer = take_packet(self.alloc, self.block, &mut self.in_hand, &mut self.stream);
         self.fault = stream_fault(&answer);
         answer
     }
@@ -103,12 +110,30 @@ fn stream_fault(answer: &Result<Option<Packet>, Fault>) -> Option<StreamFault>
 /// Takes the next packet, once all of it is there.
 fn take_packet(
     alloc: Global,
+    block: usize,
     in_hand: &mut InHand,
     stream: &mut BytesMut,
 ) -> Result<Option<Packet>, Fault>
     ensures { IsHeld in_hand.old stream.old.items → TakesPacket in_hand.old stream.old.items result in_hand.new stream.new.items }
 {
-    reach_packet(alloc, in_hand, stream)?;
+    if let InHand::Nothing = in_hand {
+        if let Some(packet) = take_short(alloc, stream) {
+            return Ok(Some(packet));
+        }
+    }
+    take_framed(alloc, block, in_hand, stream)
+}
+
+/// Takes the next packet, its header and then its body.
+fn take_framed(
+    alloc: Global,
+    block: usize,
+    in_hand: &mut InHand,
+    stream: &mut BytesMut,
+) -> Result<Option<Packet>, Fault>
+    ensures { IsHeld in_hand.old stream.old.items → TakesPacket in_hand.old stream.old.items result in_hand.new stream.new.items }
+{
+    reach_packet(alloc, block, in_hand, stream)?;
     let InHand::Whole(frame) = in_hand else {
         return Ok(None);
     };
@@ -118,12 +143,17 @@ fn take_packet(
 }
 
 /// Takes what is there of the packet in front: its header, and then its body.
-fn reach_packet(alloc: Global, in_hand: &mut InHand, stream: &mut BytesMut) -> Result<(), Fault>
+fn reach_packet(
+    alloc: Global,
+    block: usize,
+    in_hand: &mut InHand,
+    stream: &mut BytesMut,
+) -> Result<(), Fault>
     ensures { IsHeld in_hand.old stream.old.items → ReachesPacket in_hand.old stream.old.items result in_hand.new stream.new.items }
 {
     reach_header(in_hand, stream)?;
     if let InHand::Headed(header) = in_hand {
-        if let Some(frame) = take_body(alloc, *header, stream)? {
+        if let Some(frame) = take_body(alloc, block, *header, stream)? {
             *in_hand = InHand::Whole(frame);
         }
     }

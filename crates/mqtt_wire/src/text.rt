@@ -1,18 +1,18 @@
 //! Texts: UTF-8 Encoded Strings (section 1.5.4).
 
-ghost use Rattle.std.specs.Prelude.{◌≡◌, ◌<◌, ◌^◌, ◌↔◌, length, IsSome, IfSome, IfOk, IsTrue};
+ghost use Rattle.std.specs.Prelude.{◌≡◌, ◌<◌, ◌^◌, ◌↔◌, length, IsSome, IfSome, IfOk, IsTrue, IsUtf8};
 ghost use Rattle.mqtt_wire.specs.Forms.{is_text};
 
-use bytes::Bytes;
+use bytes::{ByteStr, Bytes};
 use std::alloc::AllocError;
 use std::marker::Model;
 
 /// Well-formed UTF-8 without U+0000, at most 65,535 bytes (section 1.5.4).
 ///
 /// The bytes are shared: a copy of a `Text` counts one more owner and copies no byte.
-#[derive(Debug, Drop)]
+#[derive(Debug, Drop, PartialEq, Eq, Hash)]
 pub struct Text {
-    bytes: Bytes,
+    text: ByteStr,
 }
 
 impl Model for Text {
@@ -21,9 +21,11 @@ impl Model for Text {
 
     ghost Value = { List ℕ };
 
-    ghost view = { λ text. text.bytes };
+    ghost view = { λ t. t.text };
 
-    ghost invariant = { λ text. IsTrue (is_text text.bytes) };
+    ghost invariant = { λ t. IsTrue (is_text t.text) };
+
+    ghost inverse = { λ bytes. record { text = bytes } };
 }
 
 impl Text {
@@ -33,7 +35,9 @@ impl Text {
         ensures found { IsSome result ↔ IsTrue (is_text bytes) }
     {
         if is_valid(bytes.as_slice()) {
-            Some(Text { bytes })
+            Some(Text {
+                text: ByteStr::from_known_utf8(bytes),
+            })
         } else {
             None
         }
@@ -45,7 +49,14 @@ impl Text {
         ensures text { IsTrue (is_text self.now) }
         ensures short { length result.now < 2 ^ 16 }
     {
-        self.bytes.as_slice()
+        self.text.as_bytes().as_slice()
+    }
+
+    /// The text.
+    pub fn as_str(&self) -> &str
+        ensures { result.now ≡ self.now }
+    {
+        self.text.as_str()
     }
 
     /// The same text, which shares its bytes.
@@ -53,7 +64,7 @@ impl Text {
         ensures { IfOk result (λ text. text ≡ self.now) }
     {
         Ok(Text {
-            bytes: self.bytes.clone()?,
+            text: self.text.clone()?,
         })
     }
 }
@@ -61,7 +72,8 @@ impl Text {
 /// Whether the bytes are a text.
 #[tactic(auto, unfolding(crate::specs::Forms::is_text))]
 fn is_valid(bytes: &[u8]) -> bool
-    ensures { result ≡ is_text bytes.now }
+    ensures text { result ≡ is_text bytes.now }
+    ensures utf8 { IsTrue result → IsUtf8 bytes.now }
 {
     if bytes.len() >= 65_536 {
         return false;

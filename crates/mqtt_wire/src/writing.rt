@@ -1,66 +1,91 @@
-//! The one form in which each packet is written (chapter 3).
+//! Packets as bytes, each in its one written form (chapter 3).
 
-ghost use Rattle.std.specs.Prelude.{◌≡◌, ◌<◌, ◌≤◌, ◌↔◌, ◌⊎◌, ◌++◌, ◌∷◌, [], length, IfOk, OnOk, IsErrOf, IfErr};
-ghost use Rattle.std.specs.List.{flat_map};
-ghost use Rattle.mqtt_wire.specs.Forms.{u16_bytes, u32_bytes, binary_data, utf8_string, variable_bytes, variable_limit};
-ghost use Rattle.mqtt_wire.specs.Kinds.{bit, qos_bits, foreign_byte};
-ghost use Rattle.mqtt_wire.specs.Sections.{properties};
-ghost use Rattle.mqtt_wire.specs.PropertyLists.{bytes_if};
-ghost use Rattle.mqtt_wire.specs.Writing.{assigned, connack_properties, refusal_code, connack_body, connect_flags, connect_payload, qos_of, delivery_bytes, retain_handling_bits, options_byte, subscription_bytes, connect_body, publish_body, written_body, packet_byte, written, remaining_length};
+ghost use Rattle.std.specs.Prelude.{◌≡◌, ◌<◌, ◌≤◌, ◌+◌, ◌++◌, ◌⊎◌, ◌↔◌, length, vec_len, vec_capacity, IsErrOf, OnOk, OnErr, IfOk, IfErr};
+ghost use Rattle.mqtt_wire.specs.Buffers.{HasRoom, Appends};
+ghost use Rattle.mqtt_wire.specs.Forms.{variable_byte_integer};
+ghost use Rattle.mqtt_wire.specs.Kinds.{qos_bits, foreign_byte};
+ghost use Rattle.mqtt_wire.specs.Writing.{qos_of, packet_byte, written, written_size, remaining_length};
+ghost use Rattle.mqtt_wire.specs.Ranges.{IsClientKind, IsFromClient, PropertiesFit};
+ghost use Rattle.mqtt_wire.specs.Spelling.{Spells, maximum_packet_size};
 
-use crate::binary::Binary;
+use crate::body_writing::put_body;
 use crate::fault::{Fault, StreamFault};
-use crate::identifier::PacketIdentifier;
-use crate::packet::{
-    Acceptance, Connack, Connect, ConnectRefusal, Delivery, ForeignKind, Packet, Publish, QoS,
-    RetainHandling, Subscription, SubscriptionOptions,
-};
-use crate::property_writing::{
-    put_connect_properties, put_disconnect_reason, put_puback_reason, put_publish_properties,
-    put_subscribe_properties, put_unsubscribe_properties,
-};
-use crate::sizes::{MAXIMUM_VARIABLE_BYTE_INTEGER, body_size, connack_properties_size};
-use crate::text::Text;
-use std::alloc::{AllocError, Global};
+use crate::field_writing::{put_byte, put_variable_byte_integer};
+use crate::packet::{Delivery, ForeignKind, Packet};
+use crate::property_sizes::variable_size;
+use crate::sizes::body_size;
+use std::alloc::Global;
 
-/// What the broker offers, as properties of a CONNACK (section 3.2.2.3): Maximum QoS 1, Retain Available 0, Maximum Packet
-/// Size 65,536, Subscription Identifiers Available 0.
-const OFFER: [u8; 11] = [
-    0x24, 0x01, 0x25, 0x00, 0x27, 0x00, 0x01, 0x00, 0x00, 0x29, 0x00,
-];
-
-/// The property Assigned Client Identifier (section 3.2.2.3.7).
-const ASSIGNED_CLIENT_IDENTIFIER: u8 = 0x12;
-
-/// The bytes of the packet, in its one written form. The last three kinds, which are only read, have one too: the
-/// shortest that is read as the same packet.
+/// The bytes of the packet, in its one written form, as [`encode_into`] writes them.
 ///
 /// Refusals: 103 exactly where the Remaining Length would be over 268,435,455; 104 where memory is refused.
-#[tactic(auto, unfolding(crate::specs::Writing::remaining_length))]
 pub fn encode(alloc: Global, packet: &Packet) -> Result<Vec<u8>, Fault>
     ensures ok { IfOk result (λ bytes. bytes.items ≡ written packet.now) }
-    ensures too_large { IsErrOf result (Fault.Stream StreamFault.TooLarge)
-        ↔ (MAXIMUM_VARIABLE_BYTE_INTEGER < remaining_length packet.now) }
+    ensures too_large { IsErrOf result (Fault.Stream StreamFault.TooLarge) ↔ (268435455 < remaining_length packet.now) }
     ensures refused { IfErr result (λ fault. (fault ≡ Fault.Stream StreamFault.TooLarge) ⊎ (fault ≡ Fault.Memory)) }
+{
+    let mut bytes = Vec::new(alloc);
+    encode_into(&mut bytes, packet)?;
+    Ok(bytes)
+}
+
+/// Writes the packet behind what the buffer holds, in its one written form: its properties in rising order of their
+/// identifiers, and nothing that may be left out. Of the last three kinds of packet, which are only read, it is the
+/// shortest form that is read as the same packet.
+///
+/// What is written of a kind that a client sends is read again as the same packet, where it has at most 65,536 bytes.
+///
+/// Refusals: 103 exactly where the Remaining Length would be over 268,435,455; 104 where the buffer has no room and memory
+/// is refused. Then it holds what it held.
+pub fn encode_into(out: &mut Vec<u8>, packet: &Packet) -> Result<(), Fault>
+    ensures ok { OnOk result (out.new.items ≡ out.old.items ++ written packet.now) }
+    ensures err { OnErr result (out.new.items ≡ out.old.items) }
+    ensures too_large { IsErrOf result (Fault.Stream StreamFault.TooLarge) ↔ (268435455 < remaining_length packet.now) }
+    ensures memory { IsErrOf result Fault.Memory → vec_capacity out.old < vec_len out.old + length (written packet.now) }
+    ensures refused { IfErr result (λ fault. (fault ≡ Fault.Stream StreamFault.TooLarge) ⊎ (fault ≡ Fault.Memory)) }
+    ensures spelled { OnOk result (IsClientKind packet.now → length (written packet.now) ≤ maximum_packet_size →
+        Spells packet.now (written packet.now)) }
 {
     let Some(remaining) = body_size(packet) else {
         return Err(Fault::Stream(StreamFault::TooLarge));
     };
-    Ok(write(alloc, packet, remaining)?)
+    out.reserve(framed_size(remaining))?;
+    put_packet(out, packet, remaining);
+    Ok(())
+}
+
+/// How many bytes the packet is written in; 18,446,744,073,709,551,615 where it can't be written, as its Remaining Length
+/// would be over 268,435,455.
+#[tactic(auto, unfolding(crate::specs::Writing::written_size), using(crate::proofs::WritingLaws::written_length))]
+pub fn encoded_size(packet: &Packet) -> u64
+    ensures { result ≡ written_size packet.now }
+{
+    match body_size(packet) {
+        Some(remaining) => framed_size(remaining) as u64,
+        None => u64::MAX,
+    }
+}
+
+/// How many bytes a packet has whose body has so many (section 2.1).
+fn framed_size(remaining: usize) -> usize
+    requires { remaining < 268435456 }
+    ensures { result ≡ 1 + length (variable_byte_integer remaining) + remaining }
+{
+    1 + variable_size(remaining) + remaining
 }
 
 /// Writes the packet, whose body has that many bytes.
-#[tactic(auto, unfolding(crate::specs::Writing::written))]
-fn write(alloc: Global, packet: &Packet, remaining: usize) -> Result<Vec<u8>, AllocError>
-    requires size { remaining ≡ length (written_body packet.now) }
+#[tactic(auto, unfolding(crate::specs::Writing::written, crate::specs::Writing::remaining_length))]
+fn put_packet(out: &mut Vec<u8>, packet: &Packet, remaining: usize)
+    requires size { remaining ≡ remaining_length packet.now }
     requires small { remaining < 268435456 }
-    ensures { IfOk result (λ bytes. bytes.items ≡ written packet.now) }
+    requires room { HasRoom out.old (written packet.now) }
+    ensures appended { Appends out.old (written packet.now) out.new }
+    ensures fits { IsClientKind packet.now → IsFromClient packet.now × PropertiesFit packet.now }
 {
-    let mut out = Vec::with_capacity(alloc, remaining + 5)?;
-    out.push(first_byte(packet))?;
-    put_variable_byte_integer(&mut out, 3, remaining as u32)?;
-    put_body(&mut out, packet)?;
-    Ok(out)
+    put_byte(out, first_byte(packet));
+    put_variable_byte_integer(out, 3, remaining as u32);
+    put_body(out, packet);
 }
 
 /// The first byte of the packet (section 2.1.1).
@@ -113,280 +138,4 @@ fn delivery_qos(delivery: &Delivery) -> u8
         Delivery::AtLeastOnce(_) => 1,
         Delivery::ExactlyOnce(_) => 2,
     }
-}
-
-/// Writes a Variable Byte Integer that has room for so many bytes more (section 1.5.5).
-#[tactic(auto, unfolding(crate::specs::Forms::variable_bytes))]
-pub(crate) fn put_variable_byte_integer(
-    out: &mut Vec<u8>,
-    more: u8,
-    number: u32,
-) -> Result<(), AllocError>
-    requires { number < variable_limit more }
-    ensures { OnOk result (out.new.items ≡ out.old.items ++ variable_bytes more number) }
-{
-    if number < 128 {
-        out.push(number as u8)?;
-        return Ok(());
-    }
-    out.push((number % 128 + 128) as u8)?;
-    put_variable_byte_integer(out, more - 1, number / 128)
-}
-
-/// Writes a Two Byte Integer (section 1.5.2).
-pub(crate) fn put_u16(out: &mut Vec<u8>, number: u16) -> Result<(), AllocError>
-    ensures { OnOk result (out.new.items ≡ out.old.items ++ u16_bytes number) }
-{
-    out.push((number / 256) as u8)?;
-    out.push((number % 256) as u8)?;
-    Ok(())
-}
-
-/// Writes a Four Byte Integer (section 1.5.3).
-pub(crate) fn put_u32(out: &mut Vec<u8>, number: u32) -> Result<(), AllocError>
-    ensures { OnOk result (out.new.items ≡ out.old.items ++ u32_bytes number) }
-{
-    out.push((number / 16_777_216) as u8)?;
-    out.push((number / 65_536 % 256) as u8)?;
-    out.push((number / 256 % 256) as u8)?;
-    out.push((number % 256) as u8)?;
-    Ok(())
-}
-
-/// Writes a Packet Identifier (section 2.2.1).
-fn put_identifier(out: &mut Vec<u8>, identifier: PacketIdentifier) -> Result<(), AllocError>
-    ensures { OnOk result (out.new.items ≡ out.old.items ++ u16_bytes identifier) }
-{
-    put_u16(out, identifier.get())
-}
-
-/// Writes a UTF-8 Encoded String (section 1.5.4).
-pub(crate) fn put_text(out: &mut Vec<u8>, text: &Text) -> Result<(), AllocError>
-    ensures { OnOk result (out.new.items ≡ out.old.items ++ utf8_string text.now) }
-{
-    let bytes = text.as_bytes();
-    put_u16(out, bytes.len() as u16)?;
-    out.extend_from_slice(bytes)
-}
-
-/// Writes a UTF-8 Encoded String where it is there.
-fn put_text_if(out: &mut Vec<u8>, text: &Option<Text>) -> Result<(), AllocError>
-    ensures { OnOk result (out.new.items ≡ out.old.items ++ bytes_if utf8_string text.now) }
-{
-    match text {
-        Some(text) => put_text(out, text),
-        None => Ok(()),
-    }
-}
-
-/// Writes Binary Data (section 1.5.6).
-pub(crate) fn put_binary(out: &mut Vec<u8>, binary: &Binary) -> Result<(), AllocError>
-    ensures { OnOk result (out.new.items ≡ out.old.items ++ binary_data binary.now) }
-{
-    let bytes = binary.as_bytes();
-    put_u16(out, bytes.len() as u16)?;
-    out.extend_from_slice(bytes)
-}
-
-/// Writes Binary Data where it is there.
-fn put_binary_if(out: &mut Vec<u8>, binary: &Option<Binary>) -> Result<(), AllocError>
-    ensures { OnOk result (out.new.items ≡ out.old.items ++ bytes_if binary_data binary.now) }
-{
-    match binary {
-        Some(binary) => put_binary(out, binary),
-        None => Ok(()),
-    }
-}
-
-/// Writes the empty section of properties (section 2.2.2).
-#[tactic(auto, unfolding(crate::specs::Forms::variable_bytes))]
-fn put_no_properties(out: &mut Vec<u8>) -> Result<(), AllocError>
-    ensures { OnOk result (out.new.items ≡ out.old.items ++ properties []) }
-{
-    out.push(0)?;
-    Ok(())
-}
-
-/// Writes the body of the packet.
-fn put_body(out: &mut Vec<u8>, packet: &Packet) -> Result<(), AllocError>
-    requires { length (written_body packet.now) < 268435456 }
-    ensures { OnOk result (out.new.items ≡ out.old.items ++ written_body packet.now) }
-{
-    match packet {
-        Packet::Connect(connect) => put_connect(out, connect),
-        Packet::Connack(connack) => put_connack(out, connack),
-        Packet::Publish(publish) => put_publish(out, publish),
-        Packet::Puback(puback) => {
-            put_identifier(out, puback.packet_identifier)?;
-            put_puback_reason(out, puback.reason_code, &puback.properties)
-        }
-        Packet::Subscribe(subscribe) => {
-            put_identifier(out, subscribe.packet_identifier)?;
-            put_subscribe_properties(out, &subscribe.properties)?;
-            put_subscriptions(out, subscribe.subscriptions.as_slice())
-        }
-        Packet::Suback(suback) => {
-            put_identifier(out, suback.packet_identifier)?;
-            put_no_properties(out)?;
-            out.extend_from_slice(suback.reason_codes.as_slice())
-        }
-        Packet::Unsubscribe(unsubscribe) => {
-            put_identifier(out, unsubscribe.packet_identifier)?;
-            put_unsubscribe_properties(out, &unsubscribe.properties)?;
-            put_filters(out, unsubscribe.filters.as_slice())
-        }
-        Packet::Unsuback(unsuback) => {
-            put_identifier(out, unsuback.packet_identifier)?;
-            put_no_properties(out)?;
-            out.extend_from_slice(unsuback.reason_codes.as_slice())
-        }
-        Packet::Disconnect(disconnect) => {
-            put_disconnect_reason(out, disconnect.reason_code, &disconnect.properties)
-        }
-        Packet::OtherVersion(version) => out.extend_from_slice(&[0, 0, *version]),
-        Packet::WithWill => out.extend_from_slice(&[0, 4, b'M', b'Q', b'T', b'T', 5, 4]),
-        Packet::Pingreq | Packet::Pingresp | Packet::Foreign(_) => Ok(()),
-    }
-}
-
-/// Writes the body of a CONNECT (section 3.1).
-fn put_connect(out: &mut Vec<u8>, connect: &Connect) -> Result<(), AllocError>
-    requires { length (connect_body connect.now) < 268435456 }
-    ensures { OnOk result (out.new.items ≡ out.old.items ++ connect_body connect.now) }
-{
-    out.extend_from_slice(&[0, 4, b'M', b'Q', b'T', b'T', 5])?;
-    out.push(connect_flags(connect))?;
-    put_u16(out, connect.keep_alive)?;
-    put_connect_properties(out, &connect.properties)?;
-    put_connect_payload(out, connect)
-}
-
-/// The connect flags (section 3.1.2.3).
-fn connect_flags(connect: &Connect) -> u8
-    ensures { result ≡ connect_flags connect.now }
-{
-    let clean_start = 2 * u8::from(connect.clean_start);
-    let password = 64 * u8::from(connect.password.is_some());
-    clean_start + password + 128 * u8::from(connect.user_name.is_some())
-}
-
-/// Writes the payload of a CONNECT (section 3.1.3).
-fn put_connect_payload(out: &mut Vec<u8>, connect: &Connect) -> Result<(), AllocError>
-    ensures { OnOk result (out.new.items ≡ out.old.items ++ connect_payload connect.now) }
-{
-    put_text(out, &connect.client_identifier)?;
-    put_text_if(out, &connect.user_name)?;
-    put_binary_if(out, &connect.password)
-}
-
-/// Writes the body of a CONNACK (section 3.2).
-fn put_connack(out: &mut Vec<u8>, connack: &Connack) -> Result<(), AllocError>
-    ensures { OnOk result (out.new.items ≡ out.old.items ++ connack_body connack.now) }
-{
-    match connack {
-        Connack::Accepted(acceptance) => {
-            out.push(u8::from(acceptance.session_present))?;
-            out.push(0)?;
-            put_connack_properties(out, acceptance)
-        }
-        Connack::Refused(refusal) => {
-            out.push(0)?;
-            out.push(refusal_code(*refusal))?;
-            put_no_properties(out)
-        }
-    }
-}
-
-/// The Reason Code of a refusal (section 3.2.2.2).
-fn refusal_code(refusal: ConnectRefusal) -> u8
-    ensures { result ≡ refusal_code refusal }
-{
-    match refusal {
-        ConnectRefusal::ProtocolError => 0x82,
-        ConnectRefusal::ImplementationSpecificError => 0x83,
-        ConnectRefusal::UnsupportedProtocolVersion => 0x84,
-        ConnectRefusal::ClientIdentifierNotValid => 0x85,
-        ConnectRefusal::ServerBusy => 0x89,
-        ConnectRefusal::BadAuthenticationMethod => 0x8C,
-    }
-}
-
-/// Writes the properties of a CONNACK that accepts, with their length in front (section 3.2.2.3).
-fn put_connack_properties(out: &mut Vec<u8>, acceptance: &Acceptance) -> Result<(), AllocError>
-    ensures { OnOk result (out.new.items ≡ out.old.items ++ properties (connack_properties acceptance.now)) }
-{
-    put_variable_byte_integer(out, 3, connack_properties_size(acceptance) as u32)?;
-    if let Some(identifier) = &acceptance.assigned_client_identifier {
-        out.push(ASSIGNED_CLIENT_IDENTIFIER)?;
-        put_text(out, identifier)?;
-    }
-    out.extend_from_slice(&OFFER)
-}
-
-/// Writes the body of a PUBLISH (section 3.3).
-fn put_publish(out: &mut Vec<u8>, publish: &Publish) -> Result<(), AllocError>
-    requires { length (publish_body publish.now) < 268435456 }
-    ensures { OnOk result (out.new.items ≡ out.old.items ++ publish_body publish.now) }
-{
-    put_text(out, &publish.topic)?;
-    put_delivery(out, &publish.delivery)?;
-    put_publish_properties(out, &publish.properties)?;
-    out.extend_from_slice(publish.payload.as_slice())
-}
-
-/// Writes the identifier of a PUBLISH, where there is one (section 3.3.2.2).
-fn put_delivery(out: &mut Vec<u8>, delivery: &Delivery) -> Result<(), AllocError>
-    ensures { OnOk result (out.new.items ≡ out.old.items ++ delivery_bytes delivery.now) }
-{
-    match delivery {
-        Delivery::AtMostOnce => Ok(()),
-        Delivery::AtLeastOnce(identifier) => put_identifier(out, *identifier),
-        Delivery::ExactlyOnce(identifier) => put_identifier(out, *identifier),
-    }
-}
-
-/// Writes the entries of a SUBSCRIBE (section 3.8.3).
-fn put_subscriptions(out: &mut Vec<u8>, entries: &[Subscription]) -> Result<(), AllocError>
-    ensures { OnOk result (out.new.items ≡ out.old.items ++ flat_map subscription_bytes entries.now) }
-{
-    for entry in entries {
-        put_subscription(out, entry)?;
-    }
-    Ok(())
-}
-
-/// Writes the filters of an UNSUBSCRIBE (section 3.10.3).
-fn put_filters(out: &mut Vec<u8>, filters: &[Text]) -> Result<(), AllocError>
-    ensures { OnOk result (out.new.items ≡ out.old.items ++ flat_map utf8_string filters.now) }
-{
-    for filter in filters {
-        put_text(out, filter)?;
-    }
-    Ok(())
-}
-
-/// Writes an entry of a SUBSCRIBE.
-fn put_subscription(out: &mut Vec<u8>, entry: &Subscription) -> Result<(), AllocError>
-    ensures { OnOk result (out.new.items ≡ out.old.items ++ subscription_bytes entry.now) }
-{
-    put_text(out, &entry.filter)?;
-    out.push(byte_of(&entry.options))?;
-    Ok(())
-}
-
-/// The byte of subscription options (section 3.8.3.1).
-fn byte_of(options: &SubscriptionOptions) -> u8
-    ensures { result ≡ options_byte options.now }
-{
-    let qos = match options.maximum_qos {
-        QoS::AtMostOnce => 0,
-        QoS::AtLeastOnce => 1,
-        QoS::ExactlyOnce => 2,
-    };
-    let handling = match options.retain_handling {
-        RetainHandling::Send => 0,
-        RetainHandling::SendIfNew => 16,
-        RetainHandling::DoNotSend => 32,
-    };
-    qos + 4 * u8::from(options.no_local) + 8 * u8::from(options.retain_as_published) + handling
 }

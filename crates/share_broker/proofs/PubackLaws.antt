@@ -1,6 +1,7 @@
 -- What a PUBACK settles.
 use Rattle.std.proofs.Common.{◌≡◌, ℕ, zero, suc, ◌+◌, ◌-◌, ◌<◌, ◌≤◌, ◌^◌, Bool, true, false, not, cond, eqb, nat_lt, List, [], ◌∷◌, length, get_or, set, drop, map, refl, sym, ap, subst, ◌∙◌, arith, Option, Some, None, count_by, inl, inr, add-zero}
-use Rattle.std.proofs.lemmas.Bool.{cases_eq}
+use Rattle.std.proofs.lemmas.Bool.{cases_eq, cases_lt}
+use Rattle.std.specs.Prelude.{IsTrue, ◌↔◌}
 use Rattle.std.proofs.lemmas.Bool.Decides.{nat_tests}
 use Rattle.std.proofs.lemmas.List.{length-map}
 use Rattle.std.proofs.lemmas.List.Sums.{sum_by-cons, count_by-le-length}
@@ -158,6 +159,16 @@ Shows-puback_fate story connection group id code fate shows is some held by_fate
 
 pub fate_below : (code : ℕ) → code < 128 → cond (nat_lt code 128) Acknowledged Refused ≡ Acknowledged
 fate_below code below = let e : nat_lt code 128 ≡ true = grind (arith, nat_tests) in ap (λ b. cond b Acknowledged Refused) e
+
+different : (b : Bool) → b ≡ true → b ≡ false → ⊥
+different b holds fails = cc
+
+pub no_failure : (failure : Bool) (code : ℕ) → IsTrue failure ↔ (128 ≤ code) → failure ≡ false → code < 128
+no_failure failure code told none =
+    elim (cases_lt code 128) [
+      | inl below ↦ below
+      | inr above ↦ absurd (different failure (told.1 above) none)
+    ]
 
 pub fate_above : (code : ℕ) → 128 ≤ code → cond (nat_lt code 128) Acknowledged Refused ≡ Refused
 fate_above code above = let e : nat_lt code 128 ≡ false = grind (arith, nat_tests) in ap (λ b. cond b Acknowledged Refused) e

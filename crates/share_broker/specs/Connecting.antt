@@ -1,5 +1,7 @@
 -- The reply to the first packet (sections 3.1 and 3.2).
 use Rattle.std.specs.Prelude.{ℕ, nat_lt, codes, Bool, false, not, if◌then◌else◌, List, [], ◌∷◌, length, Option, Some, None, is_some}
+use Rattle.mqtt_wire.specs.declared.offer.Offer.{Offer}
+use Rattle.mqtt_wire.specs.declared.packet.QoS.TheVariants.{AtLeastOnce}
 use Rattle.mqtt_wire.specs.declared.packet.Connect.{Connect}
 use Rattle.mqtt_wire.specs.declared.packet.Connack.TheVariants.{Accepted, Refused}
 use Rattle.mqtt_wire.specs.declared.packet.ConnectRefusal.{ConnectRefusal}
@@ -35,10 +37,14 @@ abbrev pub assigned_to : List ℕ → Option (List ℕ)
 assigned_to [] = Some (codes "auto-00000001")
 assigned_to (byte ∷ rest) = None
 
+-- 3.2.2.3: what the broker offers (profile)
+abbrev pub offer : Offer
+offer = record { maximum_qos = AtLeastOnce; retain_available = false; maximum_packet_size = Some 65536; subscription_identifiers_available = false }
+
 -- 3.2: the CONNACK of a new session
 abbrev pub accepting : Connect → Story → Reply
 accepting c story = record {
-  packet = Some (packets.Connack (Accepted (record { session_present = false; assigned_client_identifier = assigned_to c.client_identifier })));
+  packet = Some (packets.Connack (Accepted (record { session_present = false; assigned_client_identifier = assigned_to c.client_identifier; offer = offer })));
   story = record story { standing = Connected; terms = terms_of c.properties };
 }
 

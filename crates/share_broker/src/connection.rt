@@ -13,17 +13,14 @@ ghost use Rattle.share_broker.specs.Shows.{Shows, Gives, Offers, Delivers, Takes
 use crate::group::{Fate, Group, Message, NotTaken};
 use crate::hand_outs::hand_out;
 use crate::packets::{disconnect, message_of, puback, suback};
-use crate::reason_code::{
-    FIRST_FAILURE, GRANTED_QOS_1, IMPLEMENTATION_SPECIFIC_ERROR, NO_MATCHING_SUBSCRIBERS,
-    PROTOCOL_ERROR, QOS_NOT_SUPPORTED, QUOTA_EXCEEDED, SUCCESS, fault_code,
-};
+use crate::reason_code::fault_code;
 use crate::requests::{closing_code, share_of};
 use crate::share::Share;
-use crate::terms::{Terms, assigned_to, is_size_under, terms_of};
+use crate::terms::{Terms, assigned_to, is_size_under, offer, terms_of};
 use crate::window::Window;
 use mqtt_wire::{
     Acceptance, Connack, Connect, ConnectRefusal, Delivery, Disconnect, Packet, PacketIdentifier,
-    Puback, Publish, StreamFault, Subscribe,
+    Puback, Publish, ReasonCode, StreamFault, Subscribe,
 };
 use std::alloc::{AllocError, Global};
 
@@ -225,6 +222,7 @@ impl Connection {
         Some(Packet::Connack(Connack::Accepted(Acceptance {
             session_present: false,
             assigned_client_identifier: assigned_to(connect.client_identifier.as_bytes()),
+            offer: offer(),
         })))
     }
 
@@ -242,7 +240,7 @@ impl Connection {
             Packet::Pingreq => Ok(Some(Packet::Pingresp)),
             Packet::Disconnect(disconnect) => Ok(self.disconnect(alloc, &disconnect)),
             Packet::Unsubscribe(_) => Ok(self.close()),
-            _ => Ok(self.close_with(disconnect(alloc, PROTOCOL_ERROR))),
+            _ => Ok(self.close_with(disconnect(alloc, ReasonCode::PROTOCOL_ERROR))),
         }
     }
 
@@ -256,7 +254,7 @@ impl Connection {
             return self.close();
         };
         if self.terms.is_given_expiry(expiry) {
-            self.close_with(disconnect(alloc, PROTOCOL_ERROR))
+            self.close_with(disconnect(alloc, ReasonCode::PROTOCOL_ERROR))
         } else {
             self.close_with_expiry(expiry)
         }
@@ -280,10 +278,10 @@ impl Connection {
         match delivery {
             Delivery::AtLeastOnce(identifier) => self.publish_once(alloc, identifier, publish),
             Delivery::ExactlyOnce(_) => {
-                Ok(self.close_with(disconnect(alloc, QOS_NOT_SUPPORTED)))
+                Ok(self.close_with(disconnect(alloc, ReasonCode::QOS_NOT_SUPPORTED)))
             }
             Delivery::AtMostOnce => {
-                Ok(self.close_with(disconnect(alloc, IMPLEMENTATION_SPECIFIC_ERROR)))
+                Ok(self.close_with(disconnect(alloc, ReasonCode::IMPLEMENTATION_SPECIFIC_ERROR)))
             }
         }
     }
@@ -302,25 +300,25 @@ impl Connection {
             return Ok(self.close_with(disconnect(alloc, code)));
         }
         if publish.properties.message_expiry_interval.is_some() {
-            return Ok(Some(puback(alloc, identifier, IMPLEMENTATION_SPECIFIC_ERROR)));
+            return Ok(Some(puback(alloc, identifier, ReasonCode::IMPLEMENTATION_SPECIFIC_ERROR)));
         }
         let code = self.offer(message_of(publish))?;
         Ok(Some(puback(alloc, identifier, code)))
     }
 
     /// Offers a message to the group, where it matches, and gives the PUBACK's Reason Code.
-    fn offer(&mut self, message: Message) -> Result<u8, AllocError>
+    fn offer(&mut self, message: Message) -> Result<ReasonCode, AllocError>
         ensures { IfOk result (λ code. (story : Story) → Shows story self.old → Offers message story code self.new) }
     {
         let Some(group) = &mut self.group else {
-            return Ok(NO_MATCHING_SUBSCRIBERS);
+            return Ok(ReasonCode::NO_MATCHING_SUBSCRIBERS);
         };
         if !group.share().matches(message.topic.as_bytes()) {
-            return Ok(NO_MATCHING_SUBSCRIBERS);
+            return Ok(ReasonCode::NO_MATCHING_SUBSCRIBERS);
         }
         match group.offer(message) {
-            Ok(()) => Ok(SUCCESS),
-            Err(NotTaken::Full | NotTaken::LifeSpent) => Ok(QUOTA_EXCEEDED),
+            Ok(()) => Ok(ReasonCode::SUCCESS),
+            Err(NotTaken::Full | NotTaken::LifeSpent) => Ok(ReasonCode::QUOTA_EXCEEDED),
             Err(NotTaken::Memory) => Err(AllocError),
         }
     }
@@ -332,10 +330,10 @@ impl Connection {
         if !self.window.release(puback.packet_identifier) {
             return;
         }
-        let fate = if puback.reason_code < FIRST_FAILURE {
-            Fate::Acknowledged
-        } else {
+        let fate = if puback.reason_code.is_failure() {
             Fate::Refused
+        } else {
+            Fate::Acknowledged
         };
         if let Some(group) = &mut self.group {
             group.settle(fate);
@@ -362,16 +360,16 @@ impl Connection {
     }
 
     /// Binds the group to a share, where it is not bound, and gives the SUBACK's Reason Code.
-    fn join(&mut self, alloc: Global, share: Share) -> u8
+    fn join(&mut self, alloc: Global, share: Share) -> ReasonCode
         ensures { (story : Story) (identifier : ℕ) → Shows story self.old → Gives (share_reply story.share identifier share story) (Some (suback identifier result)) self.new }
     {
         match &self.group {
             None => {
                 self.group = Some(Group::open(alloc, share));
-                GRANTED_QOS_1
+                ReasonCode::GRANTED_QOS_1
             }
-            Some(group) if group.share().text() == share.text() => GRANTED_QOS_1,
-            Some(_) => QUOTA_EXCEEDED,
+            Some(group) if group.share().text() == share.text() => ReasonCode::GRANTED_QOS_1,
+            Some(_) => ReasonCode::QUOTA_EXCEEDED,
         }
     }
 

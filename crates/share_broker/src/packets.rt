@@ -6,7 +6,7 @@ ghost use Rattle.share_broker.specs.Publishing.{message_of};
 use crate::group::{Message, MessageProperties};
 use mqtt_wire::{
     Delivery, Disconnect, DisconnectProperties, NonEmpty, Packet, PacketIdentifier, Puback,
-    PubackProperties, Publish, PublishProperties, Suback, UserProperties,
+    PubackProperties, Publish, PublishProperties, ReasonCode, Suback,
 };
 use std::alloc::{AllocError, Global};
 
@@ -55,30 +55,23 @@ pub fn message_of(publish: Publish) -> Message
 }
 
 /// The DISCONNECT with that Reason Code (section 3.14).
-pub fn disconnect(alloc: Global, reason_code: u8) -> Packet
+pub fn disconnect(alloc: Global, reason_code: ReasonCode) -> Packet
     ensures { result ≡ disconnect reason_code }
 {
     Packet::Disconnect(Disconnect {
         reason_code,
-        properties: DisconnectProperties {
-            session_expiry_interval: None,
-            reason_string: None,
-            user_properties: UserProperties::new(alloc),
-        },
+        properties: DisconnectProperties::new(alloc),
     })
 }
 
 /// The PUBACK with that Reason Code (section 3.4).
-pub fn puback(alloc: Global, packet_identifier: PacketIdentifier, reason_code: u8) -> Packet
+pub fn puback(alloc: Global, packet_identifier: PacketIdentifier, reason_code: ReasonCode) -> Packet
     ensures { result ≡ puback packet_identifier reason_code }
 {
     Packet::Puback(Puback {
         packet_identifier,
         reason_code,
-        properties: PubackProperties {
-            reason_string: None,
-            user_properties: UserProperties::new(alloc),
-        },
+        properties: PubackProperties::new(alloc),
     })
 }
 
@@ -86,7 +79,7 @@ pub fn puback(alloc: Global, packet_identifier: PacketIdentifier, reason_code: u
 pub fn suback(
     alloc: Global,
     packet_identifier: PacketIdentifier,
-    code: u8,
+    code: ReasonCode,
 ) -> Result<Packet, AllocError>
     ensures { IfOk result (λ packet. packet ≡ suback packet_identifier code) }
 {

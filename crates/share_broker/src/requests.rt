@@ -4,29 +4,26 @@ ghost use Rattle.share_broker.specs.Story.{Story};
 ghost use Rattle.share_broker.specs.Publishing.{closing_code};
 ghost use Rattle.share_broker.specs.Subscribing.{asks_qos_1, entry_reply, share_reply_if};
 
-use crate::reason_code::{
-    MALFORMED_PACKET, PROTOCOL_ERROR, RETAIN_NOT_SUPPORTED, TOPIC_ALIAS_INVALID,
-};
 use crate::share::{Share, has_wildcard};
-use mqtt_wire::{Publish, QoS, RetainHandling, Subscribe, SubscriptionOptions};
+use mqtt_wire::{Publish, QoS, ReasonCode, RetainHandling, Subscribe, SubscriptionOptions};
 use std::alloc::AllocError;
 
 /// The Reason Code with which a PUBLISH of QoS 1 closes the connection; `None` where it does not.
-pub fn closing_code(publish: &Publish) -> Option<u8>
+pub fn closing_code(publish: &Publish) -> Option<ReasonCode>
     ensures { result ≡ closing_code publish.now }
 {
     if publish.retain {
-        return Some(RETAIN_NOT_SUPPORTED);
+        return Some(ReasonCode::RETAIN_NOT_SUPPORTED);
     }
     if publish.properties.topic_alias.is_some() {
-        return Some(TOPIC_ALIAS_INVALID);
+        return Some(ReasonCode::TOPIC_ALIAS_INVALID);
     }
     let topic = publish.topic.as_bytes();
     if topic.is_empty() {
-        return Some(PROTOCOL_ERROR);
+        return Some(ReasonCode::PROTOCOL_ERROR);
     }
     if has_wildcard(topic) {
-        return Some(MALFORMED_PACKET);
+        return Some(ReasonCode::MALFORMED_PACKET);
     }
     None
 }

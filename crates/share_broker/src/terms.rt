@@ -1,10 +1,10 @@
 //! What a client asks for when it connects (section 3.1).
 ghost use Rattle.std.specs.Prelude.{◌≡◌};
-ghost use Rattle.share_broker.specs.Connecting.{is_under, terms_of, assigned_to};
+ghost use Rattle.share_broker.specs.Connecting.{is_under, terms_of, assigned_to, offer};
 ghost use Rattle.share_broker.specs.Replies.{is_given_expiry};
 
 use bytes::Bytes;
-use mqtt_wire::{ConnectProperties, MaximumPacketSize, Text};
+use mqtt_wire::{ConnectProperties, MaximumPacketSize, Offer, QoS, Text};
 
 /// The first of the identifiers that are assigned to clients without one.
 const ASSIGNED_IDENTIFIER: &[u8] = b"auto-00000001";
@@ -39,6 +39,19 @@ pub fn terms_of(properties: &ConnectProperties) -> Terms
         },
         session_expiry_interval: properties.session_expiry_interval.unwrap_or(0),
         takes_all_packets: !is_size_under(65_536, properties.maximum_packet_size),
+    }
+}
+
+/// What the broker offers: QoS 1, no retained messages, packets of at most 65,536 bytes, no Subscription Identifiers
+/// (profile).
+pub fn offer() -> Offer
+    ensures { result ≡ offer }
+{
+    Offer {
+        maximum_qos: QoS::AtLeastOnce,
+        retain_available: false,
+        maximum_packet_size: MaximumPacketSize::new(65_536),
+        subscription_identifiers_available: false,
     }
 }
 

@@ -1,44 +1,42 @@
-use Rattle.std.proofs.Common.{take, drop, insert, ap, ◌∙◌, subst}
-use Rattle.dispatch_core.specs.Joining.{IsPlaceOf, EndsBefore, BeginsBehind}
-use Rattle.dispatch_core.proofs.JoinedPlaces.{put_alone, put_before, put_behind, put_both}
+use Rattle.std.proofs.Common.{◌≡◌, insert, List, All, sym, subst}
+use Rattle.dispatch_core.specs.declared.runs.Run.{Run}
+use Rattle.dispatch_core.specs.JobRuns.{IsFilled}
+use Rattle.dispatch_core.specs.Joining.{Joins}
+use Rattle.dispatch_core.specs.Merging.{merged}
+use Rattle.dispatch_core.proofs.JoinedLists.{full_front, full_near, closed_first, closed_second, closed_anew}
 use Rattle.dispatch_core.proofs.joining.join.Goals as goal
+use Rattle.dispatch_core.proofs.joining.join.Goals.{then-lengthen-via-then-lengthen, then-lengthen-via-else-lengthen+then-lengthen-2}
 
-pub returns-in-true-true-clause-joined : goal.returns-in-true-true-clause-joined
-returns-in-true-true-clause-joined c =
-    let items = c.args.runs.now.items in
-    let job = c.args.job in
-    let place = c.place_of-place.result in
-    let is_place = subst (λ rs. IsPlaceOf rs job place) c.deref.ensures.value c.place_of-place.ensures in
-    let ends = subst (λ rs. EndsBefore rs job) (c.split_at.ensures.front ∙ ap (take place) c.deref-2.ensures.value) c.in-true-true.ensures in
-    let begins = subst (λ rs. BeginsBehind rs job) (c.split_at.ensures.back ∙ ap (drop place) c.deref-2.ensures.value) c.in-true-true.ensures' in
-    put_both items job place is_place c.requires.filled c.requires.sorted c.requires.absent c.requires.small c.remove-behind.new.self.items c.index_mut.result.now c.remove-behind.result ends begins c.remove-behind.ensures.value c.remove-behind.ensures.items c.index_mut.ensures.value
+pub lengthen-requires-clause-filled : goal.lengthen-requires-clause-filled
+lengthen-requires-clause-filled c =
+    subst (All IsFilled) (sym c.take_either-last.ensures.settled.front) (full_front c.args.settled.now.items c.args.recent.now.items c.args.job c.args.place c.args.near c.requires.place c.requires.near c.requires.filled c.requires.apart)
 
-pub returns-in-true-false-clause-joined : goal.returns-in-true-false-clause-joined
-returns-in-true-false-clause-joined c =
-    let items = c.args.runs.now.items in
-    let job = c.args.job in
-    let place = c.place_of-place.result in
-    let is_place = subst (λ rs. IsPlaceOf rs job place) c.deref.ensures.value c.place_of-place.ensures in
-    let ends = subst (λ rs. EndsBefore rs job) (c.split_at.ensures.front ∙ ap (take place) c.deref-2.ensures.value) c.in-true-false.ensures in
-    let begins = subst (λ rs. ¬ BeginsBehind rs job) (c.split_at.ensures.back ∙ ap (drop place) c.deref-2.ensures.value) c.in-true-false.ensures' in
-    put_before items job place is_place c.requires.filled c.requires.sorted c.requires.absent c.requires.small c.index_mut-in-true-false.result.now ends begins c.index_mut-in-true-false.ensures.value
+pub lengthen-requires-else-lengthen-clause-filled : goal.lengthen-requires-else-lengthen-clause-filled
+lengthen-requires-else-lengthen-clause-filled c =
+    subst (All IsFilled) (sym c.take_either-last.ensures.recent.front) (full_near c.args.settled.now.items c.args.recent.now.items c.args.job c.args.place c.args.near c.requires.place c.requires.near c.requires.filled c.requires.apart)
 
-pub returns-in-false-true-clause-joined : goal.returns-in-false-true-clause-joined
-returns-in-false-true-clause-joined c =
-    let items = c.args.runs.now.items in
-    let job = c.args.job in
-    let place = c.place_of-place.result in
-    let is_place = subst (λ rs. IsPlaceOf rs job place) c.deref.ensures.value c.place_of-place.ensures in
-    let ends = subst (λ rs. ¬ EndsBefore rs job) (c.split_at.ensures.front ∙ ap (take place) c.deref-2.ensures.value) c.in-false-true.ensures in
-    let begins = subst (λ rs. BeginsBehind rs job) (c.split_at.ensures.back ∙ ap (drop place) c.deref-2.ensures.value) c.in-false-true.ensures' in
-    put_behind items job place is_place c.requires.filled c.requires.sorted c.requires.absent c.requires.small c.index_mut-in-false-true.result.now ends begins c.index_mut-in-false-true.ensures.value
+pub returns-then-lengthen-clause-joined : goal.returns-then-lengthen-clause-joined
+returns-then-lengthen-clause-joined c =
+    let old = c.args.settled.now.items in
+    let old_recent = c.args.recent.now.items in
+    let open' = c.take_either-last in
+    elim c.then-lengthen.branch [
+      | then-lengthen-via-then-lengthen w ↦
+          subst (λ v. Joins (merged old old_recent) c.args.job (merged c.lengthen.new.runs.items v.items)) (sym w.recent-is)
+          (closed_first old old_recent c.args.job c.args.place c.args.near c.requires.place c.requires.near c.requires.filled c.requires.apart c.requires.sorted c.requires.absent c.requires.small open'.result open'.new.settled.items open'.new.recent.items open'.ensures.opened open'.ensures.settled open'.ensures.recent c.lengthen.new.runs.items w.if-lengthen.ensures.lengthened)
+      | then-lengthen-via-else-lengthen+then-lengthen-2 w ↦
+          subst (λ v. Joins (merged old old_recent) c.args.job (merged c.lengthen.new.runs.items v.items)) (sym w.recent-is)
+          (subst (λ (rs : List Run). Joins (merged old old_recent) c.args.job (merged rs w.lengthen-else-lengthen.new.runs.items)) (sym w.if-lengthen.ensures.lengthened.1)
+          (closed_second old old_recent c.args.job c.args.place c.args.near c.requires.place c.requires.near c.requires.filled c.requires.apart c.requires.sorted c.requires.absent c.requires.small open'.result open'.new.settled.items open'.new.recent.items open'.ensures.opened open'.ensures.settled open'.ensures.recent w.lengthen-else-lengthen.new.runs.items w.if-lengthen-2.ensures.lengthened))
+    ]
 
-pub returns-in-false-false-clause-joined : goal.returns-in-false-false-clause-joined
-returns-in-false-false-clause-joined c =
-    let items = c.args.runs.now.items in
-    let job = c.args.job in
-    let place = c.place_of-place.result in
-    let is_place = subst (λ rs. IsPlaceOf rs job place) c.deref.ensures.value c.place_of-place.ensures in
-    let ends = subst (λ rs. ¬ EndsBefore rs job) (c.split_at.ensures.front ∙ ap (take place) c.deref-2.ensures.value) c.in-false-false.ensures in
-    let begins = subst (λ rs. ¬ BeginsBehind rs job) (c.split_at.ensures.back ∙ ap (drop place) c.deref-2.ensures.value) c.in-false-false.ensures' in
-    put_alone items job place is_place c.requires.filled c.requires.sorted c.requires.absent c.requires.small c.insert_at.new.runs.items ends begins (c.insert_at.ensures.items ∙ ap (insert items place) c.of.ensures)
+pub returns-clause-joined : goal.returns-clause-joined
+returns-clause-joined c =
+    let old = c.args.settled.now.items in
+    let old_recent = c.args.recent.now.items in
+    let open' = c.take_either-last in
+    let same = c.if-lengthen.ensures.lengthened.1 in
+    let same_recent = c.if-lengthen-2.ensures.lengthened.1 in
+    subst (λ (rs : List Run). Joins (merged old old_recent) c.args.job (merged rs c.insert_at.new.runs.items)) (sym same)
+    (closed_anew old old_recent c.args.job c.args.place c.args.near c.requires.place c.requires.near c.requires.filled c.requires.apart c.requires.sorted c.requires.absent c.requires.small open'.result open'.new.settled.items open'.new.recent.items open'.ensures.opened open'.ensures.settled open'.ensures.recent c.insert_at.new.runs.items c.if-lengthen.ensures.lengthened.0 c.if-lengthen-2.ensures.lengthened.0
+    (subst (λ (rs : List Run). c.insert_at.new.runs.items ≡ insert rs c.args.near (record { port = c.args.job.port; from = c.args.job.number; last = open'.result })) same_recent c.insert_at.ensures.items))

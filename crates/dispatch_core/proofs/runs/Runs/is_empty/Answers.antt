@@ -1,12 +1,33 @@
-use Rattle.std.proofs.Common.{length, eqb, eq-eqb, sym, ap, ◌∙◌}
-use Rattle.std.proofs.lemmas.Bool.{eqb-true}
+use Rattle.std.proofs.Common.{vec_len, eq-eqb, sym, ap, ◌∙◌, arith}
+use Rattle.std.proofs.lemmas.Bool.{eqb-true, false≢true}
 use Rattle.std.proofs.lemmas.List.{nil_from_length}
 use Rattle.dispatch_core.specs.JobRuns.{jobs_of}
+use Rattle.dispatch_core.specs.Merging.{merged}
+use Rattle.dispatch_core.proofs.MergedLists.{length-merged}
 use Rattle.dispatch_core.proofs.Stored.{no_jobs}
 use Rattle.dispatch_core.proofs.runs.Runs.is_empty.Goals as goal
 
-pub returns : goal.returns
-returns c =
-    let runs = c.args.self.now.runs in
-    let answer = c.is_empty.ensures ∙ ap (λ rs. eqb (length rs) 0) c.runs.ensures.value in
-    (λ is. ap jobs_of (nil_from_length runs (eqb-true (length runs) 0 (sym answer ∙ is))), λ none. answer ∙ eq-eqb (length runs) 0 (no_jobs runs c.runs.ensures.kept.filled none))
+pub returns-then-is_empty : goal.returns-then-is_empty
+returns-then-is_empty c =
+    let i = c.self.inside in
+    let view = ap (λ r. r.runs) c.self.view_is in
+    let both = merged i.settled.items i.recent.items in (
+      λ is.
+          let first = eqb-true (vec_len i.settled) 0 (sym c.is_empty.ensures ∙ c.if-is_empty.true) in
+          let second = eqb-true (vec_len i.recent) 0 (sym c.is_empty-then-is_empty.ensures ∙ is) in
+          sym (ap jobs_of view) ∙ ap jobs_of (nil_from_length both (omega (arith, length-merged i.settled.items i.recent.items))),
+      λ none.
+          let nothing = no_jobs both c.self.invariant.stored.filled (ap jobs_of view ∙ none) in
+          c.is_empty-then-is_empty.ensures ∙ eq-eqb (vec_len i.recent) 0 (omega (arith, length-merged i.settled.items i.recent.items)),
+    )
+
+pub returns-else-is_empty : goal.returns-else-is_empty
+returns-else-is_empty c =
+    let i = c.self.inside in
+    let view = ap (λ r. r.runs) c.self.view_is in
+    let both = merged i.settled.items i.recent.items in (
+      λ is. absurd (false≢true (sym c.if-is_empty.false ∙ is)),
+      λ none.
+          let nothing = no_jobs both c.self.invariant.stored.filled (ap jobs_of view ∙ none) in
+          c.is_empty.ensures ∙ eq-eqb (vec_len i.settled) 0 (omega (arith, length-merged i.settled.items i.recent.items)),
+    )

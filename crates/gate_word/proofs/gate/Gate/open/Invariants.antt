@@ -3,16 +3,17 @@ use Rattle.gate_word.specs.declared.step.View.{View}
 use Rattle.gate_word.specs.Seats.{AreNewSeats}
 use Rattle.gate_word.proofs.gate.Gate.open.Given as goal
 
--- the view of who has still so many seats, from this number on
-abbrev pub seats_from : ℕ → ℕ → View
-seats_from first count = record { first = first; count = count; steps = [] }
+-- the view of who has still so many of a gate's seats, from this number on
+abbrev pub seats_from : ℕ → ℕ → ℕ → View
+seats_from seats first count = record { seats = seats; first = first; count = count; steps = [] }
 
 abbrev pub invariant-loop : goal.invariant-loop
 invariant-loop l = record {
   one_word : l.word.shared.table_id.words ≡ 1;
+  enough : l.fn.seats ≤ l.word.shared.key;
   gate : l.pass.table_id ≡ l.word.shared.table_id;
-  rest : l.pass.me ≡ (seats_from (vec_len l.row) (l.fn.seats - vec_len l.row), []);
-  made : AreNewSeats l.word.shared.table_id (vec_len l.row) l.row.items;
+  rest : l.pass.me ≡ (seats_from l.word.shared.key (vec_len l.row) (l.word.shared.key - vec_len l.row), []);
+  made : AreNewSeats record { word = l.word.shared.table_id; seats = l.word.shared.key } (vec_len l.row) l.row.items;
   room : l.fn.seats ≤ vec_capacity l.row;
   counted : (vec_len l.row + 1 ≡ l.counter) × (l.end ≡ l.fn.seats);
 }
