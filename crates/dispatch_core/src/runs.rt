@@ -1,5 +1,9 @@
 //! Lists of jobs, kept as runs of consecutive numbers.
 ghost use Rattle.std.specs.Prelude.{◌≡◌, ◌<◌, ◌≤◌, ◌+◌, ◌*◌, ◌↔◌, [], ◌∷◌, ◌++◌, length, IsTrue, OnOk, OnErr, All, Contains, slice_get};
+ghost use Rattle.std.proofs.Common.{rules};
+ghost use Rattle.std.specs.Cmp.{on_per};
+ghost use Rattle.std.specs.Cmp.Lexicographic.{pointwise, lists_per};
+ghost use Rattle.std.specs.Cmp.Rules.{comparing};
 ghost use Rattle.std.specs.List.Sorted.{IsPermutation};
 ghost use Rattle.dispatch_core.specs.JobRuns.{jobs_of, jobs_of_run, IsFilled, AreKept, NoneTwice, GetsOwnRun, JoinsRuns};
 ghost use Rattle.dispatch_core.specs.Joining.{covers};
@@ -218,6 +222,24 @@ impl Runs {
         merge_into(&mut self.settled, &other.settled);
         merge_into(&mut self.settled, &other.recent);
         join_touching(&mut self.settled);
+    }
+}
+
+impl PartialEq for Runs {
+    ghost eq = { λ a b. pointwise ⟦<Run as PartialEq>⟧.eq a.runs b.runs };
+
+    ghost laws = { on_per (λ r. r.runs) (lists_per (Prim.search (comparing, rules))) };
+
+    /// Whether both have the same runs, and so the same jobs. For how many more there is room is not
+    /// compared.
+    fn eq(&self, other: &Runs) -> bool {
+        let mut others = other.runs();
+        for run in self.runs() {
+            if others.next() != Some(run) {
+                return false;
+            }
+        }
+        others.next().is_none()
     }
 }
 

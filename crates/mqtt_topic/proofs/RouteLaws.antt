@@ -1,5 +1,5 @@
 -- Tables of shares, and the slots that a name is routed to.
-use Rattle.std.proofs.Common.{◌≡◌, ℕ, zero, suc, ◌+◌, ◌<◌, ◌≤◌, Bool, true, false, List, [], ◌∷◌, ◌++◌, length, get_or, Option, Some, None, refl, arith}
+use Rattle.std.proofs.Common.{◌≡◌, ℕ, zero, suc, ◌+◌, ◌<◌, ◌≤◌, Bool, true, false, List, [], ◌∷◌, ◌++◌, length, get_or, Some, None, refl, arith}
 use Rattle.std.specs.Prelude.{bytes_eq, cond, not}
 use Rattle.std.proofs.lemmas.Bool.{ltb-false}
 use Rattle.std.specs.List.{AllByRecursion, position_or_len}
@@ -17,7 +17,6 @@ none_here false at left le = (refl, omega arith)
 none_of : {A : Type 0} (p : A → Bool) (xs : List A) → length xs ≤ position_or_len p xs → AllByRecursion (λ x. p x ≡ false) xs
 none_of p [] le = tt
 none_of p (x ∷ xs) le =
-
     let here = none_here (p x) (position_or_len p xs) (length xs) le in (here.0, none_of p xs here.1)
 
 not_found : (t : Bool) (at : ℕ) → cond t (Some at) None ≡ None → t ≡ false

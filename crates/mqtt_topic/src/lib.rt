@@ -1,4 +1,11 @@
 //! Topic names, filters and shares, and the table of routes (sections 4.7 and 4.8.2).
+//!
+//! ```
+//! let share = Share::parse(text("$share/b/job")?)?;
+//! let name = share.name(); // `b`
+//! let filter = share.filter(); // `job`
+//! let is_routed = share.matches(&TopicName::parse(text("job")?)?); // true
+//! ```
 #![tactic(auto)]
 
 mod error;

@@ -1,6 +1,5 @@
 -- Properties that are spelled are in the ranges of their types.
 use Rattle.std.proofs.Common.{◌≡◌, ℕ, List, [], ◌∷◌, ◌++◌, Option, Some, None, Result, Ok, Err, refl, sym, subst, rules}
-use Rattle.std.specs.List.{AllByRecursion}
 use Rattle.mqtt_wire.specs.declared.fault.StreamFault.{StreamFault}
 use Rattle.mqtt_wire.specs.declared.property.Property.{Property}
 use Rattle.mqtt_wire.specs.declared.property.Property.TheVariants.{PayloadFormatIndicator, MessageExpiryInterval, ContentType, ResponseTopic, CorrelationData, SubscriptionIdentifier, SessionExpiryInterval, AuthenticationMethod, AuthenticationData, RequestProblemInformation, RequestResponseInformation, ReasonString, ReceiveMaximum, TopicAliasMaximum, TopicAlias, UserProperty, MaximumPacketSize}
@@ -10,11 +9,6 @@ use Rattle.mqtt_wire.specs.declared.properties.Properties.{Properties}
 use Rattle.mqtt_wire.specs.declared.user_properties.UserProperty.{UserProperty as Pair}
 use Rattle.mqtt_wire.specs.declared.packet_properties.Authentication.{Authentication}
 use Rattle.mqtt_wire.specs.declared.packet_properties.ConnectProperties.{ConnectProperties}
-use Rattle.mqtt_wire.specs.declared.packet_properties.PublishProperties.{PublishProperties}
-use Rattle.mqtt_wire.specs.declared.packet_properties.PubackProperties.{PubackProperties}
-use Rattle.mqtt_wire.specs.declared.packet_properties.SubscribeProperties.{SubscribeProperties}
-use Rattle.mqtt_wire.specs.declared.packet_properties.UnsubscribeProperties.{UnsubscribeProperties}
-use Rattle.mqtt_wire.specs.declared.packet_properties.DisconnectProperties.{DisconnectProperties}
 use Rattle.mqtt_wire.specs.declared.packet.Packet.{Packet}
 use Rattle.mqtt_wire.specs.declared.packet.Packet.TheVariants as packets
 use Rattle.mqtt_wire.specs.Properties.{nothing, with_property}

@@ -7,6 +7,16 @@
 //! rules, so that a packet that breaks one cannot be made. What a client has no business to send is read as
 //! [`Packet::Foreign`], a CONNECT of another version as [`Packet::OtherVersion`], one with a will as [`Packet::WithWill`]:
 //! what they say beyond that is not looked at.
+//!
+//! ```
+//! let mut splitter = Splitter::new(alloc);
+//! splitter.feed(b"\xC0")?;
+//! let open = splitter.next()?; // None: the packet is not whole yet
+//! splitter.feed(b"\x00")?;
+//! let packet = splitter.next()?; // Some(Packet::Pingreq)
+//! let mut out = Vec::new(alloc);
+//! encode_into(&mut out, &Packet::Pingresp)?; // D0 00
+//! ```
 #![tactic(auto)]
 
 mod binary;

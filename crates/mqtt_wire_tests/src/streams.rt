@@ -1,7 +1,7 @@
 //! Streams of packets, read and written again, and the faults that they show.
 
 use crate::written;
-use mqtt_wire::{Fault, Splitter};
+use mqtt_wire::{Fault, Packet, Splitter, encode_into};
 use std::alloc::Global;
 use std::test::Fail;
 
@@ -66,6 +66,26 @@ fn every_cutting(rt: HostRuntime) -> Result<(), Fail> {
         let again = in_two(rt.alloc(), place)?;
         assert_eq!(rt; again.as_slice(), STREAM.as_slice(), "in two at {place}");
     }
+    Ok(())
+}
+
+// Whether half a PINGREQ is open, and whether all of it is one; and its answer.
+fn ping(alloc: Global) -> Result<(bool, bool, Vec<u8>), Fault> {
+    let mut splitter = Splitter::new(alloc);
+    splitter.feed(b"\xC0")?;
+    let is_open = splitter.next()?.is_none();
+    splitter.feed(b"\x00")?;
+    let is_ping = splitter.next()? == Some(Packet::Pingreq);
+    let mut out = Vec::new(alloc);
+    encode_into(&mut out, &Packet::Pingresp)?;
+    Ok((is_open, is_ping, out))
+}
+
+#[test]
+fn ping_and_its_answer(rt: HostRuntime) -> Result<(), Fail> {
+    let (is_open, is_ping, out) = ping(rt.alloc())?;
+    assert!(rt; is_open && is_ping);
+    assert_eq!(rt; out.as_slice(), b"\xD0\x00".as_slice());
     Ok(())
 }
 
@@ -254,20 +274,18 @@ fn faults(rt: HostRuntime) -> Result<(), Fail> {
     Ok(())
 }
 
-// A SUBSCRIBE of so many entries, each of the filter `a`.
-fn subscribe(alloc: Global, entries: u8) -> Result<Vec<u8>, Fault> {
-    let mut bytes = Vec::from_slice(alloc, &[0x82, 0, 0, 1, 0])?;
-    for _ in 0..entries {
+// A SUBSCRIBE of 33 entries, each of the filter `a`: its Remaining Length is 135.
+fn subscribe(alloc: Global) -> Result<Vec<u8>, Fault> {
+    let mut bytes = Vec::from_slice(alloc, &[0x82, 0x87, 0x01, 0, 1, 0])?;
+    for _ in 0..33u8 {
         bytes.extend_from_slice(b"\0\x01a\x01")?;
     }
-    let remaining = bytes.len() - 2;
-    bytes[1] = remaining as u8;
     Ok(bytes)
 }
 
 #[test]
 fn more_than_32_entries(rt: HostRuntime) -> Result<(), Fail> {
-    let bytes = subscribe(rt.alloc(), 31)?;
+    let bytes = subscribe(rt.alloc())?;
     let mut splitter = Splitter::new(rt.alloc());
     splitter.feed(&bytes)?;
     let again = next_written(rt.alloc(), &mut splitter)?;

@@ -1,4 +1,3 @@
-use Rattle.mqtt_wire.specs.Forms.{variable_bytes}
 use Rattle.mqtt_wire.proofs.WritingLaws.{next_byte, appends_both}
 use Rattle.mqtt_wire.proofs.field_writing.+put_variable_byte_integer.Goals as goal
 

@@ -18,5 +18,5 @@ returns-clause-value c =
 pub returns-clause-small : goal.returns-clause-small
 returns-clause-small c =
     let few : length (routed c.args.name.now c.args.self.now) ≤ 8 =
-        omega (arith, length-map c.args.self.now (λ (share : Share). matches share.filter c.args.name.now), ap length c.self.view_is, c.self.invariant.0) in
+    omega (arith, length-map c.args.self.now (λ (share : Share). matches share.filter c.args.name.now), ap length c.self.view_is, c.self.invariant.0) in
     rw (returns-clause-value c) (λ k d. places_below 0 (routed c.args.name.now c.args.self.now) 8 (omega (arith, few)) k d)
