@@ -10,6 +10,6 @@ abbrev pub Rises : ℕ → List Property → Type 0
 Rises least [] = Unit {0}
 Rises least (property ∷ others) = (least ≤ identifier_of (name_of property)) × Rises (identifier_of (name_of property)) others
 
--- the bytes are properties in rising order of their identifiers; only a User Property repeats, and those keep their order
+-- the bytes are properties, none with an identifier below that of one before it
 abbrev pub AreRising : List ℕ → Type 0
 AreRising bytes = (list : List Property) × (bytes ≡ flat_map property_bytes list) × Rises 0 list

@@ -57,8 +57,7 @@ pub fn written_packets_are_read_again()
         (others : List AnyPacket) × (all ≡ packet ∷ others) × Reads after others rest fault }
 {}
 
-/// Of each packet, what is written of its properties is properties in rising order of their identifiers; User Properties alone
-/// repeat, and keep their order.
+/// Of each packet that a client may send, what is written of its properties is properties in rising order of their identifiers.
 pub fn written_properties_rise()
     ensures connect { (properties : ConnectProperties) → AreRising (connect_list properties) }
     ensures publish { (properties : PublishProperties) → AreRising (publish_list properties) }
