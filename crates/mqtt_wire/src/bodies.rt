@@ -114,8 +114,7 @@ fn read_connect_fields(alloc: Global, flags: u8, mut body: Bytes) -> Result<Conn
 {
     let keep_alive = read_u16(&mut body)?;
     let properties = read_properties(alloc, Section::Connect, &mut body)?.into_connect()?;
-    let payload = read_connect_payload(flags, body)?;
-    Ok(Connect {
+    read_connect_payload(flags, body).map(|payload| Connect {
         clean_start: flags / 2 % 2 == 1,
         keep_alive,
         properties,
@@ -133,7 +132,9 @@ fn read_connect_payload(flags: u8, mut body: Bytes) -> Result<ConnectPayload, Fa
     let client_identifier = read_text(&mut body)?;
     let user_name = read_text_if(flags / 128 % 2 == 1, &mut body)?;
     let password = read_binary_if(flags / 64 % 2 == 1, &mut body)?;
-    expected(body.is_empty())?;
+    if !body.is_empty() {
+        return Err(Fault::Stream(StreamFault::Malformed));
+    }
     Ok(ConnectPayload {
         client_identifier,
         user_name,

@@ -75,31 +75,35 @@ fn is_forbidden(section: Section, name: PropertyName) -> bool
 fn read_value(name: PropertyName, list: &mut Bytes) -> Result<Property, Fault>
     ensures field { GivesField result list.new (value_at name list.old) }
 {
-    Ok(match name {
-        PropertyName::PayloadFormatIndicator => Property::PayloadFormatIndicator(read_byte(list)?),
-        PropertyName::MessageExpiryInterval => Property::MessageExpiryInterval(read_u32(list)?),
-        PropertyName::ContentType => Property::ContentType(read_text(list)?),
-        PropertyName::ResponseTopic => Property::ResponseTopic(read_text(list)?),
-        PropertyName::CorrelationData => Property::CorrelationData(read_binary(list)?),
-        PropertyName::SubscriptionIdentifier => {
-            Property::SubscriptionIdentifier(read_subscription_identifier(list)?)
+    match name {
+        PropertyName::PayloadFormatIndicator => {
+            Ok(Property::PayloadFormatIndicator(read_byte(list)?))
         }
-        PropertyName::SessionExpiryInterval => Property::SessionExpiryInterval(read_u32(list)?),
-        PropertyName::AuthenticationMethod => Property::AuthenticationMethod(read_text(list)?),
-        PropertyName::AuthenticationData => Property::AuthenticationData(read_binary(list)?),
+        PropertyName::MessageExpiryInterval => Ok(Property::MessageExpiryInterval(read_u32(list)?)),
+        PropertyName::ContentType => read_text(list).map(Property::ContentType),
+        PropertyName::ResponseTopic => read_text(list).map(Property::ResponseTopic),
+        PropertyName::CorrelationData => read_binary(list).map(Property::CorrelationData),
+        PropertyName::SubscriptionIdentifier => Ok(Property::SubscriptionIdentifier(
+            read_subscription_identifier(list)?,
+        )),
+        PropertyName::SessionExpiryInterval => Ok(Property::SessionExpiryInterval(read_u32(list)?)),
+        PropertyName::AuthenticationMethod => {
+            read_text(list).map(Property::AuthenticationMethod)
+        }
+        PropertyName::AuthenticationData => read_binary(list).map(Property::AuthenticationData),
         PropertyName::RequestProblemInformation => {
-            Property::RequestProblemInformation(read_flag(list)?)
+            Ok(Property::RequestProblemInformation(read_flag(list)?))
         }
         PropertyName::RequestResponseInformation => {
-            Property::RequestResponseInformation(read_flag(list)?)
+            Ok(Property::RequestResponseInformation(read_flag(list)?))
         }
-        PropertyName::ReasonString => Property::ReasonString(read_text(list)?),
-        PropertyName::ReceiveMaximum => Property::ReceiveMaximum(read_receive_maximum(list)?),
-        PropertyName::TopicAliasMaximum => Property::TopicAliasMaximum(read_u16(list)?),
-        PropertyName::TopicAlias => Property::TopicAlias(read_u16(list)?),
-        PropertyName::UserProperty => Property::UserProperty(read_pair(list)?),
+        PropertyName::ReasonString => read_text(list).map(Property::ReasonString),
+        PropertyName::ReceiveMaximum => Ok(Property::ReceiveMaximum(read_receive_maximum(list)?)),
+        PropertyName::TopicAliasMaximum => Ok(Property::TopicAliasMaximum(read_u16(list)?)),
+        PropertyName::TopicAlias => Ok(Property::TopicAlias(read_u16(list)?)),
+        PropertyName::UserProperty => read_pair(list).map(Property::UserProperty),
         PropertyName::MaximumPacketSize => {
-            Property::MaximumPacketSize(read_maximum_packet_size(list)?)
+            Ok(Property::MaximumPacketSize(read_maximum_packet_size(list)?))
         }
-    })
+    }
 }

@@ -1,7 +1,7 @@
 //! Streams of packets, read and written again, and the faults that they show.
 
 use crate::written;
-use mqtt_wire::{Fault, Packet, Splitter, encode_into};
+use mqtt_wire::{Fault, Splitter};
 use std::alloc::Global;
 use std::test::Fail;
 
@@ -66,26 +66,6 @@ fn every_cutting(rt: HostRuntime) -> Result<(), Fail> {
         let again = in_two(rt.alloc(), place)?;
         assert_eq!(rt; again.as_slice(), STREAM.as_slice(), "in two at {place}");
     }
-    Ok(())
-}
-
-// Whether half a PINGREQ is open, and whether all of it is one; and its answer.
-fn ping(alloc: Global) -> Result<(bool, bool, Vec<u8>), Fault> {
-    let mut splitter = Splitter::new(alloc);
-    splitter.feed(b"\xC0")?;
-    let is_open = splitter.next()?.is_none();
-    splitter.feed(b"\x00")?;
-    let is_ping = splitter.next()? == Some(Packet::Pingreq);
-    let mut out = Vec::new(alloc);
-    encode_into(&mut out, &Packet::Pingresp)?;
-    Ok((is_open, is_ping, out))
-}
-
-#[test]
-fn ping_and_its_answer(rt: HostRuntime) -> Result<(), Fail> {
-    let (is_open, is_ping, out) = ping(rt.alloc())?;
-    assert!(rt; is_open && is_ping);
-    assert_eq!(rt; out.as_slice(), b"\xD0\x00".as_slice());
     Ok(())
 }
 

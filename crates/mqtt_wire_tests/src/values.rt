@@ -67,6 +67,13 @@ fn refusing_connack(rt: HostRuntime) -> Result<(), Fail> {
     Ok(())
 }
 
+#[test]
+fn answer_to_a_ping(rt: HostRuntime) -> Result<(), Fail> {
+    let bytes = written(rt.alloc(), Packet::Pingresp)?;
+    assert_eq!(rt; bytes.as_slice(), b"\xD0\x00".as_slice());
+    Ok(())
+}
+
 // Two codes of a SUBACK or an UNSUBACK.
 fn two_codes(alloc: Global) -> Result<NonEmpty<ReasonCode>, Fault> {
     let codes = [ReasonCode::GRANTED_QOS_1, ReasonCode::QUOTA_EXCEEDED];

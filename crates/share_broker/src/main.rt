@@ -4,25 +4,10 @@
 ghost use Rattle.std.specs.Prelude.{◌≡◌, map, string_bytes};
 ghost use Rattle.std.specs.Process.{exit_status};
 ghost use Rattle.std.specs.Vec.Iter.{into_iter_items};
-ghost use Rattle.share_broker.specs.Status.{asks_solo, status_of};
+ghost use Rattle.share_broker.specs.Words.{asks_solo};
+ghost use Rattle.solo_broker.specs.Status.{status_of};
 
-mod connection;
-pub mod error;
-mod group;
-mod hand_outs;
-mod input;
-pub mod laws;
-mod output;
-mod packets;
-mod reason_code;
-mod report;
-mod requests;
-mod share;
-pub mod solo;
-mod terms;
-mod window;
-
-use error::SoloError;
+use solo_broker::{SoloError, solo};
 use std::env::Args;
 use std::io::ErrorKind;
 use std::process::ExitCode;
@@ -41,7 +26,7 @@ fn main(rt: HostRuntime) -> ExitCode {
         let _ = eprintln!(rt; "usage: share_broker solo < FILE");
         return ExitCode::from(USAGE);
     }
-    match solo::solo(rt.alloc(), &mut rt.reader(), &mut io::writer(&rt)) {
+    match solo(rt.alloc(), &mut rt.reader(), &mut io::writer(&rt)) {
         Ok(()) => ExitCode::SUCCESS,
         Err(error) => failure(&rt, error),
     }

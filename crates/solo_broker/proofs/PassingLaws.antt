@@ -1,0 +1,115 @@
+-- Writes one after another.
+use Rattle.std.proofs.Common.{◌≡◌, ℕ, List, [], ◌++◌, take, drop, take-append-drop, subst, refl, ap, sym, ◌∙◌, Option, Some, None, append_assoc, append-nil, IfSome}
+use Rattle.std.specs.Io.KnownBytes.{Appends, Keeps, Consumes, IsAtEnd}
+use Rattle.solo_broker.specs.Passing.{Passes, Begins}
+
+pub Appends-then : (old mid new : Option (List ℕ)) (a b : List ℕ) → Appends old mid a → Appends mid new b → Appends old new (a ++ b)
+Appends-then None mid new a b first second = tt
+Appends-then (Some xs) None new a b first second = absurd first
+Appends-then (Some xs) (Some ys) None a b first second = absurd second
+Appends-then (Some xs) (Some ys) (Some zs) a b first second = second ∙ ap (λ s. s ++ b) first ∙ append_assoc xs a b
+
+pub Appends-nothing : (old new : Option (List ℕ)) → Keeps old new → Appends old new []
+Appends-nothing None new keeps = tt
+Appends-nothing (Some xs) None keeps = keeps
+Appends-nothing (Some xs) (Some ys) keeps = keeps ∙ sym (append-nil xs)
+
+pub Consumes-then : (old mid new : Option (List ℕ)) (a b : List ℕ) → Consumes old mid a → Consumes mid new b → Consumes old new (a ++ b)
+Consumes-then None mid new a b first second = tt
+Consumes-then (Some xs) None new a b first second = absurd first
+Consumes-then (Some xs) (Some ys) None a b first second = absurd second
+Consumes-then (Some xs) (Some ys) (Some zs) a b first second = first ∙ ap (λ s. a ++ s) second ∙ sym (append_assoc a b zs)
+
+pub Consumes-nothing : (old new : Option (List ℕ)) → Keeps old new → Consumes old new []
+Consumes-nothing None new keeps = tt
+Consumes-nothing (Some xs) None keeps = keeps
+Consumes-nothing (Some xs) (Some ys) keeps = sym keeps
+
+-- what was consumed up to the end is all that there was
+pub Consumes-all : (old new : Option (List ℕ)) (a : List ℕ) → Consumes old new a → IsAtEnd new → IfSome old (λ xs. a ≡ xs)
+Consumes-all None new a consumed end = tt
+Consumes-all (Some xs) None a consumed end = absurd consumed
+Consumes-all (Some xs) (Some ys) a consumed end = sym (consumed ∙ ap (λ s. a ++ s) end ∙ append-nil a)
+
+-- One write more: the writer takes the first n bytes of what is left.
+pub Passes-write : (old mid new : Option (List ℕ)) (text rest : List ℕ) (n : ℕ) → Passes old mid [] text rest → Appends mid new (take n rest) → Passes old new [] text (drop n rest)
+Passes-write old mid new text rest n before write = record {
+  part = before.part ++ take n rest;
+  written = Appends-then old mid new before.part (take n rest) before.written write;
+  whole = append_assoc before.part (take n rest) (drop n rest) ∙ ap (λ s. before.part ++ s) (take-append-drop n rest) ∙ before.whole;
+}
+
+-- A write that wrote nothing.
+pub Passes-keeps : (old mid new : Option (List ℕ)) (waiting text rest : List ℕ) → Passes old mid waiting text rest → Keeps mid new → Passes old new waiting text rest
+Passes-keeps old mid new waiting text rest before keeps = record {
+  part = before.part;
+  written = subst (Appends old new) (append-nil before.part) (Appends-then old mid new before.part [] before.written (Appends-nothing mid new keeps));
+  whole = before.whole;
+}
+
+-- Nothing is left.
+pub Passes-all : (old new : Option (List ℕ)) (text : List ℕ) → Passes old new [] text [] → Appends old new text
+Passes-all old new text p = subst (Appends old new) (sym (append-nil p.part) ∙ p.whole) p.written
+
+-- Something may be left.
+pub Passes-begins : (old new : Option (List ℕ)) (text rest : List ℕ) → Passes old new [] text rest → Begins old new text
+Passes-begins old new text rest p = record { part = p.part; rest = rest; written = p.written; whole = p.whole }
+
+pub Keeps-refl : (known : Option (List ℕ)) → Keeps known known
+Keeps-refl None = tt
+Keeps-refl (Some xs) = refl
+
+pub Passes-nothing : (known : Option (List ℕ)) → Passes known known [] [] []
+Passes-nothing known = record { part = []; written = Appends-nothing known known (Keeps-refl known); whole = refl }
+
+regroup : (p q v w x y : List ℕ) (u : List ℕ) → p ++ v ≡ w ++ x → q ++ u ≡ v ++ y → (p ++ q) ++ u ≡ w ++ (x ++ y)
+regroup p q v w x y u first second =
+    append_assoc p q u ∙ ap (λ s. p ++ s) second ∙ sym (append_assoc p v y) ∙ ap (λ s. s ++ y) first ∙ append_assoc w x y
+
+-- One text after another.
+pub Passes-then : (old mid new : Option (List ℕ)) (w x v y u : List ℕ) → Passes old mid w x v → Passes mid new v y u → Passes old new w (x ++ y) u
+Passes-then old mid new w x v y u first second = record {
+  part = first.part ++ second.part;
+  written = Appends-then old mid new first.part second.part first.written second.written;
+  whole = regroup first.part second.part v w x y u first.whole second.whole;
+}
+
+-- The second text failed.
+pub Begins-then : (old mid new : Option (List ℕ)) (w x v y : List ℕ) → Passes old mid w x v → Begins mid new (v ++ y) → Begins old new (w ++ (x ++ y))
+Begins-then old mid new w x v y first second = record {
+  part = first.part ++ second.part;
+  rest = second.rest;
+  written = Appends-then old mid new first.part second.part first.written second.written;
+  whole = regroup first.part second.part v w x y second.rest first.whole second.whole;
+}
+
+-- No second text was begun.
+pub Begins-stops : (old new : Option (List ℕ)) (w x v y : List ℕ) → Passes old new w x v → Begins old new (w ++ (x ++ y))
+Begins-stops old new w x v y first = record {
+  part = first.part;
+  rest = v ++ y;
+  written = first.written;
+  whole = sym (append_assoc first.part v y) ∙ ap (λ s. s ++ y) first.whole ∙ append_assoc w x y;
+}
+
+pub Begins-longer : (old new : Option (List ℕ)) (x y : List ℕ) → Begins old new x → Begins old new (x ++ y)
+Begins-longer old new x y begun = record {
+  part = begun.part;
+  rest = begun.rest ++ y;
+  written = begun.written;
+  whole = sym (append_assoc begun.part begun.rest y) ∙ ap (λ s. s ++ y) begun.whole;
+}
+
+-- What waited was written.
+pub Appends-passed : (old mid new : Option (List ℕ)) (x v : List ℕ) → Passes old mid [] x v → Appends mid new v → Appends old new x
+Appends-passed old mid new x v first second =
+    subst (Appends old new) first.whole (Appends-then old mid new first.part v first.written second)
+
+-- A beginning of what waited was written.
+pub Begins-passed : (old mid new : Option (List ℕ)) (x v : List ℕ) → Passes old mid [] x v → Begins mid new v → Begins old new x
+Begins-passed old mid new x v first second = record {
+  part = first.part ++ second.part;
+  rest = second.rest;
+  written = Appends-then old mid new first.part second.part first.written second.written;
+  whole = append_assoc first.part second.part second.rest ∙ ap (λ s. first.part ++ s) second.whole ∙ first.whole;
+}

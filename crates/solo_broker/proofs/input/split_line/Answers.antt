@@ -1,0 +1,10 @@
+use Rattle.std.proofs.Common.{sym, ◌∙◌}
+use Rattle.std.proofs.lemmas.List.{take_rest}
+use Rattle.solo_broker.proofs.LineLaws.{lines_first, lines_none}
+use Rattle.solo_broker.proofs.input.split_line.Goals as goal
+
+pub returns-in-Some-clause-lines : goal.returns-in-Some-clause-lines
+returns-in-Some-clause-lines c = rw take_rest (lines_first _ _ (sym c.end_of_line.ensures ∙ c.in-Some.is))
+
+pub returns-in-None-clause-lines : goal.returns-in-None-clause-lines
+returns-in-None-clause-lines c = lines_none _ c.requires (sym c.end_of_line.ensures ∙ c.in-None.is)
