@@ -3,6 +3,7 @@
 //! Each run prints what it counted, so that the same words print the same lines on every machine.
 #![tactic(auto)]
 
+mod group;
 mod job;
 mod matching;
 mod reading;
@@ -20,6 +21,8 @@ const MEMORY: u8 = 4;
 /// A run that the words ask for.
 #[derive(Clone, Copy, Debug)]
 enum Run {
+    /// So many messages are offered to a group on one thread, taken and settled.
+    Group { jobs: u32 },
     /// The four packets of so many jobs are read and written.
     Job { jobs: u32 },
     /// So many topic names are matched with eight filters.
@@ -30,10 +33,13 @@ enum Run {
 
 fn main(rt: HostRuntime) -> ExitCode {
     let Ok(Some(run)) = run_in_words(&rt) else {
-        let _ = eprintln!(rt; "usage: benchmark job JOBS | matching NAMES | reading PACKETS PIECE");
+        let _ = eprintln!(rt;
+            "usage: benchmark group JOBS | job JOBS | matching NAMES | reading PACKETS PIECE"
+        );
         return ExitCode::from(USAGE);
     };
     let counted = match run {
+        Run::Group { jobs } => group::settled(rt.alloc(), jobs),
         Run::Job { jobs } => job::written(rt.alloc(), jobs),
         Run::Matching { names } => matching::matched(rt.alloc(), names),
         Run::Reading { packets, piece } => reading::read(rt.alloc(), packets, piece),
@@ -43,6 +49,7 @@ fn main(rt: HostRuntime) -> ExitCode {
         return ExitCode::from(MEMORY);
     };
     let _ = match run {
+        Run::Group { jobs } => println!(rt; "{jobs} jobs offered, {counted} acknowledged"),
         Run::Job { jobs } => println!(rt; "{jobs} jobs wrote {counted} bytes"),
         Run::Matching { names } => println!(rt; "{names} names matched {counted} filters"),
         Run::Reading { packets, .. } => println!(rt;
@@ -67,6 +74,7 @@ fn run_in_words(rt: &(impl Env + Alloc)) -> io::Result<Option<Run>> {
         return Ok(None);
     };
     Ok(match (run.as_str(), first, second) {
+        ("group", Some(jobs), None) => Some(Run::Group { jobs }),
         ("job", Some(jobs), None) => Some(Run::Job { jobs }),
         ("matching", Some(names), None) => Some(Run::Matching { names }),
         ("reading", Some(packets), Some(piece)) => Some(Run::Reading {

@@ -1,0 +1,5 @@
+pub mod Stamps
+pub mod Settled
+pub mod Dockets
+pub mod Reports
+pub mod Balance

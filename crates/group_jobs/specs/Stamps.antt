@@ -1,0 +1,19 @@
+-- Stamps, the jobs that they name, and envelopes as contracts see them.
+use Rattle.std.specs.Prelude.{ℕ}
+use Rattle.dispatch_core.specs.declared.event.Job.{Job}
+use Rattle.group_jobs.specs.declared.stamp.Stamp.{Stamp}
+use Rattle.group_jobs.specs.declared.message.Message.{Message}
+
+-- a stamp without its group
+abbrev pub job_of : Stamp → Job
+job_of stamp = record { port = stamp.port; number = stamp.number }
+
+-- a job of a group
+abbrev pub stamp_of : ℕ → Job → Stamp
+stamp_of group job = record { group = group; port = job.port; number = job.number }
+
+-- an envelope: a message that was handed out, and the place that holds it
+pub record Held : Type 0 where
+  pub stamp : Stamp
+  pub place : ℕ
+  pub message : Message

@@ -1,0 +1,70 @@
+//! Envelopes: messages in a member's hands.
+ghost use Rattle.std.specs.Prelude.{◌≡◌};
+
+use crate::message::Message;
+use crate::stamp::Stamp;
+use std::marker::Model;
+
+/// A message that was handed out, with its stamp and the number of the place that holds it. It can't be dropped: the group
+/// that handed it out takes it back, settled, given back, or in the list of what is held at the end.
+///
+/// Contracts see it as a `Held`.
+pub struct Envelope {
+    stamp: Stamp,
+    place: u8,
+    message: Message,
+}
+
+impl Model for Envelope {
+    ghost use Rattle.group_jobs.specs.Stamps.{Held};
+
+    ghost Value = { Held };
+
+    ghost view = { λ e. record { stamp = e.stamp; place = e.place; message = e.message } };
+}
+
+impl Envelope {
+    /// An envelope. A group makes one for each hand-out, and no others: one that was made otherwise is a stranger to it.
+    pub fn new(stamp: Stamp, place: u8, message: Message) -> Envelope
+        ensures { result ≡ record { stamp = stamp; place = place; message = message } }
+    {
+        Envelope {
+            stamp,
+            place,
+            message,
+        }
+    }
+
+    /// Which message it is.
+    pub fn stamp(&self) -> Stamp
+        ensures { result ≡ self.now.stamp }
+    {
+        self.stamp
+    }
+
+    /// The place that holds it, from 0 to 31.
+    pub fn place(&self) -> u8
+        ensures { result ≡ self.now.place }
+    {
+        self.place
+    }
+
+    /// The message.
+    pub fn message(&self) -> &Message
+        ensures { result.now ≡ self.now.message }
+    {
+        &self.message
+    }
+
+    /// Takes the envelope apart, for the group that it goes back to.
+    pub fn open(self) -> (Stamp, Message)
+        ensures { result ≡ (self.stamp, self.message) }
+    {
+        let Envelope {
+            stamp,
+            place: _,
+            message,
+        } = self;
+        (stamp, message)
+    }
+}

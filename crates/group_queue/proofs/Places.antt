@@ -1,0 +1,207 @@
+-- What a step of one of its passes makes of a place.
+use Rattle.std.proofs.Common.{◌≡◌, ℕ, zero, suc, ◌+◌, ◌<◌, length, slice_get, length-append, List, [], ◌∷◌, ◌++◌, All, Option, Some, None, refl, sym, ap, ◌∙◌, subst, arith}
+use Rattle.std.specs.Prelude.{map}
+use Rattle.std.proofs.lemmas.List.Elements.{All-append, All-cons, All-nil, All-head}
+use Rattle.crossbeam_queue.specs.Passes.{view}
+use Rattle.dispatch_core.specs.declared.event.Job.{Job}
+use Rattle.dispatch_core.specs.JobRuns.{jobs_of, count_of}
+use Rattle.group_jobs.specs.declared.fate.Fate.{Fate}
+use Rattle.group_jobs.specs.declared.fate.Fate.TheVariants.{Acknowledged, Refused}
+use Rattle.group_jobs.specs.Settled.{IsUnsettled, KeepsSettled, Settles}
+use Rattle.group_jobs.specs.Dockets.{Kept, TakesOff}
+use Rattle.group_jobs.specs.Balance.{Balance}
+use Rattle.group_jobs.proofs.Taking.{All-taken}
+use Rattle.group_queue.specs.declared.posted.Posted.{Posted}
+use Rattle.group_queue.specs.declared.place.Taker.{Taker}
+use Rattle.group_queue.specs.declared.view.Name.TheVariants.{Place}
+use Rattle.group_queue.specs.Views.{one, list_in, IsOf}
+use Rattle.group_queue.specs.declared.view.View.{View}
+use Rattle.group_queue.specs.declared.view.Bag.{Bag}
+use Rattle.group_queue.specs.Past.{Pop, Takes}
+use Rattle.group_queue.specs.Returns.{bag, bag_of, PopsBack, PushesBack}
+use Rattle.group_queue.specs.Places.{PlaceState, IsPlaceOf, IsNewPlace, AreNewPlaces, jobs_in, Hands, account_of}
+use Rattle.group_queue.specs.Ports.{GroupId, PortState, IsPortOf, new_port, AreNewPorts}
+use Rattle.std.proofs.lemmas.Option.{get_or_from_slice_get}
+use mathlib.Core.Logic.{dite}
+use native.Mathlib.Decide.{ℕ_discrete}
+use Rattle.group_queue.specs.Takers.{place_of, hands_of, IsInHands, IsTaker}
+use Rattle.group_queue.proofs.Ports.{list-grown, of-grown}
+use Rattle.group_queue.proofs.Balances.{count-posted, count-push, count-taken, times-kept, times-settled}
+
+abbrev count_in : Job → List Posted → ℕ
+count_in job list = count_of job (jobs_in list)
+
+abbrev pub IsSmall : Job → Type 0
+IsSmall job = job.number < 18446744073709551615
+
+-- the pass of each queue is bare and of the same place
+pub record SamePasses (old new : Taker) : Type 0 where
+  pub main_bare : new.main.me.1 ≡ []
+  pub part : (bag_of new.returns).parts ≡ (bag_of old.returns).parts
+  pub hand : new.returns.me.hand ≡ None
+  pub spare : new.returns.me.spare ≡ None
+
+pub in_hands : (number : ℕ) (docket : Kept) (o : Option Taker) (t : Taker) → o ≡ Some t → IsTaker number docket o → IsInHands number docket t
+in_hands number docket o t is tied = subst (IsTaker number docket) is tied
+
+-- nothing changed but the room of the docket
+pub keeps_hands : (number : ℕ) (old new : Kept) (t u : Taker) → IsInHands number old t → new.out ≡ old.out → KeepsSettled old.settled new.settled
+    → SamePasses t u → view u.main ≡ view t.main → bag_of u.returns ≡ bag_of t.returns → IsInHands number new u
+keeps_hands number old new t u h out settled same main returns = record {
+  main = subst (IsOf (Place number)) (sym main) h.main;
+  main_bare = same.main_bare;
+  part = same.part ∙ h.part;
+  hand = same.hand;
+  spare = same.spare;
+  balanced = (λ job.
+      let firsts = ap (λ v. count_in job (list_in v)) main in
+      let agains = ap (λ b. count_in job b.popped) returns in
+      let given = ap (λ b. count_in job b.pushed) returns in
+      let was = h.balanced job in
+      let o = ap (count_of job) out in
+      omega (arith, firsts, agains, given, was, o, times-kept job old.settled new.settled settled));
+  small = subst (All IsSmall) (sym out) h.small;
+}
+
+pub small_front : (v w : View) (x : Posted) → Takes v x w → IsSmall x.job
+small_front v w x takes =
+    let past = takes.before.holds.past in
+    let few = (takes.before.holds.numbered (map (λ (pop : Pop). pop.posted) past) takes.items x refl).1 in
+    omega (arith, few)
+
+pub small_back : (v w : Bag) (x : Posted) → PopsBack v x w → IsSmall x.job
+small_back v w x pops = All-head (λ (posted : Posted). posted.job.number < 18446744073709551615) x pops.items pops.before.holds.small
+
+-- the front of the main queue came out
+pub takes_front : (number : ℕ) (old new : Kept) (t u : Taker) (x : Posted) → IsInHands number old t → new.out ≡ old.out ++ x.job ∷ [] → KeepsSettled old.settled new.settled
+    → SamePasses t u → Takes (view t.main) x (view u.main) → bag_of u.returns ≡ bag_of t.returns → IsSmall x.job → IsInHands number new u
+takes_front number old new t u x h out settled same takes returns few =
+    let grew = list-grown (Place number) (view t.main) (view u.main) x h.main takes.is in
+    record {
+      main = of-grown (Place number) (view t.main) (view u.main) x h.main takes.is;
+      main_bare = same.main_bare;
+      part = same.part ∙ h.part;
+      hand = same.hand;
+      spare = same.spare;
+      balanced = (λ job.
+          let firsts = ap (count_in job) grew ∙ count-posted job (list_in (view t.main)) x in
+          let agains = ap (λ b. count_in job b.popped) returns in
+          let given = ap (λ b. count_in job b.pushed) returns in
+          let was = h.balanced job in
+          let o = ap (count_of job) out ∙ count-push job old.out x.job in
+          omega (arith, firsts, agains, given, was, o, times-kept job old.settled new.settled settled));
+      small = subst (All IsSmall) (sym out) (All-append IsSmall old.out (x.job ∷ []) h.small (All-cons IsSmall x.job [] few (All-nil IsSmall)));
+    }
+
+-- the front of the returns queue came out
+pub takes_back : (number : ℕ) (old new : Kept) (t u : Taker) (x : Posted) → IsInHands number old t → new.out ≡ old.out ++ x.job ∷ [] → KeepsSettled old.settled new.settled
+    → SamePasses t u → view u.main ≡ view t.main → PopsBack (bag_of t.returns) x (bag_of u.returns) → IsSmall x.job → IsInHands number new u
+takes_back number old new t u x h out settled same main pops few = record {
+  main = subst (IsOf (Place number)) (sym main) h.main;
+  main_bare = same.main_bare;
+  part = same.part ∙ h.part;
+  hand = same.hand;
+  spare = same.spare;
+  balanced = (λ job.
+      let firsts = ap (λ v. count_in job (list_in v)) main in
+      let agains = ap (λ b. count_in job b.popped) pops.is ∙ count-posted job (bag_of t.returns).popped x in
+      let given = ap (λ b. count_in job b.pushed) pops.is in
+      let was = h.balanced job in
+      let o = ap (count_of job) out ∙ count-push job old.out x.job in
+      omega (arith, firsts, agains, given, was, o, times-kept job old.settled new.settled settled));
+  small = subst (All IsSmall) (sym out) (All-append IsSmall old.out (x.job ∷ []) h.small (All-cons IsSmall x.job [] few (All-nil IsSmall)));
+}
+
+-- what was out went back
+pub gives_back : (number : ℕ) (old new : Kept) (t u : Taker) (x : Posted) → IsInHands number old t → TakesOff old.out x.job new.out → KeepsSettled old.settled new.settled
+    → SamePasses t u → view u.main ≡ view t.main → PushesBack (bag_of t.returns) x (bag_of u.returns) → IsInHands number new u
+gives_back number old new t u x h out settled same main pushes = record {
+  main = subst (IsOf (Place number)) (sym main) h.main;
+  main_bare = same.main_bare;
+  part = same.part ∙ h.part;
+  hand = same.hand;
+  spare = same.spare;
+  balanced = (λ job.
+      let firsts = ap (λ v. count_in job (list_in v)) main in
+      let agains = ap (λ b. count_in job b.popped) pushes.is in
+      let given = ap (λ b. count_in job b.pushed) pushes.is ∙ count-posted job (bag_of t.returns).pushed x in
+      let was = h.balanced job in
+      let o = count-taken job old.out x.job new.out out in
+      omega (arith, firsts, agains, given, was, o, times-kept job old.settled new.settled settled));
+  small = All-taken old.out x.job new.out out IsSmall h.small;
+}
+
+-- what was out is settled
+pub settles_hands : (number : ℕ) (old new : Kept) (o : Option Taker) (job : Job) (fate : Fate) → IsTaker number old o → TakesOff old.out job new.out → Settles old.settled job fate new.settled → IsTaker number new o
+settles_hands number old new None one fate h out settled = tt
+settles_hands number old new (Some t) one fate h out settled = record {
+  main = h.main;
+  main_bare = h.main_bare;
+  part = h.part;
+  hand = h.hand;
+  spare = h.spare;
+  balanced = (λ job.
+      let was = h.balanced job in
+      let o = count-taken job old.out one new.out out in
+      omega (arith, was, o, times-settled job old.settled one fate new.settled settled));
+  small = All-taken old.out one new.out out IsSmall h.small;
+}
+
+-- nothing changed but the room of the docket
+pub keeps_taker : (number : ℕ) (old new : Kept) (o : Option Taker) → IsTaker number old o → new.out ≡ old.out → KeepsSettled old.settled new.settled → IsTaker number new o
+keeps_taker number old new None h out settled = tt
+keeps_taker number old new (Some t) h out settled =
+    keeps_hands number old new t t h out settled (record { main_bare = h.main_bare; part = refl; hand = h.hand; spare = h.spare }) refl refl
+
+-- a place of a shared group is in balance
+pub balance_of : (group number : ℕ) (docket : Kept) (o : Option Taker) (hands : Hands) → hands_of o ≡ Some hands → IsTaker number docket o → Balance (account_of (place_of group number docket o))
+balance_of group number docket None hands is h = cc
+balance_of group number docket (Some t) hands is h = h.balanced
+
+-- a place that did nothing
+pub new_hands : (number : ℕ) (docket : Kept) (t : Taker) → view t.main ≡ one (Place number) [] → t.main.me.1 ≡ [] → bag_of t.returns ≡ bag 1 [] []
+    → t.returns.me.hand ≡ None → t.returns.me.spare ≡ None → docket.out ≡ [] → IsUnsettled docket.settled → IsInHands number docket t
+new_hands number docket t main bare returns hand spare out unsettled = record {
+  main = main ∙ ap (one (Place number)) (sym (ap list_in main));
+  main_bare = bare;
+  part = ap (λ b. b.parts) returns;
+  hand = hand;
+  spare = spare;
+  balanced = (λ job.
+      let firsts = ap (λ v. count_in job (list_in v)) main in
+      let agains = ap (λ b. count_in job b.popped) returns in
+      let given = ap (λ b. count_in job b.pushed) returns in
+      let o = ap (count_of job) out in
+      let a = ap (λ runs. count_of job (jobs_of runs)) (unsettled Acknowledged) in
+      let r = ap (λ runs. count_of job (jobs_of runs)) (unsettled Refused) in
+      omega (arith, firsts, agains, given, o, a, r));
+  small = subst (All IsSmall) (sym out) (All-nil IsSmall);
+}
+
+get_push-before : (xs : List PlaceState) (x : PlaceState) (k : ℕ) → k < length xs → slice_get (xs ++ x ∷ []) k ≡ slice_get xs k
+get_push-before [] x k less = absurd (omega arith)
+get_push-before (y ∷ ys) x zero less = refl
+get_push-before (y ∷ ys) x (suc k) less = get_push-before ys x k (omega arith)
+
+get_push-here : (xs : List PlaceState) (x : PlaceState) → slice_get (xs ++ x ∷ []) (length xs) ≡ Some x
+get_push-here [] x = refl
+get_push-here (y ∷ ys) x = get_push-here ys x
+
+pub new_places-push : (group : GroupId) (count : ℕ) (xs : List PlaceState) (x : PlaceState) → AreNewPlaces group count xs → IsNewPlace group count x
+    → AreNewPlaces group (count + 1) (xs ++ x ∷ [])
+new_places-push group count xs x all new = record {
+  all = omega (arith, length-append xs (x ∷ []), all.all);
+  each = (λ number less. dite (ℕ_discrete number count)
+      (λ is. (x, ap (slice_get (xs ++ x ∷ [])) (is ∙ sym all.all) ∙ get_push-here xs x, subst (λ n. IsNewPlace group n x) (sym is) new))
+      (λ other. let was = all.each number (omega (arith, other, less)) in let within = all.all in (was.0, get_push-before xs x number (omega (arith, other, less, within)) ∙ was.1, was.2)));
+}
+
+pub each_port : (group : GroupId) (count : ℕ) (xs : List PortState) → AreNewPorts group count xs → All (IsPortOf group) xs
+each_port group count xs new = λ k d less.
+    let there = new.each k (omega (arith, less, new.all)) in
+    subst (IsPortOf group) (sym (get_or_from_slice_get xs k (new_port group k) d there)) (refl, refl)
+
+pub each_place : (group : GroupId) (count : ℕ) (xs : List PlaceState) → AreNewPlaces group count xs → All (IsPlaceOf group) xs
+each_place group count xs new = λ k d less.
+    let there = new.each k (omega (arith, less, new.all)) in
+    subst (IsPlaceOf group) (sym (get_or_from_slice_get xs k there.0 d there.1)) there.2.of

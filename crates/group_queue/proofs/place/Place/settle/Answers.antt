@@ -1,0 +1,6 @@
+-- What was out is settled.
+use Rattle.group_queue.proofs.Places.{settles_hands}
+use Rattle.group_queue.proofs.place.Place.settle.Goals as goal
+
+pub invariant_of-self : goal.invariant_of-self
+invariant_of-self c = settles_hands _ _ _ _ _ _ c.self.invariant c.settle.ensures.out c.settle.ensures.settled

@@ -1,0 +1,10 @@
+pub mod Views
+pub mod Past
+pub mod Returns
+pub mod Ports
+pub mod Senders
+pub mod Places
+pub mod Takers
+pub mod Openings
+pub mod Offers
+pub mod Refusals

@@ -1,0 +1,139 @@
+-- Places as contracts see them, and what their calls make of them.
+use Rattle.std.specs.Prelude.{◌≡◌, ℕ, List, [], ◌∷◌, ◌++◌, map, ◌<◌, length, slice_get, Contains, Option, Some, None, Result, Ok, Err}
+use Rattle.std.proofs.Common.{Global}
+use Rattle.atomic_table.specs.Seated.{TableId}
+use Rattle.crossbeam_queue.specs.SegTies.{SegId}
+use Rattle.crossbeam_queue.specs.Fifo.{Held as AtOneMoment}
+use Rattle.dispatch_core.specs.declared.event.Job.{Job}
+use Rattle.dispatch_core.specs.JobRuns.{count_of}
+use Rattle.group_jobs.specs.declared.fate.Fate.{Fate}
+use Rattle.group_jobs.specs.declared.error.JobError.{JobError}
+use Rattle.group_jobs.specs.Stamps.{Held, stamp_of, job_of}
+use Rattle.group_jobs.specs.Settled.{settled_as, KeepsSettled, IsUnsettled, Settles}
+use Rattle.group_jobs.specs.Dockets.{Kept, TakesOff}
+use Rattle.group_jobs.specs.Balance.{Account, Balance}
+use Rattle.group_queue.specs.declared.posted.Posted.{Posted}
+use Rattle.group_queue.specs.declared.view.Name.TheVariants.{Place}
+use Rattle.group_queue.specs.Views.{one}
+use Rattle.group_queue.specs.Past.{Stands, Takes}
+use Rattle.group_queue.specs.Returns.{bag, StandsBack, PushesBack, PopsBack}
+use Rattle.group_queue.specs.Ports.{GroupId}
+
+-- what ties a place to its group: both queues
+pub record Hands : Type 0 where
+  pub main : TableId
+  pub returns : SegId Global
+
+-- a place: its group's slot, its number, its docket, and what it was the first to be handed, what it was handed again and what
+-- it gave back, in order
+pub record PlaceState : Type 0 where
+  pub group : ℕ
+  pub number : ℕ
+  pub docket : Kept
+  pub firsts : List Posted
+  pub agains : List Posted
+  pub given : List Posted
+  pub hands : Option Hands
+
+-- it is a place of this group
+abbrev pub IsPlaceOf : GroupId → PlaceState → Type 0
+IsPlaceOf group place = (place.group ≡ group.slot) × (place.hands ≡ Some (record { main = group.main; returns = group.returns }))
+
+-- it is the same place, whatever it did
+abbrev pub IsSamePlace : PlaceState → PlaceState → Type 0
+IsSamePlace old new = (new.group ≡ old.group) × (new.number ≡ old.number) × (new.hands ≡ old.hands)
+
+-- a place that was handed nothing
+pub record IsNewPlace (group : GroupId) (number : ℕ) (place : PlaceState) : Type 0 where
+  pub of : IsPlaceOf group place
+  pub number_is : place.number ≡ number
+  pub out : place.docket.out ≡ []
+  pub settled : IsUnsettled place.docket.settled
+  pub firsts : place.firsts ≡ []
+  pub agains : place.agains ≡ []
+  pub given : place.given ≡ []
+
+-- these are all places of a group, numbered from 0 on, and none was handed a message
+pub record AreNewPlaces (group : GroupId) (count : ℕ) (places : List PlaceState) : Type 0 where
+  pub all : length places ≡ count
+  pub each : (number : ℕ) → number < count → (place : PlaceState) × (slice_get places number ≡ Some place) × IsNewPlace group number place
+
+abbrev pub jobs_in : List Posted → List Job
+jobs_in list = map (λ posted. posted.job) list
+
+-- what the place did with jobs
+abbrev pub account_of : PlaceState → Account
+account_of place = record {
+  firsts = jobs_in place.firsts;
+  agains = jobs_in place.agains;
+  given = jobs_in place.given;
+  out = place.docket.out;
+  settled = λ fate job. count_of job (settled_as fate place.docket.settled);
+}
+
+-- each hand-out to a place of a shared group ended once, by a fate or by being given back, or the job is out
+abbrev pub IsBalanced : PlaceState → Type 0
+IsBalanced place = (hands : Hands) → place.hands ≡ Some hands → Balance (account_of place)
+
+-- the envelope is one that the place has out
+abbrev pub Holds : PlaceState → Held → Type 0
+Holds place envelope = (envelope.stamp.group ≡ place.group) × (envelope.place ≡ place.number) × Contains place.docket.out (job_of envelope.stamp)
+
+-- the docket has out and settled what it had
+pub record KeepsDocket (old new : Kept) : Type 0 where
+  pub out : new.out ≡ old.out
+  pub settled : KeepsSettled old.settled new.settled
+
+-- the place did nothing
+pub record KeepsPlace (old new : PlaceState) : Type 0 where
+  pub docket : KeepsDocket old.docket new.docket
+  pub others : new ≡ record old { docket = new.docket }
+
+-- a job moves from what is out to its fate
+pub record SettlesHeld (old : PlaceState) (job : Job) (fate : Fate) (new : PlaceState) : Type 0 where
+  pub out : TakesOff old.docket.out job new.docket.out
+  pub settled : Settles old.docket.settled job fate new.docket.settled
+  pub others : new ≡ record old { docket = new.docket }
+
+-- a message is out, in an envelope
+pub record IsHandedOut (old : PlaceState) (posted : Posted) (envelope : Held) (new : PlaceState) : Type 0 where
+  pub envelope_is : envelope ≡ record { stamp = stamp_of old.group posted.job; place = old.number; message = posted.message }
+  pub out : new.docket.out ≡ old.docket.out ++ posted.job ∷ []
+  pub settled : KeepsSettled old.docket.settled new.docket.settled
+
+-- the front of the main queue was handed to the place, for the first time
+pub record TakesFront (old : PlaceState) (envelope : Held) (new : PlaceState) : Type 0 where
+  pub posted : Posted
+  pub handed : IsHandedOut old posted envelope new
+  pub front : Takes (one (Place old.number) old.firsts) posted (one (Place new.number) new.firsts)
+  pub others : new ≡ record old { docket = new.docket; firsts = old.firsts ++ posted ∷ [] }
+
+-- what `take` answers: the front; nothing, where the queue was empty at one moment of the call; or no memory, and nothing was
+-- taken
+abbrev pub TakeAnswers : PlaceState → Result (Option Held) JobError → PlaceState → Type 0
+TakeAnswers old (Ok (Some envelope)) new = TakesFront old envelope new
+TakeAnswers old (Ok None) new = KeepsPlace old new × AtOneMoment 0 (Stands (one (Place old.number) old.firsts))
+TakeAnswers old (Err refusal) new = KeepsPlace old new
+
+-- the front of the returns queue was handed to the place, again
+pub record TakesBack (old : PlaceState) (envelope : Held) (new : PlaceState) : Type 0 where
+  pub posted : Posted
+  pub handed : IsHandedOut old posted envelope new
+  pub front : PopsBack (bag 1 old.given old.agains) posted (bag 1 new.given new.agains)
+  pub others : new ≡ record old { docket = new.docket; agains = old.agains ++ posted ∷ [] }
+
+abbrev pub TakeBackAnswers : PlaceState → Result (Option Held) JobError → PlaceState → Type 0
+TakeBackAnswers old (Ok (Some envelope)) new = TakesBack old envelope new
+TakeBackAnswers old (Ok None) new = KeepsPlace old new × StandsBack (bag 1 old.given old.agains) []
+TakeBackAnswers old (Err refusal) new = KeepsPlace old new
+
+-- the envelope's own message was given back, with its stamp
+pub record GivesBack (old : PlaceState) (envelope : Held) (new : PlaceState) : Type 0 where
+  pub out : TakesOff old.docket.out (job_of envelope.stamp) new.docket.out
+  pub settled : KeepsSettled old.docket.settled new.docket.settled
+  pub back : PushesBack (bag 1 old.given old.agains) (record { job = job_of envelope.stamp; message = envelope.message }) (bag 1 new.given new.agains)
+  pub others : new ≡ record old { docket = new.docket; given = old.given ++ record { job = job_of envelope.stamp; message = envelope.message } ∷ [] }
+
+abbrev pub GiveBackAnswers : PlaceState → Held → Result (Unit {0}) Held → PlaceState → Type 0
+GiveBackAnswers old envelope (Ok done) new = GivesBack old envelope new
+GiveBackAnswers old envelope (Err back) new = (back ≡ envelope) × (new ≡ old)

@@ -1,0 +1,213 @@
+//! Groups that threads share.
+ghost use Rattle.std.specs.Prelude.{◌≡◌, ◌≤◌, ◌<◌, IfOk, IfSome};
+ghost use Rattle.crossbeam_queue.specs.Fifo.{Held};
+
+use crate::error::{NotTaken, OfferError};
+use crate::main_queue::MainQueue;
+use crate::place::Place;
+use crate::port::Port;
+use crate::posted::Posted;
+use crate::returns_queue::ReturnsQueue;
+use crate::{main_queue, returns_queue};
+use dispatch_core::Job;
+use gate_word::{Drained, Gate, Turn};
+use group_jobs::{Envelope, JobError, Message, Stamp};
+use std::marker::Model;
+use std::sync::Wait;
+
+/// How many messages a port accepts in all: 2^20 (profile).
+pub(crate) const LIFE: u64 = 1 << 20;
+
+/// A group of one share behind a gate, which threads use by reference. It is ended by [`SharedGroup::abandon`].
+///
+/// Contracts see it as a `GroupId`: its slot, its capacity, its gate, and which its queues are. Its ports and places show
+/// which queues they are of.
+pub struct SharedGroup<'a> {
+    pub(crate) slot: u8,
+    pub(crate) gate: &'a Gate,
+    pub(crate) main: MainQueue,
+    pub(crate) returns: ReturnsQueue,
+}
+
+impl<'a> Model for SharedGroup<'a> {
+    ghost use Rattle.crossbeam_queue.specs.Passes.{ruled_capacity};
+    ghost use Rattle.group_queue.specs.Ports.{GroupId};
+
+    ghost Value = { GroupId };
+
+    ghost view = { λ g. record { slot = g.slot; capacity = ruled_capacity g.main; gate = g.gate.now; main = g.main.table.shared.table_id; returns = g.returns } };
+}
+
+impl<'a> SharedGroup<'a> {
+    ghost use Rattle.group_queue.specs.Ports.{IsPortOf, next_posted, next_stamp};
+    ghost use Rattle.group_queue.specs.Places.{IsPlaceOf, IsSamePlace, Holds, TakeAnswers, TakeBackAnswers, GiveBackAnswers};
+    ghost use Rattle.group_queue.specs.Offers.{OfferAnswers};
+
+    /// Accepts a message through a port of this group, whose gate is open. It takes no memory. A step of the queue may wait
+    /// for another thread's.
+    ///
+    /// # Errors
+    ///
+    /// [`NotTaken`] with the message: 502 [`OfferError::LifeSpent`] exactly where the port accepted 2^20 messages, which is
+    /// looked at first; 501 [`OfferError::Full`] only where the queue was full at one moment of this call. The port is
+    /// unchanged then.
+    pub fn offer<R: Wait>(
+        &self,
+        rt: &R,
+        port: &mut Port,
+        turn: &Turn,
+        message: Message,
+    ) -> Result<Stamp, NotTaken>
+        requires port { IsPortOf self.now port.old }
+        requires turn { turn.now.gate ≡ self.now.gate }
+        ensures answer { OfferAnswers self.now port.old message result port.new }
+        ensures of { IsPortOf self.now port.new }
+    {
+        let _ = turn;
+        if port.accepted == LIFE {
+            return Err(NotTaken {
+                message,
+                error: OfferError::LifeSpent,
+            });
+        }
+        let job = Job {
+            port: port.number,
+            number: port.accepted,
+        };
+        let Some(mut pass) = port.pass.take() else {
+            unreachable!()
+        };
+        let pushed = main_queue::push(rt, &self.main, &mut pass, Posted { job, message });
+        port.pass = Some(pass);
+        match pushed {
+            Ok(()) => {
+                port.accepted += 1;
+                Ok(Stamp::of(self.slot, job))
+            }
+            Err(posted) => Err(NotTaken {
+                message: posted.message,
+                error: OfferError::Full,
+            }),
+        }
+    }
+
+    /// Hands the oldest message that was never handed out to a place of this group, whose gate is open. `None` only where
+    /// there was none at one moment of this call. A step of the queue may wait for another thread's.
+    ///
+    /// # Errors
+    ///
+    /// 503 [`JobError::Memory`] where there is no room in the place's docket. Nothing was taken then.
+    pub fn take<R: Wait>(
+        &self,
+        rt: &R,
+        place: &mut Place,
+        turn: &Turn,
+    ) -> Result<Option<Envelope>, JobError>
+        requires place { IsPlaceOf self.now place.old }
+        requires turn { turn.now.gate ≡ self.now.gate }
+        ensures answer { TakeAnswers place.old result place.new }
+        ensures holds { IfOk result (λ answer. IfSome answer (Holds place.new)) }
+        ensures of { IsPlaceOf self.now place.new }
+    {
+        let _ = turn;
+        place.docket.reserve()?;
+        let Some(mut taker) = place.taker.take() else {
+            unreachable!()
+        };
+        let popped = main_queue::pop(rt, &self.main, &mut taker.main, place.number);
+        place.taker = Some(taker);
+        let Some(Posted { job, message }) = popped else {
+            return Ok(None);
+        };
+        place.docket.take_out(job);
+        Ok(Some(Envelope::new(Stamp::of(self.slot, job), place.number, message)))
+    }
+
+    /// Hands a message that was given back to a place of this group, whose gate is open: the one that was given back first.
+    /// `None` only where there was none at one moment of this call. A step of the queue may wait for another thread's.
+    ///
+    /// # Errors
+    ///
+    /// 503 [`JobError::Memory`] where there is no room in the place's docket. Nothing was taken then.
+    pub fn take_back<R: Wait>(
+        &self,
+        rt: &R,
+        place: &mut Place,
+        turn: &Turn,
+    ) -> Result<Option<Envelope>, JobError>
+        requires place { IsPlaceOf self.now place.old }
+        requires turn { turn.now.gate ≡ self.now.gate }
+        ensures answer { TakeBackAnswers place.old result place.new }
+        ensures holds { IfOk result (λ answer. IfSome answer (Holds place.new)) }
+        ensures of { IsPlaceOf self.now place.new }
+    {
+        let _ = turn;
+        place.docket.reserve()?;
+        let Some(mut taker) = place.taker.take() else {
+            unreachable!()
+        };
+        let popped = returns_queue::pop(rt, &self.returns, &mut taker.returns);
+        place.taker = Some(taker);
+        let Some(Posted { job, message }) = popped else {
+            return Ok(None);
+        };
+        place.docket.take_out(job);
+        Ok(Some(Envelope::new(Stamp::of(self.slot, job), place.number, message)))
+    }
+
+    /// Gives a message back that a place of this group holds, to be handed out again. A step of the queue may wait for
+    /// another thread's.
+    ///
+    /// # Errors
+    ///
+    /// 504: there was no memory. The envelope comes back, and nothing has changed.
+    pub fn give_back<R: Wait>(
+        &self,
+        rt: &R,
+        place: &mut Place,
+        envelope: Envelope,
+    ) -> Result<(), Envelope>
+        requires place { IsPlaceOf self.now place.old }
+        requires held { Holds place.old envelope }
+        ensures answer { GiveBackAnswers place.old envelope result place.new }
+        ensures of { IsSamePlace place.old place.new }
+    {
+        let (stamp, message) = envelope.open();
+        let job = stamp.job();
+        let Some(mut taker) = place.taker.take() else {
+            unreachable!()
+        };
+        let posted = Posted { job, message };
+        let pushed = returns_queue::push(rt, &self.returns, &mut taker.returns, posted);
+        place.taker = Some(taker);
+        match pushed {
+            Ok(()) => {
+                place.docket.give_back(job);
+                Ok(())
+            }
+            Err(posted) => Err(Envelope::new(stamp, place.number, posted.message)),
+        }
+    }
+
+    /// **Nothing is accepted or handed out after close.** Who has the token of the group's gate, and a turn as
+    /// [`SharedGroup::offer`], [`SharedGroup::take`] and [`SharedGroup::take_back`] ask for, has what is false: so there is no
+    /// such call in any run from then on.
+    pub fn refute(&self, drained: &mut Drained, turn: &mut Turn)
+        requires drained { drained.old ≡ self.now.gate }
+        requires turn { turn.old.gate ≡ self.now.gate }
+        ensures { ⊥ }
+    {
+        self.gate.refute(drained, turn);
+    }
+
+    /// Ends the group without a word of what became of its messages.
+    pub fn abandon(self) {
+        let SharedGroup {
+            slot: _,
+            gate: _,
+            main: _,
+            returns,
+        } = self;
+        returns.destroy();
+    }
+}

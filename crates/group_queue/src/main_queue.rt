@@ -1,0 +1,148 @@
+//! The main queue: what was accepted and never handed out, the oldest first. It is a bounded queue of `crossbeam_queue`
+//! under the rule that it has a past: whoever pushed and popped, in whatever order, what each of them did is read off that
+//! one past. So each step owes the queue that the past goes on, and tells what it added to it.
+ghost use Rattle.std.specs.Prelude.{◌≡◌, ◌<◌, ◌+◌, ◌++◌, true, false, [], ◌∷◌, length, IfOk, MatchResult, MatchOption};
+ghost use Rattle.crossbeam_queue.specs.Fifo.{Held};
+ghost use Rattle.crossbeam_queue.specs.Passes.{view, IsPassOf, IsSamePass, ruled_capacity};
+ghost use Rattle.group_queue.specs.declared.view.Name.TheVariants as names;
+ghost use Rattle.group_queue.specs.Views.{one, keeper, IsOf, list_in};
+ghost use Rattle.group_queue.specs.Past.{Stands, Adds, Takes};
+
+use crate::posted::Posted;
+use crate::view::View;
+use crossbeam_queue::protocol::{Lesson, Outcome, Protocol, Split};
+use crossbeam_queue::{Pass, RuledArrayQueue};
+use std::alloc::{AllocError, Global};
+use std::sync::Wait;
+
+/// The queue has a past.
+pub struct Past;
+
+impl Protocol<Posted, View> for Past {
+    ghost use Rattle.group_queue.specs.Views.{keeper};
+    ghost use Rattle.group_queue.specs.Past.{HasPast};
+
+    ghost holds = { HasPast };
+
+    ghost first = { keeper 0 0 };
+}
+
+pub type MainQueue = RuledArrayQueue<Posted, View, Past, Global>;
+
+pub type MainPass = Pass<Posted, View>;
+
+/// A push at the back, or a look at a full queue.
+pub struct Adding;
+
+impl Outcome<Posted, View> for Adding {
+    ghost use Rattle.group_queue.specs.Past.{Adds};
+
+    ghost then = { Adds };
+}
+
+impl Lesson<Posted, View> for Adding {
+    ghost use Rattle.group_queue.specs.Past.{Stands};
+
+    ghost fact = { Stands };
+}
+
+/// A pop at the front, or a look at an empty queue.
+pub struct Taking;
+
+impl Outcome<Posted, View> for Taking {
+    ghost use Rattle.group_queue.specs.Past.{Takes};
+
+    ghost then = { Takes };
+}
+
+impl Lesson<Posted, View> for Taking {
+    ghost use Rattle.group_queue.specs.Past.{Stands};
+
+    ghost fact = { Stands };
+}
+
+/// Gives the next port away.
+pub struct CutPort;
+
+impl Split<View> for CutPort {
+    ghost use Rattle.std.specs.Prelude.{◌+◌, []};
+    ghost use Rattle.group_queue.specs.declared.view.Name.TheVariants.{Port};
+    ghost use Rattle.group_queue.specs.Views.{one, keeper};
+
+    ghost left = { λ v. keeper (v.ports + 1) v.places };
+
+    ghost right = { λ v. one (Port v.ports) [] };
+}
+
+/// Gives the next place away.
+pub struct CutPlace;
+
+impl Split<View> for CutPlace {
+    ghost use Rattle.std.specs.Prelude.{◌+◌, []};
+    ghost use Rattle.group_queue.specs.declared.view.Name.TheVariants.{Place};
+    ghost use Rattle.group_queue.specs.Views.{one, keeper};
+
+    ghost left = { λ v. keeper v.ports (v.places + 1) };
+
+    ghost right = { λ v. one (Place v.places) [] };
+}
+
+/// An empty queue of this capacity, with the pass of who opened it.
+pub fn open(alloc: Global, capacity: usize) -> Result<(MainQueue, MainPass), AllocError>
+    requires { 0 < capacity }
+    ensures { IfOk result (λ q. (ruled_capacity q.0 ≡ capacity) × IsPassOf q.0 q.1 × (view q.1 ≡ keeper 0 0)) }
+{
+    MainQueue::ruled(alloc, capacity)
+}
+
+/// Gives the next port away.
+pub fn cut_port(queue: &MainQueue, pass: &mut MainPass) -> MainPass
+    requires queue { IsPassOf queue.now pass.old }
+    requires keeper { view pass.old ≡ keeper (view pass.old).ports (view pass.old).places }
+    ensures queue { IsPassOf queue.now pass.new × IsPassOf queue.now result }
+    ensures rest { view pass.new ≡ keeper ((view pass.old).ports + 1) (view pass.old).places }
+    ensures port { view result ≡ one (names.Port (view pass.old).ports) [] }
+{
+    queue.another::<CutPort>(pass)
+}
+
+/// Gives the next place away.
+pub fn cut_place(queue: &MainQueue, pass: &mut MainPass) -> MainPass
+    requires queue { IsPassOf queue.now pass.old }
+    requires keeper { view pass.old ≡ keeper (view pass.old).ports (view pass.old).places }
+    ensures queue { IsPassOf queue.now pass.new × IsPassOf queue.now result }
+    ensures rest { view pass.new ≡ keeper (view pass.old).ports ((view pass.old).places + 1) }
+    ensures place { view result ≡ one (names.Place (view pass.old).places) [] }
+{
+    queue.another::<CutPlace>(pass)
+}
+
+/// Pushes a port's next message.
+pub fn push<R: Wait>(
+    rt: &R,
+    queue: &MainQueue,
+    pass: &mut MainPass,
+    posted: Posted,
+) -> Result<(), Posted>
+    requires queue { IsPassOf queue.now pass.old }
+    requires port { IsOf (names.Port posted.job.port) (view pass.old) }
+    requires next { posted.job.number ≡ length (list_in (view pass.old)) }
+    requires few { posted.job.number < 1048576 }
+    ensures queue { IsPassOf queue.now pass.new }
+    ensures answer { MatchResult result (λ _. Adds (view pass.old) posted (view pass.new))
+        (λ back. (back ≡ posted) × (view pass.new ≡ view pass.old) × Held (ruled_capacity queue.now) (Stands (view pass.old))) }
+{
+    queue.push_as::<Adding, R>(rt, pass, posted)
+}
+
+/// Pops the front for a place.
+pub fn pop<R: Wait>(rt: &R, queue: &MainQueue, pass: &mut MainPass, place: u8) -> Option<Posted>
+    requires queue { IsPassOf queue.now pass.old }
+    requires place { IsOf (names.Place place) (view pass.old) }
+    ensures queue { IsPassOf queue.now pass.new }
+    ensures answer { MatchOption result ((view pass.new ≡ view pass.old) × Held 0 (Stands (view pass.old)))
+        (λ posted. Takes (view pass.old) posted (view pass.new)) }
+{
+    let _ = place;
+    queue.pop_as::<Taking, R>(rt, pass)
+}

@@ -1,0 +1,81 @@
+//! Places: where a group hands messages out.
+ghost use Rattle.std.specs.Prelude.{◌≡◌, ◌↔◌, IsTrue};
+ghost use Rattle.group_jobs.specs.Stamps.{stamp_of, job_of};
+
+use crate::main_queue::MainPass;
+use crate::returns_queue::ReturnsPass;
+use group_jobs::{Docket, Envelope, Fate, Stamp};
+use std::marker::Model;
+
+/// Who has it alone takes messages at it. A place belongs to the group that it was opened with, may go to another thread,
+/// and keeps in its docket what it has out and what it settled.
+///
+/// Contracts see it as a `PlaceState`: the group's slot, the place's number, its docket, and, of a shared group, the
+/// messages that it was the first to be handed, those that it was handed again and those that it gave back, in order.
+#[derive(Drop)]
+pub struct Place {
+    pub(crate) group: u8,
+    pub(crate) number: u8,
+    pub(crate) docket: Docket,
+    pub(crate) taker: Option<Taker>,
+}
+
+/// What a place of a shared group holds: its passes of both queues.
+#[derive(Drop)]
+pub struct Taker {
+    pub main: MainPass,
+    pub returns: ReturnsPass,
+}
+
+impl Model for Place {
+    ghost use Rattle.group_queue.specs.Places.{PlaceState};
+
+    ghost Value = { PlaceState };
+
+    ghost use Rattle.group_queue.specs.Takers.{place_of, IsTaker};
+
+    ghost view = { λ p. place_of p.group p.number p.docket p.taker };
+
+    ghost invariant = { λ p. IsTaker p.number p.docket p.taker };
+}
+
+impl Place {
+    ghost use Rattle.group_queue.specs.Places.{Holds, IsBalanced, IsSamePlace, SettlesHeld};
+
+    /// Its number in its group, from 0 to 31.
+    pub fn number(&self) -> u8
+        ensures { result ≡ self.now.number }
+    {
+        self.number
+    }
+
+    /// What it has out, and what it settled: each hand-out of a job to a place of a shared group ended once, by a fate or by
+    /// being given back, or the job is out.
+    pub fn docket(&self) -> &Docket
+        ensures value { result.now ≡ self.now.docket }
+        ensures balance { IsBalanced self.now }
+    {
+        &self.docket
+    }
+
+    /// Whether an envelope is one that this place has out.
+    pub fn holds(&self, envelope: &Envelope) -> bool
+        ensures { IsTrue result ↔ Holds self.now envelope.now }
+    {
+        envelope.stamp().group == self.group
+            && envelope.place() == self.number
+            && self.docket.has_out(envelope.stamp().job())
+    }
+
+    /// Settles a message that this place holds, for good. It waits for nobody and takes no memory.
+    pub fn settle(&mut self, envelope: Envelope, fate: Fate) -> Stamp
+        requires { Holds self.old envelope }
+        ensures stamp { result ≡ envelope.stamp }
+        ensures settled { SettlesHeld self.old (job_of envelope.stamp) fate self.new }
+        ensures of { IsSamePlace self.old self.new }
+    {
+        let (stamp, _message) = envelope.open();
+        self.docket.settle(stamp.job(), fate);
+        stamp
+    }
+}

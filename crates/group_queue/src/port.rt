@@ -1,0 +1,46 @@
+//! Ports: where a group accepts messages.
+ghost use Rattle.std.specs.Prelude.{◌≡◌};
+
+use crate::main_queue::MainPass;
+use std::marker::Model;
+
+/// Who has it alone publishes through it. A port belongs to the group that it was opened with, may go to another thread, and
+/// numbers the messages that it sends from 0 on.
+///
+/// Contracts see it as a `PortState`: the group's slot, the port's number, how many messages it has sent, and which.
+#[derive(Drop)]
+pub struct Port {
+    pub(crate) group: u8,
+    pub(crate) number: u8,
+    pub(crate) accepted: u64,
+    // The pass of the main queue, in a shared group.
+    pub(crate) pass: Option<MainPass>,
+}
+
+impl Model for Port {
+    ghost use Rattle.group_queue.specs.Ports.{PortState};
+
+    ghost Value = { PortState };
+
+    ghost use Rattle.group_queue.specs.Senders.{sent_by, queue_of, IsCounted};
+
+    ghost view = { λ p. record { group = p.group; number = p.number; accepted = p.accepted; sent = sent_by p.pass; queue = queue_of p.pass } };
+
+    ghost invariant = { λ p. IsCounted p.number p.accepted p.pass };
+}
+
+impl Port {
+    /// Its number in its group, from 0 to 63.
+    pub fn number(&self) -> u8
+        ensures { result ≡ self.now.number }
+    {
+        self.number
+    }
+
+    /// How many messages it accepted: their numbers are those below.
+    pub fn accepted(&self) -> u64
+        ensures { result ≡ self.now.accepted }
+    {
+        self.accepted
+    }
+}

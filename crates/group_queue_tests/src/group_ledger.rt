@@ -1,0 +1,203 @@
+//! One group on one thread: a port, two places and a gate.
+ghost use Rattle.std.specs.Prelude.{◌≡◌, All, IfSome};
+ghost use Rattle.gate_word.specs.Seats.{AreSeatsOf};
+ghost use Rattle.group_queue.specs.Ports.{IsPortOf};
+ghost use Rattle.group_queue.specs.Places.{IsPlaceOf};
+
+use crate::values::message;
+use gate_word::{Gate, GateSeat, Turn};
+use group_jobs::Fate;
+use group_queue::{Place, Port, SharedGroup};
+use std::alloc::Global;
+use std::sync::Wait;
+use std::test::Fail;
+
+/// Offers a message, and answers its number, or the number of the refusal.
+pub fn offer<R: Wait>(
+    rt: &R,
+    alloc: Global,
+    group: &SharedGroup<'_>,
+    port: &mut Port,
+    turn: &Turn,
+) -> Result<u64, u16>
+    requires port { IsPortOf group.now port.old }
+    requires turn { turn.now.gate ≡ group.now.gate }
+    ensures { IsPortOf group.now port.new }
+{
+    let Some(message) = message(alloc, b"A") else {
+        return Err(0);
+    };
+    match group.offer(rt, port, turn, message) {
+        Ok(stamp) => Ok(stamp.number),
+        Err(refused) => Err(refused.error.number()),
+    }
+}
+
+/// Takes a message and settles it, and answers its number.
+pub fn acknowledge<R: Wait>(
+    rt: &R,
+    group: &SharedGroup<'_>,
+    place: &mut Place,
+    turn: &Turn,
+) -> Option<u64>
+    requires place { IsPlaceOf group.now place.old }
+    requires turn { turn.now.gate ≡ group.now.gate }
+    ensures { IsPlaceOf group.now place.new }
+{
+    match group.take(rt, place, turn) {
+        Ok(Some(envelope)) => Some(place.settle(envelope, Fate::Acknowledged).number),
+        Ok(None) | Err(_) => None,
+    }
+}
+
+/// Takes a message and gives it back, and answers whether it did.
+fn return_one<R: Wait>(rt: &R, group: &SharedGroup<'_>, place: &mut Place, turn: &Turn) -> bool
+    requires place { IsPlaceOf group.now place.old }
+    requires turn { turn.now.gate ≡ group.now.gate }
+    ensures { IsPlaceOf group.now place.new }
+{
+    let Ok(Some(envelope)) = group.take(rt, place, turn) else {
+        return false;
+    };
+    match group.give_back(rt, place, envelope) {
+        Ok(()) => true,
+        Err(envelope) => {
+            place.settle(envelope, Fate::Refused);
+            false
+        }
+    }
+}
+
+/// Takes a message back and refuses it, and answers its number.
+fn refuse<R: Wait>(rt: &R, group: &SharedGroup<'_>, place: &mut Place, turn: &Turn) -> Option<u64>
+    requires place { IsPlaceOf group.now place.old }
+    requires turn { turn.now.gate ≡ group.now.gate }
+    ensures { IsPlaceOf group.now place.new }
+{
+    match group.take_back(rt, place, turn) {
+        Ok(Some(envelope)) => Some(place.settle(envelope, Fate::Refused).number),
+        Ok(None) | Err(_) => None,
+    }
+}
+
+/// What a run answered: the offers, the hand-outs, and what the places settled.
+#[derive(Drop, PartialEq, Debug)]
+struct Told {
+    first: Result<u64, u16>,
+    second: Result<u64, u16>,
+    third: Result<u64, u16>,
+    acknowledged: Option<u64>,
+    is_returned: bool,
+    refused: Option<u64>,
+    is_empty: bool,
+}
+
+/// Offers three messages to a group with room for two, of which one is acknowledged, and one is given back and then refused.
+fn tell<R: Wait>(
+    rt: &R,
+    alloc: Global,
+    group: &SharedGroup<'_>,
+    port: &mut Port,
+    near: &mut Place,
+    far: &mut Place,
+    turn: &Turn,
+) -> Told
+    requires port { IsPortOf group.now port.old }
+    requires near { IsPlaceOf group.now near.old }
+    requires far { IsPlaceOf group.now far.old }
+    requires turn { turn.now.gate ≡ group.now.gate }
+{
+    let first = offer(rt, alloc, group, port, turn);
+    let second = offer(rt, alloc, group, port, turn);
+    let third = offer(rt, alloc, group, port, turn);
+    let acknowledged = acknowledge(rt, group, near, turn);
+    let is_returned = return_one(rt, group, near, turn);
+    let refused = refuse(rt, group, far, turn);
+    let is_empty = acknowledge(rt, group, far, turn).is_none()
+        && refuse(rt, group, near, turn).is_none();
+    Told {
+        first,
+        second,
+        third,
+        acknowledged,
+        is_returned,
+        refused,
+        is_empty,
+    }
+}
+
+/// The same with the last ports and places of the lists.
+fn tell_last<R: Wait>(
+    rt: &R,
+    alloc: Global,
+    group: &SharedGroup<'_>,
+    mut ports: Vec<Port>,
+    mut places: Vec<Place>,
+    turn: &Turn,
+) -> Option<Told>
+    requires ports { All (IsPortOf group.now) ports.items }
+    requires places { All (IsPlaceOf group.now) places.items }
+    requires turn { turn.now.gate ≡ group.now.gate }
+{
+    let mut port = ports.pop()?;
+    let mut far = places.pop()?;
+    let mut near = places.pop()?;
+    let told = tell(rt, alloc, group, &mut port, &mut near, &mut far, turn);
+    Some(told)
+}
+
+/// The same behind a gate that it enters and leaves. The group is given up.
+fn visit<R: Wait>(
+    rt: &R,
+    alloc: Global,
+    gate: &Gate,
+    seat: GateSeat,
+    opened: (SharedGroup<'_>, Vec<Port>, Vec<Place>),
+) -> Option<Told>
+    requires seat { seat.gate ≡ gate.now }
+    requires gate { opened.0.gate ≡ gate.now }
+    requires ports { All (IsPortOf opened.0) opened.1.items }
+    requires places { All (IsPlaceOf opened.0) opened.2.items }
+{
+    let (group, ports, places) = opened;
+    let told = match gate.enter(seat) {
+        Ok(turn) => {
+            let told = tell_last(rt, alloc, &group, ports, places, &turn);
+            gate.leave(turn);
+            told
+        }
+        Err(_refused) => None,
+    };
+    group.abandon();
+    told
+}
+
+/// The last of these seats.
+pub fn take_seat(gate: &Gate, seats: &mut Vec<GateSeat>) -> Option<GateSeat>
+    requires { AreSeatsOf gate.now seats.old.items }
+    ensures seat { IfSome result (λ seat. seat.gate ≡ gate.now) }
+    ensures others { AreSeatsOf gate.now seats.new.items }
+{
+    seats.pop()
+}
+
+#[test]
+fn group_ledger(rt: HostRuntime) -> Result<(), Fail> {
+    let (gate, mut seats) = Gate::open(rt.alloc(), 1)?;
+    let seat = take_seat(&gate, &mut seats).ok_or("a seat")?;
+    let opened = SharedGroup::open(rt.alloc(), &gate, 0, 1, 2, 2)?;
+    let told = visit(&rt, rt.alloc(), &gate, seat, opened).ok_or("a visit")?;
+    assert_eq!(rt;
+        told,
+        Told {
+            first: Ok(0),
+            second: Ok(1),
+            third: Err(501),
+            acknowledged: Some(0),
+            is_returned: true,
+            refused: Some(1),
+            is_empty: true,
+        }
+    );
+    Ok(())
+}

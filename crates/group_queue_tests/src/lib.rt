@@ -1,0 +1,9 @@
+//! Tests of `group_jobs`' and `group_queue`'s public items, of what no clause says.
+#![tactic(auto)]
+
+#[cfg(test)]
+mod group_ledger;
+#[cfg(test)]
+mod threads;
+#[cfg(test)]
+mod values;

@@ -1,0 +1,6 @@
+pub mod Groups
+pub mod Spots
+pub mod Reporting
+pub mod Refusals
+pub mod Keeping
+pub mod Tallies

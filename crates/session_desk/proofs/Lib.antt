@@ -1,0 +1,9 @@
+pub mod Seen
+pub mod Kept
+pub mod Searched
+pub mod Cells
+pub mod Booked
+pub mod Unnamed
+pub mod Hands
+pub mod OneHand
+pub mod TakenOut

@@ -1,0 +1,160 @@
+-- What a connection gets that asks for a session of a client, in each case with its whole condition.
+use Rattle.std.specs.Prelude.{◌≡◌, ◌≢◌, ◌⊎◌, ℕ, ◌<◌, Bool, true, List, [], ◌∷◌, Some, None, Result, Ok, Err}
+use Rattle.std.specs.FinMap as map
+use Rattle.session_desk.specs.declared.attached.Attached.{Attached}
+use Rattle.session_desk.specs.declared.attached.Attached.TheVariants.{New, Resumed, Replace, Busy}
+use Rattle.session_desk.specs.declared.error.DeskError.{DeskError}
+use Rattle.session_desk.specs.declared.error.DeskError.TheVariants as errors
+use Rattle.session_desk.specs.declared.session.Session.{Session}
+use Rattle.session_desk.specs.declared.sight.Sight.{Sight}
+use Rattle.session_desk.specs.declared.sight.Sight.TheVariants as sight
+use Rattle.session_desk.specs.declared.row.Row.{Row}
+use Rattle.session_desk.specs.declared.row.Standing.{Standing}
+use Rattle.session_desk.specs.declared.row.Standing.TheVariants.{Lent, Parked}
+use Rattle.session_desk.specs.Sessions.{IsOver}
+use Rattle.session_desk.specs.Rows.{HasRow, NoneLivesAs}
+use Rattle.session_desk.specs.Names.{assigned_name, IsNextName, NoNameLeft}
+use Rattle.session_desk.specs.Books.{Books, IsWaiting, new_session, after_new, after_name, after_lend, after_replace, after_end}
+
+-- what a connection asks for: its number, its client's identifier, Clean Start (3.1.2.4), and the moment in milliseconds
+pub record Request : Type 0 where
+  pub connection : ℕ
+  pub client : List ℕ
+  pub clean : Bool
+  pub now : ℕ
+
+-- what is asked for with these arguments
+abbrev pub asked : ℕ → List ℕ → Bool → ℕ → Request
+asked connection client clean now = record { connection = connection; client = client; clean = clean; now = now }
+
+-- the client's session, in this row
+pub record IsClients {E P : Type 0} (b : Books E P) (client : List ℕ) (number : ℕ) (row : Row E P) (standing : Standing E P) : Type 0 where
+  pub has : HasRow b.rows number row
+  pub its : row.client ≡ client
+  pub stands : row.standing ≡ standing
+
+-- a new session is wanted in the place of a parked one: Clean Start is 1, or the parked one's time is over
+abbrev pub IsStale : {E P : Type 0} → Session E P → Bool → ℕ → Type 0
+IsStale session clean now = (clean ≡ true) ⊎ IsOver session.expiry now
+
+-- the client has a parked session that is to end
+pub record HasStale {E P : Type 0} (b : Books E P) (client : List ℕ) (request : Request) : Type 0 where
+  pub number : ℕ
+  pub row : Row E P
+  pub session : Session E P
+  pub its : IsClients b client number row (Parked session)
+  pub stale : IsStale session request.clean request.now
+
+-- a new session is wanted: the client has none, or a parked one that is to end
+abbrev pub WantsNew : {E P : Type 0} → Books E P → List ℕ → Request → Type 0
+WantsNew b client request = NoneLivesAs b.rows client ⊎ HasStale b client request
+
+-- there is room for a new session, and this is it
+pub record IsNew {E P : Type 0} (b : Books E P) (client : List ℕ) (session : Session E P) : Type 0 where
+  pub room : map.len b.rows < 256
+  pub is : session ≡ new_session (record { number = b.made; client = client })
+
+-- a new session of a client that has none, where there are fewer than 256 rows, and memory
+abbrev pub Opens : {E P : Type 0} → Books E P → List ℕ → ℕ → Result (Session E P) DeskError → Books E P → Type 0
+Opens old client connection (Ok session) new = IsNew old client session × (new ≡ after_new old client connection)
+Opens old client connection (Err errors.Full) new = (map.len old.rows ≡ 256) × (new ≡ old)
+Opens old client connection (Err errors.Memory) new = (map.len old.rows < 256) × (new ≡ old)
+Opens old client connection (Err errors.NoPlace) new = ⊥
+Opens old client connection (Err errors.NoName) new = ⊥
+
+-- the same, of a client whose parked session in this row ends
+abbrev pub OpensOver : {E P : Type 0} → Books E P → List ℕ → ℕ → ℕ → Row E P → Result (Session E P × Session E P) DeskError → Books E P → Type 0
+OpensOver old client connection number row (Ok both) new =
+    (row.standing ≡ Parked both.1) × IsNew old client both.0 × (new ≡ after_new (after_end old number row) client connection)
+OpensOver old client connection number row (Err errors.Full) new = (map.len old.rows ≡ 256) × (new ≡ old)
+OpensOver old client connection number row (Err errors.Memory) new = (map.len old.rows < 256) × (new ≡ old)
+OpensOver old client connection number row (Err errors.NoPlace) new = ⊥
+OpensOver old client connection number row (Err errors.NoName) new = ⊥
+
+-- the client had no session
+pub record BeginsFirst {E P : Type 0} (old : Books E P) (client : List ℕ) (connection : ℕ) (session : Session E P) (new : Books E P) : Type 0 where
+  pub none : NoneLivesAs old.rows client
+  pub is_new : IsNew old client session
+  pub after : new ≡ after_new old client connection
+
+-- the client had this session, which ends
+pub record BeginsOver {E P : Type 0} (old : Books E P) (client : List ℕ) (request : Request) (session ended : Session E P) (new : Books E P) : Type 0 where
+  pub number : ℕ
+  pub row : Row E P
+  pub its : IsClients old client number row (Parked ended)
+  pub stale : IsStale ended request.clean request.now
+  pub is_new : IsNew old client session
+  pub after : new ≡ after_new (after_end old number row) client request.connection
+
+-- the client has this session back
+pub record Resumes {E P : Type 0} (old : Books E P) (client : List ℕ) (request : Request) (session : Session E P) (new : Books E P) : Type 0 where
+  pub number : ℕ
+  pub row : Row E P
+  pub its : IsClients old client number row (Parked session)
+  pub fresh : ¬ IsStale session request.clean request.now
+  pub after : new ≡ after_lend old number row request.connection
+
+-- the connection waits for the client's session, for which no other waits
+pub record Replaces {E P : Type 0} (old : Books E P) (client : List ℕ) (request : Request) (holder : ℕ) (new : Books E P) : Type 0 where
+  pub number : ℕ
+  pub row : Row E P
+  pub its : IsClients old client number row (Lent holder)
+  pub alone : (other : ℕ) → IsWaiting old number row other → other ≡ request.connection
+  pub after : new ≡ after_replace old number row request.connection holder
+
+-- another connection waits for the client's session
+pub record IsBusy {E P : Type 0} (old : Books E P) (client : List ℕ) (request : Request) : Type 0 where
+  pub number : ℕ
+  pub row : Row E P
+  pub holder : ℕ
+  pub its : IsClients old client number row (Lent holder)
+  pub other : ℕ
+  pub waits : IsWaiting old number row other
+  pub another : other ≢ request.connection
+
+-- for a client with this identifier
+abbrev pub AttachesClient : {E P : Type 0} → Books E P → List ℕ → Request → Result (Attached E P) DeskError → Books E P → Type 0
+AttachesClient old client request (Ok (New session None)) new = BeginsFirst old client request.connection session new
+AttachesClient old client request (Ok (New session (Some ended))) new = BeginsOver old client request session ended new
+AttachesClient old client request (Ok (Resumed session)) new = Resumes old client request session new
+AttachesClient old client request (Ok (Replace holder)) new = Replaces old client request holder new
+AttachesClient old client request (Ok Busy) new = IsBusy old client request × (new ≡ old)
+AttachesClient old client request (Err errors.Full) new = WantsNew old client request × (map.len old.rows ≡ 256) × (new ≡ old)
+AttachesClient old client request (Err errors.Memory) new = WantsNew old client request × (map.len old.rows < 256) × (new ≡ old)
+AttachesClient old client request (Err errors.NoPlace) new = ⊥
+AttachesClient old client request (Err errors.NoName) new = ⊥
+
+-- the client is given the next name, and a new session
+pub record Names {E P : Type 0} (old : Books E P) (connection : ℕ) (session : Session E P) (new : Books E P) : Type 0 where
+  pub number : ℕ
+  pub next : IsNextName old.rows old.assigned number
+  pub is_new : IsNew old (assigned_name number) session
+  pub after : new ≡ after_name (after_new old (assigned_name number) connection) number
+
+abbrev pub HasNextName : {E P : Type 0} → Books E P → Type 0
+HasNextName old = (number : ℕ) × IsNextName old.rows old.assigned number
+
+-- for a client without an identifier (3.1.3.1)
+abbrev pub AttachesUnnamed : {E P : Type 0} → Books E P → ℕ → Result (Attached E P) DeskError → Books E P → Type 0
+AttachesUnnamed old connection (Ok (New session None)) new = Names old connection session new
+AttachesUnnamed old connection (Ok (New session (Some ended))) new = ⊥
+AttachesUnnamed old connection (Ok (Resumed session)) new = ⊥
+AttachesUnnamed old connection (Ok (Replace holder)) new = ⊥
+AttachesUnnamed old connection (Ok Busy) new = ⊥
+AttachesUnnamed old connection (Err errors.NoName) new = NoNameLeft old.rows old.assigned × (new ≡ old)
+AttachesUnnamed old connection (Err errors.Full) new = HasNextName old × (map.len old.rows ≡ 256) × (new ≡ old)
+AttachesUnnamed old connection (Err errors.Memory) new = HasNextName old × (map.len old.rows < 256) × (new ≡ old)
+AttachesUnnamed old connection (Err errors.NoPlace) new = ⊥
+
+abbrev pub attaches_by : {E P : Type 0} → List ℕ → Books E P → Request → Result (Attached E P) DeskError → Books E P → Type 0
+attaches_by [] old request answer new = AttachesUnnamed old request.connection answer new
+attaches_by (byte ∷ bytes) old request answer new = AttachesClient old (byte ∷ bytes) request answer new
+
+abbrev pub Attaches : {E P : Type 0} → Books E P → Request → Result (Attached E P) DeskError → Books E P → Type 0
+Attaches old request answer new = attaches_by request.client old request answer new
+
+-- what a look at the row of a client's session finds
+abbrev pub LooksAs : {E P : Type 0} → Row E P → Bool → ℕ → Sight → Type 0
+LooksAs row clean now (sight.Lent holder wait) = (row.standing ≡ Lent holder) × (row.wait ≡ wait)
+LooksAs {E} {P} row clean now sight.Stale = (session : Session E P) × (row.standing ≡ Parked session) × IsStale session clean now
+LooksAs {E} {P} row clean now sight.Fresh = (session : Session E P) × (row.standing ≡ Parked session) × ¬ IsStale session clean now

@@ -1,0 +1,13 @@
+pub mod Sessions
+pub mod Refusals
+pub mod Rows
+pub mod Sweeping
+pub mod Names
+pub mod Places
+pub mod Books
+pub mod Attaching
+pub mod Keeping
+pub mod Calls
+pub mod Hands
+pub mod Everything
+pub mod Layout

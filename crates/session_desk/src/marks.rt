@@ -1,0 +1,47 @@
+//! What a desk notes of each connection.
+ghost use Rattle.std.specs.Prelude.{◌≡◌, ◌↔◌, IfOk, IsTrue, replicate, Some, true, slice_get, slice_set};
+
+use std::alloc::{AllocError, Global};
+
+/// How many connections there are.
+const ALL: usize = 1_024;
+
+/// The same note of every connection.
+pub(crate) fn blank<T: Copy>(alloc: Global, value: T) -> Result<Vec<T>, AllocError>
+    ensures { IfOk result (λ notes. notes.items ≡ replicate 1024 value) }
+{
+    let mut notes = Vec::with_capacity(alloc, ALL)?;
+    'notes: for _ in 0..ALL {
+        notes.push_reserved(value);
+    }
+    Ok(notes)
+}
+
+/// Notes this of a connection.
+pub(crate) fn note<T: Copy>(notes: &mut Vec<T>, connection: u16, value: T)
+    ensures { notes.new.items ≡ slice_set notes.old.items connection value }
+{
+    if let Some(noted) = notes.get_mut(usize::from(connection)) {
+        *noted = value;
+    }
+}
+
+/// Whether a connection is marked.
+pub(crate) fn is_marked(marks: &Vec<bool>, connection: u16) -> bool
+    ensures { IsTrue result ↔ (slice_get marks.now.items connection ≡ Some true) }
+{
+    match marks.get(usize::from(connection)) {
+        Some(mark) => *mark,
+        None => false,
+    }
+}
+
+/// Whether a connection waits for the session with this number.
+pub(crate) fn waits_for(waits: &Vec<Option<u64>>, connection: u16, number: u64) -> bool
+    ensures { IsTrue result ↔ (slice_get waits.now.items connection ≡ Some (Some number)) }
+{
+    match waits.get(usize::from(connection)) {
+        Some(Some(waited)) => *waited == number,
+        _ => false,
+    }
+}

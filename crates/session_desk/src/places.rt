@@ -1,0 +1,168 @@
+//! The free places of the groups.
+ghost use Rattle.std.specs.Prelude.{◌≡◌, ℕ, ◌+◌, ◌<◌, ◌≤◌, ◌↔◌, sum_by, vec_capacity, IfOk, IsTrue, MatchOption, None, Some, length, slice_get, slice_set, replicate};
+ghost use Rattle.session_desk.specs.Everything.{free_in};
+ghost use Rattle.session_desk.specs.Places.{cell_at, IsLeast, NoneFree, LendsPlace, TakesPlace};
+
+use crate::drained::drain_cells;
+use crate::session::Membership;
+use std::alloc::{AllocError, Global};
+use std::marker::Model;
+
+/// How many groups have places.
+pub const SLOTS: u8 = 8;
+
+/// How many places a group has.
+pub const PLACES: u8 = 32;
+
+/// How many cells there are, one for each place.
+const CELLS: usize = 256;
+
+/// A place of a member in a group, which tells its group's slot and its own number.
+pub trait Place {
+    /// The slot of its group.
+    ghost slot_of: { Self → ℕ };
+
+    /// Its number in the group.
+    ghost number_of: { Self → ℕ };
+
+    /// The slot of its group, below [`SLOTS`].
+    fn slot(&self) -> u8
+        ensures value { result ≡ slot_of self.now }
+        ensures small { result < 8 };
+
+    /// Its number in the group, below [`PLACES`].
+    fn number(&self) -> u8
+        ensures value { result ≡ number_of self.now }
+        ensures small { result < 32 };
+}
+
+/// The places that nobody has.
+pub(crate) struct FreePlaces<P> {
+    // The place of slot s with number n, where it is free, is at 32 s + n.
+    cells: Vec<Option<P>>,
+}
+
+impl<P> Model for FreePlaces<P> {
+    ghost use Rattle.std.specs.Prelude.{◌≡◌, List, Option, length};
+    ghost use Rattle.std.specs.Coded.{coded_list, coded_option};
+
+    ghost Value = { List (Option P) };
+
+    ghost coded = { coded_list (coded_option P.code) };
+
+    ghost view = { λ f. f.cells.items };
+
+    ghost invariant = { λ f. length f.cells.items ≡ 256 };
+}
+
+impl<P> FreePlaces<P> {
+    /// None is free.
+    pub(crate) fn new(alloc: Global) -> Result<FreePlaces<P>, AllocError>
+        ensures { IfOk result (λ free. free ≡ replicate 256 None) }
+    {
+        let mut cells = Vec::with_capacity(alloc, CELLS)?;
+        'cells: for _ in 0..CELLS {
+            cells.push_reserved(None);
+        }
+        Ok(FreePlaces { cells })
+    }
+
+    /// Takes the free places out, and ends the cells.
+    pub(crate) fn drain(self, places: &mut Vec<P>)
+        requires { length places.old.items + 256 ≤ vec_capacity places.old }
+        ensures { (measure : P → ℕ) → sum_by measure places.new.items
+            ≡ sum_by measure places.old.items + sum_by (λ cell. sum_by measure (free_in cell)) self }
+    {
+        let FreePlaces { cells } = self;
+        drain_cells(cells, places);
+    }
+
+    /// Lends the least free place of the group with this slot.
+    pub(crate) fn lend(&mut self, slot: u8) -> Option<P>
+        ensures { LendsPlace self.old slot result self.new }
+    {
+        let cell = self.least(slot)?;
+        self.cells[cell].take()
+    }
+
+    /// The cell of the least free place of the group with this slot.
+    fn least(&self, slot: u8) -> Option<usize>
+        ensures { MatchOption result (NoneFree self.now slot) (IsLeast self.now slot) }
+    {
+        'numbers: for number in 0..PLACES {
+            let cell = cell_of(slot, number);
+            if let Some(Some(_)) = self.cells.get(cell) {
+                return Some(cell);
+            }
+        }
+        None
+    }
+}
+
+/// The cell of the place with this number, of the group with this slot.
+fn cell_of(slot: u8, number: u8) -> usize
+    ensures { result ≡ cell_at slot number }
+{
+    usize::from(PLACES) * usize::from(slot) + usize::from(number)
+}
+
+impl<P: Place> FreePlaces<P> {
+    ghost use Rattle.session_desk.specs.Keeping.{HasCell, freed};
+
+    /// Whether a place's cell is empty.
+    pub(crate) fn lacks(&self, place: &P) -> bool
+        ensures value { IsTrue result
+            ↔ (slice_get self.now (cell_at (P.slot_of place.now) (P.number_of place.now)) ≡ Some None) }
+        ensures within { cell_at (P.slot_of place.now) (P.number_of place.now) < length self.now }
+    {
+        self.cells[cell_of(place.slot(), place.number())].is_none()
+    }
+
+    /// Frees a place; hands it back where its cell is taken.
+    pub(crate) fn take(&mut self, place: P) -> Option<P>
+        ensures { TakesPlace self.old (cell_at (P.slot_of place) (P.number_of place)) place result self.new }
+    {
+        if !self.lacks(&place) {
+            return Some(place);
+        }
+        let cell = cell_of(place.slot(), place.number());
+        self.cells[cell].replace(place)
+    }
+
+    /// Whether the cell of a member's place is empty.
+    pub(crate) fn has_cell(&self, membership: &Membership<P>) -> bool
+        ensures { IsTrue result
+            ↔ HasCell (λ place. cell_at (P.slot_of place) (P.number_of place)) self.now membership.now }
+    {
+        match membership {
+            Membership::NotMember => true,
+            Membership::Member(place) => self.lacks(place),
+            Membership::Leaving(place) => self.lacks(place),
+        }
+    }
+
+    /// Frees a member's place.
+    pub(crate) fn take_back(&mut self, membership: Membership<P>)
+        requires { HasCell (λ place. cell_at (P.slot_of place) (P.number_of place)) self.old membership }
+        ensures { self.new
+            ≡ freed (λ place. cell_at (P.slot_of place) (P.number_of place)) self.old membership }
+    {
+        match membership {
+            Membership::NotMember => {}
+            Membership::Member(place) => self.put(place),
+            Membership::Leaving(place) => self.put(place),
+        }
+    }
+
+    /// Frees a place whose cell is empty.
+    fn put(&mut self, place: P)
+        requires { slice_get self.old (cell_at (P.slot_of place) (P.number_of place)) ≡ Some None }
+        ensures { self.new
+            ≡ slice_set self.old (cell_at (P.slot_of place) (P.number_of place)) (Some place) }
+    {
+        match self.take(place) {
+            None => {}
+            Some(_back) => unreachable!(),
+        }
+    }
+}

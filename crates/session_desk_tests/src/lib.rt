@@ -1,0 +1,8 @@
+//! Tests of `session_desk`'s public items, of what no clause says: each call once with ample memory, and the answers in
+//! some stories.
+#![tactic(auto)]
+
+mod hall;
+mod spot;
+#[cfg(test)]
+mod stories;
