@@ -4,6 +4,4 @@
 #[cfg(test)]
 mod group_ledger;
 #[cfg(test)]
-mod threads;
-#[cfg(test)]
 mod values;
