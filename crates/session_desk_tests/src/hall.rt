@@ -124,6 +124,13 @@ pub fn join(rt: &impl Abort, session: &mut TestSession, membership: Membership<S
     }
 }
 
+/// Begins a connection of a session that isn't ending.
+pub fn connect(session: &mut TestSession, receive_maximum: u16) {
+    if !session.window.retired() {
+        session.window.up(receive_maximum);
+    }
+}
+
 /// Both sessions that were handed out, with a new one in the place of an old one.
 pub fn both(rt: &impl Abort, handed: Handed) -> (TestSession, TestSession) {
     let Handed {

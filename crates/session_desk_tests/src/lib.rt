@@ -2,6 +2,7 @@
 //! some stories.
 #![tactic(auto)]
 
+#[cfg(test)]
 mod hall;
 mod spot;
 #[cfg(test)]

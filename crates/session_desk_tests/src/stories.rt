@@ -1,6 +1,6 @@
 //! Stories of clients and connections.
 use crate::hall::{
-    TestDesk, Told, ask, both, bury, end, join, leave, nothing, only, open, park, rests,
+    TestDesk, Told, ask, both, bury, connect, end, join, leave, nothing, only, open, park, rests,
 };
 use crate::spot::Spot;
 use bytes::Bytes;
@@ -59,7 +59,7 @@ fn clean_start(rt: HostRuntime) -> Result<(), Fail> {
     let mut desk = open(&rt, Desk::new(rt.alloc()));
     let client = Bytes::from_static(b"device");
     let mut session = only(&rt, ask(&rt, &mut desk, 1, &client, false, 0), Told::New);
-    session.window.up(1);
+    connect(&mut session, 1);
     assert_eq!(rt; session.window.put(7), Ok(1));
     session.window.down();
     park(&rt, &mut desk, session, 60, 0);
@@ -134,7 +134,7 @@ fn places(rt: HostRuntime) -> Result<(), Fail> {
     assert_eq!(rt; desk.take_place(Spot::First), None);
     let mut session = only(&rt, ask(&rt, &mut desk, 1, &client, false, 2), Told::New);
     join(&rt, &mut session, Membership::Leaving(Spot::Second));
-    session.window.up(9);
+    connect(&mut session, 9);
     assert_eq!(rt; session.window.put(5), Ok(1));
     park(&rt, &mut desk, session, 60, 3);
     assert_eq!(rt; end(&rt, desk), (2, 1));
