@@ -1,27 +1,10 @@
 -- How often a job stands in a list.
 use Rattle.std.proofs.Common.{◌≡◌, ◌≢◌, ℕ, zero, suc, ◌+◌, ◌<◌, ◌≤◌, ◌⊎◌, ◌&&◌, Bool, true, false, eqb, cond, List, [], ◌∷◌, ◌++◌, length, get_or, refl, sym, ap, ◌∙◌, inl, inr, ⊎_elim, arith, eq-eqb, eqb-true}
-use Rattle.std.proofs.lemmas.Bool.{cases_eq}
-use Rattle.std.proofs.lemmas.List.Sums.{sum_by-cons, sum_by-append}
+use Rattle.std.proofs.lemmas.List.Sums.{sum_by-cons}
 use Rattle.dispatch_core.specs.declared.event.Job.{Job}
 use Rattle.dispatch_core.specs.JobRuns.{count_of}
-
--- two jobs are one, or differ
-pub same_job : (a b : Job) → (a ≡ b) ⊎ (a ≢ b)
-same_job a b =
-    ⊎_elim
-    (λ (ports : a.port ≡ b.port).
-    ⊎_elim
-    (λ (numbers : a.number ≡ b.number). inl (λ i. record { port = ports i; number = numbers i }))
-    (λ (other : a.number ≢ b.number). inr (λ e. other (ap (λ j. j.number) e)))
-    (cases_eq a.number b.number))
-    (λ (other : a.port ≢ b.port). inr (λ e. other (ap (λ j. j.port) e)))
-    (cases_eq a.port b.port)
-
-pub count_of-append : (job : Job) (xs ys : List Job) → count_of job (xs ++ ys) ≡ count_of job xs + count_of job ys
-count_of-append job xs ys = sum_by-append (λ other. cond ((eqb other.port job.port) && (eqb other.number job.number)) 1 0) xs ys
-
-pub count_of-cons : (job first : Job) (xs : List Job) → count_of job (first ∷ xs) ≡ count_of job (first ∷ []) + count_of job xs
-count_of-cons job first xs = count_of-append job (first ∷ []) xs
+use Rattle.dispatch_core.proofs.JobLists.{count_of-cons}
+use Rattle.dispatch_core.proofs.Spots.{same_job}
 
 pub count_of-same : (job : Job) → count_of job (job ∷ []) ≡ 1
 count_of-same job =

@@ -8,7 +8,9 @@ use Rattle.dispatch_core.specs.Step.{Moves}
 use Rattle.dispatch_core.specs.JobRuns.{count_of}
 use Rattle.local_group.specs.Keeping.{Outs}
 use Rattle.local_group.specs.Spots.{times_queued, times_out, times_returned, Lists}
-use Rattle.local_group.proofs.Counts.{same_job, count_of-same, count_of-other, count_of-cons, take_off}
+use Rattle.dispatch_core.proofs.JobLists.{count_of-cons}
+use Rattle.dispatch_core.proofs.Spots.{same_job}
+use Rattle.local_group.proofs.Counts.{count_of-same, count_of-other, take_off}
 
 module _ (times : Option Spot → ℕ) (old new : GroupState) (job : Job) (spot : Spot) (moves : Moves old job spot new) where
   there : (other : Job) → other ≡ job → times (spot_of new other) ≡ times (Some spot)

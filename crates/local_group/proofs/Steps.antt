@@ -9,7 +9,7 @@ use Rattle.dispatch_core.specs.declared.event.Spot.{Spot}
 use Rattle.dispatch_core.specs.declared.event.Spot.TheVariants.{Queued, Held, Acked, Refused, Returned}
 use Rattle.dispatch_core.specs.GroupState.{GroupState, spot_of, accepted_of}
 use Rattle.dispatch_core.specs.Step.{Step, Moves, HasOlderQueued, MayHappen, next_job}
-use Rattle.dispatch_core.specs.History.{Leads, IsRun}
+use Rattle.dispatch_core.specs.History.{IsRun}
 use Rattle.dispatch_core.specs.Lawful.{IsLawful, RisesByPort}
 use Rattle.dispatch_core.specs.JobRuns.{count_of}
 use Rattle.group_jobs.specs.declared.fate.Fate.{Fate}
@@ -18,15 +18,14 @@ use Rattle.local_group.specs.declared.waiting.Waiting.{Waiting}
 use Rattle.local_group.specs.Groups.{event_of}
 use Rattle.local_group.specs.Keeping.{front_of, closes_left, IsRanged, IsKept}
 use Rattle.local_group.specs.Spots.{jobs_in, times_queued, times_out, times_returned, Lists}
-use Rattle.local_group.proofs.Counts.{same_job, count_of-same, count_of-other, count_of-cons, count_of-append, count_of-place, count_of-there}
+use Rattle.dispatch_core.proofs.Histories.{leads_push}
+use Rattle.dispatch_core.proofs.JobLists.{count_of-cons, count_of-append}
+use Rattle.dispatch_core.proofs.Spots.{same_job}
+use Rattle.local_group.proofs.Counts.{count_of-same, count_of-other, count_of-place, count_of-there}
 use Rattle.local_group.proofs.Spots.{lists_more, lists_less, lists_same, outs_more, outs_less, outs_same, one_out, queued_if, returned_if}
 
-leads_on : (old mid new : GroupState) (events : List Event) (event : Event) → Leads old events mid → Step mid event new → Leads old (events ++ event ∷ []) new
-leads_on old mid new [] event led step = (new, subst (λ s. Step s event new) led step, refl)
-leads_on old mid new (first ∷ events) event led step = (led.0, led.1, leads_on led.0 mid new events event led.2 step)
-
 pub goes_on : (old new : GroupState) (events : List Event) (event : Event) → IsRun events old → Step old event new → IsRun (events ++ event ∷ []) new
-goes_on old new events event run step = record { start = run.start; empty = run.empty; steps = leads_on run.start old new events event run.steps step }
+goes_on old new events event run step = record { start = run.start; empty = run.empty; steps = leads_push run.start old new events event run.steps step }
 
 -- ports and places stay in range where the job's and its holder's are
 ranged_on : (old new : GroupState) (job : Job) (spot : Spot) → Moves old job spot new → job.port < 64 → ((place : ℕ) → spot ≡ Held place → place < 32) → IsRanged old → IsRanged new

@@ -13,7 +13,9 @@ use Rattle.local_group.specs.declared.report.Tally.{Tally}
 use Rattle.local_group.specs.Keeping.{IsRanged}
 use Rattle.local_group.specs.Spots.{times_out, times_settled, Lists}
 use Rattle.local_group.specs.Tallies.{IsBefore, ListsBefore, Tallies, Gains, Counts}
-use Rattle.local_group.proofs.Counts.{same_job, count_of-same, count_of-other, count_of-cons}
+use Rattle.dispatch_core.proofs.JobLists.{count_of-cons}
+use Rattle.dispatch_core.proofs.Spots.{same_job}
+use Rattle.local_group.proofs.Counts.{count_of-same, count_of-other}
 
 pub gains_one : (job : Job) (xs ys : List Job) → IsPermutation (job ∷ xs) ys → Gains 1 job xs ys
 gains_one job xs ys same other =

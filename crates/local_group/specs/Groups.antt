@@ -80,13 +80,13 @@ MayNotOffer group port offer.LifeSpent = (group.state.closed ≡ false) × (life
 MayNotOffer group port offer.Full = (group.state.closed ≡ false) × (accepted_of group.state port < life) × (group.capacity ≤ length group.queue)
 MayNotOffer group port offer.Memory = MayOffer group port
 
--- the oldest message is handed to a place; there is none where nothing is queued
+-- the oldest message is handed to a place (4.6, 4.8.2); there is none where nothing is queued
 abbrev pub Takes : Group → ℕ → Option Envelope → Group → Type 0
 Takes old place None new = (old.state.closed ≡ false) × (old.queue ≡ []) × (new ≡ old)
 Takes old place (Some envelope) new =
     (front : Waiting) × (old.queue ≡ front ∷ new.queue) × (envelope ≡ held_by old.slot front place) × (new.returned ≡ old.returned) × Adds old (First place front.job) new
 
--- the message that was given back first is handed to a place; there is none where nothing is returned
+-- the message that was given back first is handed to a place (profile); there is none where nothing is returned
 abbrev pub TakesBack : Group → ℕ → Option Envelope → Group → Type 0
 TakesBack old place None new = (old.state.closed ≡ false) × (old.returned ≡ []) × (new ≡ old)
 TakesBack old place (Some envelope) new =
@@ -102,13 +102,13 @@ abbrev pub event_of : Fate → ℕ → Job → Event
 event_of fate.Acknowledged place job = Ack place job
 event_of fate.Refused place job = Refuse place job
 
--- a message is settled by the place that holds it
+-- a message is settled by the place that holds it, as its PUBACK says (4.8.2)
 pub record Settles (old : Group) (envelope : Envelope) (fate : Fate) (new : Group) : Type 0 where
   pub event : Adds old (event_of fate envelope.place (job_of envelope.stamp)) new
   pub queue : new.queue ≡ old.queue
   pub returned : new.returned ≡ old.returned
 
--- a message is given back by the place that holds it: it is the last of those
+-- a message is given back by the place that holds it: it is the last of those (profile)
 pub record GivesBack (old : Group) (envelope : Envelope) (new : Group) : Type 0 where
   pub event : Adds old (Back envelope.place (job_of envelope.stamp)) new
   pub queue : new.queue ≡ old.queue

@@ -43,7 +43,9 @@ abbrev pub HasRoom : GroupState → ℕ → ℕ → ℕ → Type 0
 HasRoom state out events capacity = events + out + closes_left state ≤ capacity
 
 -- the room that a group has
-pub record IsRoomy (state : GroupState) (out events event_capacity capacity queued queue_capacity : ℕ) : Type 0 where
+pub record IsRoomy (state : GroupState) (out events event_capacity capacity queued queue_capacity back back_capacity : ℕ) : Type 0 where
   pub room : HasRoom state out events event_capacity
   pub within : queued ≤ capacity
   pub fits : capacity ≤ queue_capacity
+  -- for each message that is out to be given back
+  pub way_back : back + out ≤ back_capacity

@@ -8,7 +8,7 @@ ghost use Rattle.local_group.specs.declared.error.OfferError.TheVariants as Offe
 
 use crate::error::{NotTaken, OfferError, TakeError};
 use crate::events::{conclude, note};
-use crate::waiting::{Waiting, front_of, put_behind, take_front};
+use crate::waiting::{Waiting, front_of, make_way_back, put_behind, take_front};
 use dispatch_core::{Event, Job, Spot, State};
 use group_jobs::{Envelope, Fate, JobError, Message, Stamp};
 use std::alloc::Global;
@@ -30,6 +30,7 @@ pub struct LocalGroup {
     // With room for the event that ends each hand-out, and for the close.
     events: Vec<Event>,
     queue: VecDeque<Waiting>,
+    // With room for each message that is handed out.
     returned: VecDeque<Waiting>,
     // How many messages are handed out and neither settled nor given back.
     out: usize,
@@ -53,7 +54,7 @@ impl Model for LocalGroup {
     } };
 
     ghost invariant = { λ g. IsKept g.state g.events.items g.queue.items g.returned.items g.out
-        × IsRoomy g.state g.out (vec_len g.events) (vec_capacity g.events) g.capacity (deque_len g.queue) (deque_capacity g.queue) };
+        × IsRoomy g.state g.out (vec_len g.events) (vec_capacity g.events) g.capacity (deque_len g.queue) (deque_capacity g.queue) (deque_len g.returned) (deque_capacity g.returned) };
 }
 
 impl LocalGroup {
@@ -183,6 +184,7 @@ impl LocalGroup {
         let Some(job) = front_of(&self.queue) else {
             return Ok(None);
         };
+        make_way_back(&mut self.returned, self.out)?;
         let event = Event::First { member: place, job };
         note(&mut self.state, &mut self.events, self.out, event)?;
         self.out += 1;
@@ -230,22 +232,13 @@ impl LocalGroup {
         stamp
     }
 
-    /// The place that holds the message gives it back, so that it goes to another.
+    /// The place that holds the message gives it back, so that it goes to another. It takes no memory.
     ///
     /// The group has the envelope out, as [`LocalGroup::is_held`] tells.
-    ///
-    /// # Errors
-    ///
-    /// The envelope, where memory was refused. Nothing has changed then.
-    pub fn give_back(&mut self, envelope: Envelope) -> Result<(), Envelope>
+    pub fn give_back(&mut self, envelope: Envelope)
         requires held { IsHeld self.old envelope }
-        ensures given { OnOk result (GivesBack self.old envelope self.new) }
-        ensures handed_back { IfErr result (λ refused. refused ≡ envelope) }
-        ensures unchanged { OnErr result (self.new ≡ self.old) }
+        ensures { GivesBack self.old envelope self.new }
     {
-        if self.returned.reserve(1).is_err() {
-            return Err(envelope);
-        }
         let member = envelope.place();
         let (stamp, message) = envelope.open();
         let job = stamp.job();
@@ -256,7 +249,6 @@ impl LocalGroup {
         );
         self.out -= 1;
         put_behind(&mut self.returned, job, message);
-        Ok(())
     }
 
     /// Closes the group: it accepts nothing and hands nothing out any more. A second close does nothing. It takes no memory.

@@ -1,11 +1,12 @@
 //! Messages that wait for a place.
-ghost use Rattle.std.specs.Prelude.{◌≡◌, ◌≢◌, ◌<◌, ◌≤◌, ◌+◌, None, [], ◌∷◌, ◌++◌};
+ghost use Rattle.std.specs.Prelude.{◌≡◌, ◌≢◌, ◌<◌, ◌≤◌, ◌+◌, None, [], ◌∷◌, ◌++◌, OnOk};
 ghost use Rattle.std.specs.VecDeque.{deque_len, deque_capacity};
 ghost use Rattle.local_group.specs.Groups.{waits};
 ghost use Rattle.local_group.specs.Keeping.{front_of};
 
 use dispatch_core::Job;
 use group_jobs::Message;
+use std::alloc::AllocError;
 use std::collections::VecDeque;
 
 /// A message of a group that nobody holds, and which job it is.
@@ -20,6 +21,19 @@ pub(crate) fn front_of(waiting: &VecDeque<Waiting>) -> Option<Job>
     ensures { result ≡ front_of waiting.now.items }
 {
     waiting.front().map(|front| front.job)
+}
+
+/// Makes room for each message that is out to be given back, and for one more.
+pub(crate) fn make_way_back(returned: &mut VecDeque<Waiting>, out: usize) -> Result<(), AllocError>
+    ensures ok { OnOk result (deque_len returned.new + out + 1 ≤ deque_capacity returned.new) }
+    ensures items { returned.new.items ≡ returned.old.items }
+    ensures len { deque_len returned.new ≡ deque_len returned.old }
+    ensures capacity { deque_capacity returned.old ≤ deque_capacity returned.new }
+{
+    match out.checked_add(1) {
+        Some(room) => returned.reserve(room),
+        None => Err(AllocError),
+    }
 }
 
 /// Takes the message in front. There is one.

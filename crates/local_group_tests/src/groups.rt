@@ -69,12 +69,7 @@ fn end(group: &mut LocalGroup, envelope: Envelope, does: Does) -> Option<(u64, u
         Does::Settle(fate) => {
             group.settle(envelope, fate);
         }
-        Does::GiveBack => {
-            if let Err(envelope) = group.give_back(envelope) {
-                let _ = envelope.open();
-                return None;
-            }
-        }
+        Does::GiveBack => group.give_back(envelope),
         Does::Keep => {
             let _ = envelope.open();
         }

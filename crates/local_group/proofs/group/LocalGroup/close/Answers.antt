@@ -18,5 +18,6 @@ invariant_of-self c =
         room = omega (arith, roomy.room, told.longer, told.capacity, open_left c.self.inside.state (sym c.if-not-closed.ensures.value), closed_left c.conclude.new.state told.step.made.2);
         within = roomy.within;
         fits = roomy.fits;
+        way_back = roomy.way_back;
       },
     )

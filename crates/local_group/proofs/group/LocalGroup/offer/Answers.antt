@@ -21,5 +21,6 @@ invariant_of-self c =
         room = omega (arith, told.room, left_most c.note.new.state);
         within = omega (arith, behind.len, c.self.inside.queue.ok.0, free);
         fits = omega (arith, roomy.fits, behind.capacity);
+        way_back = roomy.way_back;
       },
     )

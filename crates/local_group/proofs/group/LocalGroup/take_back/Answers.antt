@@ -18,5 +18,6 @@ invariant_of-self-2 c =
         room = omega (arith, told.room, left_most c.note.new.state);
         within = roomy.within;
         fits = roomy.fits;
+        way_back = omega (arith, roomy.way_back, front.len, front.capacity);
       },
     )
