@@ -41,6 +41,7 @@ mod property_writing;
 mod reason_code;
 mod sections;
 mod short;
+mod single_properties;
 mod sizes;
 mod splitter;
 mod text;

@@ -2,17 +2,15 @@
 
 ghost use Rattle.std.specs.Prelude.{◌<◌, ◌^◌, ◌++◌, ◌∷◌, [], length, IfSome};
 ghost use Rattle.mqtt_wire.specs.Buffers.{HasRoom, Appends};
-ghost use Rattle.mqtt_wire.specs.Forms.{u16_bytes, u32_bytes, binary_data, utf8_string, variable_byte_integer, IsText, IsBinary};
-ghost use Rattle.mqtt_wire.specs.Kinds.{bit};
+ghost use Rattle.mqtt_wire.specs.Forms.{u16_bytes, u32_bytes, variable_byte_integer};
 ghost use Rattle.mqtt_wire.specs.Sections.{pair_bytes, properties, IsPair};
 ghost use Rattle.mqtt_wire.specs.Ranges.{ArePairs, AuthenticationFits, ConnectFits, PublishFits, PubackFits, SubscribeFits, UnsubscribeFits, DisconnectFits};
 ghost use Rattle.mqtt_wire.specs.Connacks.{connack_properties, offer_bytes, unless_available};
 ghost use Rattle.mqtt_wire.specs.Writing.{reason_front, reason_bytes};
 ghost use Rattle.mqtt_wire.specs.PropertyLists.{bytes_if, user_bytes, authentication_bytes, connect_list, publish_list, puback_list, subscribe_list, unsubscribe_list, disconnect_list};
 
-use crate::binary::Binary;
 use crate::field_writing::{
-    put_binary, put_byte, put_bytes, put_text, put_u16, put_u32, put_variable_byte_integer,
+    put_byte, put_bytes, put_text, put_u16, put_u32, put_variable_byte_integer,
 };
 use crate::offer::Offer;
 use crate::packet::{Acceptance, QoS};
@@ -25,8 +23,10 @@ use crate::property_sizes::{
     subscribe_list_size, unsubscribe_list_size,
 };
 use crate::reason_code::ReasonCode;
+use crate::single_properties::{
+    put_binary_if, put_byte_if, put_flag_if, put_text_if, put_u16_if, put_u32_if,
+};
 use crate::sizes::connack_properties_size;
-use crate::text::Text;
 use crate::user_properties::UserProperty;
 use crate::values::{MaximumPacketSize, ReceiveMaximum, SubscriptionIdentifier};
 
@@ -294,80 +294,6 @@ fn put_disconnect_list(out: &mut Vec<u8>, properties: &DisconnectProperties)
     );
     put_text_if(out, REASON_STRING, &properties.reason_string);
     put_user_properties(out, properties.user_properties.as_slice());
-}
-
-/// Writes a property that is a byte, where it is there.
-fn put_byte_if(out: &mut Vec<u8>, identifier: u8, value: Option<u8>)
-    requires { HasRoom out.old (bytes_if (λ x. identifier ∷ x ∷ []) value) }
-    ensures { Appends out.old (bytes_if (λ x. identifier ∷ x ∷ []) value) out.new }
-{
-    if let Some(byte) = value {
-        put_byte(out, identifier);
-        put_byte(out, byte);
-    }
-}
-
-/// Writes a property that is 0 or 1, where it is there.
-fn put_flag_if(out: &mut Vec<u8>, identifier: u8, value: Option<bool>)
-    requires { HasRoom out.old (bytes_if (λ x. identifier ∷ bit x ∷ []) value) }
-    ensures { Appends out.old (bytes_if (λ x. identifier ∷ bit x ∷ []) value) out.new }
-{
-    if let Some(flag) = value {
-        put_byte(out, identifier);
-        put_byte(out, u8::from(flag));
-    }
-}
-
-/// Writes a property that is a Two Byte Integer, where it is there.
-fn put_u16_if(out: &mut Vec<u8>, identifier: u8, value: Option<u16>)
-    requires { HasRoom out.old (bytes_if (λ x. identifier ∷ u16_bytes x) value) }
-    ensures appended { Appends out.old (bytes_if (λ x. identifier ∷ u16_bytes x) value) out.new }
-    ensures fits { IfSome value (λ x. x < 2 ^ 16) }
-{
-    let Some(number) = value else {
-        return;
-    };
-    put_byte(out, identifier);
-    put_u16(out, number);
-}
-
-/// Writes a property that is a Four Byte Integer, where it is there.
-fn put_u32_if(out: &mut Vec<u8>, identifier: u8, value: Option<u32>)
-    requires { HasRoom out.old (bytes_if (λ x. identifier ∷ u32_bytes x) value) }
-    ensures appended { Appends out.old (bytes_if (λ x. identifier ∷ u32_bytes x) value) out.new }
-    ensures fits { IfSome value (λ x. x < 2 ^ 32) }
-{
-    let Some(number) = value else {
-        return;
-    };
-    put_byte(out, identifier);
-    put_u32(out, number);
-}
-
-/// Writes a property that is a UTF-8 Encoded String, where it is there.
-fn put_text_if(out: &mut Vec<u8>, identifier: u8, value: &Option<Text>)
-    requires { HasRoom out.old (bytes_if (λ x. identifier ∷ utf8_string x) value.now) }
-    ensures appended { Appends out.old (bytes_if (λ x. identifier ∷ utf8_string x) value.now) out.new }
-    ensures fits { IfSome value.now IsText }
-{
-    let Some(text) = value else {
-        return;
-    };
-    put_byte(out, identifier);
-    put_text(out, text);
-}
-
-/// Writes a property that is Binary Data, where it is there.
-fn put_binary_if(out: &mut Vec<u8>, identifier: u8, value: &Option<Binary>)
-    requires { HasRoom out.old (bytes_if (λ x. identifier ∷ binary_data x) value.now) }
-    ensures appended { Appends out.old (bytes_if (λ x. identifier ∷ binary_data x) value.now) out.new }
-    ensures fits { IfSome value.now IsBinary }
-{
-    let Some(binary) = value else {
-        return;
-    };
-    put_byte(out, identifier);
-    put_binary(out, binary);
 }
 
 /// Writes the Receive Maximum, where it is there.

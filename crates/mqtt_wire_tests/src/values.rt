@@ -123,7 +123,10 @@ fn publish(alloc: Global, payload: &'static [u8]) -> Result<Packet, Fault> {
 
 // A word as a text.
 fn text(word: &'static str) -> Result<Text, Fault> {
-    Text::parse(Bytes::from_static(word.as_bytes())).ok_or(Fault::Memory)
+    match Text::parse(Bytes::from_static(word.as_bytes())) {
+        Some(text) => Ok(text),
+        None => Err(Fault::Memory),
+    }
 }
 
 // Whether the PUBLISH packets of two payloads are equal.
@@ -131,12 +134,17 @@ fn are_equal(alloc: Global, payload: &'static [u8], other: &'static [u8]) -> Res
     Ok(publish(alloc, payload)? == publish(alloc, other)?)
 }
 
-// The PUBLISH of a payload behind what stands there already, and how long it is said to be.
+// A packet behind what stands there already, and how long it is said to be.
+fn put_behind(mut out: Vec<u8>, packet: &Packet) -> Result<(Vec<u8>, u64), Fault> {
+    encode_into(&mut out, packet)?;
+    Ok((out, encoded_size(packet)))
+}
+
+// The PUBLISH of a payload behind a word.
 fn behind(alloc: Global, payload: &'static [u8]) -> Result<(Vec<u8>, u64), Fault> {
+    let out = Vec::from_slice(alloc, b"first")?;
     let packet = publish(alloc, payload)?;
-    let mut out = Vec::from_slice(alloc, b"first")?;
-    encode_into(&mut out, &packet)?;
-    Ok((out, encoded_size(&packet)))
+    put_behind(out, &packet)
 }
 
 #[test]

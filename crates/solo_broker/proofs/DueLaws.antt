@@ -7,8 +7,8 @@ use Rattle.std.proofs.lemmas.List.Quantifiers.{position-Some}
 use Rattle.mqtt_wire.specs.declared.packet.Packet.{Packet}
 use Rattle.solo_broker.specs.declared.connection.Standing.{Standing}
 use Rattle.solo_broker.specs.declared.connection.Standing.TheVariants.{Unconnected, Connected, Closed}
-use Rattle.solo_broker.specs.declared.terms.Terms.{Terms}
-use Rattle.solo_broker.specs.declared.group.Message.{Message}
+use Rattle.conn_rules.specs.declared.terms.Terms.{Terms}
+use Rattle.group_jobs.specs.declared.message.Message.{Message}
 use Rattle.solo_broker.specs.Names.{Share}
 use Rattle.solo_broker.specs.Story.{Story, HandOut, unacknowledged, with_hand_out}
 use Rattle.solo_broker.specs.HandOuts.{quota_of, quota, least_free, waiting, due_to, Turn, hand_out, deliver}

@@ -8,8 +8,8 @@ use Rattle.std.proofs.lemmas.List.Quantifiers.{position-Some}
 use Rattle.std.specs.List.{position}
 use Rattle.mqtt_wire.specs.declared.packet.Packet.{Packet}
 use Rattle.solo_broker.specs.declared.connection.Standing.TheVariants.{Connected}
-use Rattle.solo_broker.specs.declared.terms.Terms.{Terms}
-use Rattle.solo_broker.specs.declared.group.Message.{Message}
+use Rattle.conn_rules.specs.declared.terms.Terms.{Terms}
+use Rattle.group_jobs.specs.declared.message.Message.{Message}
 use Rattle.solo_broker.specs.Groups.{GroupState}
 use Rattle.solo_broker.specs.Names.{Share}
 use Rattle.solo_broker.specs.Story.{Story, HandOut, is_open, open_identifiers, unacknowledged, with_hand_out, acknowledges, refuses}

@@ -6,8 +6,8 @@ use Rattle.std.proofs.lemmas.List.Sums.{length-filter, count_by-le-length}
 use Rattle.mqtt_wire.specs.declared.packet.Packet.{Packet}
 use Rattle.solo_broker.specs.declared.connection.Standing.{Standing}
 use Rattle.solo_broker.specs.declared.connection.Standing.TheVariants.{Unconnected}
-use Rattle.solo_broker.specs.declared.terms.Terms.{Terms}
-use Rattle.solo_broker.specs.declared.group.Message.{Message}
+use Rattle.conn_rules.specs.declared.terms.Terms.{Terms}
+use Rattle.group_jobs.specs.declared.message.Message.{Message}
 use Rattle.solo_broker.specs.Names.{Share}
 use Rattle.solo_broker.specs.Story.{Story, HandOut, opening, is_open, open_identifiers, unacknowledged, settled, with_puback}
 use Rattle.solo_broker.specs.HandOuts.{quota_of, quota, times}

@@ -1,14 +1,13 @@
 -- What a PUBACK settles.
 use Rattle.std.proofs.Common.{◌≡◌, ℕ, zero, suc, ◌+◌, ◌-◌, ◌<◌, ◌≤◌, ◌^◌, Bool, true, false, not, cond, eqb, nat_lt, List, [], ◌∷◌, length, get_or, set, drop, map, refl, sym, ap, subst, ◌∙◌, arith, Option, Some, None, count_by, inl, inr, add-zero}
-use Rattle.std.proofs.lemmas.Bool.{cases_eq, cases_lt}
-use Rattle.std.specs.Prelude.{IsTrue, ◌↔◌}
+use Rattle.std.proofs.lemmas.Bool.{cases_eq}
 use Rattle.std.proofs.lemmas.Bool.Decides.{nat_tests}
 use Rattle.std.proofs.lemmas.List.{length-map}
 use Rattle.std.proofs.lemmas.List.Sums.{sum_by-cons, count_by-le-length}
 use Rattle.solo_broker.specs.declared.connection.Connection.{Connection}
-use Rattle.solo_broker.specs.declared.group.Message.{Message}
-use Rattle.solo_broker.specs.declared.group.Fate.{Fate}
-use Rattle.solo_broker.specs.declared.group.Fate.TheVariants.{Acknowledged, Refused}
+use Rattle.group_jobs.specs.declared.message.Message.{Message}
+use Rattle.group_jobs.specs.declared.fate.Fate.{Fate}
+use Rattle.group_jobs.specs.declared.fate.Fate.TheVariants.{Acknowledged, Refused}
 use Rattle.solo_broker.specs.Groups.{GroupState, with_fate, one_more}
 use Rattle.solo_broker.specs.Names.{Share}
 use Rattle.solo_broker.specs.Story.{Story, HandOut, open_identifiers, unacknowledged, with_puback, settled, acknowledges, refuses}
@@ -156,22 +155,6 @@ Shows-puback_settles story connection group id code shows is some held =
 pub Shows-puback_fate : (story : Story) (connection : Connection) (group : GroupState) (id code : ℕ) (fate : Fate) → Shows story connection → connection.group ≡ Some group → 0 < id → get_or connection.window (id - 1) false ≡ true → cond (nat_lt code 128) Acknowledged Refused ≡ fate → Shows (with_puback id code story) (record connection { group = Some (with_fate fate group); window = set connection.window (id - 1) false })
 Shows-puback_fate story connection group id code fate shows is some held by_fate =
     subst (λ f. Shows (with_puback id code story) (record connection { group = Some (with_fate f group); window = set connection.window (id - 1) false })) by_fate (Shows-puback_settles story connection group id code shows is some held)
-
-pub fate_below : (code : ℕ) → code < 128 → cond (nat_lt code 128) Acknowledged Refused ≡ Acknowledged
-fate_below code below = let e : nat_lt code 128 ≡ true = grind (arith, nat_tests) in ap (λ b. cond b Acknowledged Refused) e
-
-different : (b : Bool) → b ≡ true → b ≡ false → ⊥
-different b holds fails = cc
-
-pub no_failure : (failure : Bool) (code : ℕ) → IsTrue failure ↔ (128 ≤ code) → failure ≡ false → code < 128
-no_failure failure code told none =
-    elim (cases_lt code 128) [
-      | inl below ↦ below
-      | inr above ↦ absurd (different failure (told.1 above) none)
-    ]
-
-pub fate_above : (code : ℕ) → 128 ≤ code → cond (nat_lt code 128) Acknowledged Refused ≡ Refused
-fate_above code above = let e : nat_lt code 128 ≡ false = grind (arith, nat_tests) in ap (λ b. cond b Acknowledged Refused) e
 
 -- where no group is bound, none is held
 pub Shows-puback_unbound : (story : Story) (connection : Connection) (id code : ℕ) → Shows story connection → connection.group ≡ None → 0 < id → get_or connection.window (id - 1) false ≡ true → ⊥

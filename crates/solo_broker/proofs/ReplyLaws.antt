@@ -10,7 +10,7 @@ use Rattle.mqtt_wire.specs.declared.packet.Disconnect.{Disconnect}
 use Rattle.mqtt_wire.specs.declared.packet.Packet.{Packet}
 use Rattle.mqtt_wire.specs.declared.packet.Packet.TheVariants as packets
 use Rattle.solo_broker.specs.Story.{Story}
-use Rattle.solo_broker.specs.Packets.{disconnect}
+use Rattle.conn_rules.specs.Packets.{disconnect}
 use Rattle.solo_broker.specs.Reply.{closing_with}
 use Rattle.solo_broker.specs.Replies.{later_reply}
 

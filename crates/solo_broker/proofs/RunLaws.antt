@@ -13,13 +13,16 @@ use Rattle.mqtt_wire.specs.declared.packet.ConnectRefusal.TheVariants.{Implement
 use Rattle.mqtt_wire.specs.declared.packet.Packet.{Packet}
 use Rattle.mqtt_wire.specs.declared.packet.Packet.TheVariants as packets
 use Rattle.solo_broker.specs.declared.connection.Standing.TheVariants.{Unconnected, Connected, Closed}
-use Rattle.solo_broker.specs.declared.terms.Terms.{Terms}
-use Rattle.solo_broker.specs.declared.group.Message.{Message}
+use Rattle.conn_rules.specs.declared.terms.Terms.{Terms}
+use Rattle.group_jobs.specs.declared.message.Message.{Message}
 use Rattle.solo_broker.specs.Names.{Share}
 use Rattle.solo_broker.specs.Story.{Story, HandOut, opening, open_identifiers, unacknowledged, acknowledges, refuses}
 use Rattle.solo_broker.specs.HandOuts.{quota, times, waiting, Turn, deliver}
 use Rattle.solo_broker.specs.Reply.{Reply, closing}
-use Rattle.solo_broker.specs.Connecting.{refusing, is_under, or_else, accepting, connect_reply}
+use Rattle.conn_rules.specs.declared.connecting.FirstAnswer.{FirstAnswer}
+use Rattle.conn_rules.specs.declared.connecting.FirstAnswer.TheVariants.{Close, Refuse, Attach}
+use Rattle.conn_rules.specs.Connecting.{or_else, connect_answer}
+use Rattle.solo_broker.specs.Connecting.{connect_reply_as, connect_reply}
 use Rattle.solo_broker.specs.Replies.{turn}
 use Rattle.solo_broker.specs.Report.{report_of}
 use Rattle.solo_broker.specs.Output.{lines_for, ending, output_from, solo_output}
@@ -187,23 +190,13 @@ run_closed story (packet ∷ packets) closed =
 abbrev Connects : Connect → Story → Reply → Type 0
 Connects c story r = ((r.story.standing ≡ Closed) × (r.story.handed_out ≡ story.handed_out)) ⊎ ((r.story.standing ≡ Connected) × (r.story.terms.receive_maximum ≡ or_else 65535 c.properties.receive_maximum))
 
-either_connects : (c : Connect) (story : Story) (b : Bool) (x y : Reply) → Connects c story x → Connects c story y → Connects c story (cond b x y)
-either_connects c story true x y left right = left
-either_connects c story false x y left right = right
+connected_by : (answer : FirstAnswer) (c : Connect) (story : Story) → Connects c story (connect_reply_as answer c story)
+connected_by Close c story = inl (refl, refl)
+connected_by (Refuse refusal) c story = inl (refl, refl)
+connected_by Attach c story = inr (refl, refl)
 
 connected_as : (c : Connect) (story : Story) → Connects c story (connect_reply c story)
-connected_as c story =
-    let may = accepting c story in
-    let long = nat_lt 128 (length c.client_identifier) in
-    let known = is_some c.properties.authentication in
-    let small = is_under 64 c.properties.maximum_packet_size in
-    let unnamed = refusing ClientIdentifierNotValid story in
-    let strange = refusing BadAuthenticationMethod story in
-    let tight = refusing ImplementationSpecificError story in
-    either_connects c story (is_under 5 c.properties.maximum_packet_size) (closing story) (cond small tight (cond known strange (cond long unnamed may))) (inl (refl, refl))
-    (either_connects c story small tight (cond known strange (cond long unnamed may)) (inl (refl, refl))
-    (either_connects c story known strange (cond long unnamed may) (inl (refl, refl))
-    (either_connects c story long unnamed may (inl (refl, refl)) (inr (refl, refl)))))
+connected_as c story = connected_by (connect_answer c) c story
 
 -- the Receive Maximum stays
 asked_for : (packets : List Packet) (story : Story) → Kept story → (story.standing ≡ Unconnected → ⊥) → (after packets story).terms.receive_maximum ≡ story.terms.receive_maximum

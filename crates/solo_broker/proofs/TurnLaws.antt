@@ -17,15 +17,19 @@ use Rattle.mqtt_wire.specs.declared.packet.Packet.{Packet}
 use Rattle.mqtt_wire.specs.declared.packet.Packet.TheVariants as packets
 use Rattle.solo_broker.specs.declared.connection.Standing.{Standing}
 use Rattle.solo_broker.specs.declared.connection.Standing.TheVariants.{Unconnected, Connected, Closed}
-use Rattle.solo_broker.specs.declared.terms.Terms.{Terms}
-use Rattle.solo_broker.specs.declared.group.Message.{Message}
+use Rattle.conn_rules.specs.declared.terms.Terms.{Terms}
+use Rattle.group_jobs.specs.declared.message.Message.{Message}
 use Rattle.solo_broker.specs.Names.{Share}
 use Rattle.solo_broker.specs.Story.{Story, HandOut, open_identifiers, unacknowledged}
 use Rattle.solo_broker.specs.HandOuts.{quota, waiting, Turn, deliver}
-use Rattle.solo_broker.specs.Packets.{disconnect, puback}
+use Rattle.conn_rules.specs.Packets.{disconnect, puback}
 use Rattle.solo_broker.specs.Reply.{Reply, closing, closing_with}
-use Rattle.solo_broker.specs.Connecting.{refusing, is_under, accepting, connect_reply, first_reply}
-use Rattle.solo_broker.specs.Publishing.{message_of, accepted_if, publish_code, message_reply, publish_reply_if, publish_reply}
+use Rattle.conn_rules.specs.declared.connecting.FirstAnswer.{FirstAnswer}
+use Rattle.conn_rules.specs.declared.connecting.FirstAnswer.TheVariants.{Close, Refuse, Attach}
+use Rattle.conn_rules.specs.Connecting.{connect_answer}
+use Rattle.conn_rules.specs.Publishing.{message_of}
+use Rattle.solo_broker.specs.Connecting.{refusing, accepting, connect_reply_as, connect_reply, first_reply}
+use Rattle.solo_broker.specs.Publishing.{accepted_if, publish_code, message_reply, publish_reply_if, publish_reply}
 use Rattle.solo_broker.specs.Subscribing.{share_reply, share_reply_if, entry_reply, subscribe_reply}
 use Rattle.solo_broker.specs.Replies.{with_expiry, disconnect_reply, later_reply, reply_at, reply, turn}
 use Rattle.solo_broker.specs.Runs.{is_publish, published, says_accepted, accepted_from, accepted_in, settles}
@@ -140,12 +144,13 @@ accepts c story is kept =
       asked = inl is;
     }
 
+connects_as : (answer : FirstAnswer) (c : Connect) (story : Story) → story.standing ≡ Unconnected → Kept story → Replied story (λ sent. []) [] (connect_reply_as answer c story)
+connects_as Close c story is kept = closes story refl kept
+connects_as (Refuse refusal) c story is kept = refuses_with refusal story kept
+connects_as Attach c story is kept = accepts c story is kept
+
 pub connects : (c : Connect) (story : Story) → story.standing ≡ Unconnected → Kept story → Replied story (λ sent. []) [] (connect_reply c story)
-connects c story is kept =
-    either (is_under 5 c.properties.maximum_packet_size) _ _ (closes story refl kept)
-    (either (is_under 64 c.properties.maximum_packet_size) _ _ (refuses_with ImplementationSpecificError story kept)
-    (either (is_some c.properties.authentication) _ _ (refuses_with BadAuthenticationMethod story kept)
-    (either (nat_lt 128 (length c.client_identifier)) _ _ (refuses_with ClientIdentifierNotValid story kept) (accepts c story is kept))))
+connects c story is kept = connects_as (connect_answer c) c story is kept
 
 first_replied : (packet : Packet) (story : Story) → story.standing ≡ Unconnected → Kept story → Replied story (accepted_in packet) [] (first_reply packet story)
 first_replied (packets.Connect c) story is kept = connects c story is kept

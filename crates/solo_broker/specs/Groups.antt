@@ -1,10 +1,10 @@
 -- What a group, a share and a window hold, as plain values.
 use Rattle.std.specs.Prelude.{◌≡◌, ℕ, ◌+◌, ◌-◌, ◌^◌, min, ◌==◌, ◌||◌, Bool, true, false, List, [], ◌∷◌, ◌++◌, length, Result, Ok, Err}
-use Rattle.solo_broker.specs.declared.group.Message.{Message}
+use Rattle.group_jobs.specs.declared.message.Message.{Message}
 use Rattle.solo_broker.specs.declared.group.NotTaken.{NotTaken}
 use Rattle.solo_broker.specs.declared.group.NotTaken.TheVariants.{Full, LifeSpent, Memory}
-use Rattle.solo_broker.specs.declared.group.Fate.{Fate}
-use Rattle.solo_broker.specs.declared.group.Fate.TheVariants.{Acknowledged, Refused}
+use Rattle.group_jobs.specs.declared.fate.Fate.{Fate}
+use Rattle.group_jobs.specs.declared.fate.Fate.TheVariants.{Acknowledged, Refused}
 use Rattle.solo_broker.specs.Names.{Share}
 
 -- a group: its share, what waits, the oldest first, and how many messages were accepted and settled

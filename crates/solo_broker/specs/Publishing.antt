@@ -1,13 +1,13 @@
 -- The reply to a PUBLISH (sections 3.3 and 3.4).
 use Rattle.std.specs.Prelude.{ℕ, ◌-◌, ◌==◌, ◌||◌, bytes_eq, Bool, true, false, if◌then◌else◌, List, length, Option, Some, None, is_some}
-use Rattle.std.specs.List.{list_any}
 use Rattle.mqtt_wire.specs.declared.packet.Publish.{Publish}
 use Rattle.mqtt_wire.specs.declared.packet.Delivery.{Delivery}
 use Rattle.mqtt_wire.specs.declared.packet.Delivery.TheVariants.{AtMostOnce, AtLeastOnce, ExactlyOnce}
-use Rattle.solo_broker.specs.declared.group.Message.{Message}
-use Rattle.solo_broker.specs.Names.{Share, is_wildcard}
+use Rattle.group_jobs.specs.declared.message.Message.{Message}
+use Rattle.solo_broker.specs.Names.{Share}
 use Rattle.solo_broker.specs.Story.{Story, with_message}
-use Rattle.solo_broker.specs.Packets.{disconnect, puback}
+use Rattle.conn_rules.specs.Packets.{disconnect, puback}
+use Rattle.conn_rules.specs.Publishing.{closing_code, message_of}
 use Rattle.solo_broker.specs.Reply.{Reply, closing_with}
 
 -- how many accepted messages wait at most, and how many are accepted in all (profile)
@@ -38,29 +38,6 @@ abbrev pub message_reply : ℕ → Message → Story → Reply
 message_reply identifier message story = record {
   packet = Some (puback identifier (publish_code message.topic story));
   story = accepted_if (publish_code message.topic story == 0) message story;
-}
-
--- the Reason Code with which a PUBLISH of QoS 1 closes the connection: RETAIN 9A (3.2.2.3.5), a Topic Alias 94
--- (3.3.2.3.4), an empty topic 82 (3.3.2.1), a wildcard in it 81 (3.3.2.1)
-abbrev pub closing_code : Publish → Option ℕ
-closing_code publish =
-    if publish.retain then Some 0x9A
-    else (if is_some publish.properties.topic_alias then Some 0x94
-    else (if length publish.topic == 0 then Some 0x82
-    else (if list_any is_wildcard publish.topic then Some 0x81 else None)))
-
--- the message of a PUBLISH: its topic, the properties that go with it, and its payload (3.3.2.3)
-abbrev pub message_of : Publish → Message
-message_of publish = record {
-  topic = publish.topic;
-  properties = record {
-    payload_format_indicator = publish.properties.payload_format_indicator;
-    content_type = publish.properties.content_type;
-    response_topic = publish.properties.response_topic;
-    correlation_data = publish.properties.correlation_data;
-    user_properties = publish.properties.user_properties;
-  };
-  payload = publish.payload;
 }
 
 -- a message that expires is refused with 83 (profile, for now)

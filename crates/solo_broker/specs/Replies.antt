@@ -1,16 +1,16 @@
 -- The reply to each packet and to the end of the stream (chapters 3 and 4), and what a packet brings about in all.
-use Rattle.std.specs.Prelude.{ℕ, ◌==◌, ◌&&◌, nat_lt, Bool, if◌then◌else◌, ◌++◌, Option, Some, None, option_to_list}
-use Rattle.mqtt_wire.specs.declared.packet.ConnectRefusal.TheVariants.{ProtocolError}
+use Rattle.std.specs.Prelude.{ℕ, if◌then◌else◌, ◌++◌, Option, Some, None, option_to_list}
+use Rattle.mqtt_wire.specs.declared.packet.ConnectRefusal.{ConnectRefusal}
 use Rattle.mqtt_wire.specs.declared.fault.StreamFault.{StreamFault}
-use Rattle.mqtt_wire.specs.declared.fault.StreamFault.TheVariants.{Malformed, Protocol, TooLarge}
 use Rattle.mqtt_wire.specs.declared.packet.Packet.{Packet}
 use Rattle.mqtt_wire.specs.declared.packet.Packet.TheVariants as packets
 use Rattle.solo_broker.specs.declared.connection.Standing.{Standing}
 use Rattle.solo_broker.specs.declared.connection.Standing.TheVariants.{Unconnected, Connected, Closed}
-use Rattle.solo_broker.specs.declared.terms.Terms.{Terms}
+use Rattle.conn_rules.specs.Connecting.{is_given_expiry}
+use Rattle.conn_rules.specs.Ending.{fault_code, fault_refusal}
 use Rattle.solo_broker.specs.Story.{Story, with_puback}
 use Rattle.solo_broker.specs.HandOuts.{Turn, deliver}
-use Rattle.solo_broker.specs.Packets.{disconnect}
+use Rattle.conn_rules.specs.Packets.{disconnect}
 use Rattle.solo_broker.specs.Reply.{Reply, closing, closing_with}
 use Rattle.solo_broker.specs.Connecting.{refusing, first_reply}
 use Rattle.solo_broker.specs.Publishing.{publish_reply}
@@ -19,10 +19,6 @@ use Rattle.solo_broker.specs.Subscribing.{subscribe_reply}
 -- the session has this expiry from now on
 abbrev pub with_expiry : ℕ → Story → Story
 with_expiry expiry story = record story { terms = record story.terms { session_expiry_interval = expiry } }
-
--- 3.14.2.2.2: a session that ends with its connection may not be given an expiry at the end
-abbrev pub is_given_expiry : ℕ → Terms → Bool
-is_given_expiry expiry terms = nat_lt 0 expiry && terms.session_expiry_interval == 0
 
 abbrev pub disconnect_reply : Option ℕ → Story → Reply
 disconnect_reply None story = closing story
@@ -49,17 +45,13 @@ reply_at Closed packet story = record { packet = None; story = story }
 abbrev pub reply : Packet → Story → Reply
 reply packet story = reply_at story.standing packet story
 
--- 4.13: the Reason Code of a fault of the stream
-abbrev pub fault_code : StreamFault → ℕ
-fault_code Malformed = 0x81
-fault_code Protocol = 0x82
-fault_code TooLarge = 0x95
+abbrev pub refusing_if : Option ConnectRefusal → Story → Reply
+refusing_if None story = closing story
+refusing_if (Some refusal) story = refusing refusal story
 
--- 4.13.1: a fault closes the connection; a client that is not connected hears of a protocol error alone (profile)
+-- 4.13.1: a fault closes the connection
 abbrev pub fault_at : Standing → StreamFault → Story → Reply
-fault_at Unconnected Malformed story = closing story
-fault_at Unconnected Protocol story = refusing ProtocolError story
-fault_at Unconnected TooLarge story = closing story
+fault_at Unconnected fault story = refusing_if (fault_refusal fault) story
 fault_at Connected fault story = closing_with (disconnect (fault_code fault)) story
 fault_at Closed fault story = record { packet = None; story = story }
 

@@ -9,11 +9,11 @@ use Rattle.mqtt_wire.specs.declared.packet.Packet.{Packet}
 use Rattle.mqtt_wire.specs.declared.packet.Packet.TheVariants as kinds
 use Rattle.solo_broker.specs.declared.connection.Standing.{Standing}
 use Rattle.solo_broker.specs.declared.connection.Standing.TheVariants.{Unconnected, Connected, Closed}
-use Rattle.solo_broker.specs.declared.group.Message.{Message}
+use Rattle.group_jobs.specs.declared.message.Message.{Message}
 use Rattle.solo_broker.specs.Story.{Story, HandOut, unacknowledged}
 use Rattle.solo_broker.specs.Packets.{job}
 use Rattle.solo_broker.specs.HandOuts.{times}
-use Rattle.solo_broker.specs.Publishing.{message_of}
+use Rattle.conn_rules.specs.Publishing.{message_of}
 use Rattle.solo_broker.specs.Replies.{turn}
 
 -- the story after these packets, one after another

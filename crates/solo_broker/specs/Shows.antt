@@ -7,7 +7,7 @@ use Rattle.solo_broker.specs.declared.connection.Standing.TheVariants.{Unconnect
 use Rattle.solo_broker.specs.declared.connection.Next.{Next}
 use Rattle.solo_broker.specs.declared.connection.Next.TheVariants.{Go, Close}
 use Rattle.solo_broker.specs.declared.connection.Outs.{Outs}
-use Rattle.solo_broker.specs.declared.group.Message.{Message}
+use Rattle.group_jobs.specs.declared.message.Message.{Message}
 use Rattle.solo_broker.specs.Names.{Share}
 use Rattle.solo_broker.specs.Groups.{GroupState}
 use Rattle.mqtt_wire.specs.declared.fault.StreamFault.{StreamFault}

@@ -2,8 +2,8 @@
 use Rattle.std.specs.Prelude.{ℕ, ◌==◌, ◌&&◌, nat_lt, Bool, true, false, not, if◌then◌else◌, List, [], ◌++◌, ◌∷◌, map, filter, Option, Some, None, is_none}
 use Rattle.solo_broker.specs.declared.connection.Standing.{Standing}
 use Rattle.solo_broker.specs.declared.connection.Standing.TheVariants.{Unconnected}
-use Rattle.solo_broker.specs.declared.terms.Terms.{Terms}
-use Rattle.solo_broker.specs.declared.group.Message.{Message}
+use Rattle.conn_rules.specs.declared.terms.Terms.{Terms}
+use Rattle.group_jobs.specs.declared.message.Message.{Message}
 use Rattle.solo_broker.specs.Names.{Share}
 
 -- a message was sent to the client under this identifier; the Reason Code of its PUBACK, if that came (3.4.2.1)
@@ -23,7 +23,7 @@ pub record Story : Type 0 where
 -- 3.1.2.11: what holds where a CONNECT says nothing: the greatest Receive Maximum, packets of any size, and a session that
 -- ends with its connection
 abbrev pub default_terms : Terms
-default_terms = record { receive_maximum = 65535; session_expiry_interval = 0; takes_all_packets = true }
+default_terms = record { receive_maximum = 65535; session_expiry_interval = 0; keep_alive = 0; takes_all_packets = true }
 
 -- before the first packet
 abbrev pub opening : Story

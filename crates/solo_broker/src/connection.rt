@@ -1,31 +1,34 @@
 //! One client's connection as a decision core: packets go in as values, and packets and a close come out.
 ghost use Rattle.std.specs.Prelude.{◌≡◌, ℕ, Some, None, IsSome, IfOk, OnOk};
 ghost use Rattle.solo_broker.specs.Story.{Story, opening, with_puback};
+ghost use Rattle.conn_rules.specs.Packets.{refusing as refused_by};
 ghost use Rattle.solo_broker.specs.Packets.{suback};
 ghost use Rattle.solo_broker.specs.Reply.{closing, closing_with};
 ghost use Rattle.solo_broker.specs.Connecting.{refusing, accepting, connect_reply, first_reply};
-ghost use Rattle.solo_broker.specs.Publishing.{closing_code, publish_reply, publish_reply_if};
+ghost use Rattle.conn_rules.specs.Publishing.{closing_code};
+ghost use Rattle.solo_broker.specs.Publishing.{publish_reply, publish_reply_if};
 ghost use Rattle.solo_broker.specs.Subscribing.{share_reply, subscribe_reply};
 ghost use Rattle.solo_broker.specs.Replies.{reply, later_reply, disconnect_reply, with_expiry, end_reply};
 ghost use Rattle.solo_broker.specs.Report.{report_of, report_lines};
 ghost use Rattle.solo_broker.specs.Shows.{Shows, Gives, Offers, Delivers, Takes, Ends};
 
-use crate::group::{Fate, Group, Message, NotTaken};
+use crate::group::{Group, NotTaken};
 use crate::hand_outs::hand_out;
-use crate::packets::{disconnect, message_of, puback, suback};
-use crate::reason_code::fault_code;
-use crate::requests::{closing_code, share_of};
+use crate::naming::assigned_to;
+use crate::packets::suback;
+use crate::requests::share_of;
 use crate::share::Share;
-use crate::terms::{Terms, assigned_to, is_size_under, offer, terms_of};
 use crate::window::Window;
+use conn_rules::{
+    FirstAnswer, Terms, accepting, answer_to_connect, closing_code, disconnect, fate_of,
+    fault_code, fault_refusal, message_of, puback, refusing, terms_of,
+};
+use group_jobs::Message;
 use mqtt_wire::{
-    Acceptance, Connack, Connect, ConnectRefusal, Delivery, Disconnect, Packet, PacketIdentifier,
-    Puback, Publish, ReasonCode, StreamFault, Subscribe,
+    Connect, ConnectRefusal, Delivery, Disconnect, Packet, PacketIdentifier, Puback, Publish,
+    ReasonCode, StreamFault, Subscribe,
 };
 use std::alloc::{AllocError, Global};
-
-/// The longest client identifier.
-const LONGEST_IDENTIFIER: usize = 128;
 
 /// How far a connection has come.
 #[derive(Clone, Copy, Debug, PartialEq, Eq)]
@@ -68,6 +71,7 @@ impl Connection {
             terms: Terms {
                 receive_maximum: u16::MAX,
                 session_expiry_interval: 0,
+                keep_alive: 0,
                 takes_all_packets: true,
             },
             group: None,
@@ -115,9 +119,9 @@ impl Connection {
         ensures { (story : Story) → Shows story self.old → Gives (end_reply (Some fault) story) result self.new }
     {
         match self.standing {
-            Standing::Unconnected => match fault {
-                StreamFault::Protocol => self.refuse(ConnectRefusal::ProtocolError),
-                StreamFault::Malformed | StreamFault::TooLarge => self.close(),
+            Standing::Unconnected => match fault_refusal(fault) {
+                Some(refusal) => self.refuse(refusal),
+                None => self.close(),
             },
             Standing::Connected => self.close_with(disconnect(alloc, fault_code(fault))),
             Standing::Closed => None,
@@ -174,10 +178,10 @@ impl Connection {
 
     /// Closes the connection with a CONNACK that refuses.
     fn refuse(&mut self, refusal: ConnectRefusal) -> Option<Packet>
-        ensures answer { result ≡ Some (Packet.Connack (Connack.Refused refusal)) }
+        ensures answer { result ≡ Some (refused_by refusal) }
         ensures gives { (story : Story) → Shows story self.old → Gives (refusing refusal story) result self.new }
     {
-        self.close_with(Packet::Connack(Connack::Refused(refusal)))
+        self.close_with(refusing(refusal))
     }
 
     /// The reply to the first packet: a CONNECT opens the connection.
@@ -196,20 +200,11 @@ impl Connection {
     fn connect(&mut self, connect: &Connect) -> Option<Packet>
         ensures { (story : Story) → Shows story self.old → Gives (connect_reply connect.now story) result self.new }
     {
-        let properties = &connect.properties;
-        if is_size_under(5, properties.maximum_packet_size) {
-            return self.close();
+        match answer_to_connect(connect) {
+            FirstAnswer::Close => self.close(),
+            FirstAnswer::Refuse(refusal) => self.refuse(refusal),
+            FirstAnswer::Attach => self.accept(connect),
         }
-        if is_size_under(64, properties.maximum_packet_size) {
-            return self.refuse(ConnectRefusal::ImplementationSpecificError);
-        }
-        if properties.authentication.is_some() {
-            return self.refuse(ConnectRefusal::BadAuthenticationMethod);
-        }
-        if connect.client_identifier.as_bytes().len() > LONGEST_IDENTIFIER {
-            return self.refuse(ConnectRefusal::ClientIdentifierNotValid);
-        }
-        self.accept(connect)
     }
 
     /// Opens the connection with a new session.
@@ -218,12 +213,9 @@ impl Connection {
         ensures gives { (story : Story) → Shows story self.old → Gives (accepting connect.now story) result self.new }
     {
         self.standing = Standing::Connected;
-        self.terms = terms_of(&connect.properties);
-        Some(Packet::Connack(Connack::Accepted(Acceptance {
-            session_present: false,
-            assigned_client_identifier: assigned_to(connect.client_identifier.as_bytes()),
-            offer: offer(),
-        })))
+        self.terms = terms_of(connect);
+        let assigned = assigned_to(connect.client_identifier.as_bytes());
+        Some(accepting(false, assigned))
     }
 
     /// The reply to a packet on an open connection.
@@ -330,11 +322,7 @@ impl Connection {
         if !self.window.release(puback.packet_identifier) {
             return;
         }
-        let fate = if puback.reason_code.is_failure() {
-            Fate::Refused
-        } else {
-            Fate::Acknowledged
-        };
+        let fate = fate_of(puback.reason_code);
         if let Some(group) = &mut self.group {
             group.settle(fate);
         }

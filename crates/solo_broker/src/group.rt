@@ -4,8 +4,7 @@ ghost use Rattle.solo_broker.specs.Groups.{OfferAnswers, with_fate};
 
 use crate::report::Report;
 use crate::share::Share;
-use bytes::Bytes;
-use mqtt_wire::{Binary, Text, UserProperties};
+use group_jobs::{Fate, Message};
 use std::alloc::Global;
 use std::collections::VecDeque;
 use std::marker::Model;
@@ -16,24 +15,6 @@ const CAPACITY: usize = 1024;
 
 /// How many messages are accepted in all.
 const LIFE: u64 = 1 << 20;
-
-/// A message on its way from a publisher to a member. Its texts and its payload are shared, never copied.
-#[derive(Debug, Drop)]
-pub struct Message {
-    pub topic: Text,
-    pub properties: MessageProperties,
-    pub payload: Bytes,
-}
-
-/// The properties that a message keeps from its publisher to its member (section 3.3.2.3).
-#[derive(Debug, Drop)]
-pub struct MessageProperties {
-    pub payload_format_indicator: Option<u8>,
-    pub content_type: Option<Text>,
-    pub response_topic: Option<Text>,
-    pub correlation_data: Option<Binary>,
-    pub user_properties: UserProperties,
-}
 
 /// Why a message was not accepted.
 #[derive(Clone, Copy, Debug, PartialEq, Eq, Drop, Error)]
@@ -47,13 +28,6 @@ pub enum NotTaken {
     /// An allocation was refused.
     #[error("out of memory")]
     Memory,
-}
-
-/// How a member settled a job.
-#[derive(Clone, Copy, Debug, PartialEq, Eq, Drop)]
-pub enum Fate {
-    Acknowledged,
-    Refused,
 }
 
 /// The messages of one share.

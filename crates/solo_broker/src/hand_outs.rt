@@ -6,8 +6,8 @@ ghost use Rattle.solo_broker.specs.Shows.{ShowsGroup, ShowsWindow, HandsOut};
 ghost use Rattle.solo_broker.specs.declared.connection.Standing.TheVariants.{Connected};
 
 use crate::group::Group;
-use crate::packets::job;
 use crate::window::Window;
+use conn_rules::job;
 use mqtt_wire::Packet;
 use std::alloc::AllocError;
 
@@ -31,7 +31,7 @@ pub fn hand_out(
             break;
         };
         window.hold(identifier);
-        packets.push(job(message, identifier))?;
+        packets.push(job(false, message, identifier))?;
     }
     Ok(())
 }

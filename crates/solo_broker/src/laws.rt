@@ -10,7 +10,7 @@ ghost use Rattle.solo_broker.specs.Lines.{stream_of};
 ghost use Rattle.solo_broker.specs.Names.{Share};
 ghost use Rattle.solo_broker.specs.Story.{Story, HandOut, opening, unacknowledged};
 ghost use Rattle.solo_broker.specs.HandOuts.{quota, waiting};
-ghost use Rattle.solo_broker.specs.Connecting.{or_else};
+ghost use Rattle.conn_rules.specs.Connecting.{or_else};
 ghost use Rattle.solo_broker.specs.Report.{report_of};
 ghost use Rattle.solo_broker.specs.Output.{IsSoloOutput, lines_for, ending, solo_output};
 ghost use Rattle.solo_broker.specs.Runs.{after, sent, published, jobs_of, answered, settling};

@@ -14,13 +14,12 @@ mod group;
 mod hand_outs;
 mod input;
 pub mod laws;
+mod naming;
 mod output;
 mod packets;
-mod reason_code;
 mod report;
 mod requests;
 mod share;
-mod terms;
 mod window;
 
 pub use conversation::solo;

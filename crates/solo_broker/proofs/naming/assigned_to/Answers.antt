@@ -5,7 +5,7 @@ use Rattle.std.proofs.lemmas.Bool.{eqb-true}
 use Rattle.std.proofs.lemmas.List.{nil_from_length}
 use Rattle.mqtt_wire.specs.Forms.{is_text}
 use Rattle.solo_broker.proofs.ReplyLaws.{parsed_is}
-use Rattle.solo_broker.proofs.terms.assigned_to.Goals as goal
+use Rattle.solo_broker.proofs.naming.assigned_to.Goals as goal
 
 auto_is_text : is_text (codes "auto-00000001") ≡ true
 unfolding is_text is_utf8 chars lib.Utf8.encode

@@ -1,0 +1,54 @@
+-- What a client asks for when it connects, and the answer to the first packet (sections 3.1 and 3.2).
+use Rattle.std.specs.Prelude.{ℕ, ◌==◌, ◌&&◌, nat_lt, Bool, false, not, if◌then◌else◌, length, Option, Some, None, is_some}
+use Rattle.mqtt_wire.specs.declared.offer.Offer.{Offer}
+use Rattle.mqtt_wire.specs.declared.packet.QoS.TheVariants.{AtLeastOnce}
+use Rattle.mqtt_wire.specs.declared.packet.Connect.{Connect}
+use Rattle.mqtt_wire.specs.declared.packet.ConnectRefusal.TheVariants.{ImplementationSpecificError, UnsupportedProtocolVersion, ClientIdentifierNotValid, BadAuthenticationMethod}
+use Rattle.mqtt_wire.specs.declared.packet.Packet.{Packet}
+use Rattle.mqtt_wire.specs.declared.packet.Packet.TheVariants as packets
+use Rattle.conn_rules.specs.declared.connecting.FirstAnswer.{FirstAnswer}
+use Rattle.conn_rules.specs.declared.connecting.FirstAnswer.TheVariants.{Close, Refuse, Attach}
+use Rattle.conn_rules.specs.declared.terms.Terms.{Terms}
+
+-- a number that is there and below the limit
+abbrev pub is_under : ℕ → Option ℕ → Bool
+is_under limit None = false
+is_under limit (Some number) = nat_lt number limit
+
+-- a number, or what holds where it is not there
+abbrev pub or_else : ℕ → Option ℕ → ℕ
+or_else absent None = absent
+or_else absent (Some number) = number
+
+-- 3.1.2.10 and 3.1.2.11: what a client asked for
+abbrev pub terms_of : Connect → Terms
+terms_of c = record {
+  receive_maximum = or_else 65535 c.properties.receive_maximum;
+  session_expiry_interval = or_else 0 c.properties.session_expiry_interval;
+  keep_alive = c.keep_alive;
+  takes_all_packets = not (is_under 65536 c.properties.maximum_packet_size);
+}
+
+-- 3.14.2.2.2: a session that ends with its connection may not be given an expiry at the end
+abbrev pub is_given_expiry : ℕ → Terms → Bool
+is_given_expiry expiry terms = nat_lt 0 expiry && terms.session_expiry_interval == 0
+
+-- 3.2.2.3: what the broker offers (profile)
+abbrev pub offer : Offer
+offer = record { maximum_qos = AtLeastOnce; retain_available = false; maximum_packet_size = Some 65536; subscription_identifiers_available = false }
+
+-- 3.1.2.11.4 and 3.1.4, of several refusals the first: a packet of less than 5 bytes holds no CONNACK; a client that takes less
+-- than 64 is refused (profile), and so is any authentication method (4.12), and an identifier of more than 128 bytes (3.1.3.1)
+abbrev pub connect_answer : Connect → FirstAnswer
+connect_answer c =
+    if is_under 5 c.properties.maximum_packet_size then Close
+    else (if is_under 64 c.properties.maximum_packet_size then Refuse ImplementationSpecificError
+    else (if is_some c.properties.authentication then Refuse BadAuthenticationMethod
+    else (if nat_lt 128 (length c.client_identifier) then Refuse ClientIdentifierNotValid else Attach)))
+
+-- 3.1.4: the first packet is a CONNECT of version 5 without a will
+abbrev pub first_answer : Packet → FirstAnswer
+first_answer (packets.Connect c) = connect_answer c
+first_answer (packets.OtherVersion version) = Refuse UnsupportedProtocolVersion
+first_answer packets.WithWill = Refuse ImplementationSpecificError
+first_answer _ = Close

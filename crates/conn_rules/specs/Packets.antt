@@ -1,0 +1,51 @@
+-- The packets that the broker sends (chapter 3).
+use Rattle.std.specs.Prelude.{ℕ, Bool, false, List, [], Option, None}
+use Rattle.mqtt_wire.specs.declared.packet.ConnectRefusal.{ConnectRefusal}
+use Rattle.mqtt_wire.specs.declared.packet.Connack.TheVariants.{Accepted, Refused}
+use Rattle.mqtt_wire.specs.declared.packet.Delivery.TheVariants.{AtLeastOnce}
+use Rattle.mqtt_wire.specs.declared.packet.Packet.{Packet}
+use Rattle.mqtt_wire.specs.declared.packet.Packet.TheVariants as packets
+use Rattle.group_jobs.specs.declared.message.Message.{Message}
+use Rattle.conn_rules.specs.Connecting.{offer}
+
+-- 3.2: the CONNACK that opens a connection, with the identifier that was assigned to a client without one
+abbrev pub accepting : Bool → Option (List ℕ) → Packet
+accepting present assigned = packets.Connack (Accepted (record { session_present = present; assigned_client_identifier = assigned; offer = offer }))
+
+-- 3.2.2.2: a CONNACK that refuses
+abbrev pub refusing : ConnectRefusal → Packet
+refusing refusal = packets.Connack (Refused refusal)
+
+-- 3.3: a message as it goes out: QoS 1, RETAIN 0, and DUP 1 where it was sent before
+abbrev pub job : Bool → Message → ℕ → Packet
+job dup message identifier = packets.Publish (record {
+  dup = dup;
+  retain = false;
+  topic = message.topic;
+  delivery = AtLeastOnce identifier;
+  properties = record {
+    payload_format_indicator = message.properties.payload_format_indicator;
+    message_expiry_interval = None;
+    content_type = message.properties.content_type;
+    response_topic = message.properties.response_topic;
+    correlation_data = message.properties.correlation_data;
+    topic_alias = None;
+    user_properties = message.properties.user_properties;
+  };
+  payload = message.payload;
+})
+
+-- 3.4: a PUBACK with that Reason Code
+abbrev pub puback : ℕ → ℕ → Packet
+puback identifier code = packets.Puback (record { packet_identifier = identifier; reason_code = code; properties = record { reason_string = None; user_properties = [] } })
+
+-- 3.9 and 3.11: a code for each entry
+abbrev pub suback : ℕ → List ℕ → Packet
+suback identifier codes = packets.Suback (record { packet_identifier = identifier; reason_codes = codes })
+
+abbrev pub unsuback : ℕ → List ℕ → Packet
+unsuback identifier codes = packets.Unsuback (record { packet_identifier = identifier; reason_codes = codes })
+
+-- 3.14: a DISCONNECT with that Reason Code
+abbrev pub disconnect : ℕ → Packet
+disconnect code = packets.Disconnect (record { reason_code = code; properties = record { session_expiry_interval = None; reason_string = None; user_properties = [] } })

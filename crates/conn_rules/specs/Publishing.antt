@@ -1,0 +1,49 @@
+-- What becomes of a PUBLISH before any group is asked, and the Reason Code once they were (sections 3.3 and 3.4).
+use Rattle.std.specs.Prelude.{ℕ, nat_lt, ◌==◌, if◌then◌else◌, length, Option, Some, None, is_some}
+use Rattle.std.specs.List.{list_any}
+use Rattle.mqtt_wire.specs.declared.packet.Publish.{Publish}
+use Rattle.mqtt_wire.specs.declared.packet.Delivery.{Delivery}
+use Rattle.mqtt_wire.specs.declared.packet.Delivery.TheVariants.{AtMostOnce, AtLeastOnce, ExactlyOnce}
+use Rattle.mqtt_topic.specs.Levels.{is_wildcard}
+use Rattle.group_jobs.specs.declared.message.Message.{Message}
+use Rattle.conn_rules.specs.declared.publishing.PublishAnswer.{PublishAnswer}
+use Rattle.conn_rules.specs.declared.publishing.PublishAnswer.TheVariants.{Close, Refuse, Offer}
+
+-- the Reason Code with which a PUBLISH of QoS 1 closes the connection: RETAIN 9A (3.2.2.3.5), a Topic Alias 94
+-- (3.3.2.3.4), an empty topic 82 (3.3.2.1), a wildcard in it 81 (3.3.2.1)
+abbrev pub closing_code : Publish → Option ℕ
+closing_code publish =
+    if publish.retain then Some 0x9A
+    else (if is_some publish.properties.topic_alias then Some 0x94
+    else (if length publish.topic == 0 then Some 0x82
+    else (if list_any is_wildcard publish.topic then Some 0x81 else None)))
+
+-- a message that expires is refused with 83 (profile, for now)
+abbrev pub identified_answer : Option ℕ → ℕ → Publish → PublishAnswer
+identified_answer (Some code) identifier publish = Close code
+identified_answer None identifier publish =
+    if is_some publish.properties.message_expiry_interval then Refuse identifier 0x83 else Offer identifier
+
+-- 3.3.1.2: a PUBLISH of QoS 1 is acknowledged; QoS 2 is not supported, and QoS 0 has no fate (profile)
+abbrev pub publish_answer : Delivery → Publish → PublishAnswer
+publish_answer (AtLeastOnce identifier) publish = identified_answer (closing_code publish) identifier publish
+publish_answer AtMostOnce publish = Close 0x83
+publish_answer (ExactlyOnce identifier) publish = Close 0x9B
+
+-- 3.4.2.1: 10 where no group matched, 97 where one that matched did not take the message, else 00
+abbrev pub puback_code : ℕ → ℕ → ℕ
+puback_code matched taken = if matched == 0 then 0x10 else (if nat_lt taken matched then 0x97 else 0)
+
+-- the message of a PUBLISH: its topic, the properties that go with it, and its payload (3.3.2.3)
+abbrev pub message_of : Publish → Message
+message_of publish = record {
+  topic = publish.topic;
+  properties = record {
+    payload_format_indicator = publish.properties.payload_format_indicator;
+    content_type = publish.properties.content_type;
+    response_topic = publish.properties.response_topic;
+    correlation_data = publish.properties.correlation_data;
+    user_properties = publish.properties.user_properties;
+  };
+  payload = publish.payload;
+}

@@ -1,0 +1,26 @@
+//! What a connection answers by itself: the rules of MQTT 5.0 and of this broker that ask no session, no share and no group.
+//!
+//! ```
+//! match answer_to_first(&packet) {
+//!     FirstAnswer::Attach => {} // a CONNECT that may open the connection: the client's session is looked for
+//!     FirstAnswer::Refuse(refusal) => {} // the CONNACK with which the connection is closed
+//!     FirstAnswer::Close => {} // it is closed with no answer
+//! }
+//! ```
+#![tactic(auto)]
+
+mod acknowledging;
+mod connecting;
+mod ending;
+mod packets;
+mod publishing;
+mod subscribing;
+mod terms;
+
+pub use acknowledging::fate_of;
+pub use connecting::{FirstAnswer, answer_to_connect, answer_to_first, offer};
+pub use ending::{fault_code, fault_refusal, is_late, is_overdue};
+pub use packets::{accepting, disconnect, job, message_of, puback, refusing, suback, unsuback};
+pub use publishing::{PublishAnswer, answer_to_publish, closing_code, puback_code};
+pub use subscribing::{EntryAnswer, answer_to_entry, subscribe_refusal, unsubscribe_refusal};
+pub use terms::{Terms, terms_of};
