@@ -6,6 +6,7 @@ pub mod Names
 pub mod Places
 pub mod Books
 pub mod Attaching
+pub mod Opening
 pub mod Keeping
 pub mod Calls
 pub mod Hands

@@ -1,7 +1,7 @@
 //! A look at the row of a client's session.
 ghost use Rattle.std.specs.Prelude.{◌≡◌, true};
 ghost use Rattle.session_desk.specs.Rows.{is_living};
-ghost use Rattle.session_desk.specs.Attaching.{LooksAs};
+ghost use Rattle.session_desk.specs.Opening.{LooksAs};
 
 use crate::row::{Row, Standing};
 

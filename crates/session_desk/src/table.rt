@@ -52,7 +52,7 @@ impl<E, P> Model for Table<E, P> {
 impl<E, P> Table<E, P> {
     ghost use Rattle.session_desk.specs.Rows.{HasRow, LivesAs, NoneLivesAs, is_living, away, begun, moved, next_who, with_standing, with_wait};
     ghost use Rattle.session_desk.specs.Sweeping.{Sweeps};
-    ghost use Rattle.session_desk.specs.Attaching.{LooksAs};
+    ghost use Rattle.session_desk.specs.Opening.{LooksAs};
     ghost use Rattle.session_desk.specs.Names.{IsNextName, NoNameLeft};
     ghost use Rattle.session_desk.specs.Rows.{IsRowOf, IsLentIn, IsAwayIn, NoRowOf};
 

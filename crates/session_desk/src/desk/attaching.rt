@@ -1,0 +1,234 @@
+//! What a desk answers to a connection that asks for a session.
+ghost use Rattle.std.specs.Prelude.{◌≡◌, ◌≢◌, ℕ, ◌<◌, ◌≤◌, MatchBool, length};
+ghost use Rattle.session_desk.specs.declared.error.DeskError.TheVariants.{Full, Memory, NoName};
+
+use super::{Desk, ROWS};
+use crate::attached::Attached;
+use crate::error::DeskError;
+use crate::marks::{note, waits_for};
+use crate::names::assigned;
+use crate::row::Standing;
+use crate::session::Session;
+use crate::sight::Sight;
+use bytes::Bytes;
+use member_window::Window;
+
+impl<E, P> Desk<E, P> {
+    ghost use Rattle.session_desk.specs.Attaching.{Attaches, AttachesClient, AttachesUnnamed, IsClients, IsStale, asked};
+    ghost use Rattle.session_desk.specs.Opening.{Opens, OpensOver};
+    ghost use Rattle.session_desk.specs.Books.{IsWaiting, after_lend, after_replace};
+    ghost use Rattle.session_desk.specs.Rows.{HasRow, NoneLivesAs};
+    ghost use Rattle.session_desk.specs.declared.session.Session.{Session};
+    ghost use Rattle.session_desk.specs.declared.row.Row.{Row};
+
+    /// A session for a connection, as of this moment in milliseconds. `connection` is a number of the caller's, below
+    /// [`CONNECTIONS`], that tells connections apart; `clean` is Clean Start (3.1.2.4); a client without an identifier is
+    /// given a name (3.1.3.1): the least from `auto-00000001` to `auto-99999999` above all that were given before whose
+    /// name no row has.
+    ///
+    /// # Errors
+    ///
+    /// The first of these, and nothing has changed: 704 [`DeskError::NoName`] where no name is left; 701
+    /// [`DeskError::Full`] where a new session is wanted and there are [`ROWS`] rows; 703 [`DeskError::Memory`] where
+    /// a new session is wanted and there is no memory for it, or 2^64 - 1 sessions were made.
+    pub fn attach(
+        &mut self,
+        connection: u16,
+        client: &Bytes,
+        clean: bool,
+        now: u64,
+    ) -> Result<Attached<E, P>, DeskError>
+        requires known { connection < 1024 }
+        requires short { length client.now ≤ 128 }
+        ensures { Attaches self.old (asked connection client.now clean now) result self.new }
+    {
+        if client.is_empty() {
+            self.attach_unnamed(connection)
+        } else {
+            self.attach_client(connection, client, clean, now)
+        }
+    }
+
+    /// A session for a client without an identifier.
+    fn attach_unnamed(&mut self, connection: u16) -> Result<Attached<E, P>, DeskError>
+        ensures { AttachesUnnamed self.old connection result self.new }
+    {
+        let Some(number) = self.table.next_name(self.assigned) else {
+            return Err(DeskError::NoName);
+        };
+        if self.table.len() == ROWS {
+            return Err(DeskError::Full);
+        }
+        let Ok(name) = Bytes::copy_from_slice(self.alloc, &assigned(number)) else {
+            return Err(DeskError::Memory);
+        };
+        match self.open(&name, connection) {
+            Ok(session) => {
+                self.assigned = number;
+                Ok(Attached::New {
+                    session,
+                    ended: None,
+                })
+            }
+            Err(error) => Err(error),
+        }
+    }
+
+    /// A session for a client with an identifier.
+    fn attach_client(
+        &mut self,
+        connection: u16,
+        client: &Bytes,
+        clean: bool,
+        now: u64,
+    ) -> Result<Attached<E, P>, DeskError>
+        ensures { AttachesClient self.old client.now (asked connection client.now clean now) result self.new }
+    {
+        let Some(number) = self.table.find(client) else {
+            return self.begin_first(connection, client, clean, now);
+        };
+        match self.table.look(number, clean, now) {
+            Sight::Lent { wait, .. } if self.is_awaited(number, connection, wait) => Ok(
+                Attached::Busy,
+            ),
+            Sight::Lent { holder, .. } => {
+                self.replace(number, connection, holder);
+                Ok(Attached::Replace(holder))
+            }
+            Sight::Stale => self.begin_over(number, connection, client, clean, now),
+            Sight::Fresh => Ok(Attached::Resumed(self.resume(number, connection))),
+        }
+    }
+
+    /// A new session of a client that has none.
+    fn open(&mut self, client: &Bytes, connection: u16) -> Result<Session<E, P>, DeskError>
+        requires { NoneLivesAs self.old.rows client.now }
+        ensures { Opens self.old client.now connection result self.new }
+    {
+        if self.table.len() == ROWS {
+            return Err(DeskError::Full);
+        }
+        let Ok(window) = Window::new(self.alloc) else {
+            return Err(DeskError::Memory);
+        };
+        match self.table.begin(client, connection) {
+            Ok(identity) => {
+                note(&mut self.waits, connection, None);
+                note(&mut self.kicked, connection, false);
+                Ok(Session::new(identity, window))
+            }
+            Err(_) => {
+                window.end();
+                Err(DeskError::Memory)
+            }
+        }
+    }
+
+    /// A new session of a client that has none, for a connection that asked with these words.
+    fn begin_first(
+        &mut self,
+        connection: u16,
+        client: &Bytes,
+        clean: bool,
+        now: u64,
+    ) -> Result<Attached<E, P>, DeskError>
+        requires { NoneLivesAs self.old.rows client.now }
+        ensures { AttachesClient self.old client.now (asked connection client.now clean now) result self.new }
+    {
+        match self.open(client, connection) {
+            Ok(session) => Ok(Attached::New {
+                session,
+                ended: None,
+            }),
+            Err(error) => Err(error),
+        }
+    }
+
+    /// A new session of a client, and the parked one that the client had.
+    fn open_over(
+        &mut self,
+        number: u64,
+        client: &Bytes,
+        connection: u16,
+    ) -> Result<(Session<E, P>, Session<E, P>), DeskError>
+        requires { (row : Row E P) × (session : Session E P) × HasRow self.old.rows number row
+            × (row.standing ≡ Standing.Parked session) × (row.client ≡ client.now) }
+        ensures { (row : Row E P) → HasRow self.old.rows number row →
+            OpensOver self.old client.now connection number row result self.new }
+    {
+        if self.table.len() == ROWS {
+            return Err(DeskError::Full);
+        }
+        let Ok(window) = Window::new(self.alloc) else {
+            return Err(DeskError::Memory);
+        };
+        match self.table.begin_over(number, client, connection) {
+            Ok((identity, ended)) => {
+                note(&mut self.waits, connection, None);
+                note(&mut self.kicked, connection, false);
+                Ok((Session::new(identity, window), ended))
+            }
+            Err(_) => {
+                window.end();
+                Err(DeskError::Memory)
+            }
+        }
+    }
+
+    /// A new session of a client in the place of its parked one, which is to end.
+    fn begin_over(
+        &mut self,
+        number: u64,
+        connection: u16,
+        client: &Bytes,
+        clean: bool,
+        now: u64,
+    ) -> Result<Attached<E, P>, DeskError>
+        requires { (row : Row E P) × (session : Session E P)
+            × IsClients self.old client.now number row (Standing.Parked session) × IsStale session clean now }
+        ensures { AttachesClient self.old client.now (asked connection client.now clean now) result self.new }
+    {
+        match self.open_over(number, client, connection) {
+            Ok((session, ended)) => Ok(Attached::New {
+                session,
+                ended: Some(ended),
+            }),
+            Err(error) => Err(error),
+        }
+    }
+
+    /// The connection has the client's parked session.
+    fn resume(&mut self, number: u64, connection: u16) -> Session<E, P>
+        requires { (row : Row E P) × (session : Session E P) × HasRow self.old.rows number row
+            × (row.standing ≡ Standing.Parked session) }
+        ensures { (row : Row E P) → HasRow self.old.rows number row →
+            (row.standing ≡ Standing.Parked result) × (self.new ≡ after_lend self.old number row connection) }
+    {
+        note(&mut self.waits, connection, None);
+        note(&mut self.kicked, connection, false);
+        self.table.lend(number, connection)
+    }
+
+    /// Whether a connection other than this one waits for the session.
+    fn is_awaited(&self, number: u64, connection: u16, wait: Option<u16>) -> bool
+        ensures { (row : Row E P) → row.wait ≡ wait → MatchBool result
+            ((other : ℕ) × IsWaiting self.now number row other × (other ≢ connection))
+            ((other : ℕ) → IsWaiting self.now number row other → other ≡ connection) }
+    {
+        match wait {
+            Some(other) => other != connection && waits_for(&self.waits, other, number),
+            None => false,
+        }
+    }
+
+    /// The connection waits for a session that is lent to this holder, who is kicked.
+    fn replace(&mut self, number: u64, connection: u16, holder: u16)
+        requires { (row : Row E P) × HasRow self.old.rows number row }
+        ensures { (row : Row E P) → HasRow self.old.rows number row →
+            self.new ≡ after_replace self.old number row connection holder }
+    {
+        note(&mut self.waits, connection, Some(number));
+        note(&mut self.kicked, holder, true);
+        self.table.claim(number, connection);
+    }
+}
