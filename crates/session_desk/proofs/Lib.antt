@@ -7,3 +7,5 @@ pub mod Unnamed
 pub mod Hands
 pub mod OneHand
 pub mod TakenOut
+pub mod Marked
+pub mod LastIn

@@ -10,5 +10,7 @@ pub mod Opening
 pub mod Keeping
 pub mod Calls
 pub mod Hands
+pub mod AskedBack
+pub mod Stored
 pub mod Everything
 pub mod Layout

@@ -7,7 +7,7 @@ mod attaching;
 
 use crate::drained::All;
 use crate::error::DeskError;
-use crate::marks::{blank, is_marked, note};
+use crate::marks::{is_marked, no_marks, no_waits, note};
 use crate::places::{FreePlaces, Place};
 use crate::session::Session;
 use crate::table::Table;
@@ -69,10 +69,10 @@ impl<E, P> Desk<E, P> {
     pub fn new(alloc: Global) -> Result<Desk<E, P>, DeskError>
         ensures { MatchResult result (λ desk. desk ≡ new_books) (λ error. error ≡ Memory) }
     {
-        let Ok(waits) = blank(alloc, None) else {
+        let Ok(waits) = no_waits(alloc) else {
             return Err(DeskError::Memory);
         };
-        let Ok(kicked) = blank(alloc, false) else {
+        let Ok(kicked) = no_marks(alloc) else {
             return Err(DeskError::Memory);
         };
         match Table::new(alloc) {
@@ -259,5 +259,22 @@ impl<E, P: Place> Desk<E, P> {
         self.table.is_away(session)
             && session.window.is_empty()
             && self.free.has_cell(&session.membership)
+    }
+}
+
+impl<E: Drop, P: Drop> Desk<E, P> {
+    /// Ends the desk and lets go of all places and all items that it has, which takes no memory: for who finds none for
+    /// [`Desk::into_all`].
+    pub fn abandon(self) {
+        let Desk {
+            table,
+            waits: _,
+            kicked: _,
+            free,
+            assigned: _,
+            alloc: _,
+        } = self;
+        table.abandon();
+        free.abandon();
     }
 }

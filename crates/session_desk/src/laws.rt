@@ -1,8 +1,15 @@
 //! Laws: what holds of every list of calls of a desk. Each is the contract of a function that does nothing. They are
 //! stated over the definitions that the contracts of [`Desk`](crate::Desk) cite, so they are about what its methods do.
-ghost use Rattle.std.specs.Prelude.{◌≡◌, ℕ, ◌+◌, nat_lt, if◌then◌else◌, List};
-ghost use Rattle.session_desk.specs.Books.{Books, new_books};
-ghost use Rattle.session_desk.specs.Calls.{Call, MakesAll};
+ghost use Rattle.std.specs.Prelude.{◌≡◌, ◌↔◌, ℕ, ◌+◌, ◌<◌, nat_lt, if◌then◌else◌, List, [], Some, Result, Err};
+ghost use Rattle.session_desk.specs.AskedBack.{IsAskedBack};
+ghost use Rattle.session_desk.specs.Attaching.{Attaches, Request};
+ghost use Rattle.session_desk.specs.Books.{Books, IsKicked, new_books};
+ghost use Rattle.session_desk.specs.Calls.{Call, Makes, MakesAll};
+ghost use Rattle.session_desk.specs.Stored.{TakesOut, last_in};
+ghost use Rattle.session_desk.specs.declared.attached.Attached.{Attached};
+ghost use Rattle.session_desk.specs.declared.error.DeskError.{DeskError};
+ghost use Rattle.session_desk.specs.declared.error.DeskError.TheVariants.{NoName};
+ghost use Rattle.session_desk.specs.declared.session.Session.{Session};
 ghost use Rattle.session_desk.specs.Hands.{handed_out, handed_in, buried, total, outs, rows_of, DeskLaw};
 
 /// **The desk law** is kept by every call, whatever calls are made of a new desk: at most 256 rows, each of a session that
@@ -28,4 +35,28 @@ pub fn one_pair_of_hands<E, P>()
     ensures hands { (cell : P → ℕ) (calls : List (Call E P)) (b : Books E P) →
         MakesAll cell new_books calls b → (number : ℕ) →
         total (handed_out number) calls ≡ total (handed_in number) calls + outs b.rows number }
+{}
+
+/// **What comes out of a row is the very session that went in last**: whatever calls were made of a new desk, a session that
+/// the next call resumes, ends for a new one, or hands out to be retired is, in all its parts, the one that was parked or
+/// kept last under its number, with the moment at which it was parked.
+pub fn very_session<E, P>()
+    ensures { (cell : P → ℕ) (calls : List (Call E P)) (b after : Books E P) (next : Call E P) (session : Session E P) →
+        MakesAll cell new_books calls b → Makes cell b next after → TakesOut next session →
+        last_in session.identity.number calls ≡ Some session }
+{}
+
+/// **A connection is kicked exactly where it was asked for a session since one was lent to it**: whatever calls were made of a
+/// new desk, one of them answered Replace with this connection as the holder, and none behind that lent a session to it.
+pub fn kicked_exactly<E, P>()
+    ensures { (cell : P → ℕ) (calls : List (Call E P)) (b : Books E P) (connection : ℕ) →
+        connection < 1024 → MakesAll cell new_books calls b → IsKicked b connection ↔ IsAskedBack connection calls }
+{}
+
+/// **Names run out**: where the name `auto-99999999` was given, a client without an identifier is refused with 704, and nothing
+/// changes.
+pub fn names_run_out<E, P>()
+    ensures { (old new : Books E P) (request : Request) (answer : Result (Attached E P) DeskError) →
+        request.client ≡ [] → old.assigned ≡ 99999999 → Attaches old request answer new →
+        (answer ≡ Err NoName) × (new ≡ old) }
 {}

@@ -9,6 +9,7 @@
 //! need be neither copied nor dropped.
 #![tactic(auto)]
 
+mod abandoned;
 mod attached;
 mod desk;
 mod drained;

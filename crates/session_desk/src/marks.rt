@@ -1,20 +1,23 @@
 //! What a desk notes of each connection.
-ghost use Rattle.std.specs.Prelude.{◌≡◌, ◌↔◌, IfOk, IsTrue, replicate, Some, true, slice_get, slice_set};
+ghost use Rattle.std.specs.Prelude.{◌≡◌, ◌↔◌, IfOk, IsTrue, replicate, None, Some, true, false, slice_get, slice_set};
 
 use std::alloc::{AllocError, Global};
 
 /// How many connections there are.
 const ALL: usize = 1_024;
 
-/// The same note of every connection.
-pub(crate) fn blank<T: Copy>(alloc: Global, value: T) -> Result<Vec<T>, AllocError>
-    ensures { IfOk result (λ notes. notes.items ≡ replicate 1024 value) }
+/// No connection waits.
+pub(crate) fn no_waits(alloc: Global) -> Result<Vec<Option<u64>>, AllocError>
+    ensures { IfOk result (λ notes. notes.items ≡ replicate 1024 None) }
 {
-    let mut notes = Vec::with_capacity(alloc, ALL)?;
-    'notes: for _ in 0..ALL {
-        notes.push_reserved(value);
-    }
-    Ok(notes)
+    Ok(vec![in alloc; None; ALL]?)
+}
+
+/// No connection is marked.
+pub(crate) fn no_marks(alloc: Global) -> Result<Vec<bool>, AllocError>
+    ensures { IfOk result (λ notes. notes.items ≡ replicate 1024 false) }
+{
+    Ok(vec![in alloc; false; ALL]?)
 }
 
 /// Notes this of a connection.

@@ -166,3 +166,10 @@ impl<P: Place> FreePlaces<P> {
         }
     }
 }
+
+impl<P: Drop> FreePlaces<P> {
+    /// Lets go of the free places, and ends the cells.
+    pub(crate) fn abandon(self) {
+        let FreePlaces { cells: _ } = self;
+    }
+}

@@ -3,6 +3,7 @@ ghost use Rattle.std.specs.Prelude.{◌≡◌, ℕ};
 
 use crate::session::Session;
 use bytes::Bytes;
+use std::mem;
 
 /// What the desk keeps of a session from the moment when it is new until it is buried.
 pub(crate) struct Row<E, P> {
@@ -26,7 +27,7 @@ pub(crate) enum Standing<E, P> {
 }
 
 impl<E, P> Row<E, P> {
-    ghost use Rattle.session_desk.specs.Rows.{new_row};
+    ghost use Rattle.session_desk.specs.Rows.{away, new_row};
 
     /// The row of a new session, lent to this connection.
     pub(crate) fn lent(client: Bytes, connection: u16) -> Row<E, P>
@@ -37,6 +38,15 @@ impl<E, P> Row<E, P> {
             wait: None,
             standing: Standing::Lent(connection),
         }
+    }
+
+    /// Puts the session into a caller's hands: it is ending, and nobody waits for it.
+    pub(crate) fn dismiss(&mut self) -> Standing<E, P>
+        ensures before { result ≡ self.old.standing }
+        ensures after { self.new ≡ away self.old.client }
+    {
+        self.wait = None;
+        mem::replace(&mut self.standing, Standing::Away)
     }
 
     /// Ends the row of a session that is in a caller's hands, and is buried.

@@ -20,6 +20,18 @@ pub(crate) struct Copies {
     pub(crate) session: Bytes,
 }
 
+/// Copies of an identifier.
+fn three_copies(client: &Bytes) -> Result<Copies, AllocError>
+    ensures { IfOk result (λ copies.
+        (copies.row ≡ client.now) × (copies.key ≡ client.now) × (copies.session ≡ client.now)) }
+{
+    Ok(Copies {
+        row: client.clone()?,
+        key: client.clone()?,
+        session: client.clone()?,
+    })
+}
+
 /// Makes room for one more row, and copies of its client's identifier.
 pub(crate) fn prepare<E, P>(
     rows: &mut IndexMap<u64, Row<E, P>>,
@@ -34,11 +46,7 @@ pub(crate) fn prepare<E, P>(
 {
     rows.reserve(1)?;
     living.reserve(1)?;
-    Ok(Copies {
-        row: client.clone()?,
-        key: client.clone()?,
-        session: client.clone()?,
-    })
+    three_copies(client)
 }
 
 /// Puts a session into other hands.
@@ -79,10 +87,7 @@ pub(crate) fn dismiss<E, P>(rows: &mut IndexMap<u64, Row<E, P>>, number: u64) ->
         × (seen rows.new.entries ≡ map.insert (seen rows.old.entries) number (away row.client)) }
 {
     match rows.get_mut(&number) {
-        Some(row) => {
-            row.wait = None;
-            mem::replace(&mut row.standing, Standing::Away)
-        }
+        Some(row) => row.dismiss(),
         None => unreachable!(),
     }
 }

@@ -100,6 +100,7 @@ impl Expiry {
 }
 
 /// What a session is to a shared subscription group: `P` is a place in one.
+#[derive(Drop)]
 pub enum Membership<P> {
     /// It is no member.
     NotMember,

@@ -6,6 +6,7 @@ ghost use Rattle.std.specs.Option.{option_copied};
 ghost use Rattle.std.specs.FinMap as map;
 ghost use Rattle.indexmap.specs.IndexMap.{get};
 
+use crate::abandoned::abandon_rows;
 use crate::drained::drain_rows;
 use crate::names::next_name;
 use crate::row::{Row, Standing};
@@ -324,5 +325,18 @@ impl<E, P> Table<E, P> {
             soonest: _,
         } = self;
         drain_rows(rows, places, envelopes);
+    }
+}
+
+impl<E: Drop, P: Drop> Table<E, P> {
+    /// Lets go of everything in the rows, and ends the table.
+    pub(crate) fn abandon(self) {
+        let Table {
+            rows,
+            living: _,
+            made: _,
+            soonest: _,
+        } = self;
+        abandon_rows(rows);
     }
 }

@@ -1,6 +1,7 @@
-use Rattle.std.proofs.Common.{None, sym, ap, ◌∙◌}
+use Rattle.std.proofs.Common.{sym, ap, ◌∙◌}
 use Rattle.std.specs.FinMap as map
 use Rattle.std.specs.Option.{option_copied_mut}
+use Rattle.session_desk.specs.Rows.{away}
 use Rattle.session_desk.specs.Layout.{seen}
 use Rattle.session_desk.proofs.Seen.{seen_write, found_same, never_none}
 use Rattle.session_desk.proofs.rows.dismiss.Goals as goal
@@ -14,9 +15,9 @@ returns-clause-rows g c = λ row has.
     let es = c.args.rows.now.entries in
     let read = sym (ap option_copied_mut c.in-Some.is) ∙ c.get_mut.ensures.value in
     let same = found_same es c.args.number c.in-Some.row.now row read has in (
-      c.replace.ensures.value ∙ ap (λ r. r.standing) same,
+      c.dismiss.ensures.before ∙ ap (λ r. r.standing) same,
       seen_write es _ c.args.number c.in-Some.row.now _ (sym read) (c.get_mut.follows.holds _).0
-          ∙ (λ i. map.insert (seen es) c.args.number record { client = (same i).client; wait = None; standing = c.replace.ensures.after i }),
+          ∙ ap (λ r. map.insert (seen es) c.args.number r) (c.dismiss.ensures.after ∙ ap (λ r. away r.client) same),
     )
 
 pub returns-clause-room : goal.returns-clause-room
