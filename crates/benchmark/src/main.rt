@@ -3,6 +3,7 @@
 //! Each run prints what it counted, so that the same words print the same lines on every machine.
 #![tactic(auto)]
 
+mod desk;
 mod group;
 mod job;
 mod matching;
@@ -21,6 +22,8 @@ const MEMORY: u8 = 4;
 /// A run that the words ask for.
 #[derive(Clone, Copy, Debug)]
 enum Run {
+    /// A client comes and goes so many times, beside so many parked sessions.
+    Desk { others: u32, times: u32 },
     /// So many messages are offered to a group on one thread, taken and settled.
     Group { jobs: u32 },
     /// The four packets of so many jobs are read and written.
@@ -29,31 +32,41 @@ enum Run {
     Matching { names: u32 },
     /// So many PUBLISH packets are read, in pieces of so many bytes.
     Reading { packets: u32, piece: usize },
+    /// So many sweeps find nothing due among so many parked sessions.
+    Sweeps { sessions: u32, sweeps: u32 },
 }
 
 fn main(rt: HostRuntime) -> ExitCode {
     let Ok(Some(run)) = run_in_words(&rt) else {
         let _ = eprintln!(rt;
-            "usage: benchmark group JOBS | job JOBS | matching NAMES | reading PACKETS PIECE"
+            "usage: benchmark desk OTHERS TIMES | group JOBS | job JOBS | matching NAMES | reading PACKETS PIECE | sweeps SESSIONS SWEEPS"
         );
         return ExitCode::from(USAGE);
     };
     let counted = match run {
+        Run::Desk { others, times } => desk::resumed(rt.alloc(), others, times),
         Run::Group { jobs } => group::settled(rt.alloc(), jobs),
         Run::Job { jobs } => job::written(rt.alloc(), jobs),
         Run::Matching { names } => matching::matched(rt.alloc(), names),
         Run::Reading { packets, piece } => reading::read(rt.alloc(), packets, piece),
+        Run::Sweeps { sessions, sweeps } => desk::idle_sweeps(rt.alloc(), sessions, sweeps),
     };
     let Some(counted) = counted else {
         let _ = eprintln!(rt; "memory");
         return ExitCode::from(MEMORY);
     };
     let _ = match run {
+        Run::Desk { others, times } => println!(rt;
+            "one client came {times} times beside {others} others, and found its session {counted} times"
+        ),
         Run::Group { jobs } => println!(rt; "{jobs} jobs offered, {counted} acknowledged"),
         Run::Job { jobs } => println!(rt; "{jobs} jobs wrote {counted} bytes"),
         Run::Matching { names } => println!(rt; "{names} names matched {counted} filters"),
         Run::Reading { packets, .. } => println!(rt;
             "{packets} packets had {counted} bytes of payload"
+        ),
+        Run::Sweeps { sessions, sweeps } => println!(rt;
+            "{counted} of {sweeps} sweeps found nothing due among {sessions} sessions"
         ),
     };
     ExitCode::SUCCESS
@@ -74,6 +87,7 @@ fn run_in_words(rt: &(impl Env + Alloc)) -> io::Result<Option<Run>> {
         return Ok(None);
     };
     Ok(match (run.as_str(), first, second) {
+        ("desk", Some(others), Some(times)) => Some(Run::Desk { others, times }),
         ("group", Some(jobs), None) => Some(Run::Group { jobs }),
         ("job", Some(jobs), None) => Some(Run::Job { jobs }),
         ("matching", Some(names), None) => Some(Run::Matching { names }),
@@ -81,6 +95,7 @@ fn run_in_words(rt: &(impl Env + Alloc)) -> io::Result<Option<Run>> {
             packets,
             piece: piece as usize,
         }),
+        ("sweeps", Some(sessions), Some(sweeps)) => Some(Run::Sweeps { sessions, sweeps }),
         _ => None,
     })
 }

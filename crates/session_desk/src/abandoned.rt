@@ -1,5 +1,4 @@
-//! The end of a desk whose places and items may be let go.
-ghost use Rattle.std.specs.Prelude.{◌≡◌};
+//! The end of a desk, and of a session, whose places and items may be let go.
 
 use crate::row::{Row, Standing};
 use crate::session::Session;
@@ -13,16 +12,19 @@ fn abandon_window<E: Drop>(mut window: Window<E>) {
     window.end();
 }
 
-/// Lets go of everything in a session that the desk keeps.
-fn abandon_session<E: Drop, P: Drop>(session: Session<E, P>) {
-    let Session {
-        identity,
-        expiry: _,
-        window,
-        membership: _,
-    } = session;
-    identity.end();
-    abandon_window(window);
+impl<E: Drop, P: Drop> Session<E, P> {
+    /// Lets go of a session and of everything in it. Its desk is told nothing, and its row stays as it is: for who ends,
+    /// and has no use for what the session holds.
+    pub fn abandon(self) {
+        let Session {
+            identity,
+            expiry: _,
+            window,
+            membership: _,
+        } = self;
+        identity.end();
+        abandon_window(window);
+    }
 }
 
 /// Lets go of everything in a row.
@@ -35,8 +37,8 @@ fn abandon_row<E: Drop, P: Drop>(row: Row<E, P>) {
     match standing {
         Standing::Lent(_) => {}
         Standing::Away => {}
-        Standing::Parked(session) => abandon_session(session),
-        Standing::Kept(session) => abandon_session(session),
+        Standing::Parked(session) => session.abandon(),
+        Standing::Kept(session) => session.abandon(),
     }
 }
 

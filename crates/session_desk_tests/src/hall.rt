@@ -1,7 +1,9 @@
-//! A desk with the sessions that were handed out, for tests.
+//! A desk with the sessions that were handed out, for tests. A call that is refused for want of memory is made again, so
+//! that each test passes with any one allocation refused: a refusal leaves the desk as it was.
 use crate::spot::Spot;
 use bytes::Bytes;
 use session_desk::{All, Attached, Desk, DeskError, Membership, Session};
+use std::alloc::Global;
 use std::mem;
 use std::process::Abort;
 
@@ -41,6 +43,14 @@ pub fn ask(
         panic!(rt; "out of range");
     }
     match desk.attach(connection, client, clean, now) {
+        Err(DeskError::Memory) => told_by(desk.attach(connection, client, clean, now)),
+        answer => told_by(answer),
+    }
+}
+
+/// What an answer hands out.
+fn told_by(answer: Result<Attached<u32, Spot>, DeskError>) -> Handed {
+    match answer {
         Ok(Attached::New { session, ended }) => Handed {
             told: if ended.is_some() {
                 Told::NewOver
@@ -175,14 +185,29 @@ pub fn bury(rt: &impl Abort, desk: &mut TestDesk, session: Option<TestSession>) 
 /// Ends a desk, and says how many places and envelopes it had.
 pub fn end(rt: &impl Abort, desk: TestDesk) -> (usize, usize) {
     match desk.into_all() {
-        Ok(All { places, envelopes }) => (places.len(), envelopes.len()),
-        Err(_desk) => panic!(rt; "out of memory"),
+        Ok(all) => counted(all),
+        Err(back) => match back.into_all() {
+            Ok(all) => counted(all),
+            Err(_desk) => panic!(rt; "out of memory"),
+        },
     }
 }
 
+fn counted(all: All<u32, Spot>) -> (usize, usize) {
+    let All { places, envelopes } = all;
+    (places.len(), envelopes.len())
+}
+
 /// A desk.
-pub fn open(rt: &impl Abort, made: Result<TestDesk, DeskError>) -> TestDesk {
-    match made {
+pub fn open(rt: &impl Abort, alloc: Global) -> TestDesk {
+    match Desk::new(alloc) {
+        Err(DeskError::Memory) => made(rt, Desk::new(alloc)),
+        answer => made(rt, answer),
+    }
+}
+
+fn made(rt: &impl Abort, answer: Result<TestDesk, DeskError>) -> TestDesk {
+    match answer {
         Ok(desk) => desk,
         Err(_) => panic!(rt; "out of memory"),
     }

@@ -4,14 +4,14 @@ use crate::hall::{
 };
 use crate::spot::Spot;
 use bytes::Bytes;
-use session_desk::{Desk, Membership};
+use session_desk::Membership;
 use std::alloc::Global;
 use std::process::Abort;
 use std::test::Fail;
 
 #[test]
 fn takeover(rt: HostRuntime) -> Result<(), Fail> {
-    let mut desk = open(&rt, Desk::new(rt.alloc()));
+    let mut desk = open(&rt, rt.alloc());
     let client = Bytes::from_static(b"device");
     let first = only(&rt, ask(&rt, &mut desk, 1, &client, false, 0), Told::New);
     let second = nothing(&rt, ask(&rt, &mut desk, 2, &client, false, 1));
@@ -40,7 +40,7 @@ fn takeover(rt: HostRuntime) -> Result<(), Fail> {
 
 #[test]
 fn expiry(rt: HostRuntime) -> Result<(), Fail> {
-    let mut desk = open(&rt, Desk::new(rt.alloc()));
+    let mut desk = open(&rt, rt.alloc());
     let client = Bytes::from_static(b"device");
     let session = only(&rt, ask(&rt, &mut desk, 1, &client, false, 0), Told::New);
     park(&rt, &mut desk, session, 3_600, 50);
@@ -56,7 +56,7 @@ fn expiry(rt: HostRuntime) -> Result<(), Fail> {
 
 #[test]
 fn clean_start(rt: HostRuntime) -> Result<(), Fail> {
-    let mut desk = open(&rt, Desk::new(rt.alloc()));
+    let mut desk = open(&rt, rt.alloc());
     let client = Bytes::from_static(b"device");
     let mut session = only(&rt, ask(&rt, &mut desk, 1, &client, false, 0), Told::New);
     connect(&mut session, 1);
@@ -88,7 +88,7 @@ fn clean_start(rt: HostRuntime) -> Result<(), Fail> {
 
 #[test]
 fn names(rt: HostRuntime) -> Result<(), Fail> {
-    let mut desk = open(&rt, Desk::new(rt.alloc()));
+    let mut desk = open(&rt, rt.alloc());
     let none = Bytes::from_static(b"");
     let second = Bytes::from_static(b"auto-00000002");
     let taken = only(&rt, ask(&rt, &mut desk, 1, &second, false, 0), Told::New);
@@ -117,7 +117,7 @@ fn names(rt: HostRuntime) -> Result<(), Fail> {
 
 #[test]
 fn places(rt: HostRuntime) -> Result<(), Fail> {
-    let mut desk = open(&rt, Desk::new(rt.alloc()));
+    let mut desk = open(&rt, rt.alloc());
     for place in [Spot::Second, Spot::First] {
         assert_eq!(rt; desk.take_place(place), None);
     }
@@ -141,9 +141,25 @@ fn places(rt: HostRuntime) -> Result<(), Fail> {
     Ok(())
 }
 
+#[test]
+fn abandoned(rt: HostRuntime) -> Result<(), Fail> {
+    let mut desk = open(&rt, rt.alloc());
+    assert_eq!(rt; desk.take_place(Spot::First), None);
+    let client = Bytes::from_static(b"member");
+    let mut session = only(&rt, ask(&rt, &mut desk, 1, &client, false, 0), Told::New);
+    join(&rt, &mut session, Membership::Member(Spot::Second));
+    connect(&mut session, 2);
+    assert_eq!(rt; session.window.put(5), Ok(1));
+    assert_eq!(rt; session.window.put(6), Ok(2));
+    park(&rt, &mut desk, session, 60, 1);
+    desk.abandon();
+    Ok(())
+}
+
 /// The identifier of the client with this number.
 fn client_of(rt: &impl Abort, alloc: Global, number: u16) -> Bytes {
-    match Bytes::copy_from_slice(alloc, &number.to_be_bytes()) {
+    let bytes = number.to_be_bytes();
+    match Bytes::copy_from_slice(alloc, &bytes).or_else(|_| Bytes::copy_from_slice(alloc, &bytes)) {
         Ok(client) => client,
         Err(_) => panic!(rt; "out of memory"),
     }
@@ -162,7 +178,7 @@ fn fill(rt: &impl Abort, alloc: Global, desk: &mut TestDesk) {
 fn full(rt: HostRuntime) -> Result<(), Fail> {
     let known = client_of(&rt, rt.alloc(), 7);
     let further = client_of(&rt, rt.alloc(), 256);
-    let mut desk = open(&rt, Desk::new(rt.alloc()));
+    let mut desk = open(&rt, rt.alloc());
     fill(&rt, rt.alloc(), &mut desk);
     let refused = nothing(&rt, ask(&rt, &mut desk, 1, &further, false, 1));
     let clean = nothing(&rt, ask(&rt, &mut desk, 1, &known, true, 1));
