@@ -1,0 +1,63 @@
+//! A source that plays a script.
+ghost use Rattle.std.specs.Prelude.{◌≡◌, ◌++◌, ◌⊎◌, List, [], ◌∷◌};
+ghost use Rattle.transport.specs.Counting.{MayCome, after_arrival};
+ghost use Rattle.transport.specs.Arrivals.{Gives};
+ghost use Rattle.transport.specs.declared.answers.Arrival.{Arrival};
+
+use crate::answers::Arrival;
+use crate::counts::Tally;
+use crate::traits::Source;
+use std::marker::Model;
+
+/// A source that gives these, the last one first, and then ends.
+#[derive(Drop)]
+pub struct ScriptedSource<T> {
+    turns: Vec<Arrival<T>>,
+    tally: Tally,
+}
+
+impl<T> Model for ScriptedSource<T> {
+    ghost use Rattle.transport.specs.Arrivals.{Arrivals};
+
+    ghost Value = { Arrivals T };
+
+    ghost view = { λ s. record { turns = s.turns.items; tally = s.tally } };
+}
+
+impl<T> ScriptedSource<T> {
+    /// A source of which nothing was asked yet.
+    pub fn new(turns: Vec<Arrival<T>>) -> ScriptedSource<T>
+        ensures { result ≡ record { turns = turns.items; tally = record { failures = 0; arrivals = 0 } } }
+    {
+        ScriptedSource {
+            turns,
+            tally: Tally::NONE,
+        }
+    }
+}
+
+impl<T> Source<T> for ScriptedSource<T> {
+    ghost tally = { λ s. s.tally };
+
+    fn next(&mut self) -> Arrival<T>
+        requires { MayCome self.old.tally }
+        ensures tally { self.new.tally ≡ after_arrival result self.old.tally }
+        ensures turns { Gives self.old.turns result self.new.turns }
+    {
+        match self.turns.pop() {
+            Some(arrival) => {
+                self.tally.count_arrival(&arrival);
+                arrival
+            }
+            None => Arrival::End,
+        }
+    }
+
+    fn failures(&self) -> u64 {
+        self.tally.failures
+    }
+
+    fn arrivals(&self) -> u64 {
+        self.tally.arrivals
+    }
+}

@@ -1,0 +1,108 @@
+//! What stands between a client and who serves it.
+ghost use Rattle.std.specs.Prelude.{◌≡◌, ◌<◌, ℕ, List, [], Option, None, length};
+ghost use Rattle.std.specs.Io.KnownBytes.{append_known};
+ghost use Rattle.transport.specs.Counting.{MayCome, MayGoOn, after_arrival, after_flushed, after_got, after_put};
+ghost use Rattle.transport.specs.declared.counts.Counts.{Counts};
+ghost use Rattle.transport.specs.declared.counts.Tally.{Tally};
+ghost use Rattle.transport.specs.Streams.{GivesWithin, TakesWithin, after_read, after_write};
+
+use crate::answers::{Arrival, Flushed, Got, Put};
+
+/// A stream of bytes to a peer and one from it. No call waits for the peer.
+pub trait Transport {
+    /// How often it failed, ended and was idle.
+    ghost counts: { Self → Counts };
+
+    /// All that its reads gave, where that is known.
+    ghost given: { Self → Option (List ℕ) };
+
+    /// All that its writes took, where that is known.
+    ghost accepted: { Self → Option (List ℕ) };
+
+    /// What of that has left for the peer.
+    ghost left: { Self → Option (List ℕ) };
+
+    /// What of it is kept back.
+    ghost kept: { Self → List ℕ };
+
+    /// Reads into a buffer with room.
+    ///
+    /// Neither [`failures`](Transport::failures) nor [`ends`](Transport::ends) may have come to `u64::MAX`.
+    fn read(&mut self, buffer: &mut [u8]) -> Got
+        requires goes_on { MayGoOn (counts self.old) }
+        requires room { 0 < length buffer.old }
+        ensures within { GivesWithin result buffer.new }
+        ensures given { given self.new ≡ after_read (given self.old) result buffer.new }
+        ensures accepted { accepted self.new ≡ accepted self.old }
+        ensures counts { counts self.new ≡ after_got result (counts self.old) };
+
+    /// Writes some bytes, of which there is one at least.
+    ///
+    /// Neither [`failures`](Transport::failures) nor [`ends`](Transport::ends) may have come to `u64::MAX`.
+    fn write(&mut self, bytes: &[u8]) -> Put
+        requires goes_on { MayGoOn (counts self.old) }
+        requires some { 0 < length bytes.now }
+        ensures within { TakesWithin result bytes.now }
+        ensures given { given self.new ≡ given self.old }
+        ensures accepted { accepted self.new ≡ after_write (accepted self.old) result bytes.now }
+        ensures counts { counts self.new ≡ after_put result (counts self.old) };
+
+    /// Sends what is kept back.
+    ///
+    /// Neither [`failures`](Transport::failures) nor [`ends`](Transport::ends) may have come to `u64::MAX`.
+    fn flush(&mut self) -> Flushed
+        requires goes_on { MayGoOn (counts self.old) }
+        ensures done { result ≡ Flushed.Done → kept self.new ≡ [] }
+        ensures idle { result ≡ Flushed.Idle → 0 < length (kept self.new) }
+        ensures given { given self.new ≡ given self.old }
+        ensures accepted { accepted self.new ≡ accepted self.old }
+        ensures counts { counts self.new ≡ after_flushed result (counts self.old) };
+
+    /// How often it failed: raised by one by each `Failed`, and by nothing else.
+    fn failures(&self) -> u64
+        ensures { result ≡ (counts self.now).failures };
+
+    /// How often it ended: raised by one by each `End`, and by nothing else.
+    fn ends(&self) -> u64
+        ensures { result ≡ (counts self.now).ends };
+
+    /// How often a read was idle: raised by one, up to `u64::MAX`, by each `Idle` of a read, and by nothing else.
+    fn idles(&self) -> u64
+        ensures { result ≡ (counts self.now).idles };
+
+    /// What has left is a beginning of what was taken, and the rest of that is kept back.
+    ghost in_order: { (transport : Self) → accepted transport ≡ append_known (left transport) (kept transport) };
+}
+
+/// Where connections, or other things to be served, come from.
+pub trait Source<T> {
+    /// How often it failed and gave.
+    ghost tally: { Self → Tally };
+
+    /// What comes next.
+    ///
+    /// Neither [`failures`](Source::failures) nor [`arrivals`](Source::arrivals) may have come to `u64::MAX`.
+    fn next(&mut self) -> Arrival<T>
+        requires { MayCome (tally self.old) }
+        ensures { tally self.new ≡ after_arrival result (tally self.old) };
+
+    /// How often it failed: raised by one by each `Failed`, and by nothing else.
+    fn failures(&self) -> u64
+        ensures { result ≡ (tally self.now).failures };
+
+    /// How often it gave: raised by one by each `Came`, and by nothing else.
+    fn arrivals(&self) -> u64
+        ensures { result ≡ (tally self.now).arrivals };
+}
+
+/// Tells moments, in milliseconds.
+pub trait Clock {
+    /// The moment.
+    fn now(&mut self) -> u64;
+}
+
+/// A place that workers pass before each write, for tests of what they do beside each other.
+pub trait Crossing {
+    /// Whether this worker may pass. It is asked in turns from 0 on, until it may.
+    fn cross(&self, worker: u32, turn: u32) -> bool;
+}
