@@ -177,9 +177,16 @@ fn entry(alloc: Global, digits: &str, terms: &Terms) -> Result<u8, Fault> {
         return Ok(0xFF);
     };
     match answer_to_entry(has_identifier, first, terms) {
-        Ok(EntryAnswer::Refuse(code)) => Ok(code.get()),
-        Ok(EntryAnswer::Join(_)) => Ok(0),
+        Ok(answer) => Ok(code_of(&answer)),
         Err(_) => Err(Fault::Memory),
+    }
+}
+
+// The Reason Code of an entry that is refused, 0 of one that asks to join a group.
+fn code_of(answer: &EntryAnswer) -> u8 {
+    match answer {
+        EntryAnswer::Refuse(code) => code.get(),
+        EntryAnswer::Join(_) => 0,
     }
 }
 
