@@ -27,6 +27,7 @@ starts = record {
   past = [];
   owner = (λ name. 0);
   numbered = (λ front behind posted e. absurd (none_in_empty front posted behind e));
+  no_port = (λ port. refl);
   fits = (λ pass v at.
       let is = only (keeper 0 0) v pass at in
       let F : ℕ × View → Type 0 = λ q. Fits [] [] (λ name. 0) q.0 q.1 in
@@ -94,6 +95,7 @@ module _ (items : List Posted) (views : List View) (h : HasPast items views) (pa
     past = h.past;
     owner = owner';
     numbered = h.numbered;
+    no_port = h.no_port;
     fits = (λ j u e. ⊎_elim
         (λ t. fits_set j u t.1)
         (λ t. let F : ℕ × View → Type 0 = λ q. Fits h.past items owner' q.0 q.1 in subst F (λ i. ((ap (λ n. n) (sym (length-set views pass (keeper a' b'))) ∙ sym t.0) i, t.1 i)) fits_new)

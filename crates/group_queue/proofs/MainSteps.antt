@@ -75,6 +75,7 @@ adds_one pass sent x next few items views h at =
       past = h.past;
       owner = h.owner;
       numbered = subst AreNumbered (sym all') (numbered-push (all_of h.past items) x h.numbered (next ∙ ap length mine) few);
+      no_port = h.no_port;
       fits = grows h.past h.past items (items ++ x ∷ []) h.owner views pass false 0 0 name sent [] x h.fits at (λ k. absurd (true≢false (sym k)))
           (ap (through x.job.port) all' ∙ through-push x.job.port (all_of h.past items) x refl)
           (λ other ne. others other ne);
@@ -96,6 +97,7 @@ takes_one pass keeps a b name list es x pops last items views h at =
       past = past';
       owner = h.owner;
       numbered = subst AreNumbered (sym all') h.numbered;
+      no_port = (λ port. popped-other h.past name x (Port port) (λ same. pops port (sym same)) ∙ h.no_port port);
       fits = grows h.past past' (x ∷ items) items h.owner views pass keeps a b name list es x h.fits at last (mine name pops) (λ other ne. others other ne);
     }
   where

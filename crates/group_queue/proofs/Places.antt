@@ -1,8 +1,12 @@
 -- What a step of one of its passes makes of a place.
-use Rattle.std.proofs.Common.{◌≡◌, ℕ, zero, suc, ◌+◌, ◌<◌, length, slice_get, length-append, List, [], ◌∷◌, ◌++◌, All, Option, Some, None, refl, sym, ap, ◌∙◌, subst, arith}
-use Rattle.std.specs.Prelude.{map}
+use Rattle.std.proofs.Common.{◌≡◌, ◌≢◌, ℕ, zero, suc, ◌+◌, ◌<◌, ◌≤◌, length, slice_get, length-append, List, [], ◌∷◌, ◌++◌, All, Option, Some, None, refl, sym, ap, ◌∙◌, subst, arith}
+use Rattle.std.specs.Prelude.{map, MatchOption, ◌-◌}
+use Rattle.std.proofs.Common.{Global}
+use Rattle.atomic_blocks.specs.declared.web.Seat.{Seat}
+use Rattle.crossbeam_queue.specs.declared.seg_queue.Going.{Going}
+use Rattle.crossbeam_queue.specs.SegTies.{SegId, IsSeatOf}
 use Rattle.std.proofs.lemmas.List.Elements.{All-append, All-cons, All-nil, All-head}
-use Rattle.crossbeam_queue.specs.Passes.{view}
+use Rattle.crossbeam_queue.specs.Passes.{Pass, view}
 use Rattle.dispatch_core.specs.declared.event.Job.{Job}
 use Rattle.dispatch_core.specs.JobRuns.{jobs_of, count_of}
 use Rattle.group_jobs.specs.declared.fate.Fate.{Fate}
@@ -12,9 +16,9 @@ use Rattle.group_jobs.specs.Dockets.{Kept, TakesOff}
 use Rattle.group_jobs.specs.Balance.{Balance}
 use Rattle.group_jobs.proofs.Taking.{All-taken}
 use Rattle.group_queue.specs.declared.posted.Posted.{Posted}
-use Rattle.group_queue.specs.declared.place.Taker.{Taker}
+use Rattle.group_queue.specs.declared.place.Passes.{Passes}
 use Rattle.group_queue.specs.declared.view.Name.TheVariants.{Place}
-use Rattle.group_queue.specs.Views.{one, list_in, IsOf}
+use Rattle.group_queue.specs.Views.{one, keeper, list_in, IsOf}
 use Rattle.group_queue.specs.declared.view.View.{View}
 use Rattle.group_queue.specs.declared.view.Bag.{Bag}
 use Rattle.group_queue.specs.Past.{Pop, Takes}
@@ -24,7 +28,8 @@ use Rattle.group_queue.specs.Ports.{GroupId, PortState, IsPortOf, new_port, AreN
 use Rattle.std.proofs.lemmas.Option.{get_or_from_slice_get}
 use mathlib.Core.Logic.{dite}
 use native.Mathlib.Decide.{ℕ_discrete}
-use Rattle.group_queue.specs.Takers.{place_of, hands_of, IsInHands, IsTaker}
+use Rattle.group_queue.specs.Openings.{AreLeftOf}
+use Rattle.group_queue.specs.Takers.{place_of, hands_of, AreBare, IsInHands, IsKept}
 use Rattle.group_queue.proofs.Ports.{list-grown, of-grown}
 use Rattle.group_queue.proofs.Balances.{count-posted, count-push, count-taken, times-kept, times-settled}
 
@@ -34,25 +39,18 @@ count_in job list = count_of job (jobs_in list)
 abbrev pub IsSmall : Job → Type 0
 IsSmall job = job.number < 18446744073709551615
 
--- the pass of each queue is bare and of the same place
-pub record SamePasses (old new : Taker) : Type 0 where
-  pub main_bare : new.main.me.1 ≡ []
+-- the passes carry nothing, and have as many parts
+pub record SamePasses (old new : Passes) : Type 0 where
   pub part : (bag_of new.returns).parts ≡ (bag_of old.returns).parts
-  pub hand : new.returns.me.hand ≡ None
-  pub spare : new.returns.me.spare ≡ None
-
-pub in_hands : (number : ℕ) (docket : Kept) (o : Option Taker) (t : Taker) → o ≡ Some t → IsTaker number docket o → IsInHands number docket t
-in_hands number docket o t is tied = subst (IsTaker number docket) is tied
+  pub bare : AreBare new
 
 -- nothing changed but the room of the docket
-pub keeps_hands : (number : ℕ) (old new : Kept) (t u : Taker) → IsInHands number old t → new.out ≡ old.out → KeepsSettled old.settled new.settled
+pub keeps_hands : (number : ℕ) (old new : Kept) (t u : Passes) → IsInHands number old t → new.out ≡ old.out → KeepsSettled old.settled new.settled
     → SamePasses t u → view u.main ≡ view t.main → bag_of u.returns ≡ bag_of t.returns → IsInHands number new u
 keeps_hands number old new t u h out settled same main returns = record {
   main = subst (IsOf (Place number)) (sym main) h.main;
-  main_bare = same.main_bare;
   part = same.part ∙ h.part;
-  hand = same.hand;
-  spare = same.spare;
+  bare = same.bare;
   balanced = (λ job.
       let firsts = ap (λ v. count_in job (list_in v)) main in
       let agains = ap (λ b. count_in job b.popped) returns in
@@ -73,16 +71,14 @@ pub small_back : (v w : Bag) (x : Posted) → PopsBack v x w → IsSmall x.job
 small_back v w x pops = All-head (λ (posted : Posted). posted.job.number < 18446744073709551615) x pops.items pops.before.holds.small
 
 -- the front of the main queue came out
-pub takes_front : (number : ℕ) (old new : Kept) (t u : Taker) (x : Posted) → IsInHands number old t → new.out ≡ old.out ++ x.job ∷ [] → KeepsSettled old.settled new.settled
+pub takes_front : (number : ℕ) (old new : Kept) (t u : Passes) (x : Posted) → IsInHands number old t → new.out ≡ old.out ++ x.job ∷ [] → KeepsSettled old.settled new.settled
     → SamePasses t u → Takes (view t.main) x (view u.main) → bag_of u.returns ≡ bag_of t.returns → IsSmall x.job → IsInHands number new u
 takes_front number old new t u x h out settled same takes returns few =
     let grew = list-grown (Place number) (view t.main) (view u.main) x h.main takes.is in
     record {
       main = of-grown (Place number) (view t.main) (view u.main) x h.main takes.is;
-      main_bare = same.main_bare;
       part = same.part ∙ h.part;
-      hand = same.hand;
-      spare = same.spare;
+      bare = same.bare;
       balanced = (λ job.
           let firsts = ap (count_in job) grew ∙ count-posted job (list_in (view t.main)) x in
           let agains = ap (λ b. count_in job b.popped) returns in
@@ -94,14 +90,12 @@ takes_front number old new t u x h out settled same takes returns few =
     }
 
 -- the front of the returns queue came out
-pub takes_back : (number : ℕ) (old new : Kept) (t u : Taker) (x : Posted) → IsInHands number old t → new.out ≡ old.out ++ x.job ∷ [] → KeepsSettled old.settled new.settled
+pub takes_back : (number : ℕ) (old new : Kept) (t u : Passes) (x : Posted) → IsInHands number old t → new.out ≡ old.out ++ x.job ∷ [] → KeepsSettled old.settled new.settled
     → SamePasses t u → view u.main ≡ view t.main → PopsBack (bag_of t.returns) x (bag_of u.returns) → IsSmall x.job → IsInHands number new u
 takes_back number old new t u x h out settled same main pops few = record {
   main = subst (IsOf (Place number)) (sym main) h.main;
-  main_bare = same.main_bare;
   part = same.part ∙ h.part;
-  hand = same.hand;
-  spare = same.spare;
+  bare = same.bare;
   balanced = (λ job.
       let firsts = ap (λ v. count_in job (list_in v)) main in
       let agains = ap (λ b. count_in job b.popped) pops.is ∙ count-posted job (bag_of t.returns).popped x in
@@ -113,14 +107,12 @@ takes_back number old new t u x h out settled same main pops few = record {
 }
 
 -- what was out went back
-pub gives_back : (number : ℕ) (old new : Kept) (t u : Taker) (x : Posted) → IsInHands number old t → TakesOff old.out x.job new.out → KeepsSettled old.settled new.settled
+pub gives_back : (number : ℕ) (old new : Kept) (t u : Passes) (x : Posted) → IsInHands number old t → TakesOff old.out x.job new.out → KeepsSettled old.settled new.settled
     → SamePasses t u → view u.main ≡ view t.main → PushesBack (bag_of t.returns) x (bag_of u.returns) → IsInHands number new u
 gives_back number old new t u x h out settled same main pushes = record {
   main = subst (IsOf (Place number)) (sym main) h.main;
-  main_bare = same.main_bare;
   part = same.part ∙ h.part;
-  hand = same.hand;
-  spare = same.spare;
+  bare = same.bare;
   balanced = (λ job.
       let firsts = ap (λ v. count_in job (list_in v)) main in
       let agains = ap (λ b. count_in job b.popped) pushes.is in
@@ -132,14 +124,11 @@ gives_back number old new t u x h out settled same main pushes = record {
 }
 
 -- what was out is settled
-pub settles_hands : (number : ℕ) (old new : Kept) (o : Option Taker) (job : Job) (fate : Fate) → IsTaker number old o → TakesOff old.out job new.out → Settles old.settled job fate new.settled → IsTaker number new o
-settles_hands number old new None one fate h out settled = tt
-settles_hands number old new (Some t) one fate h out settled = record {
+pub settles_hands : (number : ℕ) (old new : Kept) (t : Passes) (job : Job) (fate : Fate) → IsInHands number old t → TakesOff old.out job new.out → Settles old.settled job fate new.settled → IsInHands number new t
+settles_hands number old new t one fate h out settled = record {
   main = h.main;
-  main_bare = h.main_bare;
   part = h.part;
-  hand = h.hand;
-  spare = h.spare;
+  bare = h.bare;
   balanced = (λ job.
       let was = h.balanced job in
       let o = count-taken job old.out one new.out out in
@@ -148,25 +137,46 @@ settles_hands number old new (Some t) one fate h out settled = record {
 }
 
 -- nothing changed but the room of the docket
-pub keeps_taker : (number : ℕ) (old new : Kept) (o : Option Taker) → IsTaker number old o → new.out ≡ old.out → KeepsSettled old.settled new.settled → IsTaker number new o
-keeps_taker number old new None h out settled = tt
-keeps_taker number old new (Some t) h out settled =
-    keeps_hands number old new t t h out settled (record { main_bare = h.main_bare; part = refl; hand = h.hand; spare = h.spare }) refl refl
+pub keeps_place : (number : ℕ) (old new : Kept) (t : Passes) → IsInHands number old t → new.out ≡ old.out → KeepsSettled old.settled new.settled → IsInHands number new t
+keeps_place number old new t h out settled = keeps_hands number old new t t h out settled (record { part = refl; bare = h.bare }) refl refl
 
--- a place of a shared group is in balance
-pub balance_of : (group number : ℕ) (docket : Kept) (o : Option Taker) (hands : Hands) → hands_of o ≡ Some hands → IsTaker number docket o → Balance (account_of (place_of group number docket o))
-balance_of group number docket None hands is h = cc
-balance_of group number docket (Some t) hands is h = h.balanced
+-- what is left of the passes of who opened the group is of the same queues
+pub keeps_left : (t u : Passes) (kept : Option Passes) → hands_of u ≡ hands_of t → IsKept t kept → IsKept u kept
+keeps_left t u None same h = tt
+keeps_left t u (Some left) same h = record { of = h.of ∙ sym same; main = h.main; parts = h.parts; few = h.few; bare = h.bare }
+
+pub main_hands : (t : Passes) (main : Pass Posted View) → main.table_id ≡ t.main.table_id → hands_of (record { main = main; returns = t.returns }) ≡ hands_of t
+main_hands t main tie = λ i. record { main = tie i; returns = record { web = t.returns.web; heap = t.returns.heap } }
+
+pub returns_hands : (t : Passes) (returns : Seat (Option Posted) (Going Posted Bag) Global) (q : SegId Global) → IsSeatOf q returns → (hands_of t).returns ≡ q
+    → hands_of (record { main = t.main; returns = returns }) ≡ hands_of t
+returns_hands t returns q of tie =
+    let web = of.0 ∙ sym (ap (λ (s : SegId Global). s.web) tie) in
+    let heap = of.1 ∙ sym (ap (λ (s : SegId Global). s.heap) tie) in
+    λ i. record { main = t.main.table_id; returns = record { web = web i; heap = heap i } }
+
+-- what is left for the last place
+pub new_left : (group : GroupId) (number : ℕ) (t : Passes) (kept : Option Passes) → hands_of t ≡ record { main = group.main; returns = group.returns } → group.shape.places ≤ 32
+    → MatchOption kept (number + 1 ≢ group.shape.places) (AreLeftOf group group.shape.places) → IsKept t kept
+new_left group number t None of few h = tt
+new_left group number t (Some left) of few h =
+    let ports = sym (ap (λ (v : View). v.ports) h.main) in
+    let places = sym (ap (λ (v : View). v.places) h.main) in
+    record {
+      of = h.of.hands ∙ sym of;
+      main = h.main ∙ (λ i. keeper (ports i) (places i));
+      parts = h.parts ∙ ap (λ n. bag (64 - n) [] []) places;
+      few = omega (arith, places, few);
+      bare = h.of.bare;
+    }
 
 -- a place that did nothing
-pub new_hands : (number : ℕ) (docket : Kept) (t : Taker) → view t.main ≡ one (Place number) [] → t.main.me.1 ≡ [] → bag_of t.returns ≡ bag 1 [] []
-    → t.returns.me.hand ≡ None → t.returns.me.spare ≡ None → docket.out ≡ [] → IsUnsettled docket.settled → IsInHands number docket t
-new_hands number docket t main bare returns hand spare out unsettled = record {
+pub new_hands : (number : ℕ) (docket : Kept) (t : Passes) → view t.main ≡ one (Place number) [] → bag_of t.returns ≡ bag 1 [] []
+    → AreBare t → docket.out ≡ [] → IsUnsettled docket.settled → IsInHands number docket t
+new_hands number docket t main returns bare out unsettled = record {
   main = main ∙ ap (one (Place number)) (sym (ap list_in main));
-  main_bare = bare;
   part = ap (λ b. b.parts) returns;
-  hand = hand;
-  spare = spare;
+  bare = bare;
   balanced = (λ job.
       let firsts = ap (λ v. count_in job (list_in v)) main in
       let agains = ap (λ b. count_in job b.popped) returns in
@@ -196,10 +206,11 @@ new_places-push group count xs x all new = record {
       (λ other. let was = all.each number (omega (arith, other, less)) in let within = all.all in (was.0, get_push-before xs x number (omega (arith, other, less, within)) ∙ was.1, was.2)));
 }
 
-pub each_port : (group : GroupId) (count : ℕ) (xs : List PortState) → AreNewPorts group count xs → All (IsPortOf group) xs
-each_port group count xs new = λ k d less.
-    let there = new.each k (omega (arith, less, new.all)) in
-    subst (IsPortOf group) (sym (get_or_from_slice_get xs k (new_port group k) d there)) (refl, refl)
+pub each_port : (group : GroupId) (xs : List PortState) → AreNewPorts group group.shape.ports xs → All (IsPortOf group) xs
+each_port group xs new = λ k d less.
+    let within : k < group.shape.ports = omega (arith, less, new.all) in
+    let there = new.each k within in
+    subst (IsPortOf group) (sym (get_or_from_slice_get xs k (new_port group k) d there)) (refl, within, refl)
 
 pub each_place : (group : GroupId) (count : ℕ) (xs : List PlaceState) → AreNewPlaces group count xs → All (IsPlaceOf group) xs
 each_place group count xs new = λ k d less.

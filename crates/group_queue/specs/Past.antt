@@ -49,6 +49,8 @@ pub record HasPast (items : List Posted) (views : List View) : Type 0 where
   pub past : List Pop
   pub owner : Name → ℕ
   pub numbered : AreNumbered (all_of past items)
+  -- who pops is a place or the finisher
+  pub no_port : (port : ℕ) → popped_by (Port port) past ≡ []
   pub fits : (pass : ℕ) (v : View) → get_elem? views pass ≡ some v → Fits past items owner pass v
 
 -- the queue stood so, at a moment at which some pass had this view

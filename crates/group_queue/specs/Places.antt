@@ -1,5 +1,5 @@
 -- Places as contracts see them, and what their calls make of them.
-use Rattle.std.specs.Prelude.{◌≡◌, ℕ, List, [], ◌∷◌, ◌++◌, map, ◌<◌, length, slice_get, Contains, Option, Some, None, Result, Ok, Err}
+use Rattle.std.specs.Prelude.{◌≡◌, ℕ, ◌+◌, List, [], ◌∷◌, ◌++◌, map, ◌<◌, length, slice_get, Contains, Option, Some, None, Result, Ok, Err}
 use Rattle.std.proofs.Common.{Global}
 use Rattle.atomic_table.specs.Seated.{TableId}
 use Rattle.crossbeam_queue.specs.SegTies.{SegId}
@@ -17,7 +17,7 @@ use Rattle.group_queue.specs.declared.view.Name.TheVariants.{Place}
 use Rattle.group_queue.specs.Views.{one}
 use Rattle.group_queue.specs.Past.{Stands, Takes}
 use Rattle.group_queue.specs.Returns.{bag, StandsBack, PushesBack, PopsBack}
-use Rattle.group_queue.specs.Ports.{GroupId}
+use Rattle.group_queue.specs.Ports.{GroupId, Shape}
 
 -- what ties a place to its group: both queues
 pub record Hands : Type 0 where
@@ -25,7 +25,7 @@ pub record Hands : Type 0 where
   pub returns : SegId Global
 
 -- a place: its group's slot, its number, its docket, and what it was the first to be handed, what it was handed again and what
--- it gave back, in order
+-- it gave back, in order; the last one keeps how many ports and places there are
 pub record PlaceState : Type 0 where
   pub group : ℕ
   pub number : ℕ
@@ -33,15 +33,19 @@ pub record PlaceState : Type 0 where
   pub firsts : List Posted
   pub agains : List Posted
   pub given : List Posted
-  pub hands : Option Hands
+  pub hands : Hands
+  pub keeps : Option Shape
 
 -- it is a place of this group
-abbrev pub IsPlaceOf : GroupId → PlaceState → Type 0
-IsPlaceOf group place = (place.group ≡ group.slot) × (place.hands ≡ Some (record { main = group.main; returns = group.returns }))
+pub record IsPlaceOf (group : GroupId) (place : PlaceState) : Type 0 where
+  pub slot : place.group ≡ group.slot
+  pub number : place.number < group.shape.places
+  pub hands : place.hands ≡ record { main = group.main; returns = group.returns }
+  pub keeps : place.number + 1 ≡ group.shape.places → place.keeps ≡ Some group.shape
 
 -- it is the same place, whatever it did
 abbrev pub IsSamePlace : PlaceState → PlaceState → Type 0
-IsSamePlace old new = (new.group ≡ old.group) × (new.number ≡ old.number) × (new.hands ≡ old.hands)
+IsSamePlace old new = (new.group ≡ old.group) × (new.number ≡ old.number) × (new.hands ≡ old.hands) × (new.keeps ≡ old.keeps)
 
 -- a place that was handed nothing
 pub record IsNewPlace (group : GroupId) (number : ℕ) (place : PlaceState) : Type 0 where
@@ -71,9 +75,9 @@ account_of place = record {
   settled = λ fate job. count_of job (settled_as fate place.docket.settled);
 }
 
--- each hand-out to a place of a shared group ended once, by a fate or by being given back, or the job is out
+-- each hand-out to the place ended once, by a fate or by being given back, or the job is out
 abbrev pub IsBalanced : PlaceState → Type 0
-IsBalanced place = (hands : Hands) → place.hands ≡ Some hands → Balance (account_of place)
+IsBalanced place = Balance (account_of place)
 
 -- the envelope is one that the place has out
 abbrev pub Holds : PlaceState → Held → Type 0

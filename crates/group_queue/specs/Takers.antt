@@ -1,45 +1,59 @@
 -- What stands behind a place. No public clause cites this module.
-use Rattle.std.specs.Prelude.{◌≡◌, ℕ, ◌<◌, List, [], All, Option, Some, None}
+use Rattle.std.specs.Prelude.{◌≡◌, ℕ, ◌<◌, ◌≤◌, ◌-◌, List, [], All, Option, Some, None}
 use Rattle.crossbeam_queue.specs.Passes.{view}
 use Rattle.group_jobs.specs.Dockets.{Kept}
 use Rattle.group_jobs.specs.Balance.{Balance}
 use Rattle.group_queue.specs.declared.posted.Posted.{Posted}
-use Rattle.group_queue.specs.declared.place.Taker.{Taker}
+use Rattle.group_queue.specs.declared.place.Passes.{Passes}
 use Rattle.group_queue.specs.declared.view.Name.TheVariants.{Place}
-use Rattle.group_queue.specs.Views.{list_in, IsOf}
-use Rattle.group_queue.specs.Returns.{bag_of}
+use Rattle.group_queue.specs.Views.{list_in, IsOf, keeper}
+use Rattle.group_queue.specs.Returns.{bag, bag_of}
+use Rattle.group_queue.specs.Ports.{Shape}
 use Rattle.group_queue.specs.Places.{PlaceState, Hands, account_of}
 
-abbrev pub firsts_of : Option Taker → List Posted
-firsts_of (Some taker) = list_in (view taker.main)
-firsts_of None = []
+abbrev pub hands_of : Passes → Hands
+hands_of passes = record { main = passes.main.table_id; returns = record { web = passes.returns.web; heap = passes.returns.heap } }
 
-abbrev pub agains_of : Option Taker → List Posted
-agains_of (Some taker) = (bag_of taker.returns).popped
-agains_of None = []
+-- what the passes of who opened the group tell of how many ports and places it gave away
+abbrev pub shape_in : Option Passes → Option Shape
+shape_in (Some passes) = Some (record { ports = (view passes.main).ports; places = (view passes.main).places })
+shape_in None = None
 
-abbrev pub given_of : Option Taker → List Posted
-given_of (Some taker) = (bag_of taker.returns).pushed
-given_of None = []
+abbrev pub place_of : ℕ → ℕ → Kept → Passes → Option Passes → PlaceState
+place_of group number docket passes kept =
+    record {
+      group = group;
+      number = number;
+      docket = docket;
+      firsts = list_in (view passes.main);
+      agains = (bag_of passes.returns).popped;
+      given = (bag_of passes.returns).pushed;
+      hands = hands_of passes;
+      keeps = shape_in kept;
+    }
 
-abbrev pub hands_of : Option Taker → Option Hands
-hands_of (Some taker) = Some (record { main = taker.main.table_id; returns = record { web = taker.returns.web; heap = taker.returns.heap } })
-hands_of None = None
+-- the passes carry nothing
+pub record AreBare (passes : Passes) : Type 0 where
+  pub main : passes.main.me.1 ≡ []
+  pub hand : passes.returns.me.hand ≡ None
+  pub spare : passes.returns.me.spare ≡ None
 
-abbrev pub place_of : ℕ → ℕ → Kept → Option Taker → PlaceState
-place_of group number docket taker =
-    record { group = group; number = number; docket = docket; firsts = firsts_of taker; agains = agains_of taker; given = given_of taker; hands = hands_of taker }
-
--- the passes are those of this place and carry nothing, and the docket is in balance with what they know
-pub record IsInHands (number : ℕ) (docket : Kept) (taker : Taker) : Type 0 where
-  pub main : IsOf (Place number) (view taker.main)
-  pub main_bare : taker.main.me.1 ≡ []
-  pub part : (bag_of taker.returns).parts ≡ 1
-  pub hand : taker.returns.me.hand ≡ None
-  pub spare : taker.returns.me.spare ≡ None
-  pub balanced : Balance (account_of (place_of 0 number docket (Some taker)))
+-- the passes are those of this place, and the docket is in balance with what they know
+pub record IsInHands (number : ℕ) (docket : Kept) (passes : Passes) : Type 0 where
+  pub main : IsOf (Place number) (view passes.main)
+  pub part : (bag_of passes.returns).parts ≡ 1
+  pub bare : AreBare passes
+  pub balanced : Balance (account_of (place_of 0 number docket passes None))
   pub small : All (λ job. job.number < 18446744073709551615) docket.out
 
-abbrev pub IsTaker : ℕ → Kept → Option Taker → Type 0
-IsTaker number docket (Some taker) = IsInHands number docket taker
-IsTaker number docket None = Unit {0}
+-- the passes are what is left of those of who opened the group
+pub record AreLeft (passes left : Passes) : Type 0 where
+  pub of : hands_of left ≡ hands_of passes
+  pub main : view left.main ≡ keeper (view left.main).ports (view left.main).places
+  pub parts : bag_of left.returns ≡ bag (64 - (view left.main).places) [] []
+  pub few : (view left.main).places ≤ 32
+  pub bare : AreBare left
+
+abbrev pub IsKept : Passes → Option Passes → Type 0
+IsKept passes (Some left) = AreLeft passes left
+IsKept passes None = Unit {0}

@@ -20,10 +20,12 @@ pub(crate) const LIFE: u64 = 1 << 20;
 
 /// A group of one share behind a gate, which threads use by reference. It is ended by [`SharedGroup::abandon`].
 ///
-/// Contracts see it as a `GroupId`: its slot, its capacity, its gate, and which its queues are. Its ports and places show
-/// which queues they are of.
+/// Contracts see it as a `GroupId`: its slot, how many ports and places it has, its capacity, its gate, and which its queues
+/// are. Its ports and places show which queues they are of.
 pub struct SharedGroup<'a> {
     pub(crate) slot: u8,
+    pub(crate) ports: u8,
+    pub(crate) places: u8,
     pub(crate) gate: &'a Gate,
     pub(crate) main: MainQueue,
     pub(crate) returns: ReturnsQueue,
@@ -35,7 +37,7 @@ impl<'a> Model for SharedGroup<'a> {
 
     ghost Value = { GroupId };
 
-    ghost view = { λ g. record { slot = g.slot; capacity = ruled_capacity g.main; gate = g.gate.now; main = g.main.table.shared.table_id; returns = g.returns } };
+    ghost view = { λ g. record { slot = g.slot; shape = record { ports = g.ports; places = g.places }; capacity = ruled_capacity g.main; gate = g.gate.now; main = g.main.table.shared.table_id; returns = g.returns } };
 }
 
 impl<'a> SharedGroup<'a> {
@@ -74,12 +76,8 @@ impl<'a> SharedGroup<'a> {
             port: port.number,
             number: port.accepted,
         };
-        let Some(mut pass) = port.pass.take() else {
-            unreachable!()
-        };
-        let pushed = main_queue::push(rt, &self.main, &mut pass, Posted { job, message });
-        port.pass = Some(pass);
-        match pushed {
+        let posted = Posted { job, message };
+        match main_queue::push(rt, &self.main, &mut port.pass, posted) {
             Ok(()) => {
                 port.accepted += 1;
                 Ok(Stamp::of(self.slot, job))
@@ -111,11 +109,7 @@ impl<'a> SharedGroup<'a> {
     {
         let _ = turn;
         place.docket.reserve()?;
-        let Some(mut taker) = place.taker.take() else {
-            unreachable!()
-        };
-        let popped = main_queue::pop(rt, &self.main, &mut taker.main, place.number);
-        place.taker = Some(taker);
+        let popped = main_queue::pop(rt, &self.main, &mut place.passes.main, place.number);
         let Some(Posted { job, message }) = popped else {
             return Ok(None);
         };
@@ -143,11 +137,7 @@ impl<'a> SharedGroup<'a> {
     {
         let _ = turn;
         place.docket.reserve()?;
-        let Some(mut taker) = place.taker.take() else {
-            unreachable!()
-        };
-        let popped = returns_queue::pop(rt, &self.returns, &mut taker.returns);
-        place.taker = Some(taker);
+        let popped = returns_queue::pop(rt, &self.returns, &mut place.passes.returns);
         let Some(Posted { job, message }) = popped else {
             return Ok(None);
         };
@@ -174,13 +164,8 @@ impl<'a> SharedGroup<'a> {
     {
         let (stamp, message) = envelope.open();
         let job = stamp.job();
-        let Some(mut taker) = place.taker.take() else {
-            unreachable!()
-        };
         let posted = Posted { job, message };
-        let pushed = returns_queue::push(rt, &self.returns, &mut taker.returns, posted);
-        place.taker = Some(taker);
-        match pushed {
+        match returns_queue::push(rt, &self.returns, &mut place.passes.returns, posted) {
             Ok(()) => {
                 place.docket.give_back(job);
                 Ok(())
@@ -204,6 +189,8 @@ impl<'a> SharedGroup<'a> {
     pub fn abandon(self) {
         let SharedGroup {
             slot: _,
+            ports: _,
+            places: _,
             gate: _,
             main: _,
             returns,

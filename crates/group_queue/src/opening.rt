@@ -1,14 +1,12 @@
 //! How a group is opened: its queues, its ports and its places.
-ghost use Rattle.std.specs.Prelude.{◌≡◌, ◌≤◌, ◌<◌, ◌+◌, ◌-◌, [], IfOk, All, vec_capacity};
+ghost use Rattle.std.specs.Prelude.{◌≡◌, ◌≢◌, ◌≤◌, ◌<◌, ◌+◌, [], IfOk, MatchOption, All, vec_capacity};
 ghost use Rattle.crossbeam_queue.specs.Passes.{view};
 ghost use Rattle.group_queue.specs.Views.{keeper};
-ghost use Rattle.group_queue.specs.Returns.{bag_of};
 
 use crate::group::SharedGroup;
 use crate::main_queue::MainPass;
-use crate::place::{Place, Taker};
+use crate::place::{Passes, Place};
 use crate::port::Port;
-use crate::returns_queue::ReturnsPass;
 use crate::{main_queue, returns_queue};
 use gate_word::Gate;
 use group_jobs::{Docket, JobError};
@@ -17,7 +15,7 @@ use std::alloc::Global;
 impl<'a> SharedGroup<'a> {
     ghost use Rattle.group_queue.specs.Ports.{new_port, IsPortOf, AreNewPorts};
     ghost use Rattle.group_queue.specs.Places.{IsNewPlace, IsPlaceOf, AreNewPlaces};
-    ghost use Rattle.group_queue.specs.Openings.{IsPassTo, IsPartOf};
+    ghost use Rattle.group_queue.specs.Openings.{IsPassTo, AreLeftOf, AreNewPasses};
 
     /// A group behind a gate, with all its ports and places, numbered from 0 on. It has 1 to 64 ports, 1 to 32 places, and
     /// room for 1 to 65,536 messages that were never handed out.
@@ -37,6 +35,7 @@ impl<'a> SharedGroup<'a> {
         requires places { (1 ≤ places) × (places ≤ 32) }
         requires capacity { (1 ≤ capacity) × (capacity ≤ 65536) }
         ensures group { IfOk result (λ opened. (opened.0.slot ≡ slot) × (opened.0.capacity ≡ capacity) × (opened.0.gate ≡ gate.entry.now)) }
+        ensures shape { IfOk result (λ opened. (opened.0.shape.ports ≡ ports) × (opened.0.shape.places ≡ places)) }
         ensures ports { IfOk result (λ opened. AreNewPorts opened.0 ports opened.1.items) }
         ensures places { IfOk result (λ opened. AreNewPlaces opened.0 places opened.2.items) }
 
@@ -47,28 +46,34 @@ impl<'a> SharedGroup<'a> {
         let mut all_ports = Vec::with_capacity(alloc, usize::from(ports))?;
         let mut all_places = Vec::with_capacity(alloc, usize::from(places))?;
         let (main, mut pass) = main_queue::open(alloc, capacity)?;
-        let (returns, mut part) = returns_queue::open(alloc)?;
+        let (returns, part) = returns_queue::open(alloc)?;
         let group = SharedGroup {
             slot,
+            ports,
+            places,
             gate,
             main,
             returns,
         };
-        group.fill_ports(&mut pass, &mut all_ports, ports);
-        group.fill_places(alloc, &mut pass, &mut part, &mut all_places, places);
+        group.fill_ports(&mut pass, &mut all_ports);
+        let left = Passes {
+            main: pass,
+            returns: part,
+        };
+        group.fill_places(alloc, left, &mut all_places);
         Ok((group, all_ports, all_places))
     }
 
-    // Makes so many ports.
-    fn fill_ports(&self, pass: &mut MainPass, ports: &mut Vec<Port>, count: u8)
+    // Makes all ports.
+    fn fill_ports(&self, pass: &mut MainPass, ports: &mut Vec<Port>)
         requires pass { IsPassTo self.now pass.old }
         requires none { view pass.old ≡ keeper 0 0 }
-        requires room { (ports.old.items ≡ []) × (count ≤ vec_capacity ports.old) }
+        requires room { (ports.old.items ≡ []) × (self.now.shape.ports ≤ vec_capacity ports.old) }
         ensures pass { IsPassTo self.now pass.new }
-        ensures rest { view pass.new ≡ keeper count 0 }
-        ensures ports { AreNewPorts self.now count ports.new.items }
+        ensures rest { view pass.new ≡ keeper self.now.shape.ports 0 }
+        ensures ports { AreNewPorts self.now self.now.shape.ports ports.new.items }
     {
-        for number in 0..count {
+        for number in 0..self.ports {
             ports.push_reserved(self.new_port(pass, number));
         }
     }
@@ -86,58 +91,54 @@ impl<'a> SharedGroup<'a> {
             group: self.slot,
             number,
             accepted: 0,
-            pass: Some(own),
+            pass: own,
         }
     }
 
-    // Makes so many places.
-    fn fill_places(
-        &self,
-        alloc: Global,
-        pass: &mut MainPass,
-        part: &mut ReturnsPass,
-        places: &mut Vec<Place>,
-        count: u8,
-    )
-        requires pass { IsPassTo self.now pass.old }
-        requires none { view pass.old ≡ keeper (view pass.old).ports 0 }
-        requires part { IsPartOf self.now part.old }
-        requires parts { ((bag_of part.old).parts ≡ 64) × (count ≤ 32) }
-        requires room { (places.old.items ≡ []) × (count ≤ vec_capacity places.old) }
-        ensures places { AreNewPlaces self.now count places.new.items }
+    // Makes all places. The last one has what is left of the passes.
+    fn fill_places(&self, alloc: Global, left: Passes, places: &mut Vec<Place>)
+        requires left { AreLeftOf self.now 0 left }
+        requires count { (1 ≤ self.now.shape.places) × (self.now.shape.places ≤ 32) }
+        requires room { (places.old.items ≡ []) × (self.now.shape.places ≤ vec_capacity places.old) }
+        ensures places { AreNewPlaces self.now self.now.shape.places places.new.items }
     {
-        for number in 0..count {
-            places.push_reserved(self.new_place(alloc, pass, part, number));
+        let mut left = left;
+        let last = self.places - 1;
+        for number in 0..last {
+            let passes = self.cut(&mut left, number);
+            places.push_reserved(self.new_place(alloc, number, passes, None));
+        }
+        let passes = self.cut(&mut left, last);
+        places.push_reserved(self.new_place(alloc, last, passes, Some(left)));
+    }
+
+    // Gives the passes of the next place away, which has this number.
+    fn cut(&self, left: &mut Passes, number: u8) -> Passes
+        requires left { AreLeftOf self.now number left.old }
+        requires few { number < 32 }
+        ensures left { AreLeftOf self.now (number + 1) left.new }
+        ensures new { AreNewPasses self.now number result }
+    {
+        Passes {
+            main: main_queue::cut_place(&self.main, &mut left.main),
+            returns: returns_queue::cut(&self.returns, &mut left.returns),
         }
     }
 
-    // Gives the next place away, which has this number.
-    fn new_place(
-        &self,
-        alloc: Global,
-        pass: &mut MainPass,
-        part: &mut ReturnsPass,
-        number: u8,
-    ) -> Place
-        requires pass { IsPassTo self.now pass.old }
-        requires next { view pass.old ≡ keeper (view pass.old).ports number }
-        requires part { IsPartOf self.now part.old }
-        requires parts { 2 ≤ (bag_of part.old).parts }
-        ensures pass { IsPassTo self.now pass.new }
-        ensures rest { view pass.new ≡ keeper (view pass.old).ports (number + 1) }
-        ensures part { IsPartOf self.now part.new }
-        ensures parts { (bag_of part.new).parts ≡ (bag_of part.old).parts - 1 }
+    // A place with these passes, and in the last one what is left.
+    fn new_place(&self, alloc: Global, number: u8, passes: Passes, keeper: Option<Passes>) -> Place
+        requires passes { AreNewPasses self.now number passes }
+        requires number { number < self.now.shape.places }
+        requires keeper { MatchOption keeper (number + 1 ≢ self.now.shape.places) (AreLeftOf self.now self.now.shape.places) }
+        requires few { self.now.shape.places ≤ 32 }
         ensures place { IsNewPlace self.now number result }
     {
-        let taker = Taker {
-            main: main_queue::cut_place(&self.main, pass),
-            returns: returns_queue::cut(&self.returns, part),
-        };
         Place {
             group: self.slot,
             number,
             docket: Docket::new(alloc),
-            taker: Some(taker),
+            passes,
+            keeper,
         }
     }
 }

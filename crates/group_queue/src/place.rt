@@ -10,19 +10,22 @@ use std::marker::Model;
 /// Who has it alone takes messages at it. A place belongs to the group that it was opened with, may go to another thread,
 /// and keeps in its docket what it has out and what it settled.
 ///
-/// Contracts see it as a `PlaceState`: the group's slot, the place's number, its docket, and, of a shared group, the
-/// messages that it was the first to be handed, those that it was handed again and those that it gave back, in order.
+/// Contracts see it as a `PlaceState`: the group's slot, the place's number, its docket, the messages that it was the first
+/// to be handed, those that it was handed again and those that it gave back, in order, and, of the group's last place, how
+/// many ports and places there are.
 #[derive(Drop)]
 pub struct Place {
     pub(crate) group: u8,
     pub(crate) number: u8,
     pub(crate) docket: Docket,
-    pub(crate) taker: Option<Taker>,
+    pub(crate) passes: Passes,
+    // What is left of the passes of who opened the group, which ends it: it is in the last place.
+    pub(crate) keeper: Option<Passes>,
 }
 
-/// What a place of a shared group holds: its passes of both queues.
+/// A pass of each of a group's queues.
 #[derive(Drop)]
-pub struct Taker {
+pub struct Passes {
     pub main: MainPass,
     pub returns: ReturnsPass,
 }
@@ -32,11 +35,11 @@ impl Model for Place {
 
     ghost Value = { PlaceState };
 
-    ghost use Rattle.group_queue.specs.Takers.{place_of, IsTaker};
+    ghost use Rattle.group_queue.specs.Takers.{place_of, IsInHands, IsKept};
 
-    ghost view = { λ p. place_of p.group p.number p.docket p.taker };
+    ghost view = { λ p. place_of p.group p.number p.docket p.passes p.keeper };
 
-    ghost invariant = { λ p. IsTaker p.number p.docket p.taker };
+    ghost invariant = { λ p. IsInHands p.number p.docket p.passes × IsKept p.passes p.keeper };
 }
 
 impl Place {
@@ -49,8 +52,8 @@ impl Place {
         self.number
     }
 
-    /// What it has out, and what it settled: each hand-out of a job to a place of a shared group ended once, by a fate or by
-    /// being given back, or the job is out.
+    /// What it has out, and what it settled: each hand-out of a job to it ended once, by a fate or by being given back, or the
+    /// job is out.
     pub fn docket(&self) -> &Docket
         ensures value { result.now ≡ self.now.docket }
         ensures balance { IsBalanced self.now }

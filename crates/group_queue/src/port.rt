@@ -13,8 +13,7 @@ pub struct Port {
     pub(crate) group: u8,
     pub(crate) number: u8,
     pub(crate) accepted: u64,
-    // The pass of the main queue, in a shared group.
-    pub(crate) pass: Option<MainPass>,
+    pub(crate) pass: MainPass,
 }
 
 impl Model for Port {
@@ -22,9 +21,9 @@ impl Model for Port {
 
     ghost Value = { PortState };
 
-    ghost use Rattle.group_queue.specs.Senders.{sent_by, queue_of, IsCounted};
+    ghost use Rattle.group_queue.specs.Senders.{sent_by, IsCounted};
 
-    ghost view = { λ p. record { group = p.group; number = p.number; accepted = p.accepted; sent = sent_by p.pass; queue = queue_of p.pass } };
+    ghost view = { λ p. record { group = p.group; number = p.number; accepted = p.accepted; sent = sent_by p.pass; queue = p.pass.table_id } };
 
     ghost invariant = { λ p. IsCounted p.number p.accepted p.pass };
 }

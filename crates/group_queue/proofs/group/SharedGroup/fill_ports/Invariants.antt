@@ -12,5 +12,5 @@ invariant-loop-number l = record {
   rest : view l.pass ≡ keeper l.number 0;
   ports : AreNewPorts l.self l.number l.ports.items;
   length : vec_len l.ports ≡ l.number;
-  room : l.fn.count ≤ vec_capacity l.ports;
+  room : l.self.shape.ports ≤ vec_capacity l.ports;
 }

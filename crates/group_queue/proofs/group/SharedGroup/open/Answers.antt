@@ -3,7 +3,7 @@ use Rattle.group_queue.proofs.Places.{each_port, each_place}
 use Rattle.group_queue.proofs.group.SharedGroup.open.Goals as goal
 
 pub returns-clause-each_port : goal.returns-clause-each_port
-returns-clause-each_port c = each_port _ _ _ c.fill_ports.ensures.ports
+returns-clause-each_port c = each_port _ _ c.fill_ports.ensures.ports
 
 pub returns-clause-each_place : goal.returns-clause-each_place
 returns-clause-each_place c = each_place _ _ _ c.fill_places.ensures.places
