@@ -1,8 +1,11 @@
 pub mod Lists
 pub mod MainSteps
 pub mod MainCuts
+pub mod MainJoins
 pub mod ReturnsSteps
 pub mod Ports
 pub mod Balances
 pub mod Places
+pub mod Partition
+pub mod MainEnds
 pub mod MainLaws

@@ -9,7 +9,7 @@ use Rattle.group_queue.specs.declared.view.Name.{Name}
 use Rattle.group_queue.specs.declared.view.Name.TheVariants.{Port, Place, Finisher}
 use Rattle.group_queue.specs.declared.view.Entry.{Entry}
 use Rattle.group_queue.specs.declared.view.View.{View}
-use Rattle.group_queue.specs.Views.{entry, one, list_in, grown, IsOf, Each}
+use Rattle.group_queue.specs.Views.{entry, one, ending, list_in, others_in, grown, IsOf, IsEnding, Each}
 use Rattle.group_queue.specs.Past.{Pop, all_of, through, list_of, AreNumbered, Fits, HasPast, Stands, Adds, Takes}
 use Rattle.group_queue.proofs.Lists.{through-push, through-other, popped-same, popped-other, all_of-pop, all_of-push, numbered-push, within}
 
@@ -136,6 +136,22 @@ pops pass v place is x items views h at =
     let got = list_in v in
     let w : View = one (Place place) (got ++ x ∷ []) in
     let h' = takes_one pass false 0 0 (Place place) got [] x (λ p e. cc) (λ k. absurd (true≢false (sym k))) items views h (at ∙ ap some is) in (
+      w,
+      h',
+      record {
+        items = items;
+        before = record { views = views; pass = pass; there = at; holds = h };
+        after = record { views = set views pass w; pass = pass; there = set_here views pass w (within views pass v at); holds = h' };
+        is = sym (ap (λ u. grown u x) is);
+      },
+    )
+
+-- the front is popped by who ends the group
+pub pops_left : (pass : ℕ) (v : View) → IsEnding v → Pops HasPast pass v (Takes v)
+pops_left pass v is x items views h at =
+    let left = list_in v in
+    let w : View = ending v.ports v.places (left ++ x ∷ []) (others_in v) in
+    let h' = takes_one pass true v.ports v.places Finisher left (others_in v) x (λ p e. cc) (λ k. refl) items views h (at ∙ ap some is) in (
       w,
       h',
       record {

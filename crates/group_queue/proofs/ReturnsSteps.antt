@@ -1,15 +1,15 @@
 -- Each step keeps the rule of the returns queue: what it adds to one list it takes from another, or from the queue.
 use Rattle.std.proofs.Common.{◌≡◌, ℕ, zero, suc, ◌+◌, ◌-◌, ◌<◌, ◌≤◌, List, [], ◌∷◌, ◌++◌, get_or, set, refl, sym, ap, subst, ⊎_elim, arith}
 use Rattle.std.specs.Prelude.{sum_by}
-use Rattle.std.proofs.lemmas.List.Sums.{sum_by-set, sum_by_push, sum_by-cons}
+use Rattle.std.proofs.lemmas.List.Sums.{sum_by-set, sum_by_push, sum_by-cons, sum_by-append}
 use Rattle.std.proofs.lemmas.List.Elements.{All-append, All-cons, All-nil, All-tail}
 use mathlib.Core.Option.{some, some-injective, some-ne-none}
 use lib.ListN.{get_elem?}
-use Rattle.crossbeam_queue.specs.Fifo.{Pushes, Pops, Forks, Learns}
+use Rattle.crossbeam_queue.specs.Fifo.{Pushes, Pops, Forks, Merges, Learns}
 use Rattle.crossbeam_queue.proofs.Lists.{at_set, set_here, at_snoc}
 use Rattle.group_queue.specs.declared.posted.Posted.{Posted}
 use Rattle.group_queue.specs.declared.view.Bag.{Bag}
-use Rattle.group_queue.specs.Returns.{bag, Gives, StandsBack, PushesBack, PopsBack}
+use Rattle.group_queue.specs.Returns.{bag, joined, Gives, StandsBack, PushesBack, PopsBack}
 use Rattle.group_queue.proofs.Lists.{within}
 
 abbrev pub IsSmall : Posted → Type 0
@@ -110,5 +110,29 @@ cuts_part pass v two items views h at =
         sum_at (λ (y : Bag). sum_by worth y.pushed) views pass v w at,
         sum_by_push (λ (y : Bag). sum_by worth y.popped) vs new,
         sum_by_push (λ (y : Bag). sum_by worth y.pushed) vs new,
+      ));
+    }
+
+pub joins_parts : (pass : ℕ) (v : Bag) (other : ℕ) (w : Bag) → 1 ≤ v.parts → Merges Gives pass v other w (joined v w) (bag 0 [] [])
+joins_parts pass v other w some_part items views h at ne at' =
+    let all : Bag = joined v w in
+    let none : Bag = bag 0 [] [] in
+    let vs : List Bag = set views pass all in
+    record {
+      parts = omega (arith, h.parts, sum_at (λ (y : Bag). y.parts) views pass v all at, sum_at (λ (y : Bag). y.parts) vs other w none at');
+      small = h.small;
+      idle = (λ j u e no_part. ⊎_elim
+          (λ t. (ap (λ (y : Bag). y.pushed) (sym t.1), ap (λ (y : Bag). y.popped) (sym t.1)))
+          (λ t. idle_set views pass all (omega arith) h.idle j u t.1 no_part)
+          (at_set vs other j none u e));
+      counts = (λ worth. omega (
+        arith,
+        h.counts worth,
+        sum_by-append worth v.pushed w.pushed,
+        sum_by-append worth v.popped w.popped,
+        sum_at (λ (y : Bag). sum_by worth y.popped) views pass v all at,
+        sum_at (λ (y : Bag). sum_by worth y.pushed) views pass v all at,
+        sum_at (λ (y : Bag). sum_by worth y.popped) vs other w none at',
+        sum_at (λ (y : Bag). sum_by worth y.pushed) vs other w none at',
       ));
     }

@@ -8,3 +8,4 @@ pub mod Takers
 pub mod Openings
 pub mod Offers
 pub mod Refusals
+pub mod Known

@@ -15,6 +15,10 @@ bag parts pushed popped = record { parts = parts; pushed = pushed; popped = popp
 abbrev pub bag_of : Seat (Option Posted) (Going Posted Bag) Global → Bag
 bag_of pass = pass.me.view.client
 
+-- the parts of two, and what both pushed and popped
+abbrev pub joined : Bag → Bag → Bag
+joined v w = bag (v.parts + w.parts) (v.pushed ++ w.pushed) (v.popped ++ w.popped)
+
 -- of so many parts
 pub record Gives (items : List Posted) (views : List Bag) : Type 0 where
   pub parts : sum_by (λ v. v.parts) views ≡ 64

@@ -35,6 +35,28 @@ first_list (e ∷ es) = e.list
 abbrev pub list_in : View → List Posted
 list_in v = first_list v.entries
 
+-- the entries of its other names
+abbrev pub other_entries : List Entry → List Entry
+other_entries [] = []
+other_entries (e ∷ es) = es
+
+abbrev pub others_in : View → List Entry
+others_in v = other_entries v.entries
+
+-- the view of who ends the group: what it popped, and what those did whose passes it took in
+abbrev pub ending : ℕ → ℕ → List Posted → List Entry → View
+ending ports places left es = record { keeps = true; ports = ports; places = places; entries = entry Finisher left ∷ es }
+
+abbrev pub IsEnding : View → Type 0
+IsEnding v = v ≡ ending v.ports v.places (list_in v) (others_in v)
+
+-- one view with another's names behind its own, and the view of who has no name
+abbrev pub joined : View → View → View
+joined v w = record v { entries = v.entries ++ w.entries }
+
+abbrev pub nobody : View
+nobody = record { keeps = false; ports = 0; places = 0; entries = [] }
+
 -- it is the view of this one name
 abbrev pub IsOf : Name → View → Type 0
 IsOf name v = v ≡ one name (list_in v)

@@ -1,16 +1,17 @@
 //! The main queue: what was accepted and never handed out, the oldest first. It is a bounded queue of `crossbeam_queue`
 //! under the rule that it has a past: whoever pushed and popped, in whatever order, what each of them did is read off that
 //! one past. So each step owes the queue that the past goes on, and tells what it added to it.
-ghost use Rattle.std.specs.Prelude.{◌≡◌, ◌<◌, ◌+◌, ◌++◌, true, false, [], ◌∷◌, length, IfOk, MatchResult, MatchOption};
+ghost use Rattle.std.specs.Prelude.{◌≡◌, ◌<◌, ◌+◌, ◌++◌, true, false, List, [], ◌∷◌, length, IfOk, MatchResult, MatchOption};
+ghost use Rattle.group_queue.specs.declared.posted.Posted.{Posted as posted_type};
 ghost use Rattle.crossbeam_queue.specs.Fifo.{Held};
 ghost use Rattle.crossbeam_queue.specs.Passes.{view, IsPassOf, IsSamePass, ruled_capacity};
 ghost use Rattle.group_queue.specs.declared.view.Name.TheVariants as names;
-ghost use Rattle.group_queue.specs.Views.{one, keeper, IsOf, list_in};
+ghost use Rattle.group_queue.specs.Views.{one, keeper, joined, IsOf, IsEnding, list_in};
 ghost use Rattle.group_queue.specs.Past.{Stands, Adds, Takes};
 
 use crate::posted::Posted;
 use crate::view::View;
-use crossbeam_queue::protocol::{Lesson, Outcome, Protocol, Split};
+use crossbeam_queue::protocol::{Join, Lesson, Outcome, Protocol, Split};
 use crossbeam_queue::{Pass, RuledArrayQueue};
 use std::alloc::{AllocError, Global};
 use std::sync::Wait;
@@ -87,6 +88,17 @@ impl Split<View> for CutPlace {
     ghost right = { λ v. one (Place v.places) [] };
 }
 
+/// Takes in what another pass knows.
+pub struct TakeIn;
+
+impl Join<View> for TakeIn {
+    ghost use Rattle.group_queue.specs.Views.{joined, nobody};
+
+    ghost both = { joined };
+
+    ghost spent = { nobody };
+}
+
 /// An empty queue of this capacity, with the pass of who opened it.
 pub fn open(alloc: Global, capacity: usize) -> Result<(MainQueue, MainPass), AllocError>
     requires { 0 < capacity }
@@ -145,4 +157,35 @@ pub fn pop<R: Wait>(rt: &R, queue: &MainQueue, pass: &mut MainPass, place: u8) -
 {
     let _ = place;
     queue.pop_as::<Taking, R>(rt, pass)
+}
+
+/// Takes in another pass, with what it knows.
+pub fn join(queue: &MainQueue, pass: &mut MainPass, other: MainPass)
+    requires queue { IsPassOf queue.now pass.old × IsPassOf queue.now other }
+    requires given { (view other).keeps ≡ false }
+    ensures queue { IsPassOf queue.now pass.new }
+    ensures all { view pass.new ≡ joined (view pass.old) (view other) }
+{
+    queue.absorb::<TakeIn>(pass, other);
+}
+
+/// Pops the front for who ends the group.
+pub fn pop_left<R: Wait>(rt: &R, queue: &MainQueue, pass: &mut MainPass) -> Option<Posted>
+    requires queue { IsPassOf queue.now pass.old }
+    requires ending { IsEnding (view pass.old) }
+    ensures queue { IsPassOf queue.now pass.new }
+    ensures answer { MatchOption result ((view pass.new ≡ view pass.old) × Held 0 (Stands (view pass.old)))
+        (λ posted. Takes (view pass.old) posted (view pass.new)) }
+{
+    queue.pop_as::<Taking, R>(rt, pass)
+}
+
+/// Looks at the queue, which holds something or nothing.
+pub fn look(queue: &MainQueue, pass: &mut MainPass)
+    requires queue { IsPassOf queue.now pass.old }
+    ensures queue { IsPassOf queue.now pass.new }
+    ensures same { view pass.new ≡ view pass.old }
+    ensures stands { (items : List posted_type) × Stands (view pass.old) items }
+{
+    queue.learn_as::<Taking>(pass);
 }

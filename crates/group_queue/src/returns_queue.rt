@@ -3,11 +3,11 @@
 //! stands in the queue.
 ghost use Rattle.std.specs.Prelude.{◌≡◌, ◌<◌, ◌≤◌, ◌+◌, ◌-◌, [], IfOk, MatchResult, MatchOption};
 ghost use Rattle.crossbeam_queue.specs.SegTies.{IsSegPassOf};
-ghost use Rattle.group_queue.specs.Returns.{bag, bag_of, StandsBack, PushesBack, PopsBack};
+ghost use Rattle.group_queue.specs.Returns.{bag, bag_of, joined, StandsBack, PushesBack, PopsBack};
 
 use crate::posted::Posted;
 use crate::view::Bag;
-use crossbeam_queue::protocol::{Lesson, Outcome, Protocol, Split};
+use crossbeam_queue::protocol::{Join, Lesson, Outcome, Protocol, Split};
 use crossbeam_queue::{RuledSegQueue, SegPass};
 use std::alloc::{AllocError, Global};
 use std::sync::Wait;
@@ -64,6 +64,18 @@ impl Split<Bag> for CutPart {
     ghost right = { λ v. bag 1 [] [] };
 }
 
+/// Takes in another pass, with its parts.
+pub struct TakeParts;
+
+impl Join<Bag> for TakeParts {
+    ghost use Rattle.std.specs.Prelude.{[]};
+    ghost use Rattle.group_queue.specs.Returns.{bag, joined};
+
+    ghost both = { joined };
+
+    ghost spent = { bag 0 [] [] };
+}
+
 /// An empty queue, with the pass of who opened it.
 pub fn open(alloc: Global) -> Result<(ReturnsQueue, ReturnsPass), AllocError>
     ensures { IfOk result (λ q. IsSegPassOf q.0 q.1 × (bag_of q.1 ≡ bag 64 [] [])) }
@@ -108,4 +120,14 @@ pub fn pop<R: Wait>(rt: &R, queue: &ReturnsQueue, pass: &mut ReturnsPass) -> Opt
         (λ posted. PopsBack (bag_of pass.old) posted (bag_of pass.new)) }
 {
     queue.pop_as::<TakingAgain, R>(rt, pass)
+}
+
+/// Takes in another pass, with its parts and what it knows.
+pub fn join(queue: &ReturnsQueue, pass: &mut ReturnsPass, other: ReturnsPass)
+    requires queue { IsSegPassOf queue.now pass.old × IsSegPassOf queue.now other }
+    requires parts { 1 ≤ (bag_of pass.old).parts }
+    ensures queue { IsSegPassOf queue.now pass.new }
+    ensures all { bag_of pass.new ≡ joined (bag_of pass.old) (bag_of other) }
+{
+    queue.absorb::<TakeParts>(pass, other);
 }
