@@ -99,6 +99,13 @@ impl Docket {
         &self.settled
     }
 
+    /// The jobs that were settled, of a docket that ends.
+    pub fn into_settled(self) -> Ledger
+        ensures { result ≡ self.settled }
+    {
+        self.settled
+    }
+
     /// A job that is out is settled.
     pub fn settle(&mut self, job: Job, fate: Fate)
         requires { Contains self.old.out job }

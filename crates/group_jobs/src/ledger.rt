@@ -1,5 +1,6 @@
 //! Settled jobs, by fate.
-ghost use Rattle.std.specs.Prelude.{◌≡◌, ◌≤◌, ◌<◌, ◌+◌, ◌++◌, length, OnOk, OnErr};
+ghost use Rattle.std.specs.Prelude.{◌≡◌, ◌≤◌, ◌<◌, ◌+◌, ◌++◌, length, min, OnOk, OnErr};
+ghost use Rattle.group_jobs.specs.declared.fate.Fate.TheVariants as fates;
 ghost use Rattle.std.specs.List.Sorted.{IsPermutation};
 ghost use Rattle.dispatch_core.specs.JobRuns.{NoneTwice};
 
@@ -64,6 +65,13 @@ impl Ledger {
         ensures each { (fate : fate_type) → result ≤ spare_of fate self.now }
     {
         self.acknowledged.spare().min(self.refused.spare())
+    }
+
+    /// How many jobs there are, of whatever fate, or 2^128 - 1 where there are more.
+    pub fn len(&self) -> u128
+        ensures { result ≡ min (length (settled_as fates.Acknowledged self.now) + length (settled_as fates.Refused self.now)) u128.MAX }
+    {
+        self.acknowledged.len().saturating_add(self.refused.len())
     }
 
     /// Puts a job to those of this fate. There is room for a run, and the number is below 2^64 - 1.

@@ -8,4 +8,7 @@ pub mod Balances
 pub mod Places
 pub mod Partition
 pub mod MainEnds
+pub mod ReturnsEnds
+pub mod Lengths
+pub mod Checks
 pub mod MainLaws

@@ -17,7 +17,8 @@ use Rattle.group_queue.specs.Views.{same_name, entry, Each, AreApart}
 use Rattle.group_queue.specs.Past.{Pop, all_of, through, popped_by, list_of, AreNumbered, Fits}
 use Rattle.group_queue.specs.Ports.{PortState, Shape}
 use Rattle.group_queue.specs.Places.{PlaceState, jobs_in}
-use Rattle.group_queue.specs.Known.{port_entry, place_entry, knowing, HasAll, AreCounts}
+use Rattle.group_queue.specs.Ends.{HasAll, AreCounts}
+use Rattle.group_queue.specs.Known.{port_entry, place_entry, knowing}
 use Rattle.group_queue.proofs.Lists.{same_name-refl, same_name-true, same_name-other, through-push, through-other}
 use Rattle.group_queue.proofs.MainLaws.{posts}
 use Rattle.group_queue.proofs.Partition.{times, spread, sum_by-map, sum_by-same, sum_by-none}

@@ -8,4 +8,5 @@ pub mod Takers
 pub mod Openings
 pub mod Offers
 pub mod Refusals
+pub mod Ends
 pub mod Known

@@ -1,8 +1,9 @@
 //! The refusals of a group.
 ghost use Rattle.std.specs.Prelude.{◌≡◌};
-ghost use Rattle.group_queue.specs.Refusals.{number_of};
+ghost use Rattle.group_queue.specs.Refusals.{number_of, finish_number};
+ghost use Rattle.group_queue.specs.declared.error.FinishError.TheVariants as finish_error;
 
-use group_jobs::Message;
+use group_jobs::{JobError, Message, Stamp};
 use thiserror::Error;
 
 /// Why a message was not accepted.
@@ -35,4 +36,50 @@ pub struct NotTaken {
     /// The message that was offered.
     pub message: Message,
     pub error: OfferError,
+}
+
+/// What is lacking where a group is to be ended.
+#[derive(Clone, Copy, Debug, PartialEq, Eq)]
+pub enum Lack {
+    /// The port of this number.
+    Port(u8),
+    /// The place of this number.
+    Place(u8),
+    /// An envelope of this stamp, which a place has out.
+    Envelope(Stamp),
+}
+
+/// Why a group is not ended.
+#[derive(Clone, Copy, Debug, PartialEq, Eq, Error)]
+pub enum FinishError {
+    /// 505: a port, a place or an envelope of the group is not there.
+    #[error("a port, a place or an envelope is missing")]
+    Missing(Lack),
+    /// 507: an envelope is there more often than its message is out.
+    #[error("an envelope is not of this group")]
+    Stranger(Stamp),
+    /// 506: memory was wanted and refused.
+    #[error("out of memory")]
+    Memory,
+}
+
+impl FinishError {
+    /// The number of the refusal, 505, 507 or 506.
+    pub fn number(&self) -> u16
+        ensures { result ≡ finish_number self.now }
+    {
+        match self {
+            FinishError::Missing(_) => 505,
+            FinishError::Stranger(_) => 507,
+            FinishError::Memory => 506,
+        }
+    }
+}
+
+impl From<JobError> for FinishError {
+    ghost from_gives = { λ _ result. result ≡ finish_error.Memory };
+
+    fn from(_error: JobError) -> FinishError {
+        FinishError::Memory
+    }
 }

@@ -14,6 +14,7 @@
 //! of the call. What that means for all of them together is in [`laws`].
 #![tactic(auto)]
 
+mod checking;
 mod error;
 mod group;
 pub mod laws;
@@ -25,7 +26,7 @@ mod posted;
 mod returns_queue;
 mod view;
 
-pub use error::{NotTaken, OfferError};
+pub use error::{FinishError, Lack, NotTaken, OfferError};
 pub use group::SharedGroup;
 pub use place::Place;
 pub use port::Port;

@@ -1,0 +1,106 @@
+-- Lists that have each job equally often are equally long.
+use Rattle.std.proofs.Common.{◌≡◌, ◌≢◌, ℕ, zero, suc, ◌+◌, ◌≤◌, ◌⊎◌, ⊎_elim, inl, inr, List, [], ◌∷◌, ◌++◌, length, refl, sym, ap, ◌∙◌, arith, length-append, eqb, eqb-true, cond, true, false}
+use Rattle.std.specs.Prelude.{map, sum_by, ◌&&◌, All}
+use Rattle.std.proofs.lemmas.Bool.{cases_eq}
+use Rattle.std.proofs.lemmas.List.Elements.{All-head, All-tail}
+use Rattle.std.proofs.lemmas.List.Sums.{sum_by-cons}
+use Rattle.dispatch_core.specs.declared.event.Job.{Job}
+use Rattle.dispatch_core.specs.JobRuns.{count_of}
+use Rattle.dispatch_core.proofs.JobLists.{count_of-append, count_of-cons, count_of_contained}
+use Rattle.group_jobs.specs.Balance.{Balance}
+use Rattle.group_jobs.specs.declared.fate.Fate.TheVariants.{Acknowledged, Refused}
+use Rattle.group_jobs.specs.Settled.{settled_as}
+use Rattle.group_queue.specs.declared.posted.Posted.{Posted}
+use Rattle.group_queue.specs.Places.{PlaceState, IsBalanced, jobs_in}
+use Rattle.group_queue.specs.Known.{ended}
+
+same_job : (a b : Job) → (a ≡ b) ⊎ (a ≢ b)
+same_job a b =
+    ⊎_elim
+    (λ (ports : a.port ≡ b.port).
+    ⊎_elim
+    (λ (numbers : a.number ≡ b.number). inl (λ i. record { port = ports i; number = numbers i }))
+    (λ (other : a.number ≢ b.number). inr (λ e. other (ap (λ j. j.number) e)))
+    (cases_eq a.number b.number))
+    (λ (other : a.port ≢ b.port). inr (λ e. other (ap (λ j. j.port) e)))
+    (cases_eq a.port b.port)
+
+bit : (p q : _) → cond (p && q) 1 0 ≤ 1
+bit true true = omega arith
+bit true false = omega arith
+bit false q = omega arith
+
+none_of : (first job : Job) → first ≢ job → cond ((eqb first.port job.port) && (eqb first.number job.number)) 1 0 + 0 ≡ 0
+none_of first job ne = cases (eqb first.port job.port) refl (eqb first.number job.number) refl
+  where
+    cases : (p : _) → eqb first.port job.port ≡ p → (q : _) → eqb first.number job.number ≡ q → cond (p && q) 1 0 + 0 ≡ 0
+    cases true ports true numbers = absurd (ne (λ i. record { port = eqb-true first.port job.port ports i; number = eqb-true first.number job.number numbers i }))
+    cases true ports false numbers = omega arith
+    cases false ports q numbers = omega arith
+
+count_other : (first job : Job) → first ≢ job → count_of job (first ∷ []) ≡ 0
+count_other first job ne = sum_by-cons (λ other. cond ((eqb other.port job.port) && (eqb other.number job.number)) 1 0) first [] ∙ none_of first job ne
+
+-- what stands in a list can be taken off it
+take_off : (jobs : List Job) (job : Job) → 1 ≤ count_of job jobs → (rest : List Job) × (length jobs ≡ length rest + 1) × ((other : Job) → count_of other jobs ≡ count_of other (job ∷ []) + count_of other rest)
+take_off [] job some = absurd (omega arith)
+take_off (first ∷ jobs) job some =
+    ⊎_elim
+    (λ (same : first ≡ job). (jobs, omega arith, λ other. count_of-cons other first jobs ∙ ap (λ j. count_of other (j ∷ []) + count_of other jobs) same))
+    (λ (differs : first ≢ job).
+    let rest = take_off jobs job (omega (arith, some, count_of-cons job first jobs, count_other first job differs)) in
+    let less : length jobs ≡ length rest.0 + 1 = rest.1 in
+    (first ∷ rest.0, omega arith, λ other. omega (arith, rest.2 other, count_of-cons other first jobs, count_of-cons other first rest.0)))
+    (same_job first job)
+
+pub same_lengths : (xs ys : List Job) → ((job : Job) → count_of job xs ≡ count_of job ys) → length xs ≡ length ys
+same_lengths [] [] same = refl
+same_lengths [] (y ∷ ys) same = let there = count_of_contained (y ∷ ys) y (0, omega arith, refl) in let none = same y in absurd (omega arith)
+same_lengths (x ∷ xs) ys same =
+    let there = count_of_contained (x ∷ xs) x (0, omega arith, refl) in
+    let rest = take_off ys x (omega (arith, there, same x)) in
+    let tail = same_lengths xs rest.0 (λ job. omega (arith, same job, count_of-cons job x xs, rest.2 job)) in
+    omega (arith, tail, rest.1)
+
+length_jobs : (list : List Posted) → length (jobs_in list) ≡ length list
+length_jobs [] = refl
+length_jobs (x ∷ xs) = ap suc (length_jobs xs)
+
+-- as many hand-outs as ends
+pub balanced_length : (place : PlaceState) → IsBalanced place → length place.firsts + length place.agains ≡ ended place + length place.given + length place.docket.out
+balanced_length place balanced =
+    let done = settled_as Acknowledged place.docket.settled in
+    let no = settled_as Refused place.docket.settled in
+    let out = place.docket.out in
+    let firsts = jobs_in place.firsts in
+    let agains = jobs_in place.agains in
+    let given = jobs_in place.given in
+    let same = same_lengths (firsts ++ agains) (done ++ (no ++ (given ++ out)))
+        (λ job. omega (arith, balanced job, count_of-append job firsts agains, count_of-append job done (no ++ (given ++ out)), count_of-append job no (given ++ out), count_of-append job given out)) in
+    omega (
+      arith,
+      same,
+      length-append firsts agains,
+      length-append done (no ++ (given ++ out)),
+      length-append no (given ++ out),
+      length-append given out,
+      length_jobs place.firsts,
+      length_jobs place.agains,
+      length_jobs place.given,
+    )
+
+-- and so of all places together
+pub balanced_lengths : (places : List PlaceState) → All IsBalanced places
+    → sum_by (λ (p : PlaceState). length p.firsts) places + sum_by (λ (p : PlaceState). length p.agains) places
+    ≡ sum_by ended places + sum_by (λ (p : PlaceState). length p.given) places + sum_by (λ (p : PlaceState). length p.docket.out) places
+balanced_lengths [] all = refl
+balanced_lengths (p ∷ places) all = omega (
+  arith,
+  balanced_length p (All-head IsBalanced p places all),
+  balanced_lengths places (All-tail IsBalanced p places all),
+  sum_by-cons (λ (q : PlaceState). length q.firsts) p places,
+  sum_by-cons (λ (q : PlaceState). length q.agains) p places,
+  sum_by-cons ended p places,
+  sum_by-cons (λ (q : PlaceState). length q.given) p places,
+  sum_by-cons (λ (q : PlaceState). length q.docket.out) p places,
+)
