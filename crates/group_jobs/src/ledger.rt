@@ -1,5 +1,5 @@
 //! Settled jobs, by fate.
-ghost use Rattle.std.specs.Prelude.{◌≡◌, ◌≤◌, ◌<◌, ◌+◌, ◌++◌, length, min, OnOk, OnErr};
+ghost use Rattle.std.specs.Prelude.{◌≡◌, ◌≤◌, ◌<◌, ◌+◌, ◌++◌, length, min, IfOk, OnOk, OnErr};
 ghost use Rattle.group_jobs.specs.declared.fate.Fate.TheVariants as fates;
 ghost use Rattle.std.specs.List.Sorted.{IsPermutation};
 ghost use Rattle.dispatch_core.specs.JobRuns.{NoneTwice};
@@ -59,6 +59,25 @@ impl Ledger {
         Ok(())
     }
 
+    /// Makes room for the runs of another ledger, beside all the room that there is.
+    ///
+    /// # Errors
+    ///
+    /// 503 [`JobError::Memory`]. The jobs stay, and there is no less room than before.
+    pub fn reserve_for(&mut self, other: &Ledger) -> Result<(), JobError>
+        ensures ok { OnOk result ((fate : fate_type) → least_spare self.old + length (runs_of fate other.now) ≤ least_spare self.new) }
+        ensures kept { KeepsSettled self.old self.new }
+        ensures spare { (fate : fate_type) → spare_of fate self.old ≤ spare_of fate self.new }
+    {
+        let acknowledged = count(&other.acknowledged)?;
+        let refused = count(&other.refused)?;
+        let Some(room) = self.spare().checked_add(acknowledged.max(refused)) else {
+            return Err(JobError::Memory);
+        };
+        self.reserve(room)?;
+        Ok(())
+    }
+
     /// For how many more runs of any one fate there is room.
     pub fn spare(&self) -> usize
         ensures value { result ≡ least_spare self.now }
@@ -102,4 +121,18 @@ impl Ledger {
         self.acknowledged.merge(acknowledged);
         self.refused.merge(refused);
     }
+}
+
+/// How many runs the jobs are in.
+fn count(runs: &Runs) -> Result<usize, JobError>
+    ensures { IfOk result (λ count. count ≡ length runs.now.runs) }
+{
+    let mut count: usize = 0;
+    for _run in runs.runs() {
+        let Some(more) = count.checked_add(1) else {
+            return Err(JobError::Memory);
+        };
+        count = more;
+    }
+    Ok(count)
 }

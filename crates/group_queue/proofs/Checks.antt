@@ -1,5 +1,5 @@
 -- What was looked at one by one holds of all.
-use Rattle.std.proofs.Common.{◌≡◌, ◌≢◌, ℕ, zero, suc, ◌+◌, ◌<◌, ◌≤◌, Bool, true, false, cond, eqb, eqb-true, ltb, List, [], ◌∷◌, length, get_or, Contains, All, refl, sym, ap, ◌∙◌, subst, arith}
+use Rattle.std.proofs.Common.{◌≡◌, ◌≢◌, ℕ, zero, suc, ◌+◌, ◌<◌, ◌≤◌, Bool, true, false, cond, eqb, eqb-true, ltb, List, [], ◌∷◌, ◌++◌, length, length-append, get_or, Contains, All, refl, sym, ap, ◌∙◌, subst, arith}
 use Rattle.std.specs.Prelude.{map, sum_by, ◌&&◌}
 use Rattle.std.proofs.lemmas.Bool.{ltb-true, ltb-false}
 use Rattle.std.proofs.lemmas.List.Sums.{sum_by-cons}
@@ -9,9 +9,9 @@ use Rattle.dispatch_core.specs.declared.event.Job.{Job}
 use Rattle.dispatch_core.specs.JobRuns.{count_of}
 use Rattle.group_jobs.specs.declared.stamp.Stamp.{Stamp}
 use Rattle.group_jobs.specs.Stamps.{Held, job_of, stamp_of}
-use Rattle.group_queue.specs.Ports.{GroupId}
+use Rattle.group_queue.specs.Ports.{GroupId, PortState}
 use Rattle.group_queue.specs.Places.{PlaceState}
-use Rattle.group_queue.specs.Ends.{HasAll, times_held, times_out}
+use Rattle.group_queue.specs.Ends.{HasAll, AreCounts, times_held, times_out}
 
 module _ {X : Type 0} (number : X → ℕ) where
   pub absent : (xs : List X) (n : ℕ) → ((k : ℕ) (d : X) → k < length xs → number (get_or xs k d) ≢ n) → ¬ Contains (map number xs) n
@@ -101,3 +101,23 @@ module _ (group : GroupId) (places : List PlaceState) (held : List Held) where
           let it : envelope.0.stamp ≡ stamp = λ i. record { group = eqb-true envelope.0.stamp.group stamp.group equal.0 i; port = eqb-true envelope.0.stamp.port stamp.port equal.1 i; number = eqb-true envelope.0.stamp.number stamp.number equal.2 i } in
           subst (λ s. times_held s held ≤ times_out group s places) it (All-there IsKnown held envelope.0 all envelope.1)
       cases false some = let none = ltb-false 0 (times_held stamp held) some in omega (arith, none)
+
+get_or_push-before : (xs : List ℕ) (x k d : ℕ) → k < length xs → get_or (xs ++ x ∷ []) k d ≡ get_or xs k d
+get_or_push-before [] x k d less = absurd (omega arith)
+get_or_push-before (y ∷ ys) x zero d less = refl
+get_or_push-before (y ∷ ys) x (suc k) d less = get_or_push-before ys x k d (omega arith)
+
+get_or_push-here : (xs : List ℕ) (x d : ℕ) → get_or (xs ++ x ∷ []) (length xs) d ≡ x
+get_or_push-here [] x d = refl
+get_or_push-here (y ∷ ys) x d = get_or_push-here ys x d
+
+pub counts_more : (count : ℕ) (ports : List PortState) (counts : List ℕ) (accepted : ℕ) → AreCounts count ports counts
+    → (port : PortState) × Contains ports port × (port.number ≡ count) × (accepted ≡ length port.sent) → AreCounts (count + 1) ports (counts ++ accepted ∷ [])
+counts_more count ports counts accepted so_far there = record {
+  many = omega (arith, length-append counts (accepted ∷ []), so_far.many);
+  each = (λ number less. dite (ℕ_discrete number count)
+      (λ is. (there.0, there.1, there.2 ∙ sym is, ap (λ k. get_or (counts ++ accepted ∷ []) k 0) (is ∙ sym so_far.many) ∙ (get_or_push-here counts accepted 0 ∙ there.3)))
+      (λ other.
+      let was = so_far.each number (omega (arith, less, other)) in
+      (was.0, was.1, was.2, get_or_push-before counts accepted number 0 (omega (arith, less, other, so_far.many)) ∙ was.3)));
+}

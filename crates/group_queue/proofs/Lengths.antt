@@ -13,6 +13,7 @@ use Rattle.group_jobs.specs.Settled.{settled_as}
 use Rattle.group_queue.specs.declared.posted.Posted.{Posted}
 use Rattle.group_queue.specs.Places.{PlaceState, IsBalanced, jobs_in}
 use Rattle.group_queue.specs.Known.{ended}
+use Rattle.group_queue.proofs.Endings.{length_jobs}
 
 same_job : (a b : Job) → (a ≡ b) ⊎ (a ≢ b)
 same_job a b =
@@ -61,10 +62,6 @@ same_lengths (x ∷ xs) ys same =
     let rest = take_off ys x (omega (arith, there, same x)) in
     let tail = same_lengths xs rest.0 (λ job. omega (arith, same job, count_of-cons job x xs, rest.2 job)) in
     omega (arith, tail, rest.1)
-
-length_jobs : (list : List Posted) → length (jobs_in list) ≡ length list
-length_jobs [] = refl
-length_jobs (x ∷ xs) = ap suc (length_jobs xs)
 
 -- as many hand-outs as ends
 pub balanced_length : (place : PlaceState) → IsBalanced place → length place.firsts + length place.agains ≡ ended place + length place.given + length place.docket.out

@@ -11,4 +11,5 @@ pub mod MainEnds
 pub mod ReturnsEnds
 pub mod Lengths
 pub mod Checks
+pub mod Endings
 pub mod MainLaws

@@ -1,7 +1,11 @@
 -- What who ends a group knows, once it has taken in the passes of all ports and places. No public clause cites this module.
-use Rattle.std.specs.Prelude.{◌≡◌, ℕ, ◌+◌, ◌≤◌, List, ◌++◌, map, length, sum_by}
+use Rattle.std.specs.Prelude.{◌≡◌, ℕ, ◌+◌, ◌≤◌, List, [], ◌++◌, map, length, sum_by, vec_capacity}
+use Rattle.group_jobs.specs.declared.fate.Fate.{Fate}
+use Rattle.group_jobs.specs.Stamps.{Held, job_of}
 use Rattle.group_jobs.specs.declared.fate.Fate.TheVariants.{Acknowledged, Refused}
-use Rattle.group_jobs.specs.Settled.{settled_as, runs_of}
+use Rattle.group_jobs.specs.Settled.{settled_as, runs_of, least_spare, IsUnsettled}
+use Rattle.group_queue.specs.declared.reserving.Lists.{Lists}
+use Rattle.group_queue.specs.Ends.{AreCounts}
 use Rattle.group_queue.specs.declared.posted.Posted.{Posted}
 use Rattle.group_queue.specs.declared.view.Name.TheVariants.{Port, Place}
 use Rattle.group_queue.specs.declared.view.Entry.{Entry}
@@ -21,11 +25,11 @@ place_entry place = entry (Place place.number) place.firsts
 abbrev pub knowing : Shape → List Posted → List PlaceState → List PortState → View
 knowing shape left places ports = ending shape.ports shape.places left (map place_entry places ++ map port_entry ports)
 
--- who popped this too knows of the parts of these places
-pub record KnowsParts (left : List Posted) (places : List PlaceState) (parts : ℕ) (v : Bag) : Type 0 where
-  pub parts_are : v.parts ≡ parts
-  pub popped : (worth : Posted → ℕ) → sum_by worth v.popped ≡ sum_by (λ (p : PlaceState). sum_by worth p.agains) places + sum_by worth left
-  pub pushed : (worth : Posted → ℕ) → sum_by worth v.pushed ≡ sum_by (λ (p : PlaceState). sum_by worth p.given) places
+-- the parts of these places were taken in, with what they gave back and were handed again
+pub record TakesInParts (old : Bag) (places : List PlaceState) (new : Bag) : Type 0 where
+  pub parts_are : new.parts ≡ old.parts + length places
+  pub popped : (worth : Posted → ℕ) → sum_by worth new.popped ≡ sum_by worth old.popped + sum_by (λ (p : PlaceState). sum_by worth p.agains) places
+  pub pushed : (worth : Posted → ℕ) → sum_by worth new.pushed ≡ sum_by worth old.pushed + sum_by (λ (p : PlaceState). sum_by worth p.given) places
 
 -- how many jobs a place settled
 abbrev pub ended : PlaceState → ℕ
@@ -34,3 +38,16 @@ ended place = length (settled_as Acknowledged place.docket.settled) + length (se
 -- there is room for all that was accepted, but what was settled and what is out
 abbrev pub IsRoomFor : List PortState → List PlaceState → ℕ → Type 0
 IsRoomFor ports places room = sum_by (λ (p : PortState). length p.sent) ports ≤ room + sum_by ended places + sum_by (λ (p : PlaceState). length p.docket.out) places
+
+-- what is known of a report, and room for the rest
+pub record AreReady (count : ℕ) (ports : List PortState) (places : List PlaceState) (held : List Held) (lists : Lists) : Type 0 where
+  pub counts : AreCounts count ports lists.accepted.items
+  pub envelopes : lists.held.items ≡ map (λ envelope. job_of envelope.stamp) held
+  pub no_docket : lists.dockets.items ≡ []
+  pub room_for_dockets : length places ≤ vec_capacity lists.dockets
+  pub unsettled : IsUnsettled lists.settled
+  pub room_for_settled : (fate : Fate) → sum_by (λ (p : PlaceState). length (runs_of fate p.docket.settled)) places ≤ least_spare lists.settled
+  pub none_queued : lists.queued.items ≡ []
+  pub room_for_queued : IsRoomFor ports places (vec_capacity lists.queued)
+  pub none_returned : lists.returned.items ≡ []
+  pub room_for_returned : IsRoomFor ports places (vec_capacity lists.returned)

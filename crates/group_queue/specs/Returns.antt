@@ -19,6 +19,10 @@ bag_of pass = pass.me.view.client
 abbrev pub joined : Bag → Bag → Bag
 joined v w = bag (v.parts + w.parts) (v.pushed ++ w.pushed) (v.popped ++ w.popped)
 
+-- who has popped this too
+abbrev pub popping_back : Bag → List Posted → Bag
+popping_back v left = bag v.parts v.pushed (v.popped ++ left)
+
 -- of so many parts
 pub record Gives (items : List Posted) (views : List Bag) : Type 0 where
   pub parts : sum_by (λ v. v.parts) views ≡ 64

@@ -54,6 +54,13 @@ IsEnding v = v ≡ ending v.ports v.places (list_in v) (others_in v)
 abbrev pub joined : View → View → View
 joined v w = record v { entries = v.entries ++ w.entries }
 
+abbrev pub with_entries : View → List Entry → View
+with_entries v es = record v { entries = v.entries ++ es }
+
+-- the view of who ends the group, once it has popped this
+abbrev pub popping : View → List Posted → View
+popping v left = ending v.ports v.places left (others_in v)
+
 abbrev pub nobody : View
 nobody = record { keeps = false; ports = 0; places = 0; entries = [] }
 

@@ -15,6 +15,7 @@
 #![tactic(auto)]
 
 mod checking;
+mod ending;
 mod error;
 mod group;
 pub mod laws;
@@ -23,6 +24,7 @@ mod opening;
 mod place;
 mod port;
 mod posted;
+mod reserving;
 mod returns_queue;
 mod view;
 

@@ -1,4 +1,5 @@
 //! Messages in a group's queues.
+ghost use Rattle.std.specs.Prelude.{◌≡◌};
 
 use dispatch_core::Job;
 use group_jobs::Message;
@@ -8,4 +9,13 @@ use group_jobs::Message;
 pub struct Posted {
     pub job: Job,
     pub message: Message,
+}
+
+impl Posted {
+    /// Its job; the message is let go.
+    pub(crate) fn into_job(self) -> Job
+        ensures { result ≡ self.job }
+    {
+        self.job
+    }
 }

@@ -1,0 +1,121 @@
+//! Room for what a report says. It is made before anything is joined or popped, so that who has no memory keeps all.
+ghost use Rattle.std.specs.Prelude.{◌≡◌, ◌≤◌, ◌<◌, ◌+◌, [], map, length, sum_by, IfOk, OnOk, vec_capacity};
+ghost use Rattle.group_jobs.specs.declared.fate.Fate.{Fate as fate_type};
+ghost use Rattle.group_jobs.specs.Settled.{least_spare, runs_of, IsUnsettled};
+ghost use Rattle.group_jobs.specs.Stamps.{job_of};
+ghost use Rattle.group_queue.specs.Ends.{port_numbers, HasAll, AreCounts};
+ghost use Rattle.group_queue.specs.Known.{AreReady, IsRoomFor, ended};
+
+use crate::checking::accepted_by;
+use crate::place::Place;
+use crate::port::Port;
+use dispatch_core::Job;
+use group_jobs::{Docket, Envelope, JobError, Ledger};
+use std::alloc::Global;
+
+/// What a report says, as far as it is known, and room for the rest.
+#[derive(Drop)]
+pub struct Lists {
+    pub accepted: Vec<u64>,
+    pub held: Vec<Job>,
+    // No docket, and room for that of each place.
+    pub dockets: Vec<Docket>,
+    // Nothing, and room for what all places settled.
+    pub settled: Ledger,
+    // Nothing, and room for what was accepted and is neither settled nor out.
+    pub queued: Vec<Job>,
+    pub returned: Vec<Job>,
+}
+
+/// Makes room.
+pub fn reserve(
+    alloc: Global,
+    count: u8,
+    ports: &[Port],
+    places: &[Place],
+    held: &[Envelope],
+) -> Result<Lists, JobError>
+    requires { HasAll count (port_numbers ports.now) }
+    ensures { IfOk result (AreReady count ports.now places.now held.now) }
+{
+    let left = left_over(ports, places)?;
+    Ok(Lists {
+        accepted: counts_of(alloc, count, ports)?,
+        held: jobs_of(alloc, held)?,
+        dockets: Vec::with_capacity(alloc, places.len())?,
+        settled: room_for(alloc, places)?,
+        queued: Vec::with_capacity(alloc, left)?,
+        returned: Vec::with_capacity(alloc, left)?,
+    })
+}
+
+// How many messages each port sent, by the ports' numbers.
+fn counts_of(alloc: Global, count: u8, ports: &[Port]) -> Result<Vec<u64>, JobError>
+    requires { HasAll count (port_numbers ports.now) }
+    ensures { IfOk result (λ counts. AreCounts count ports.now counts.items) }
+{
+    let mut counts = Vec::with_capacity(alloc, usize::from(count))?;
+    for number in 0..count {
+        let Some(accepted) = accepted_by(ports, number) else {
+            unreachable!()
+        };
+        counts.push(accepted)?;
+    }
+    Ok(counts)
+}
+
+// The jobs of the envelopes, in their order.
+fn jobs_of(alloc: Global, held: &[Envelope]) -> Result<Vec<Job>, JobError>
+    ensures { IfOk result (λ jobs. jobs.items ≡ map (λ envelope. job_of envelope.stamp) held.now) }
+{
+    let mut jobs = Vec::with_capacity(alloc, held.len())?;
+    for envelope in held {
+        jobs.push(envelope.stamp().job())?;
+    }
+    Ok(jobs)
+}
+
+// A ledger with room for what all places settled.
+fn room_for(alloc: Global, places: &[Place]) -> Result<Ledger, JobError>
+    ensures none { IfOk result IsUnsettled }
+    ensures room { IfOk result (λ ledger. (fate : fate_type) → sum_by (λ place. length (runs_of fate place.docket.settled)) places.now ≤ least_spare ledger) }
+{
+    let mut ledger = Ledger::new(alloc);
+    for place in places {
+        ledger.reserve_for(place.docket.settled())?;
+    }
+    Ok(ledger)
+}
+
+// For how many messages there has to be room: what was accepted and is neither settled nor out.
+fn left_over(ports: &[Port], places: &[Place]) -> Result<usize, JobError>
+    ensures { IfOk result (IsRoomFor ports.now places.now) }
+{
+    match usize::try_from(accepted_in_all(ports).saturating_sub(ended_in_all(places))) {
+        Ok(left) => Ok(left),
+        Err(_) => Err(JobError::Memory),
+    }
+}
+
+// How many messages all ports sent.
+fn accepted_in_all(ports: &[Port]) -> u128
+    ensures { result ≡ sum_by (λ port. length port.sent) ports.now }
+{
+    let mut total: u128 = 0;
+    for port in ports {
+        total += u128::from(port.accepted);
+    }
+    total
+}
+
+// How many hand-outs ended by a fate or are out, or fewer where they are more than a number can say.
+fn ended_in_all(places: &[Place]) -> u128
+    ensures { result ≤ sum_by ended places.now + sum_by (λ place. length place.docket.out) places.now }
+{
+    let mut total: u128 = 0;
+    for place in places {
+        let out = place.docket.out().len() as u128;
+        total = total.saturating_add(place.docket.settled().len().saturating_add(out));
+    }
+    total
+}
