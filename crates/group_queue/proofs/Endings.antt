@@ -31,3 +31,7 @@ jobs_more jobs left x is = ap (λ l. l ++ x.job ∷ []) is ∙ sym (map-append (
 -- the list has room for the last of what was popped
 pub room_left : (used room : ℕ) (left : List Posted) (x : Posted) → used ≡ length left → length (left ++ x ∷ []) ≤ room → used < room
 room_left used room left x is enough = omega (arith, is, length-append left (x ∷ []), enough)
+
+pub nothing_left : {X : Type 0} (xs : List X) → length xs ≡ 0 → xs ≡ []
+nothing_left [] none = refl
+nothing_left (x ∷ xs) none = absurd (omega arith)

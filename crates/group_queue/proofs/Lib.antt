@@ -13,3 +13,6 @@ pub mod Lengths
 pub mod Checks
 pub mod Endings
 pub mod MainLaws
+pub mod Rooms
+pub mod Joined
+pub mod Finished

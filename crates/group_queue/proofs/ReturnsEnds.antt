@@ -1,6 +1,6 @@
 -- What follows where one pass of the returns queue has all parts: what was given back was handed out again, or popped by who ends
 -- the group, or it stands in the queue.
-use Rattle.std.proofs.Common.{◌≡◌, ℕ, zero, suc, ◌+◌, List, [], ◌∷◌, set, refl, sym, ap, ◌∙◌, ⊎_elim, arith}
+use Rattle.std.proofs.Common.{◌≡◌, ℕ, zero, suc, ◌+◌, ◌≤◌, List, [], ◌∷◌, set, refl, sym, ap, ◌∙◌, ⊎_elim, arith}
 use Rattle.std.specs.Prelude.{sum_by}
 use Rattle.std.proofs.lemmas.List.Sums.{sum_by-cons}
 use mathlib.Core.Option.{some, some-injective, some-ne-none}
@@ -21,6 +21,10 @@ none_each f (x ∷ xs) none (suc j) u at = none_each f xs (omega (arith, none, s
 none_all : {A : Type 0} (f : A → ℕ) (xs : List A) → ((j : ℕ) (u : A) → get_elem? xs j ≡ some u → f u ≡ 0) → sum_by f xs ≡ 0
 none_all f [] none = refl
 none_all f (x ∷ xs) none = omega (arith, sum_by-cons f x xs, none 0 x refl, none_all f xs (λ j u at. none (suc j) u at))
+
+-- no pass has more parts than there are
+pub all_parts : (items : List Posted) (views : List Bag) → Gives items views → (pass : ℕ) (v : Bag) → get_elem? views pass ≡ some v → 64 ≤ v.parts → v.parts ≡ 64
+all_parts items views h pass v at all = omega (arith, h.parts, all, sum_at (λ (y : Bag). y.parts) views pass v (bag 0 [] []) at)
 
 module _ (items : List Posted) (views : List Bag) (h : Gives items views) (pass : ℕ) (v : Bag) (at : get_elem? views pass ≡ some v) (all : v.parts ≡ 64) where
   empty : Bag

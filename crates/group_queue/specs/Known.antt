@@ -1,5 +1,8 @@
 -- What who ends a group knows, once it has taken in the passes of all ports and places. No public clause cites this module.
-use Rattle.std.specs.Prelude.{◌≡◌, ℕ, ◌+◌, ◌≤◌, List, [], ◌++◌, map, length, sum_by, vec_capacity}
+use Rattle.std.specs.Prelude.{◌≡◌, ℕ, ◌+◌, ◌≤◌, List, [], ◌++◌, map, length, sum_by, All, vec_capacity}
+use Rattle.std.specs.List.Sorted.{IsPermutation}
+use Rattle.crossbeam_queue.specs.Passes.{view}
+use Rattle.group_jobs.specs.Dockets.{Kept}
 use Rattle.group_jobs.specs.declared.fate.Fate.{Fate}
 use Rattle.group_jobs.specs.Stamps.{Held, job_of}
 use Rattle.group_jobs.specs.declared.fate.Fate.TheVariants.{Acknowledged, Refused}
@@ -12,8 +15,11 @@ use Rattle.group_queue.specs.declared.view.Entry.{Entry}
 use Rattle.group_queue.specs.declared.view.View.{View}
 use Rattle.group_queue.specs.declared.view.Bag.{Bag}
 use Rattle.group_queue.specs.Views.{entry, ending}
-use Rattle.group_queue.specs.Ports.{PortState, Shape}
-use Rattle.group_queue.specs.Places.{PlaceState}
+use Rattle.group_queue.specs.declared.place.Passes.{Passes}
+use Rattle.group_queue.specs.Returns.{bag_of}
+use Rattle.group_queue.specs.Ports.{GroupId, PortState, Shape}
+use Rattle.group_queue.specs.Places.{PlaceState, IsBalanced}
+use Rattle.group_queue.specs.Openings.{AreOf}
 
 abbrev pub port_entry : PortState → Entry
 port_entry port = entry (Port port.number) port.sent
@@ -51,3 +57,15 @@ pub record AreReady (count : ℕ) (ports : List PortState) (places : List PlaceS
   pub room_for_queued : IsRoomFor ports places (vec_capacity lists.queued)
   pub none_returned : lists.returned.items ≡ []
   pub room_for_returned : IsRoomFor ports places (vec_capacity lists.returned)
+
+-- all passes were taken in, in some order of the places, and the dockets kept
+pub record IsJoined (group : GroupId) (ports : List PortState) (places : List PlaceState) (passes : Passes) (dockets : List Kept) : Type 0 where
+  pub order : List PlaceState
+  pub same : IsPermutation places order
+  pub of : AreOf group passes
+  pub names : view passes.main ≡ knowing group.shape [] order ports
+  pub parts : 64 ≤ (bag_of passes.returns).parts
+  pub popped : (worth : Posted → ℕ) → sum_by worth (bag_of passes.returns).popped ≡ sum_by (λ (p : PlaceState). sum_by worth p.agains) order
+  pub pushed : (worth : Posted → ℕ) → sum_by worth (bag_of passes.returns).pushed ≡ sum_by (λ (p : PlaceState). sum_by worth p.given) order
+  pub kept : dockets ≡ map (λ (p : PlaceState). p.docket) order
+  pub balanced : All IsBalanced order

@@ -10,3 +10,4 @@ pub mod Offers
 pub mod Refusals
 pub mod Ends
 pub mod Known
+pub mod Finishing

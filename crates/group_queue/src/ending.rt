@@ -8,7 +8,7 @@ ghost use Rattle.group_queue.specs.Views.{one, joined, with_entries, popping, Is
 ghost use Rattle.group_queue.specs.Past.{Stands};
 ghost use Rattle.group_queue.specs.Returns.{bag, bag_of, joined as joined_bags, popping_back, StandsBack};
 ghost use Rattle.group_queue.specs.Ports.{PortState};
-ghost use Rattle.group_queue.specs.Places.{PlaceState, Hands, jobs_in};
+ghost use Rattle.group_queue.specs.Places.{PlaceState, Hands, IsBalanced, jobs_in};
 ghost use Rattle.group_queue.specs.Known.{port_entry, place_entry, TakesInParts};
 
 use crate::main_queue::{MainPass, MainQueue};
@@ -50,14 +50,15 @@ pub fn join_places(
     ensures names { view passes.new.main ≡ with_entries (view passes.old.main) (map place_entry places.items) }
     ensures parts { TakesInParts (bag_of passes.old.returns) places.items (bag_of passes.new.returns) }
     ensures dockets { dockets.new.items ≡ dockets.old.items ++ map (λ place. place.docket) places.items }
+    ensures balanced { All IsBalanced places.items }
 {
     for place in places {
         dockets.push_reserved(join_place(main, returns, passes, place));
     }
 }
 
-// Takes in the passes of a place, and gives its docket.
-fn join_place(
+/// Takes in the passes of a place, and gives its docket.
+pub fn join_place(
     main: &MainQueue,
     returns: &ReturnsQueue,
     passes: &mut Passes,
@@ -72,6 +73,7 @@ fn join_place(
     ensures names { view passes.new.main ≡ joined (view passes.old.main) (one (names.Place place.number) place.firsts) }
     ensures parts { bag_of passes.new.returns ≡ joined_bags (bag_of passes.old.returns) (bag 1 place.given place.agains) }
     ensures docket { result ≡ place.docket }
+    ensures balanced { IsBalanced place }
 {
     let Place { passes: own, docket, .. } = place;
     main_queue::join(main, &mut passes.main, own.main);

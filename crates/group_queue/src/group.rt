@@ -32,12 +32,15 @@ pub struct SharedGroup<'a> {
 }
 
 impl<'a> Model for SharedGroup<'a> {
+    ghost use Rattle.std.specs.Prelude.{◌≤◌};
     ghost use Rattle.crossbeam_queue.specs.Passes.{ruled_capacity};
     ghost use Rattle.group_queue.specs.Ports.{GroupId};
 
     ghost Value = { GroupId };
 
     ghost view = { λ g. record { slot = g.slot; shape = record { ports = g.ports; places = g.places }; capacity = ruled_capacity g.main; gate = g.gate.now; main = g.main.table.shared.table_id; returns = g.returns } };
+
+    ghost invariant = { λ g. 1 ≤ g.places };
 }
 
 impl<'a> SharedGroup<'a> {

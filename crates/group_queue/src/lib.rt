@@ -17,6 +17,7 @@
 mod checking;
 mod ending;
 mod error;
+mod finish;
 mod group;
 pub mod laws;
 mod main_queue;
@@ -29,6 +30,7 @@ mod returns_queue;
 mod view;
 
 pub use error::{FinishError, Lack, NotTaken, OfferError};
+pub use finish::Unfinished;
 pub use group::SharedGroup;
 pub use place::Place;
 pub use port::Port;

@@ -1,17 +1,17 @@
 -- One place more was taken in.
-use Rattle.std.proofs.Common.{◌≡◌, ◌∷◌, ◌++◌, [], ap, ◌∙◌, subst, All, refl, length, arith}
+use Rattle.std.proofs.Common.{◌≡◌, ◌∷◌, ◌++◌, [], ap, sym, ◌∙◌, subst, All, refl, length, arith}
 use Rattle.std.specs.Prelude.{map, sum_by}
 use Rattle.std.specs.Vec.Iter.{into_iter_items}
-use Rattle.std.proofs.lemmas.List.Elements.{All-tail}
+use Rattle.std.proofs.lemmas.List.Elements.{All-tail, All-cons, All-nil}
 use Rattle.std.proofs.lemmas.List.Sums.{sum_by-append, sum_by-cons}
 use Rattle.crossbeam_queue.specs.Passes.{view}
 use Rattle.group_queue.specs.declared.view.Bag.{Bag}
 use Rattle.group_queue.specs.declared.view.Name.TheVariants.{Place}
 use Rattle.group_queue.specs.Views.{one, with_entries}
 use Rattle.group_queue.specs.Returns.{bag_of}
-use Rattle.group_queue.specs.Places.{PlaceState}
+use Rattle.group_queue.specs.Places.{PlaceState, IsBalanced}
 use Rattle.group_queue.specs.Known.{place_entry}
-use Rattle.group_queue.proofs.Endings.{takes_in, one_more}
+use Rattle.group_queue.proofs.Endings.{takes_in, one_more, nothing_left}
 use Rattle.group_queue.proofs.ending.join_places.Goals as goal
 
 pub loop-place-preserved : goal.loop-place-preserved
@@ -45,5 +45,26 @@ loop-place-preserved c =
       ));
       dockets = rw (c.push_reserved.ensures.items, made.docket) (one_more c.loop-place.dockets.items place.docket _ _
           (subst (λ l. c.loop-place.dockets.items ++ map (λ (p : PlaceState). p.docket) l ≡ c.args.dockets.now.items ++ map (λ (p : PlaceState). p.docket) c.args.places.items) next before.dockets));
+      balanced = (λ rest. before.balanced (subst (All IsBalanced) (sym next) (All-cons IsBalanced place (into_iter_items c.next.new.self) made.balanced rest)));
       room = omega (arith, before.room, ap length next, c.push_reserved.ensures.len, c.push_reserved.ensures.capacity);
     }
+
+pub loop-place-init : goal.loop-place-init
+loop-place-init c = rw c.into_iter-place-iterator.ensures.into_iter_gives.0 (record {
+  main = c.requires.main;
+  returns = c.requires.returns;
+  places = c.requires.places;
+  names = refl;
+  parts = refl;
+  some = c.requires.parts;
+  popped = (λ worth. refl);
+  pushed = (λ worth. refl);
+  dockets = refl;
+  balanced = (λ all. all);
+  room = c.requires.room;
+})
+
+pub returns-clause-balanced : goal.returns-clause-balanced
+returns-clause-balanced c =
+    let ok = c.loop-place.place-iterator.rest.ok in
+    c.loop-place.invariant.balanced (subst (All IsBalanced) (sym (nothing_left (into_iter_items c.loop-place.place-iterator) (omega (arith, ok.0, c.in-None.ensures.steps.0)))) (All-nil IsBalanced))

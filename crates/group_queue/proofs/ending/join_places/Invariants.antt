@@ -5,7 +5,7 @@ use Rattle.std.specs.Vec.Iter.{into_iter_items}
 use Rattle.crossbeam_queue.specs.Passes.{view, IsPassOf}
 use Rattle.crossbeam_queue.specs.SegTies.{IsSegPassOf}
 use Rattle.group_queue.specs.declared.posted.Posted.{Posted}
-use Rattle.group_queue.specs.Places.{PlaceState}
+use Rattle.group_queue.specs.Places.{PlaceState, IsBalanced}
 use Rattle.group_queue.specs.Views.{with_entries}
 use Rattle.group_queue.specs.Returns.{bag_of}
 use Rattle.group_queue.specs.Known.{place_entry}
@@ -24,5 +24,6 @@ invariant-loop-place l = record {
   pushed : (worth : Posted → ℕ) → sum_by worth (bag_of l.passes.returns).pushed + sum_by (λ (p : PlaceState). sum_by worth p.given) (into_iter_items l.place-iterator)
       ≡ sum_by worth (bag_of l.initial.passes.returns).pushed + sum_by (λ (p : PlaceState). sum_by worth p.given) l.fn.places.items;
   dockets : l.dockets.items ++ map (λ (p : PlaceState). p.docket) (into_iter_items l.place-iterator) ≡ l.initial.dockets.items ++ map (λ (p : PlaceState). p.docket) l.fn.places.items;
+  balanced : All IsBalanced (into_iter_items l.place-iterator) → All IsBalanced l.fn.places.items;
   room : vec_len l.dockets + length (into_iter_items l.place-iterator) ≤ vec_capacity l.dockets;
 }

@@ -1,0 +1,209 @@
+//! How a group ends, with a report.
+ghost use Rattle.std.specs.Prelude.{◌≡◌, ◌≤◌, ◌+◌, [], sum_by, length, vec_capacity, All, None};
+ghost use Rattle.dispatch_core.specs.declared.event.Job.{Job as job_type};
+ghost use Rattle.dispatch_core.specs.JobRuns.{count_of};
+ghost use Rattle.group_jobs.specs.declared.fate.Fate.{Fate as fate_type};
+ghost use Rattle.group_jobs.specs.Settled.{settled_as, runs_of, spare_of};
+ghost use Rattle.group_queue.specs.Ports.{IsPortOf};
+ghost use Rattle.group_queue.specs.Places.{IsPlaceOf};
+ghost use Rattle.group_queue.specs.Openings.{AreLeftOf};
+ghost use Rattle.group_queue.specs.Ends.{place_numbers, HasAll, IsWhole, Reports};
+ghost use Rattle.group_queue.specs.Finishing.{Finishes, IsPrepared};
+ghost use Rattle.group_queue.specs.Known.{AreReady, IsJoined};
+
+use crate::checking::place_of;
+use crate::ending::{join_place, join_places, join_ports, pop_queued, pop_returned};
+use crate::error::FinishError;
+use crate::group::SharedGroup;
+use crate::main_queue;
+use crate::place::{Passes, Place};
+use crate::port::Port;
+use crate::reserving::{Lists, reserve};
+use group_jobs::{Docket, Envelope, Ledger, Report};
+use std::alloc::Global;
+use std::sync::Wait;
+
+/// A group that was not ended, and why, with all that was given to end it. The same call may be made again, or all be given
+/// up.
+pub struct Unfinished<'a> {
+    pub error: FinishError,
+    pub group: SharedGroup<'a>,
+    pub ports: Vec<Port>,
+    pub places: Vec<Place>,
+    pub held: Vec<Envelope>,
+}
+
+impl<'a> Unfinished<'a> {
+    /// Gives all of it up, and tells why the group was not ended.
+    pub fn abandon(self) -> FinishError
+        ensures { result ≡ self.entry.error }
+    {
+        let Unfinished {
+            error,
+            group,
+            ports: _,
+            places: _,
+            held,
+        } = self;
+        spend(held);
+        group.abandon();
+        error
+    }
+}
+
+impl<'a> SharedGroup<'a> {
+    /// Ends the group and says what became of its messages. It is given all of its ports and places, and the envelopes that
+    /// are out. A step of a queue may wait for another thread's.
+    ///
+    /// # Errors
+    ///
+    /// [`Unfinished`], with all that was given, for the first of these reasons that applies:
+    ///
+    /// - 505 [`FinishError::Missing`]: a port, a place or an envelope, in this order, is not there.
+    /// - 507 [`FinishError::Stranger`]: an envelope is there more often than its message is out.
+    /// - 506 [`FinishError::Memory`]. All room is made before anything is joined or popped.
+    pub fn finish<R: Wait>(
+        self,
+        rt: &R,
+        alloc: Global,
+        ports: Vec<Port>,
+        places: Vec<Place>,
+        held: Vec<Envelope>,
+    ) -> Result<Report, Unfinished<'a>>
+        requires ports { All (IsPortOf self) ports.items }
+        requires places { All (IsPlaceOf self) places.items }
+        ensures { Finishes self.entry ports.items places.items held.items result }
+    {
+        match self.prepare(alloc, &ports, &places, &held) {
+            Ok(lists) => Ok(self.end(rt, lists, ports, places, held)),
+            Err(error) => Err(Unfinished {
+                error,
+                group: self,
+                ports,
+                places,
+                held,
+            }),
+        }
+    }
+
+    // Looks whether all is there, and makes room for the report.
+    fn prepare(
+        &self,
+        alloc: Global,
+        ports: &[Port],
+        places: &[Place],
+        held: &[Envelope],
+    ) -> Result<Lists, FinishError>
+        ensures { IsPrepared self.now ports.now places.now held.now result }
+    {
+        self.check(ports, places, held)?;
+        match reserve(alloc, self.ports, ports, places, held) {
+            Ok(lists) => Ok(lists),
+            Err(error) => Err(FinishError::from(error)),
+        }
+    }
+
+    // Ends a group of which all is there, with room for the report.
+    fn end<R: Wait>(
+        self,
+        rt: &R,
+        lists: Lists,
+        ports: Vec<Port>,
+        places: Vec<Place>,
+        held: Vec<Envelope>,
+    ) -> Report
+        requires ports { All (IsPortOf self) ports.items }
+        requires places { All (IsPlaceOf self) places.items }
+        requires whole { IsWhole self ports.items places.items held.items }
+        requires ready { AreReady self.shape.ports ports.items places.items held.items lists }
+        ensures { Reports self.entry ports.items places.items held.items result }
+    {
+        spend(held);
+        let Lists {
+            accepted,
+            held,
+            mut dockets,
+            mut settled,
+            mut queued,
+            mut returned,
+        } = lists;
+        let mut passes = self.join_all(ports, places, &mut dockets);
+        main_queue::look(&self.main, &mut passes.main);
+        pop_returned(rt, &self.returns, &mut passes.returns, &mut returned);
+        pop_queued(rt, &self.main, &mut passes.main, &mut queued);
+        self.abandon();
+        merge_all(&mut settled, dockets);
+        Report {
+            accepted,
+            settled,
+            held,
+            queued,
+            returned,
+        }
+    }
+
+    // Takes all passes in into those of who opened the group.
+    fn join_all(
+        &self,
+        ports: Vec<Port>,
+        places: Vec<Place>,
+        dockets: &mut Vec<Docket>,
+    ) -> Passes
+        requires ports { All (IsPortOf self.now) ports.items }
+        requires places { All (IsPlaceOf self.now) places.items }
+        requires whole { HasAll self.now.shape.places (place_numbers places.items) }
+        requires none { dockets.old.items ≡ [] }
+        requires room { length places.items ≤ vec_capacity dockets.old }
+        ensures { IsJoined self.now ports.items places.items result dockets.new.items }
+    {
+        let mut places = places;
+        let Some(at) = place_of(&places, self.places - 1) else {
+            unreachable!()
+        };
+        let mut last = places.remove(at);
+        let mut passes = self.take_keeper(&mut last);
+        dockets.push_reserved(join_place(&self.main, &self.returns, &mut passes, last));
+        join_places(&self.main, &self.returns, &mut passes, places, dockets);
+        join_ports(&self.main, &mut passes.main, ports);
+        passes
+    }
+
+    // What is left of the passes of who opened the group, out of the last place.
+    fn take_keeper(&self, place: &mut Place) -> Passes
+        requires of { IsPlaceOf self.now place.old }
+        requires last { place.old.number + 1 ≡ self.now.shape.places }
+        ensures left { AreLeftOf self.now self.now.shape.places result }
+        ensures few { self.now.shape.places ≤ 32 }
+        ensures place { place.new ≡ record place.old { keeps = None } }
+    {
+        let Some(keeper) = place.keeper.take() else {
+            unreachable!()
+        };
+        keeper
+    }
+}
+
+// Puts what all dockets settled into one ledger. No job was settled twice.
+fn merge_all(settled: &mut Ledger, dockets: Vec<Docket>)
+    requires once { (fate : fate_type) (job : job_type) →
+        count_of job (settled_as fate settled.old) + sum_by (λ docket. count_of job (settled_as fate docket.settled)) dockets.items ≤ 1 }
+    requires room { (fate : fate_type) → sum_by (λ docket. length (runs_of fate docket.settled)) dockets.items ≤ spare_of fate settled.old }
+    ensures { (fate : fate_type) (job : job_type) → count_of job (settled_as fate settled.new)
+        ≡ count_of job (settled_as fate settled.old) + sum_by (λ docket. count_of job (settled_as fate docket.settled)) dockets.items }
+{
+    for docket in dockets {
+        settled.merge(docket.into_settled());
+    }
+}
+
+// Spends envelopes, whose messages are let go.
+fn spend(held: Vec<Envelope>) {
+    let mut held = held;
+    for _ in 0..held.len() {
+        let Some(envelope) = held.pop() else {
+            unreachable!()
+        };
+        let (_stamp, _message) = envelope.open();
+    }
+    held.destroy_empty();
+}
