@@ -1,12 +1,11 @@
 -- What a pass knows once it took in another, and what was popped into a list.
-use Rattle.std.proofs.Common.{◌≡◌, ℕ, suc, ◌+◌, ◌<◌, ◌≤◌, List, [], ◌∷◌, ◌++◌, length, refl, sym, ap, ◌∙◌, subst, arith, append_assoc, length-append}
-use Rattle.std.specs.Prelude.{map}
+use Rattle.std.proofs.Common.{◌≡◌, ℕ, suc, ◌<◌, ◌≤◌, List, [], ◌∷◌, ◌++◌, length, refl, sym, ap, ◌∙◌, arith, append_assoc, length-append}
 use Rattle.std.proofs.lemmas.List.{map-append}
 use Rattle.group_queue.specs.declared.posted.Posted.{Posted}
 use Rattle.group_queue.specs.declared.view.Entry.{Entry}
 use Rattle.group_queue.specs.declared.view.View.{View}
 use Rattle.group_queue.specs.declared.view.Bag.{Bag}
-use Rattle.group_queue.specs.Views.{joined, with_entries, popping, list_in, grown}
+use Rattle.group_queue.specs.Views.{joined, with_entries}
 use Rattle.group_queue.specs.Returns.{bag, popping_back}
 use Rattle.group_queue.specs.Places.{jobs_in}
 

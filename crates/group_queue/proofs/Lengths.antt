@@ -1,16 +1,14 @@
 -- Lists that have each job equally often are equally long.
-use Rattle.std.proofs.Common.{◌≡◌, ◌≢◌, ℕ, zero, suc, ◌+◌, ◌≤◌, ◌⊎◌, ⊎_elim, inl, inr, List, [], ◌∷◌, ◌++◌, length, refl, sym, ap, ◌∙◌, arith, length-append, eqb, eqb-true, cond, true, false}
-use Rattle.std.specs.Prelude.{map, sum_by, ◌&&◌, All}
+use Rattle.std.proofs.Common.{◌≡◌, ◌≢◌, ◌+◌, ◌≤◌, ◌⊎◌, ⊎_elim, inl, inr, List, [], ◌∷◌, ◌++◌, length, refl, ap, ◌∙◌, arith, length-append, eqb, eqb-true, cond, true, false}
+use Rattle.std.specs.Prelude.{sum_by, ◌&&◌, All}
 use Rattle.std.proofs.lemmas.Bool.{cases_eq}
 use Rattle.std.proofs.lemmas.List.Elements.{All-head, All-tail}
 use Rattle.std.proofs.lemmas.List.Sums.{sum_by-cons}
 use Rattle.dispatch_core.specs.declared.event.Job.{Job}
 use Rattle.dispatch_core.specs.JobRuns.{count_of}
 use Rattle.dispatch_core.proofs.JobLists.{count_of-append, count_of-cons, count_of_contained}
-use Rattle.group_jobs.specs.Balance.{Balance}
 use Rattle.group_jobs.specs.declared.fate.Fate.TheVariants.{Acknowledged, Refused}
 use Rattle.group_jobs.specs.Settled.{settled_as}
-use Rattle.group_queue.specs.declared.posted.Posted.{Posted}
 use Rattle.group_queue.specs.Places.{PlaceState, IsBalanced, jobs_in}
 use Rattle.group_queue.specs.Known.{ended}
 use Rattle.group_queue.proofs.Endings.{length_jobs}
@@ -73,7 +71,7 @@ balanced_length place balanced =
     let agains = jobs_in place.agains in
     let given = jobs_in place.given in
     let same = same_lengths (firsts ++ agains) (done ++ (no ++ (given ++ out)))
-        (λ job. omega (arith, balanced job, count_of-append job firsts agains, count_of-append job done (no ++ (given ++ out)), count_of-append job no (given ++ out), count_of-append job given out)) in
+    (λ job. omega (arith, balanced job, count_of-append job firsts agains, count_of-append job done (no ++ (given ++ out)), count_of-append job no (given ++ out), count_of-append job given out)) in
     omega (
       arith,
       same,

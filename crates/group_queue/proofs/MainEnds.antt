@@ -1,18 +1,16 @@
 -- What follows where one pass of the main queue has all names: each accepted job was handed out for the first time by one place,
 -- once, or popped by who ends the group, or it stands in the queue.
-use Rattle.std.proofs.Common.{◌≡◌, ◌≢◌, ℕ, zero, suc, ◌+◌, ◌<◌, ◌≤◌, ◌⊎◌, inl, inr, ⊎_elim, Bool, true, false, cond, eqb, ltb, eq-eqb, ne_eqb, List, [], ◌∷◌, ◌++◌, length, get_or, Contains, refl, sym, ap, ◌∙◌, subst, arith, append_assoc, length-append}
-use Rattle.std.specs.Prelude.{map, filter, sum_by, count_by, ◌&&◌}
+use Rattle.std.proofs.Common.{◌≡◌, ◌≢◌, ℕ, zero, suc, ◌+◌, ◌<◌, ◌≤◌, ◌⊎◌, inl, inr, Bool, true, false, cond, eqb, ltb, eq-eqb, List, [], ◌∷◌, ◌++◌, length, get_or, Contains, refl, sym, ap, ◌∙◌, subst, arith, append_assoc, length-append}
+use Rattle.std.specs.Prelude.{map, filter, sum_by, ◌&&◌}
 use Rattle.std.proofs.lemmas.Bool.{lt-ltb, le-ltb, ltb-true, ltb-false, eqb-true}
-use Rattle.std.proofs.lemmas.List.{get_or_past, map-append}
+use Rattle.std.proofs.lemmas.List.{get_or_past}
 use Rattle.std.proofs.lemmas.List.Sums.{sum_by-cons, sum_by-append, get_or-le-sum_by}
-use Rattle.std.proofs.lemmas.List.Elements.{filter-append}
 use Rattle.dispatch_core.specs.declared.event.Job.{Job}
 use Rattle.dispatch_core.specs.JobRuns.{count_of}
 use Rattle.group_queue.specs.declared.posted.Posted.{Posted}
 use Rattle.group_queue.specs.declared.view.Name.{Name}
 use Rattle.group_queue.specs.declared.view.Name.TheVariants.{Port, Place, Finisher}
 use Rattle.group_queue.specs.declared.view.Entry.{Entry}
-use Rattle.group_queue.specs.declared.view.View.{View}
 use Rattle.group_queue.specs.Views.{same_name, entry, Each, AreApart}
 use Rattle.group_queue.specs.Past.{Pop, all_of, through, popped_by, list_of, AreNumbered, Fits}
 use Rattle.group_queue.specs.Ports.{PortState, Shape}
@@ -21,7 +19,7 @@ use Rattle.group_queue.specs.Ends.{HasAll, AreCounts}
 use Rattle.group_queue.specs.Known.{port_entry, place_entry, knowing}
 use Rattle.group_queue.proofs.Lists.{same_name-refl, same_name-true, same_name-other, through-push, through-other}
 use Rattle.group_queue.proofs.MainLaws.{posts}
-use Rattle.group_queue.proofs.Partition.{times, spread, sum_by-map, sum_by-same, sum_by-none}
+use Rattle.group_queue.proofs.Partition.{times, spread, sum_by-map, sum_by-none}
 
 -- 1 where it is so
 abbrev pub bit : Bool → ℕ
@@ -159,7 +157,7 @@ module _ (past : List Pop) (items : List Posted) (owner : Name → ℕ) (pass : 
       let whole = spread (λ (pop : Pop). pop.by) f (Finisher ∷ map (λ (p : PlaceState). Place p.number) places) past (λ pop. each_popper pop.by) in
       let of = λ (n : Name). sum_by-map w (λ (pop : Pop). pop.posted) (filter (λ (pop : Pop). same_name pop.by n) past) in
       let firsts = Each-sum (λ e. (owner e.name ≡ pass) × (e.list ≡ list_of e.name past items)) place_entry (λ (p : PlaceState). sum_by w p.firsts) (λ (p : PlaceState). popped (Place p.number))
-          (λ p is. ap (sum_by w) is.1 ∙ of (Place p.number)) places split.0 in
+      (λ p is. ap (sum_by w) is.1 ∙ of (Place p.number)) places split.0 in
       let last = ap (sum_by w) fits.entries.0.1 ∙ of Finisher in
       omega (
         arith,
@@ -176,7 +174,7 @@ module _ (past : List Pop) (items : List Posted) (owner : Name → ℕ) (pass : 
   all_sent w =
       let whole = spread (λ (x : Posted). Port x.job.port) w (map (λ (p : PortState). Port p.number) ports) (all_of past items) each_port in
       let sent = Each-sum (λ e. (owner e.name ≡ pass) × (e.list ≡ list_of e.name past items)) port_entry (λ (p : PortState). sum_by w p.sent) (λ (p : PortState). sum_by w (through p.number (all_of past items)))
-          (λ p is. ap (sum_by w) is.1) ports split.1 in
+      (λ p is. ap (sum_by w) is.1) ports split.1 in
       omega (
         arith,
         whole,

@@ -13,7 +13,6 @@ use Rattle.group_jobs.specs.declared.fate.Fate.{Fate}
 use Rattle.group_jobs.specs.declared.fate.Fate.TheVariants.{Acknowledged, Refused}
 use Rattle.group_jobs.specs.Settled.{IsUnsettled, KeepsSettled, Settles}
 use Rattle.group_jobs.specs.Dockets.{Kept, TakesOff}
-use Rattle.group_jobs.specs.Balance.{Balance}
 use Rattle.group_jobs.proofs.Taking.{All-taken}
 use Rattle.group_queue.specs.declared.posted.Posted.{Posted}
 use Rattle.group_queue.specs.declared.place.Passes.{Passes}
@@ -23,13 +22,13 @@ use Rattle.group_queue.specs.declared.view.View.{View}
 use Rattle.group_queue.specs.declared.view.Bag.{Bag}
 use Rattle.group_queue.specs.Past.{Pop, Takes}
 use Rattle.group_queue.specs.Returns.{bag, bag_of, PopsBack, PushesBack}
-use Rattle.group_queue.specs.Places.{PlaceState, IsPlaceOf, IsNewPlace, AreNewPlaces, jobs_in, Hands, account_of}
+use Rattle.group_queue.specs.Places.{PlaceState, IsPlaceOf, IsNewPlace, AreNewPlaces, jobs_in}
 use Rattle.group_queue.specs.Ports.{GroupId, PortState, IsPortOf, new_port, AreNewPorts}
 use Rattle.std.proofs.lemmas.Option.{get_or_from_slice_get}
 use mathlib.Core.Logic.{dite}
 use native.Mathlib.Decide.{ℕ_discrete}
 use Rattle.group_queue.specs.Openings.{AreLeftOf}
-use Rattle.group_queue.specs.Takers.{place_of, hands_of, AreBare, IsInHands, IsKept}
+use Rattle.group_queue.specs.Takers.{hands_of, AreBare, IsInHands, IsKept}
 use Rattle.group_queue.proofs.Ports.{list-grown, of-grown}
 use Rattle.group_queue.proofs.Balances.{count-posted, count-push, count-taken, times-kept, times-settled}
 

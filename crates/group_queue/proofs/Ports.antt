@@ -1,17 +1,16 @@
 -- What a step of its pass makes of a port.
-use Rattle.std.proofs.Common.{◌≡◌, ◌≢◌, ℕ, ◌+◌, ◌≤◌, [], ◌∷◌, ◌++◌, length, sym, ap, ◌∙◌, subst, arith, length-append}
+use Rattle.std.proofs.Common.{◌≡◌, ◌≢◌, ℕ, ◌+◌, [], ◌∷◌, ◌++◌, length, sym, ap, ◌∙◌, subst, arith, length-append}
 use Rattle.crossbeam_queue.specs.Fifo.{Held}
 use Rattle.crossbeam_queue.specs.Passes.{Pass, view}
 use Rattle.group_jobs.specs.declared.message.Message.{Message}
 use Rattle.group_queue.specs.declared.posted.Posted.{Posted}
-use Rattle.atomic_table.specs.Seated.{TableId}
 use Rattle.group_queue.specs.declared.view.Name.{Name}
 use Rattle.group_queue.specs.declared.view.Name.TheVariants.{Port}
 use Rattle.group_queue.specs.declared.view.View.{View}
 use Rattle.group_queue.specs.Views.{one, list_in, grown, IsOf}
 use Rattle.group_queue.specs.Past.{Stands, Adds}
 use Rattle.group_queue.specs.Ports.{PortState}
-use Rattle.group_queue.specs.Senders.{sent_by, IsSender, IsCounted}
+use Rattle.group_queue.specs.Senders.{sent_by, IsCounted}
 use Rattle.group_queue.specs.Offers.{Accepts}
 
 abbrev pub Sender : Type 0

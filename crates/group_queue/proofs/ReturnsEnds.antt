@@ -1,6 +1,6 @@
 -- What follows where one pass of the returns queue has all parts: what was given back was handed out again, or popped by who ends
 -- the group, or it stands in the queue.
-use Rattle.std.proofs.Common.{◌≡◌, ℕ, zero, suc, ◌+◌, ◌≤◌, List, [], ◌∷◌, set, refl, sym, ap, ◌∙◌, ⊎_elim, arith}
+use Rattle.std.proofs.Common.{◌≡◌, ℕ, zero, suc, ◌+◌, ◌≤◌, List, [], ◌∷◌, set, refl, sym, ap, ⊎_elim, arith}
 use Rattle.std.specs.Prelude.{sum_by}
 use Rattle.std.proofs.lemmas.List.Sums.{sum_by-cons}
 use mathlib.Core.Option.{some, some-injective, some-ne-none}
@@ -8,7 +8,7 @@ use lib.ListN.{get_elem?}
 use Rattle.crossbeam_queue.proofs.Lists.{at_set}
 use Rattle.group_queue.specs.declared.posted.Posted.{Posted}
 use Rattle.group_queue.specs.declared.view.Bag.{Bag}
-use Rattle.group_queue.specs.Returns.{bag, Gives, StandsBack}
+use Rattle.group_queue.specs.Returns.{bag, Gives}
 use Rattle.group_queue.proofs.ReturnsSteps.{sum_at}
 
 none_each : {A : Type 0} (f : A → ℕ) (xs : List A) → sum_by f xs ≡ 0 → (j : ℕ) (u : A) → get_elem? xs j ≡ some u → f u ≡ 0

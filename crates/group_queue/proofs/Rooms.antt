@@ -1,23 +1,20 @@
 -- What was accepted and is neither settled nor out is what is left in both queues; and how all of it adds up.
-use Rattle.std.proofs.Common.{◌≡◌, ◌≢◌, ℕ, zero, suc, ◌+◌, ◌<◌, ◌≤◌, Bool, true, false, cond, eqb, eqb-true, eq-eqb, ltb, List, [], ◌∷◌, ◌++◌, length, get_or, Contains, All, refl, sym, ap, ◌∙◌, subst, arith}
+use Rattle.std.proofs.Common.{◌≡◌, ℕ, suc, ◌+◌, ◌≤◌, Bool, true, false, cond, eqb, eq-eqb, ltb, List, [], ◌∷◌, length, get_or, All, refl, sym, ap, ◌∙◌, arith}
 use Rattle.std.specs.Prelude.{map, sum_by, ◌&&◌}
 use Rattle.std.proofs.lemmas.List.Sums.{sum_by-cons, sum_by-append, get_or-le-sum_by}
-use mathlib.Core.Option.{some}
-use lib.ListN.{get_elem?}
 use Rattle.dispatch_core.specs.declared.event.Job.{Job}
 use Rattle.dispatch_core.specs.JobRuns.{count_of}
 use Rattle.group_jobs.specs.declared.stamp.Stamp.{Stamp}
 use Rattle.group_jobs.specs.Stamps.{Held, job_of, stamp_of}
 use Rattle.group_jobs.specs.Reports.{times_accepted}
 use Rattle.group_queue.specs.declared.posted.Posted.{Posted}
-use Rattle.group_queue.specs.declared.view.View.{View}
 use Rattle.group_queue.specs.declared.view.Bag.{Bag}
-use Rattle.group_queue.specs.Past.{Pop, Stands, all_of}
-use Rattle.group_queue.specs.Returns.{bag, popping_back, Gives, StandsBack}
+use Rattle.group_queue.specs.Past.{Stands, all_of}
+use Rattle.group_queue.specs.Returns.{popping_back, StandsBack}
 use Rattle.group_queue.specs.Ports.{GroupId, PortState, Shape}
 use Rattle.group_queue.specs.Places.{PlaceState, IsBalanced, jobs_in}
 use Rattle.group_queue.specs.Ends.{HasAll, AreCounts, times_held, times_out}
-use Rattle.group_queue.specs.Known.{knowing, ended, IsRoomFor}
+use Rattle.group_queue.specs.Known.{knowing, IsRoomFor}
 use Rattle.group_queue.proofs.MainLaws.{posts}
 use Rattle.group_queue.proofs.Partition.{sum_by-map, sum_by-same}
 use Rattle.group_queue.proofs.MainEnds.{worth, bit, count_in, all_popped, all_sent, all_counted, count_all}
@@ -39,7 +36,6 @@ module _ (shape : Shape) (places : List PlaceState) (ports : List PortState)
     (v : Bag) (parts : 64 ≤ v.parts)
     (popped : (w : Posted → ℕ) → sum_by w v.popped ≡ sum_by (λ (p : PlaceState). sum_by w p.agains) places)
     (pushed : (w : Posted → ℕ) → sum_by w v.pushed ≡ sum_by (λ (p : PlaceState). sum_by w p.given) places) where
-
   main_weighs : (left items : List Posted) → Stands (knowing shape left places ports) items → (w : Posted → ℕ)
       → sum_by (λ (p : PortState). sum_by w p.sent) ports ≡ sum_by (λ (p : PlaceState). sum_by w p.firsts) places + sum_by w left + sum_by w items
   main_weighs left items stands w =

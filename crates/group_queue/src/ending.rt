@@ -75,7 +75,11 @@ pub fn join_place(
     ensures docket { result ≡ place.docket }
     ensures balanced { IsBalanced place }
 {
-    let Place { passes: own, docket, .. } = place;
+    let Place {
+        passes: own,
+        docket,
+        ..
+    } = place;
     main_queue::join(main, &mut passes.main, own.main);
     returns_queue::join(returns, &mut passes.returns, own.returns);
     docket

@@ -143,12 +143,7 @@ impl<'a> SharedGroup<'a> {
     }
 
     // Takes all passes in into those of who opened the group.
-    fn join_all(
-        &self,
-        ports: Vec<Port>,
-        places: Vec<Place>,
-        dockets: &mut Vec<Docket>,
-    ) -> Passes
+    fn join_all(&self, ports: Vec<Port>, places: Vec<Place>, dockets: &mut Vec<Docket>) -> Passes
         requires ports { All (IsPortOf self.now) ports.items }
         requires places { All (IsPlaceOf self.now) places.items }
         requires whole { HasAll self.now.shape.places (place_numbers places.items) }

@@ -1,5 +1,5 @@
 -- One place more was taken in.
-use Rattle.std.proofs.Common.{◌≡◌, ◌∷◌, ◌++◌, [], ap, sym, ◌∙◌, subst, All, refl, length, arith}
+use Rattle.std.proofs.Common.{◌≡◌, ◌++◌, ap, sym, ◌∙◌, subst, All, refl, length, arith}
 use Rattle.std.specs.Prelude.{map, sum_by}
 use Rattle.std.specs.Vec.Iter.{into_iter_items}
 use Rattle.std.proofs.lemmas.List.Elements.{All-tail, All-cons, All-nil}

@@ -1,8 +1,8 @@
 -- There is room for what was popped.
-use Rattle.std.proofs.Common.{◌≤◌, ◌++◌, ◌∷◌, [], length, ap, sym, ◌∙◌, subst, arith}
+use Rattle.std.proofs.Common.{◌++◌, ◌∷◌, [], ap, ◌∙◌, subst, arith}
 use Rattle.crossbeam_queue.specs.Passes.{view}
 use Rattle.group_queue.specs.declared.view.View.{View}
-use Rattle.group_queue.specs.Views.{popping, list_in, grown}
+use Rattle.group_queue.specs.Views.{list_in, grown}
 use Rattle.group_queue.specs.Past.{Stands}
 use Rattle.group_queue.proofs.Endings.{room_left}
 use Rattle.group_queue.proofs.ending.pop_queued.Goals as goal

@@ -1,5 +1,5 @@
 -- There is room for what was popped.
-use Rattle.std.proofs.Common.{◌≤◌, ◌++◌, ◌∷◌, [], length, length-append, ap, sym, ◌∙◌, subst, arith}
+use Rattle.std.proofs.Common.{◌++◌, ◌∷◌, [], length-append, ap, ◌∙◌, subst, arith}
 use Rattle.group_queue.specs.declared.view.Bag.{Bag}
 use Rattle.group_queue.specs.Returns.{StandsBack}
 use Rattle.group_queue.proofs.Endings.{room_left, popped_more, jobs_more}

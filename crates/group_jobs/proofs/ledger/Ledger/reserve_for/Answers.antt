@@ -1,5 +1,5 @@
 -- Room for the longer of both lists is room for each.
-use Rattle.std.proofs.Common.{◌≡◌, ◌≤◌, ◌+◌, ℕ, length, arith}
+use Rattle.std.proofs.Common.{◌≤◌, ◌+◌, ℕ, length, arith}
 use Rattle.group_jobs.specs.declared.fate.Fate.{Fate}
 use Rattle.group_jobs.specs.declared.fate.Fate.TheVariants.{Acknowledged, Refused}
 use Rattle.group_jobs.specs.declared.ledger.Ledger.{Ledger}
@@ -12,7 +12,7 @@ each old other new room a r enough Acknowledged = omega (arith, a, enough Acknow
 each old other new room a r enough Refused = omega (arith, r, enough Acknowledged, enough Refused)
 
 pub returns-clause-ok : goal.returns-clause-ok
-returns-clause-ok c = 
+returns-clause-ok c =
     each c.args.self.now c.args.other.now c.reserve.new.self c.in-Some.room
     (omega (arith, c.spare.ensures.value, c.max.ensures, c.in-Some.ensures, c.in_ok-acknowledged.ensures))
     (omega (arith, c.spare.ensures.value, c.max.ensures, c.in-Some.ensures, c.in_ok-refused.ensures))

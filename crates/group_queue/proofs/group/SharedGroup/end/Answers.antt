@@ -1,6 +1,5 @@
 -- All that is left was popped, and adds up.
-use Rattle.std.proofs.Common.{◌≡◌, ◌∙◌, ap, sym, subst, refl, []}
-use Rattle.crossbeam_queue.specs.Passes.{view}
+use Rattle.std.proofs.Common.{◌∙◌, ap, subst, refl, []}
 use Rattle.group_queue.specs.declared.view.View.{View}
 use Rattle.group_queue.specs.declared.view.Bag.{Bag}
 use Rattle.group_queue.specs.Views.{popping}

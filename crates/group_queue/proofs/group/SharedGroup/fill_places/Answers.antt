@@ -1,5 +1,5 @@
 -- One place more was made.
-use Rattle.std.proofs.Common.{◌≡◌, ◌+◌, ◌-◌, ◌++◌, ◌∷◌, [], subst, arith}
+use Rattle.std.proofs.Common.{◌≡◌, ◌-◌, ◌++◌, ◌∷◌, [], subst, arith}
 use Rattle.group_queue.specs.Places.{AreNewPlaces}
 use Rattle.group_queue.proofs.Places.{new_places-push}
 use Rattle.group_queue.proofs.group.SharedGroup.fill_places.Goals as goal

@@ -1,12 +1,10 @@
 -- Every pass was taken in.
-use Rattle.std.proofs.Common.{◌≡◌, ◌∷◌, ◌++◌, [], ap, sym, ◌∙◌, subst, length, arith}
+use Rattle.std.proofs.Common.{◌∷◌, ◌++◌, [], ap, sym, ◌∙◌, subst, length, arith}
 use Rattle.std.specs.Prelude.{map}
 use Rattle.std.specs.List.Sorted.{IsPermutation}
 use Rattle.std.proofs.lemmas.List.Elements.{All-cons}
 use Rattle.std.proofs.lemmas.List.Sorted.{IsPermutation-remove}
-use Rattle.crossbeam_queue.specs.Passes.{view}
 use Rattle.group_jobs.specs.Dockets.{Kept}
-use Rattle.group_queue.specs.Returns.{bag_of}
 use Rattle.group_queue.specs.Places.{PlaceState, IsBalanced}
 use Rattle.group_queue.proofs.Joined.{of_group, names_all, parts_all, popped_all, pushed_all}
 use Rattle.group_queue.proofs.group.SharedGroup.join_all.Goals as goal

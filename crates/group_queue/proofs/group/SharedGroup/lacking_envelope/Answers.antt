@@ -17,4 +17,4 @@ pub loop-place-preserved : goal.loop-place-preserved
 loop-place-preserved c =
     All-more (HasEnvelopes c.args.self.now c.args.places.now c.args.held.now) c.args.places.now c.loop-place.place-index c.place-item.result c.loop-place-test.true c.loop-place.invariant
     (subst (HasEnvelopes c.args.self.now c.args.places.now c.args.held.now) c.place-item.is
-        (subst (All (λ (job : Job). times_out c.args.self.now (stamp_of c.args.self.now.slot job) c.args.places.now ≤ times_held (stamp_of c.args.self.now.slot job) c.args.held.now)) (c.out.ensures ∙ ap (λ p. p.docket.out) c.place.view_is) c.in_default.ensures))
+    (subst (All (λ (job : Job). times_out c.args.self.now (stamp_of c.args.self.now.slot job) c.args.places.now ≤ times_held (stamp_of c.args.self.now.slot job) c.args.held.now)) (c.out.ensures ∙ ap (λ p. p.docket.out) c.place.view_is) c.in_default.ensures))
