@@ -51,7 +51,7 @@ pub fn acknowledge<R: Wait>(
 }
 
 /// Takes a message and gives it back, and answers whether it did.
-fn return_one<R: Wait>(rt: &R, group: &SharedGroup<'_>, place: &mut Place, turn: &Turn) -> bool
+pub fn return_one<R: Wait>(rt: &R, group: &SharedGroup<'_>, place: &mut Place, turn: &Turn) -> bool
     requires place { IsPlaceOf group.now place.old }
     requires turn { turn.now.gate ≡ group.now.gate }
     ensures { IsPlaceOf group.now place.new }

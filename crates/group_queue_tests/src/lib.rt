@@ -2,6 +2,8 @@
 #![tactic(auto)]
 
 #[cfg(test)]
+mod finishing;
+#[cfg(test)]
 mod group_ledger;
 #[cfg(test)]
 mod values;

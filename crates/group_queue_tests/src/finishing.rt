@@ -1,0 +1,288 @@
+//! One group on one thread from its opening to its report: a port, two places and a gate.
+ghost use Rattle.std.specs.Prelude.{◌≡◌, All, IfSome};
+ghost use Rattle.group_queue.specs.Ports.{IsPortOf};
+ghost use Rattle.group_queue.specs.Places.{IsPlaceOf};
+
+use crate::group_ledger::{acknowledge, offer, return_one, take_seat};
+use crate::values::message;
+use dispatch_core::Job;
+use gate_word::{Gate, GateSeat, Turn};
+use group_jobs::{Envelope, Report, Stamp};
+use group_queue::{FinishError, Lack, Place, Port, SharedGroup, Unfinished};
+use std::alloc::Global;
+use std::sync::Wait;
+use std::test::Fail;
+
+/// Offers four messages. The near place acknowledges one and gives one back, the far one holds one.
+fn work<R: Wait>(
+    rt: &R,
+    alloc: Global,
+    group: &SharedGroup<'_>,
+    port: &mut Port,
+    near: &mut Place,
+    far: &mut Place,
+    turn: &Turn,
+) -> Option<Envelope>
+    requires port { IsPortOf group.now port.old }
+    requires near { IsPlaceOf group.now near.old }
+    requires far { IsPlaceOf group.now far.old }
+    requires turn { turn.now.gate ≡ group.now.gate }
+    ensures port { IsPortOf group.now port.new }
+    ensures near { IsPlaceOf group.now near.new }
+    ensures far { IsPlaceOf group.now far.new }
+{
+    for _ in 0..4 {
+        let _offered = offer(rt, alloc, group, port, turn);
+    }
+    let _settled = acknowledge(rt, group, near, turn);
+    let _returned = return_one(rt, group, near, turn);
+    match group.take(rt, far, turn) {
+        Ok(taken) => taken,
+        Err(_) => None,
+    }
+}
+
+/// What the calls that end a group answered: without a place, with a stranger, and with all that there is.
+#[derive(Drop, PartialEq, Debug)]
+struct Ends {
+    without: Option<FinishError>,
+    beside: Option<FinishError>,
+    report: Option<Report>,
+}
+
+/// Ends the group with all that there is.
+fn end_at_last<R: Wait>(rt: &R, alloc: Global, whole: Unfinished<'_>) -> Option<Report>
+    requires ports { All (IsPortOf whole.group) whole.ports.items }
+    requires places { All (IsPlaceOf whole.group) whole.places.items }
+{
+    let Unfinished {
+        error: _,
+        group,
+        ports,
+        places,
+        mut held,
+    } = whole;
+    if let Some(stranger) = held.pop() {
+        let (_stamp, _message) = stranger.open();
+    }
+    match group.finish(rt, alloc, ports, places, held) {
+        Ok(report) => Some(report),
+        Err(unfinished) => {
+            unfinished.abandon();
+            None
+        }
+    }
+}
+
+/// Ends the group with an envelope too many, and then without.
+fn end_with_stranger<R: Wait>(
+    rt: &R,
+    alloc: Global,
+    whole: Unfinished<'_>,
+    stranger: Envelope,
+) -> Ends
+    requires ports { All (IsPortOf whole.group) whole.ports.items }
+    requires places { All (IsPlaceOf whole.group) whole.places.items }
+{
+    let Unfinished {
+        error,
+        group,
+        ports,
+        places,
+        mut held,
+    } = whole;
+    if let Err(refused) = held.push(stranger) {
+        let (_stamp, _message) = refused.value.open();
+    }
+    match group.finish(rt, alloc, ports, places, held) {
+        Ok(report) => Ends {
+            without: Some(error),
+            beside: None,
+            report: Some(report),
+        },
+        Err(unfinished) => {
+            let beside = unfinished.error;
+            Ends {
+                without: Some(error),
+                beside: Some(beside),
+                report: end_at_last(rt, alloc, unfinished),
+            }
+        }
+    }
+}
+
+/// Ends the group without its far place, with an envelope too many, and with all that there is.
+fn end_thrice<R: Wait>(
+    rt: &R,
+    alloc: Global,
+    whole: Unfinished<'_>,
+    far: Place,
+    stranger: Envelope,
+) -> Option<Ends>
+    requires ports { All (IsPortOf whole.group) whole.ports.items }
+    requires places { All (IsPlaceOf whole.group) whole.places.items }
+    requires far { IsPlaceOf whole.group far }
+{
+    let Unfinished {
+        error: _,
+        group,
+        ports,
+        places,
+        held,
+    } = whole;
+    match group.finish(rt, alloc, ports, places, held) {
+        Ok(_report) => {
+            let (_stamp, _message) = stranger.open();
+            None
+        }
+        Err(mut unfinished) => match unfinished.places.push(far) {
+            Ok(()) => Some(end_with_stranger(rt, alloc, unfinished, stranger)),
+            Err(_far) => {
+                let (_stamp, _message) = stranger.open();
+                unfinished.abandon();
+                None
+            }
+        },
+    }
+}
+
+/// The same of a group that worked, whose gate is entered and left.
+fn end_worked<R: Wait>(
+    rt: &R,
+    alloc: Global,
+    gate: &Gate,
+    seat: GateSeat,
+    opened: (SharedGroup<'_>, Vec<Port>, Vec<Place>),
+) -> Option<Ends>
+    requires seat { seat.gate ≡ gate.now }
+    requires gate { opened.0.gate ≡ gate.now }
+    requires ports { All (IsPortOf opened.0) opened.1.items }
+    requires places { All (IsPlaceOf opened.0) opened.2.items }
+{
+    let (group, ports, places) = opened;
+    let Ok(turn) = gate.enter(seat) else {
+        group.abandon();
+        return None;
+    };
+    let Some((mut port, mut near, mut far)) = last_of(&group, ports, places) else {
+        gate.leave(turn);
+        group.abandon();
+        return None;
+    };
+    let taken = work(rt, alloc, &group, &mut port, &mut near, &mut far, &turn);
+    gate.leave(turn);
+    let Some((ports, places)) = lists_of(alloc, &group, port, near) else {
+        spend(taken);
+        group.abandon();
+        return None;
+    };
+    end_with(rt, alloc, group, ports, places, taken, far)
+}
+
+/// The last port and the last two places.
+fn last_of(
+    group: &SharedGroup<'_>,
+    mut ports: Vec<Port>,
+    mut places: Vec<Place>,
+) -> Option<(Port, Place, Place)>
+    requires ports { All (IsPortOf group.now) ports.items }
+    requires places { All (IsPlaceOf group.now) places.items }
+    ensures port { IfSome result (λ last. IsPortOf group.now last.0) }
+    ensures near { IfSome result (λ last. IsPlaceOf group.now last.1) }
+    ensures far { IfSome result (λ last. IsPlaceOf group.now last.2) }
+{
+    let _ = group;
+    let port = ports.pop()?;
+    let far = places.pop()?;
+    let near = places.pop()?;
+    Some((port, near, far))
+}
+
+/// Lists of one port and of one place.
+fn lists_of(
+    alloc: Global,
+    group: &SharedGroup<'_>,
+    port: Port,
+    near: Place,
+) -> Option<(Vec<Port>, Vec<Place>)>
+    requires port { IsPortOf group.now port }
+    requires near { IsPlaceOf group.now near }
+    ensures ports { IfSome result (λ lists. All (IsPortOf group.now) lists.0.items) }
+    ensures places { IfSome result (λ lists. All (IsPlaceOf group.now) lists.1.items) }
+{
+    let _ = group;
+    let ports = Vec::from_array(alloc, [port]).ok()?;
+    let places = Vec::from_array(alloc, [near]).ok()?;
+    Some((ports, places))
+}
+
+fn spend(envelope: Option<Envelope>) {
+    if let Some(envelope) = envelope {
+        let (_stamp, _message) = envelope.open();
+    }
+}
+
+/// The same with the envelope that is out.
+fn end_with<R: Wait>(
+    rt: &R,
+    alloc: Global,
+    group: SharedGroup<'_>,
+    ports: Vec<Port>,
+    places: Vec<Place>,
+    taken: Option<Envelope>,
+    far: Place,
+) -> Option<Ends>
+    requires ports { All (IsPortOf group) ports.items }
+    requires places { All (IsPlaceOf group) places.items }
+    requires far { IsPlaceOf group far }
+{
+    let mut held = Vec::new(alloc);
+    if let Some(envelope) = taken {
+        if let Err(refused) = held.push(envelope) {
+            let (_stamp, _message) = refused.value.open();
+        }
+    }
+    let whole = Unfinished {
+        error: FinishError::Memory,
+        group,
+        ports,
+        places,
+        held,
+    };
+    let Some(message) = message(alloc, b"A") else {
+        whole.abandon();
+        return None;
+    };
+    let stamp = Stamp {
+        group: 0,
+        port: 0,
+        number: 3,
+    };
+    end_thrice(rt, alloc, whole, far, Envelope::new(stamp, 1, message))
+}
+
+#[test]
+fn a_group_ends_with_a_report(rt: HostRuntime) -> Result<(), Fail> {
+    let (gate, mut seats) = Gate::open(rt.alloc(), 1)?;
+    let seat = take_seat(&gate, &mut seats).ok_or("a seat")?;
+    let opened = SharedGroup::open(rt.alloc(), &gate, 0, 1, 2, 8)?;
+    let ends = end_worked(&rt, rt.alloc(), &gate, seat, opened).ok_or("its ends")?;
+    assert_eq!(rt; ends.without, Some(FinishError::Missing(Lack::Place(1))));
+    let stamp = Stamp {
+        group: 0,
+        port: 0,
+        number: 3,
+    };
+    assert_eq!(rt; ends.beside, Some(FinishError::Stranger(stamp)));
+    let report = ends.report.ok_or("a report")?;
+    assert_eq!(rt; report.accepted.as_slice(), &[4][..]);
+    assert_eq!(rt; report.settled.acknowledged.len(), 1);
+    assert!(rt; report.settled.refused.is_empty());
+    assert_eq!(rt; report.held.as_slice(), &[Job { port: 0, number: 2 }][..]);
+    assert_eq!(rt; report.queued.as_slice(), &[Job { port: 0, number: 3 }][..]);
+    assert_eq!(rt;
+        report.returned.as_slice(),
+        &[Job { port: 0, number: 1 }][..]
+    );
+    Ok(())
+}
