@@ -1,5 +1,5 @@
 -- What becomes of a SUBSCRIBE and of an UNSUBSCRIBE before any session or group is asked (sections 3.8 to 3.11).
-use Rattle.std.specs.Prelude.{ℕ, nat_lt, nat_eq, ◌&&◌, not, codes, Bool, true, false, if◌then◌else◌, List, length, Option, Some, None, Result, Ok, Err}
+use Rattle.std.specs.Prelude.{ℕ, nat_lt, nat_eq, ◌&&◌, codes, Bool, true, false, if◌then◌else◌, List, length, Option, Some, None, Result, Ok, Err}
 use Rattle.std.specs.List.{list_any, starts_with}
 use Rattle.mqtt_wire.specs.declared.packet.QoS.{QoS}
 use Rattle.mqtt_wire.specs.declared.packet.QoS.TheVariants.{AtMostOnce, AtLeastOnce, ExactlyOnce}

@@ -43,9 +43,7 @@ pub fn subscribe_refusal(subscribe: &Subscribe) -> Option<ReasonCode>
 fn asks_no_local(entries: &[Subscription]) -> bool
     ensures { result ≡ list_any is_local_share entries.now }
 {
-    entries
-        .iter()
-        .any(|entry| entry.options.no_local && entry.filter.as_bytes().starts_with(SHARE))
+    entries.iter().any(|entry| entry.options.no_local && entry.filter.as_bytes().starts_with(SHARE))
 }
 
 /// The Reason Code with which an UNSUBSCRIBE closes the connection: 83 where it has more than 32 entries (profile). `None`
@@ -72,7 +70,8 @@ pub fn answer_to_entry(
         let code = ReasonCode::SUBSCRIPTION_IDENTIFIERS_NOT_SUPPORTED;
         return Ok(EntryAnswer::Refuse(code));
     }
-    let is_served = !matches!(entry.options.maximum_qos, QoS::AtMostOnce) && terms.takes_all_packets;
+    let is_served = !matches!(entry.options.maximum_qos, QoS::AtMostOnce)
+        && terms.takes_all_packets;
     let filter = entry.filter.try_clone()?;
     Ok(share_answer(is_served, filter))
 }

@@ -1,5 +1,5 @@
 -- What each run of packets keeps.
-use Rattle.std.proofs.Common.{◌≡◌, ℕ, zero, suc, ◌+◌, ◌<◌, ◌≤◌, Bool, true, false, not, cond, eqb, nat_lt, List, [], ◌∷◌, ◌++◌, length, get_or, refl, sym, ap, ◌∙◌, arith, inl, inr, ◌⊎◌, Option, Some, None, is_some, append_assoc, append-nil, count_by}
+use Rattle.std.proofs.Common.{◌≡◌, ℕ, zero, suc, ◌+◌, ◌<◌, ◌≤◌, Bool, true, false, not, cond, eqb, nat_lt, List, [], ◌∷◌, ◌++◌, length, get_or, refl, sym, ap, ◌∙◌, arith, inl, inr, ◌⊎◌, Option, Some, None, append_assoc, append-nil, count_by}
 use Rattle.std.specs.Prelude.{◌≢◌}
 use Rattle.std.specs.List.{All, AllPairs}
 use Rattle.std.proofs.lemmas.Bool.{cases_lt}
@@ -9,7 +9,6 @@ use Rattle.std.proofs.lemmas.List.Elements.{filter-append}
 use Rattle.std.proofs.lemmas.List.Sums.{sum_by-cons}
 use Rattle.mqtt_wire.specs.declared.fault.StreamFault.{StreamFault}
 use Rattle.mqtt_wire.specs.declared.packet.Connect.{Connect}
-use Rattle.mqtt_wire.specs.declared.packet.ConnectRefusal.TheVariants.{ImplementationSpecificError, ClientIdentifierNotValid, BadAuthenticationMethod}
 use Rattle.mqtt_wire.specs.declared.packet.Packet.{Packet}
 use Rattle.mqtt_wire.specs.declared.packet.Packet.TheVariants as packets
 use Rattle.solo_broker.specs.declared.connection.Standing.TheVariants.{Unconnected, Connected, Closed}
@@ -18,7 +17,7 @@ use Rattle.group_jobs.specs.declared.message.Message.{Message}
 use Rattle.solo_broker.specs.Names.{Share}
 use Rattle.solo_broker.specs.Story.{Story, HandOut, opening, open_identifiers, unacknowledged, acknowledges, refuses}
 use Rattle.solo_broker.specs.HandOuts.{quota, times, waiting, Turn, deliver}
-use Rattle.solo_broker.specs.Reply.{Reply, closing}
+use Rattle.solo_broker.specs.Reply.{Reply}
 use Rattle.conn_rules.specs.declared.connecting.FirstAnswer.{FirstAnswer}
 use Rattle.conn_rules.specs.declared.connecting.FirstAnswer.TheVariants.{Close, Refuse, Attach}
 use Rattle.conn_rules.specs.Connecting.{or_else, connect_answer}
