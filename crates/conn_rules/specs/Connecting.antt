@@ -46,7 +46,7 @@ connect_answer c =
     else (if is_some c.properties.authentication then Refuse BadAuthenticationMethod
     else (if nat_lt 128 (length c.client_identifier) then Refuse ClientIdentifierNotValid else Attach)))
 
--- 3.1.4: the first packet is a CONNECT of version 5 without a will
+-- 3.1: the first packet is a CONNECT; another version is refused (3.1.2.2), and so is a will (profile)
 abbrev pub first_answer : Packet → FirstAnswer
 first_answer (packets.Connect c) = connect_answer c
 first_answer (packets.OtherVersion version) = Refuse UnsupportedProtocolVersion

@@ -17,7 +17,7 @@ fault_refusal Malformed = None
 fault_refusal Protocol = Some ProtocolError
 fault_refusal TooLarge = None
 
--- 3.1.2.10: nothing came for one and a half times the keep alive, which is told in seconds
+-- 3.1.2.10: no packet came for one and a half times the keep alive; this is in seconds, and `silent` in milliseconds
 abbrev pub is_overdue : ℕ → ℕ → Bool
 is_overdue keep_alive silent = nat_lt 0 keep_alive && nat_le (1500 * keep_alive) silent
 

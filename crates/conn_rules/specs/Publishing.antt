@@ -9,8 +9,8 @@ use Rattle.group_jobs.specs.declared.message.Message.{Message}
 use Rattle.conn_rules.specs.declared.publishing.PublishAnswer.{PublishAnswer}
 use Rattle.conn_rules.specs.declared.publishing.PublishAnswer.TheVariants.{Close, Refuse, Offer}
 
--- the Reason Code with which a PUBLISH of QoS 1 closes the connection: RETAIN 9A (3.2.2.3.5), a Topic Alias 94
--- (3.3.2.3.4), an empty topic 82 (3.3.2.1), a wildcard in it 81 (3.3.2.1)
+-- the Reason Code with which a PUBLISH of QoS 1 closes the connection: RETAIN 9A (3.2.2.3.5), a Topic Alias 94 (3.3.2.3.4; for 0
+-- too, profile), an empty topic 82 (3.3.2.1), a wildcard in it 81 (3.3.2.1; the code is the profile's)
 abbrev pub closing_code : Publish → Option ℕ
 closing_code publish =
     if publish.retain then Some 0x9A
@@ -24,11 +24,14 @@ identified_answer (Some code) identifier publish = Close code
 identified_answer None identifier publish =
     if is_some publish.properties.message_expiry_interval then Refuse identifier 0x83 else Offer identifier
 
--- 3.3.1.2: a PUBLISH of QoS 1 is acknowledged; QoS 2 is not supported, and QoS 0 has no fate (profile)
-abbrev pub publish_answer : Delivery → Publish → PublishAnswer
-publish_answer (AtLeastOnce identifier) publish = identified_answer (closing_code publish) identifier publish
-publish_answer AtMostOnce publish = Close 0x83
-publish_answer (ExactlyOnce identifier) publish = Close 0x9B
+-- 3.3.4: a PUBLISH of QoS 1 is acknowledged; QoS 2 is not supported (3.2.2.3.4), and QoS 0 is not served (profile)
+abbrev pub delivery_answer : Delivery → Publish → PublishAnswer
+delivery_answer (AtLeastOnce identifier) publish = identified_answer (closing_code publish) identifier publish
+delivery_answer AtMostOnce publish = Close 0x83
+delivery_answer (ExactlyOnce identifier) publish = Close 0x9B
+
+abbrev pub publish_answer : Publish → PublishAnswer
+publish_answer publish = delivery_answer publish.delivery publish
 
 -- 3.4.2.1: 10 where no group matched, 97 where one that matched did not take the message, else 00
 abbrev pub puback_code : ℕ → ℕ → ℕ

@@ -21,7 +21,7 @@ most_entries = 32
 abbrev pub is_local_share : Subscription → Bool
 is_local_share entry = entry.options.no_local && starts_with nat_eq entry.filter (codes "$share/")
 
--- the Reason Code with which a SUBSCRIBE closes the connection, if it does
+-- the Reason Code with which a SUBSCRIBE closes the connection, if it does: too many entries are the profile's
 abbrev pub subscribe_refusal : Subscribe → Option ℕ
 subscribe_refusal s =
     if nat_lt most_entries (length s.subscriptions) then Some 0x83
@@ -30,18 +30,19 @@ subscribe_refusal s =
 abbrev pub unsubscribe_refusal : Unsubscribe → Option ℕ
 unsubscribe_refusal u = if nat_lt most_entries (length u.filters) then Some 0x83 else None
 
--- 3.8.3.1: more than QoS 0 is asked for
-abbrev pub asks_more : QoS → Bool
-asks_more AtMostOnce = false
-asks_more AtLeastOnce = true
-asks_more ExactlyOnce = true
+-- 3.8.3.1: a QoS is asked for at which packets are acknowledged
+abbrev pub asks_acknowledged : QoS → Bool
+asks_acknowledged AtMostOnce = false
+asks_acknowledged AtLeastOnce = true
+asks_acknowledged ExactlyOnce = true
 
+-- a filter, and a text that is none
 abbrev pub filter_code : Result (List ℕ) TopicError → ℕ
 filter_code (Ok filter) = 0x83
 filter_code (Err refusal) = 0x8F
 
--- 3.9.3: the Reason Code of a text that is no share: what is a filter is not served unless it is shared (profile), and what is
--- neither is no valid Topic Filter
+-- the Reason Code of a text that is no share: what is a filter is not served unless it is shared, and what is neither is no valid
+-- Topic Filter (profile)
 abbrev pub refused_code : TopicError → List ℕ → ℕ
 refused_code NotShared text = filter_code (filter_of text)
 refused_code _ text = 0x8F
@@ -52,9 +53,10 @@ share_answer true (Ok share) text = Join share
 share_answer false (Ok share) text = Refuse 0x83
 share_answer served (Err refusal) text = Refuse (refused_code refusal text)
 
--- An entry, of several refusals the first: a Subscription Identifier goes with none (A1, 3.2.2.3.12); a text that is no filter
--- and no share (8F), a filter that is not shared, QoS 0, and a client that does not take every packet (83, profile).
+-- An entry, of several refusals the first: a Subscription Identifier is not supported (A1, 3.2.2.3.12; profile, for now); a text
+-- that is no filter and no share (8F), a filter that is not shared and QoS 0 (83, profile), and a client that does not take every
+-- packet (83; profile, for now)
 abbrev pub entry_answer : Bool → Subscription → Terms → EntryAnswer
-entry_answer has_identifier entry terms =
-    if has_identifier then Refuse 0xA1
-    else share_answer (asks_more entry.options.maximum_qos && terms.takes_all_packets) (share_of entry.filter) entry.filter
+entry_answer identified entry terms =
+    if identified then Refuse 0xA1
+    else share_answer (asks_acknowledged entry.options.maximum_qos && terms.takes_all_packets) (share_of entry.filter) entry.filter

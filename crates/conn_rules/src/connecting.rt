@@ -6,7 +6,7 @@ use crate::terms::is_size_under;
 use mqtt_wire::{Connect, ConnectRefusal, MaximumPacketSize, Offer, Packet, QoS};
 
 /// The longest client identifier, in bytes.
-const LONGEST_IDENTIFIER: usize = 128;
+const LONGEST_CLIENT_IDENTIFIER: usize = 128;
 
 /// What becomes of a connection at its first packet.
 #[derive(Clone, Copy, Debug, PartialEq, Eq)]
@@ -19,7 +19,7 @@ pub enum FirstAnswer {
     Attach,
 }
 
-/// What becomes of a connection at its first packet: a CONNECT of version 5 without a will may open it (section 3.1.4).
+/// What becomes of a connection at its first packet: a CONNECT of version 5 (section 3.1.2.2) without a will (profile) may open it.
 pub fn answer_to_first(packet: &Packet) -> FirstAnswer
     ensures { result ≡ first_answer packet.now }
 {
@@ -45,7 +45,7 @@ pub fn answer_to_connect(connect: &Connect) -> FirstAnswer
     if properties.authentication.is_some() {
         return FirstAnswer::Refuse(ConnectRefusal::BadAuthenticationMethod);
     }
-    if connect.client_identifier.as_bytes().len() > LONGEST_IDENTIFIER {
+    if connect.client_identifier.as_bytes().len() > LONGEST_CLIENT_IDENTIFIER {
         return FirstAnswer::Refuse(ConnectRefusal::ClientIdentifierNotValid);
     }
     FirstAnswer::Attach

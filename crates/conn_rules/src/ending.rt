@@ -5,7 +5,7 @@ ghost use Rattle.conn_rules.specs.Ending.{fault_code, fault_refusal, is_overdue,
 use mqtt_wire::{ConnectRefusal, ReasonCode, StreamFault};
 
 /// How long a connection may be without a CONNECT, in milliseconds.
-const FIRST_PACKET: u64 = 10_000;
+const CONNECT_TIMEOUT: u64 = 10_000;
 
 /// The Reason Code of the DISCONNECT with which a fault closes a connection.
 pub fn fault_code(fault: StreamFault) -> ReasonCode
@@ -29,8 +29,8 @@ pub fn fault_refusal(fault: StreamFault) -> Option<ConnectRefusal>
     }
 }
 
-/// Whether a client has sent nothing for one and a half times its keep alive, in seconds; `silent` is in milliseconds
-/// (section 3.1.2.10).
+/// Whether a client is overdue whose keep alive is so many seconds and whose last packet came so many milliseconds ago: after one
+/// and a half times its keep alive (section 3.1.2.10).
 pub fn is_overdue(keep_alive: u16, silent: u64) -> bool
     ensures { result ≡ is_overdue keep_alive silent }
 {
@@ -41,5 +41,5 @@ pub fn is_overdue(keep_alive: u16, silent: u64) -> bool
 pub fn is_late(waited: u64) -> bool
     ensures { result ≡ is_late waited }
 {
-    waited >= FIRST_PACKET
+    waited >= CONNECT_TIMEOUT
 }

@@ -1,4 +1,4 @@
-//! What a connection answers by itself: the rules of MQTT 5.0 and of this broker that ask no session, no share and no group.
+//! What a connection answers by itself: rules of MQTT 5.0 and of this broker that ask no session, no routes and no group.
 //!
 //! ```
 //! match answer_to_first(&packet) {

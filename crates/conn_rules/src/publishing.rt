@@ -17,9 +17,9 @@ pub enum PublishAnswer {
     Offer(PacketIdentifier),
 }
 
-/// What becomes of a PUBLISH: QoS 2 is not supported, and QoS 0 has no fate (section 3.3.1.2, profile).
+/// What becomes of a PUBLISH: QoS 2 is not supported (section 3.2.2.3.4), and QoS 0 is not served (profile).
 pub fn answer_to_publish(publish: &Publish) -> PublishAnswer
-    ensures { result ≡ publish_answer publish.now.delivery publish.now }
+    ensures { result ≡ publish_answer publish.now }
 {
     match publish.delivery {
         Delivery::AtLeastOnce(identifier) => answer_under(identifier, publish),

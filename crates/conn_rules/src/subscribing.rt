@@ -1,5 +1,5 @@
 //! What becomes of a SUBSCRIBE and of an UNSUBSCRIBE, as far as they ask no session and no group (sections 3.8 to 3.11).
-ghost use Rattle.std.specs.Prelude.{◌≡◌, nat_eq, codes, IfOk};
+ghost use Rattle.std.specs.Prelude.{◌≡◌, nat_eq, codes};
 ghost use Rattle.std.specs.List.{list_any, starts_with};
 ghost use Rattle.mqtt_topic.specs.Names.{share_of};
 ghost use Rattle.conn_rules.specs.Subscribing.{subscribe_refusal, unsubscribe_refusal, is_local_share, entry_answer, share_answer, refused_code};
@@ -7,7 +7,6 @@ ghost use Rattle.conn_rules.specs.Subscribing.{subscribe_refusal, unsubscribe_re
 use crate::terms::Terms;
 use mqtt_topic::{Filter, RefusedText, Share, TopicError};
 use mqtt_wire::{QoS, ReasonCode, Subscribe, Subscription, Text, Unsubscribe};
-use std::alloc::AllocError;
 
 /// How many entries a SUBSCRIBE or an UNSUBSCRIBE has at most.
 const MOST_ENTRIES: usize = 32;
@@ -60,20 +59,18 @@ pub fn unsubscribe_refusal(unsubscribe: &Unsubscribe) -> Option<ReasonCode>
 
 /// What becomes of an entry of a SUBSCRIBE, with or without a Subscription Identifier, of a client of these terms.
 pub fn answer_to_entry(
-    has_identifier: bool,
-    entry: &Subscription,
+    has_subscription_identifier: bool,
+    entry: Subscription,
     terms: &Terms,
-) -> Result<EntryAnswer, AllocError>
-    ensures { IfOk result (λ answer. answer ≡ entry_answer has_identifier entry.now terms.now) }
+) -> EntryAnswer
+    ensures { result ≡ entry_answer has_subscription_identifier entry terms.now }
 {
-    if has_identifier {
-        let code = ReasonCode::SUBSCRIPTION_IDENTIFIERS_NOT_SUPPORTED;
-        return Ok(EntryAnswer::Refuse(code));
+    if has_subscription_identifier {
+        return EntryAnswer::Refuse(ReasonCode::SUBSCRIPTION_IDENTIFIERS_NOT_SUPPORTED);
     }
-    let is_served = !matches!(entry.options.maximum_qos, QoS::AtMostOnce)
-        && terms.takes_all_packets;
-    let filter = entry.filter.try_clone()?;
-    Ok(share_answer(is_served, filter))
+    let Subscription { filter, options } = entry;
+    let is_served = !matches!(options.maximum_qos, QoS::AtMostOnce) && terms.takes_all_packets;
+    share_answer(is_served, filter)
 }
 
 /// What becomes of an entry with that text, where it is served at all.
@@ -87,14 +84,15 @@ fn share_answer(is_served: bool, filter: Text) -> EntryAnswer
     }
 }
 
-/// The Reason Code of a text that is no share: 83 where it is a filter, and else 8F.
+/// The Reason Code of a text that is no share: 83 where it is a filter, and else 8F (profile).
 fn refused_code(refused: RefusedText) -> ReasonCode
     ensures { result ≡ refused_code refused.error refused.text }
 {
     match refused.error {
-        TopicError::NotShared if Filter::parse(refused.text).is_ok() => {
-            ReasonCode::IMPLEMENTATION_SPECIFIC_ERROR
-        }
+        TopicError::NotShared => match Filter::parse(refused.text) {
+            Ok(_) => ReasonCode::IMPLEMENTATION_SPECIFIC_ERROR,
+            Err(_) => ReasonCode::TOPIC_FILTER_INVALID,
+        },
         _ => ReasonCode::TOPIC_FILTER_INVALID,
     }
 }

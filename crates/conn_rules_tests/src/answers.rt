@@ -6,7 +6,9 @@ use conn_rules::{
     subscribe_refusal, terms_of, unsubscribe_refusal,
 };
 use group_jobs::Fate;
-use mqtt_wire::{ConnectRefusal, Fault, Packet, PacketIdentifier, ReasonCode, StreamFault};
+use mqtt_wire::{
+    ConnectRefusal, Fault, Packet, PacketIdentifier, ReasonCode, StreamFault, Subscribe,
+};
 use std::alloc::Global;
 use std::test::Fail;
 
@@ -81,6 +83,11 @@ fn terms_of_clients(rt: HostRuntime) -> Result<(), Fail> {
         takes_all_packets: true,
     };
     assert_eq!(rt; terms(rt.alloc(), PLAIN)?, Some(plain));
+    let few = Terms {
+        takes_all_packets: false,
+        ..plain
+    };
+    assert_eq!(rt; terms(rt.alloc(), TAKES_65_535)?, Some(few));
     assert!(rt; plain.is_given_expiry(1) && !plain.is_given_expiry(0));
     let asks = "101700044D5154540502003C08110000000521000200027731";
     let asked = Terms {
@@ -167,26 +174,27 @@ fn entries_that_close(rt: HostRuntime) -> Result<(), Fail> {
     Ok(())
 }
 
-// The Reason Code of the first entry of a SUBSCRIBE, 0 where it asks to join a group.
-fn entry(alloc: Global, digits: &str, terms: &Terms) -> Result<u8, Fault> {
-    let Some(Packet::Subscribe(subscribe)) = packet(alloc, digits)? else {
-        return Ok(0xFF);
-    };
-    let has_identifier = subscribe.properties.subscription_identifier.is_some();
-    let Some(first) = subscribe.subscriptions.as_slice().first() else {
-        return Ok(0xFF);
-    };
-    match answer_to_entry(has_identifier, first, terms) {
-        Ok(answer) => Ok(code_of(&answer)),
-        Err(_) => Err(Fault::Memory),
+// The Reason Code of an entry that is refused; `None` of one that asks to join a group.
+fn code_of(answer: &EntryAnswer) -> Option<ReasonCode> {
+    match answer {
+        EntryAnswer::Refuse(code) => Some(*code),
+        EntryAnswer::Join(_) => None,
     }
 }
 
-// The Reason Code of an entry that is refused, 0 of one that asks to join a group.
-fn code_of(answer: &EntryAnswer) -> u8 {
-    match answer {
-        EntryAnswer::Refuse(code) => code.get(),
-        EntryAnswer::Join(_) => 0,
+// The Reason Code of the last entry of a SUBSCRIBE.
+fn code_of_last(subscribe: Subscribe, terms: &Terms) -> Option<ReasonCode> {
+    let has_subscription_identifier = subscribe.properties.subscription_identifier.is_some();
+    let mut entries = subscribe.subscriptions.into_vec();
+    let answer = answer_to_entry(has_subscription_identifier, entries.pop()?, terms);
+    code_of(&answer)
+}
+
+// The Reason Code of the one entry of a SUBSCRIBE; `None` where it asks to join a group.
+fn entry(alloc: Global, digits: &str, terms: &Terms) -> Result<Option<ReasonCode>, Fault> {
+    match packet(alloc, digits)? {
+        Some(Packet::Subscribe(subscribe)) => Ok(code_of_last(subscribe, terms)),
+        _ => Err(Fault::Stream(StreamFault::Malformed)),
     }
 }
 
@@ -202,24 +210,26 @@ fn entries_of_a_subscribe(rt: HostRuntime) -> Result<(), Fail> {
         takes_all_packets: false,
         ..all
     };
+    let unsuited = Some(ReasonCode::IMPLEMENTATION_SPECIFIC_ERROR);
+    let invalid = Some(ReasonCode::TOPIC_FILTER_INVALID);
+    let identified = Some(ReasonCode::SUBSCRIPTION_IDENTIFIERS_NOT_SUPPORTED);
     let share = "8212000100000C2473686172652F672F6A6F6201";
-    assert_eq!(rt; entry(rt.alloc(), share, &all)?, 0);
-    assert_eq!(rt; entry(rt.alloc(), share, &few)?, 0x83);
-    assert_eq!(rt;
-        entry(rt.alloc(), "8212000100000C2473686172652F672F6A6F6202", &all)?,
-        0
-    );
-    assert_eq!(rt;
-        entry(rt.alloc(), "8212000100000C2473686172652F672F6A6F6200", &all)?,
-        0x83
-    );
-    assert_eq!(rt; entry(rt.alloc(), "820700010000016101", &all)?, 0x83);
-    assert_eq!(rt; entry(rt.alloc(), "82080001000002612301", &all)?, 0x8F);
+    assert_eq!(rt; entry(rt.alloc(), share, &all)?, None);
+    assert_eq!(rt; entry(rt.alloc(), share, &few)?, unsuited);
+    let at_qos_2 = "8212000100000C2473686172652F672F6A6F6202";
+    assert_eq!(rt; entry(rt.alloc(), at_qos_2, &all)?, None);
+    let at_qos_0 = "8212000100000C2473686172652F672F6A6F6200";
+    assert_eq!(rt; entry(rt.alloc(), at_qos_0, &all)?, unsuited);
+    assert_eq!(rt; entry(rt.alloc(), "820700010000016101", &all)?, unsuited);
+    assert_eq!(rt; entry(rt.alloc(), "82080001000002612301", &all)?, invalid);
     assert_eq!(rt;
         entry(rt.alloc(), "820E00010000082473686172652F6701", &all)?,
-        0x8F
+        invalid
     );
-    assert_eq!(rt; entry(rt.alloc(), "82090001020B0500016101", &all)?, 0xA1);
+    assert_eq!(rt;
+        entry(rt.alloc(), "82090001020B0500016101", &all)?,
+        identified
+    );
     Ok(())
 }
 
@@ -229,6 +239,7 @@ fn endings(rt: HostRuntime) -> Result<(), Fail> {
     assert_eq!(rt; fault_code(StreamFault::Protocol).get(), 0x82);
     assert_eq!(rt; fault_code(StreamFault::TooLarge).get(), 0x95);
     assert_eq!(rt; fault_refusal(StreamFault::Malformed), None);
+    assert_eq!(rt; fault_refusal(StreamFault::TooLarge), None);
     assert_eq!(rt;
         fault_refusal(StreamFault::Protocol),
         Some(ConnectRefusal::ProtocolError)

@@ -20,8 +20,8 @@ pub record Story : Type 0 where
   pub accepted : List Message
   pub handed_out : List HandOut
 
--- 3.1.2.11: what holds where a CONNECT says nothing: the greatest Receive Maximum, packets of any size, and a session that
--- ends with its connection
+-- 3.1.2: what holds before a CONNECT: no keep alive, the greatest Receive Maximum, packets of any size, and a session that ends with
+-- its connection
 abbrev pub default_terms : Terms
 default_terms = record { receive_maximum = 65535; session_expiry_interval = 0; keep_alive = 0; takes_all_packets = true }
 
