@@ -3,7 +3,7 @@ use Rattle.std.proofs.Common.{◌≡◌, ℕ, ◌+◌, ◌-◌, ◌≤◌, List,
 use Rattle.std.proofs.lemmas.List.{take_all}
 use Rattle.std.proofs.Math.Seq.{take-add, take-append_seam}
 use Rattle.std.specs.Io.KnownBytes.{append_known}
-use Rattle.transport.specs.Behind.{append_twice}
+use Rattle.transport.specs.Regrouping.{append_twice}
 
 -- one more piece of a list
 pub one_more : (start before after : Option (List ℕ)) (bytes : List ℕ) (count more : ℕ) → before ≡ append_known start (take count bytes) → after ≡ append_known before (take more (drop count bytes))

@@ -1,14 +1,14 @@
 -- What a scripted source gives.
-use Rattle.std.specs.Prelude.{◌≡◌, ◌⊎◌, List, [], ◌∷◌, ◌++◌}
+use Rattle.std.specs.Prelude.{◌≡◌, ◌⊎◌, List, [], ◌∷◌}
 use Rattle.transport.specs.declared.answers.Arrival.{Arrival}
 use Rattle.transport.specs.declared.answers.Arrival.TheVariants.{End}
 use Rattle.transport.specs.declared.counts.Tally.{Tally}
 
--- what is still to be given, the last first, and how often it failed and gave
+-- what is still to be given, and how often it failed and gave
 pub record Arrivals (T : Type 0) : Type 0 where
   pub turns : List (Arrival T)
   pub tally : Tally
 
--- the last of these is given; where there is none, the source has ended
+-- the first of these is given; where there is none, the source has ended
 abbrev pub Gives : {T : Type 0} → List (Arrival T) → Arrival T → List (Arrival T) → Type 0
-Gives old answer new = (old ≡ new ++ answer ∷ []) ⊎ ((old ≡ []) × (new ≡ []) × (answer ≡ End))
+Gives old answer new = (old ≡ answer ∷ new) ⊎ ((old ≡ []) × (new ≡ []) × (answer ≡ End))

@@ -1,7 +1,10 @@
 -- A transport with bytes that wait to be given to it.
-use Rattle.std.specs.Prelude.{◌≡◌, ℕ, List, ◌++◌, Option, Some, None, refl}
-use Rattle.std.proofs.Common.{ap, append_assoc}
+use Rattle.std.specs.Prelude.{ℕ, List, ◌++◌, Option}
 use Rattle.std.specs.Io.KnownBytes.{append_known}
+
+-- how many bytes wait at most: 16 KiB
+abbrev pub write_behind_room : ℕ
+write_behind_room = 16384
 
 -- the transport below, and the bytes that it was not given yet
 pub record Behind (T : Type 0) : Type 0 where
@@ -15,8 +18,3 @@ all_taken accepted behind = append_known (accepted behind.below) behind.waiting
 -- what is kept back: below, and then here
 abbrev pub all_kept : {T : Type 0} → (T → List ℕ) → Behind T → List ℕ
 all_kept kept behind = kept behind.below ++ behind.waiting
-
--- known bytes with some behind them, and then others
-pub append_twice : (known : Option (List ℕ)) (a b : List ℕ) → append_known (append_known known a) b ≡ append_known known (a ++ b)
-append_twice None a b = refl
-append_twice (Some xs) a b = ap Some (append_assoc xs a b)

@@ -51,12 +51,12 @@ got_at (Some reading.End) room left = got.End
 got_at (Some reading.Failed) room left = got.Failed
 got_at None room left = if nat_eq left 0 then got.End else got.Bytes (min room left)
 
--- what a write takes at its turn, of so many bytes, with room for so many: behind the last turn all that fits
+-- what a write takes at its turn, of so many bytes, with room for so many: behind the last turn all that fits, and it fails where nothing does
 abbrev pub put_at : Option WriteTurn → ℕ → ℕ → Put
 put_at (Some (writing.AtMost count)) size room = some_written (min count (min size room))
 put_at (Some writing.Idle) size room = put.Idle
 put_at (Some writing.Failed) size room = put.Failed
-put_at None size room = some_written (min size room)
+put_at None size room = if nat_eq room 0 then put.Failed else put.Wrote (min size room)
 
 -- an answer gives at least a byte, and no more than there is room for, or left
 abbrev pub IsWithinBoth : Got → ℕ → ℕ → Type 0
@@ -64,6 +64,12 @@ IsWithinBoth (got.Bytes count) room left = (0 < count) × (count ≤ room) × (c
 IsWithinBoth got.Idle room left = Unit {0}
 IsWithinBoth got.End room left = Unit {0}
 IsWithinBoth got.Failed room left = Unit {0}
+
+-- an answer takes at least a byte, and no more than it was given, or fits
+abbrev pub TakesWithinBoth : Put → ℕ → ℕ → Type 0
+TakesWithinBoth (put.Wrote count) size room = (0 < count) × (count ≤ size) × (count ≤ room)
+TakesWithinBoth put.Idle size room = Unit {0}
+TakesWithinBoth put.Failed size room = Unit {0}
 
 -- how many bytes an answer gave, or took
 abbrev pub got_count : Got → ℕ

@@ -1,12 +1,12 @@
 //! The end of a transport, bounded in the number of its tries.
-ghost use Rattle.std.specs.Prelude.{◌≡◌, ◌<◌, [], length};
+ghost use Rattle.std.specs.Prelude.{◌≡◌, ◌<◌, ◌≤◌, ◌+◌, [], length};
 ghost use Rattle.transport.specs.Counting.{MayGoOn, after_flushed};
 
 use crate::answers::Flushed;
 use crate::traits::Transport;
 
-/// Sends what is kept back, so that a last packet is not lost: tries so many times at most, as long as something is still kept
-/// back.
+/// Tries so many times at most to send what is kept back. After `Idle` some still is, where it was to try at all. It does not wait
+/// between tries; who needs time to pass asks again.
 ///
 /// Neither [`Transport::failures`] nor [`Transport::ends`] may have come to `u64::MAX`.
 pub fn flush_within<T: Transport>(transport: &mut T, tries: u32) -> Flushed
@@ -16,6 +16,7 @@ pub fn flush_within<T: Transport>(transport: &mut T, tries: u32) -> Flushed
     ensures given { T.given transport.new ≡ T.given transport.old }
     ensures accepted { T.accepted transport.new ≡ T.accepted transport.old }
     ensures counts { T.counts transport.new ≡ after_flushed result (T.counts transport.old) }
+    ensures each_refused { result ≡ Flushed.Idle → T.refusals transport.old + tries ≤ T.refusals transport.new }
 {
     'tries: for _ in 0..tries {
         match transport.flush() {

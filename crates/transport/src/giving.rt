@@ -22,6 +22,8 @@ pub(crate) fn give<T: Transport>(transport: &mut T, bytes: &[u8]) -> Given
     ensures accepted { T.accepted transport.new ≡ append_known (T.accepted transport.old) (take result.count bytes.now) }
     ensures given { T.given transport.new ≡ T.given transport.old }
     ensures counts { T.counts transport.new ≡ after_flushed result.outcome (T.counts transport.old) }
+    ensures refusals { T.refusals transport.old ≤ T.refusals transport.new }
+    ensures refused { result.outcome ≡ Flushed.Idle → T.refusals transport.old < T.refusals transport.new }
 {
     let mut count = 0;
     'pieces: while count < bytes.len() {

@@ -14,6 +14,10 @@ pub fn leaves_in_order<T: Transport>()
 
 /// **What a transport that writes behind gave to the one below is a beginning of what it took, in order**, and what is behind
 /// that waits; whatever the transport below, where that tells its bytes.
+///
+/// This much lies in the definition of `all_taken`. What speaks of the program are the clauses `accepted` of `read`, `write` and
+/// `flush` of a [`WriteBehind`](crate::WriteBehind), by which `all_taken` is what its writes took, and that of its `new`, by which
+/// nothing waits at first.
 pub fn gives_in_order<T: Transport>()
     ensures { (behind : Behind T) (taken below : List ℕ) → all_taken T.accepted behind ≡ Some taken →
         T.accepted behind.below ≡ Some below → taken ≡ below ++ behind.waiting }

@@ -24,4 +24,4 @@ pub use scripted_source::ScriptedSource;
 pub use stand_ins::{OpenCrossing, SetClock};
 pub use traits::{Clock, Crossing, Source, Transport};
 pub use turns::{ReadTurn, WriteTurn};
-pub use write_behind::{ROOM, WriteBehind};
+pub use write_behind::{WRITE_BEHIND_ROOM, WriteBehind};

@@ -1,5 +1,5 @@
 //! A transport that plays a script, for tests of what a connection may meet.
-ghost use Rattle.std.specs.Prelude.{◌≡◌, ◌<◌, ◌-◌, ℕ, [], Option, Some, length, take, drop, IfOk};
+ghost use Rattle.std.specs.Prelude.{◌≡◌, ◌<◌, ◌≤◌, ◌-◌, ℕ, [], Option, Some, length, take, drop, IfOk};
 ghost use Rattle.transport.specs.Counting.{MayGoOn, after_flushed, after_got, after_put};
 ghost use Rattle.transport.specs.Scripts.{Script, got_count, new_script, played_read, played_write, read_answer, write_answer};
 ghost use Rattle.transport.specs.Streams.{GivesWithin, TakesWithin, after_read, after_write};
@@ -12,7 +12,7 @@ use std::alloc::{AllocError, Global};
 use std::marker::Model;
 
 /// A transport whose peer sends these bytes, and whose calls answer as a script says, turn by turn. Behind its last turn a
-/// read gives what is left and then the end, and a write takes what there is memory for.
+/// read gives what is left and then the end, and a write takes what there is memory for and then fails.
 #[derive(Drop)]
 pub struct Scripted {
     input: Vec<u8>,
@@ -87,6 +87,8 @@ impl Transport for Scripted {
 
     ghost counts = { λ s. s.counts };
 
+    ghost refusals = { λ s. s.writes_made };
+
     ghost given = { λ s. Some (take s.given s.input) };
 
     ghost accepted = { λ s. Some s.output };
@@ -102,6 +104,7 @@ impl Transport for Scripted {
         ensures given { Some (take self.new.given self.new.input) ≡ after_read (Some (take self.old.given self.old.input)) result buffer.new }
         ensures accepted { Some self.new.output ≡ Some self.old.output }
         ensures counts { self.new.counts ≡ after_got result self.old.counts }
+        ensures refusals { self.old.writes_made ≤ self.new.writes_made }
         ensures answer { result ≡ read_answer self.old (length buffer.old) }
         ensures played { self.new ≡ played_read self.old result }
         ensures bytes { take (got_count result) buffer.new ≡ take (got_count result) (drop self.old.given self.old.input) }
@@ -124,6 +127,8 @@ impl Transport for Scripted {
         ensures given { Some (take self.new.given self.new.input) ≡ Some (take self.old.given self.old.input) }
         ensures accepted { Some self.new.output ≡ after_write (Some self.old.output) result bytes.now }
         ensures counts { self.new.counts ≡ after_put result self.old.counts }
+        ensures refusals { self.old.writes_made ≤ self.new.writes_made }
+        ensures refused { result ≡ Put.Idle → self.old.writes_made < self.new.writes_made }
         ensures answer { result ≡ write_answer self.old (length bytes.now) }
         ensures played { self.new ≡ played_write self.old result bytes.now }
     {

@@ -1,5 +1,5 @@
 //! A source that plays a script.
-ghost use Rattle.std.specs.Prelude.{◌≡◌, ◌++◌, ◌⊎◌, List, [], ◌∷◌};
+ghost use Rattle.std.specs.Prelude.{◌≡◌, ◌⊎◌, List, [], ◌∷◌};
 ghost use Rattle.transport.specs.Counting.{MayCome, after_arrival};
 ghost use Rattle.transport.specs.Arrivals.{Gives};
 ghost use Rattle.transport.specs.declared.answers.Arrival.{Arrival};
@@ -7,12 +7,13 @@ ghost use Rattle.transport.specs.declared.answers.Arrival.{Arrival};
 use crate::answers::Arrival;
 use crate::counts::Tally;
 use crate::traits::Source;
+use std::collections::VecDeque;
 use std::marker::Model;
 
-/// A source that gives these, the last one first, and then ends.
+/// A source that gives these, one after another, and then ends.
 #[derive(Drop)]
 pub struct ScriptedSource<T> {
-    turns: Vec<Arrival<T>>,
+    turns: VecDeque<Arrival<T>>,
     tally: Tally,
 }
 
@@ -30,7 +31,7 @@ impl<T> ScriptedSource<T> {
         ensures { result ≡ record { turns = turns.items; tally = record { failures = 0; arrivals = 0 } } }
     {
         ScriptedSource {
-            turns,
+            turns: VecDeque::from(turns),
             tally: Tally::NONE,
         }
     }
@@ -44,7 +45,7 @@ impl<T> Source<T> for ScriptedSource<T> {
         ensures tally { self.new.tally ≡ after_arrival result self.old.tally }
         ensures turns { Gives self.old.turns result self.new.turns }
     {
-        match self.turns.pop() {
+        match self.turns.pop_front() {
             Some(arrival) => {
                 self.tally.count_arrival(&arrival);
                 arrival

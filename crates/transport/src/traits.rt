@@ -1,5 +1,5 @@
 //! What stands between a client and who serves it.
-ghost use Rattle.std.specs.Prelude.{◌≡◌, ◌<◌, ℕ, List, [], Option, None, length};
+ghost use Rattle.std.specs.Prelude.{◌≡◌, ◌<◌, ◌≤◌, ℕ, List, [], Option, None, length};
 ghost use Rattle.std.specs.Io.KnownBytes.{append_known};
 ghost use Rattle.transport.specs.Counting.{MayCome, MayGoOn, after_arrival, after_flushed, after_got, after_put};
 ghost use Rattle.transport.specs.declared.counts.Counts.{Counts};
@@ -8,10 +8,13 @@ ghost use Rattle.transport.specs.Streams.{GivesWithin, TakesWithin, after_read, 
 
 use crate::answers::{Arrival, Flushed, Got, Put};
 
-/// A stream of bytes to a peer and one from it. No call waits for the peer.
+/// A stream of bytes to a peer and one from it. No call waits for the peer, unless its own page says so.
 pub trait Transport {
     /// How often it failed, ended and was idle.
     ghost counts: { Self → Counts };
+
+    /// How often its writes and flushes were idle, or more: each `Idle` of one raises it, and nothing lowers it.
+    ghost refusals: { Self → ℕ };
 
     /// All that its reads gave, where that is known.
     ghost given: { Self → Option (List ℕ) };
@@ -34,7 +37,8 @@ pub trait Transport {
         ensures within { GivesWithin result buffer.new }
         ensures given { given self.new ≡ after_read (given self.old) result buffer.new }
         ensures accepted { accepted self.new ≡ accepted self.old }
-        ensures counts { counts self.new ≡ after_got result (counts self.old) };
+        ensures counts { counts self.new ≡ after_got result (counts self.old) }
+        ensures refusals { refusals self.old ≤ refusals self.new };
 
     /// Writes some bytes, of which there is one at least.
     ///
@@ -45,7 +49,9 @@ pub trait Transport {
         ensures within { TakesWithin result bytes.now }
         ensures given { given self.new ≡ given self.old }
         ensures accepted { accepted self.new ≡ after_write (accepted self.old) result bytes.now }
-        ensures counts { counts self.new ≡ after_put result (counts self.old) };
+        ensures counts { counts self.new ≡ after_put result (counts self.old) }
+        ensures refusals { refusals self.old ≤ refusals self.new }
+        ensures refused { result ≡ Put.Idle → refusals self.old < refusals self.new };
 
     /// Sends what is kept back.
     ///
@@ -56,7 +62,9 @@ pub trait Transport {
         ensures idle { result ≡ Flushed.Idle → 0 < length (kept self.new) }
         ensures given { given self.new ≡ given self.old }
         ensures accepted { accepted self.new ≡ accepted self.old }
-        ensures counts { counts self.new ≡ after_flushed result (counts self.old) };
+        ensures counts { counts self.new ≡ after_flushed result (counts self.old) }
+        ensures refusals { refusals self.old ≤ refusals self.new }
+        ensures refused { result ≡ Flushed.Idle → refusals self.old < refusals self.new };
 
     /// How often it failed: raised by one by each `Failed`, and by nothing else.
     fn failures(&self) -> u64

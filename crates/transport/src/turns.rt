@@ -1,13 +1,14 @@
 //! The turns of a script.
-ghost use Rattle.std.specs.Prelude.{◌≡◌, ◌≤◌, ◌<◌, length, slice_get, nat_eq, if◌then◌else◌};
-ghost use Rattle.transport.specs.Scripts.{IsWithinBoth, got_at, next_place, put_at, put_count};
+ghost use Rattle.std.specs.Prelude.{◌≡◌, ◌≢◌, ◌≤◌, ◌<◌, None, length, slice_get, nat_eq, if◌then◌else◌};
+ghost use Rattle.transport.specs.Scripts.{IsWithinBoth, TakesWithinBoth, got_at, next_place, put_at};
 
 use crate::answers::{Got, Put};
 
 /// What a read of a scripted transport does at its turn.
 #[derive(Clone, Copy, Debug, PartialEq, Eq)]
 pub enum ReadTurn {
-    /// It gives so many bytes of what is left, or less where fewer are left or its buffer has less room.
+    /// It gives so many bytes of what is left, or less where fewer are left or its buffer has less room. It is idle where that
+    /// comes to none.
     AtMost(usize),
     /// It is idle.
     Idle,
@@ -20,7 +21,7 @@ pub enum ReadTurn {
 /// What a write to a scripted transport does at its turn.
 #[derive(Clone, Copy, Debug, PartialEq, Eq)]
 pub enum WriteTurn {
-    /// It takes so many bytes, or less where it is given fewer or there is less memory.
+    /// It takes so many bytes, or less where it is given fewer or there is less memory. It is idle where that comes to none.
     AtMost(usize),
     /// It is idle.
     Idle,
@@ -32,6 +33,8 @@ pub enum WriteTurn {
 pub(crate) fn next_turn<T: Copy>(turns: &[T], made: &mut usize) -> Option<T>
     ensures turn { result ≡ slice_get turns.now made.old }
     ensures made { made.new ≡ next_place turns.now made.old }
+    ensures grows { made.old ≤ made.new }
+    ensures counted { result ≢ None → made.old < made.new }
 {
     let turn = turns.get(*made).copied()?;
     *made += 1;
@@ -78,13 +81,16 @@ pub(crate) fn read_at(turn: Option<ReadTurn>, room: usize, left: usize) -> Got
 
 /// What a write takes at this turn, of so many bytes, with memory for so many.
 pub(crate) fn write_at(turn: Option<WriteTurn>, size: usize, room: usize) -> Put
+    requires { 0 < size }
     ensures answer { result ≡ put_at turn size room }
-    ensures within { (put_count result ≤ size) × (put_count result ≤ room) }
+    ensures within { TakesWithinBoth result size room }
+    ensures idle { result ≡ Put.Idle → turn ≢ None }
 {
     match turn {
         Some(WriteTurn::AtMost(count)) => some_written(count.min(size.min(room))),
         Some(WriteTurn::Idle) => Put::Idle,
         Some(WriteTurn::Failed) => Put::Failed,
-        None => some_written(size.min(room)),
+        None if room == 0 => Put::Failed,
+        None => Put::Wrote(size.min(room)),
     }
 }

@@ -93,27 +93,31 @@ fn each_turn(rt: HostRuntime) -> Result<(), Fail> {
     Ok(())
 }
 
+/// A hundred small writes are one below: behind that, a further one would fail.
 #[test]
 fn written_behind(rt: HostRuntime) -> Result<(), Fail> {
-    let writes = [WriteTurn::Idle, WriteTurn::AtMost(3)];
-    let below = scripted(&rt, rt.alloc(), b"a", &[], &writes);
+    let writes = [WriteTurn::Idle, WriteTurn::AtMost(600), WriteTurn::Failed];
+    let below = scripted(&rt, rt.alloc(), b"ab", &[ReadTurn::AtMost(1)], &writes);
     let Ok(mut transport) = WriteBehind::new(rt.alloc(), below) else {
         panic!(rt; "out of memory");
     };
-    for _ in 0..100 {
-        assert_eq!(rt; write(&rt, &mut transport, b"packet"), Put::Wrote(6));
+    for number in 0..100u8 {
+        assert_eq!(rt; write(&rt, &mut transport, &[number; 6]), Put::Wrote(6));
     }
     let mut buffer = [0; 4];
-    // The read finds the peer idle, and reads all the same.
+    // The first read finds the peer idle, and reads all the same; the second gives what waits.
     assert_eq!(rt; read(&rt, &mut transport, &mut buffer), Got::Bytes(1));
-    assert_eq!(rt; flush(&rt, &mut transport), Flushed::Done);
-    assert_eq!(rt; transport.idles(), 0);
-    let below = transport.into_inner();
-    assert_eq!(rt; below.output().len(), 600);
+    assert_eq!(rt; read(&rt, &mut transport, &mut buffer), Got::Bytes(1));
+    assert_eq!(rt; [transport.failures(), transport.idles()], [0, 0]);
+    let (below, waiting) = transport.into_parts();
+    assert_eq!(rt; [below.output().len(), waiting.len()], [600, 0]);
+    for (place, byte) in below.output().iter().enumerate() {
+        assert_eq!(rt; usize::from(*byte), place / 6);
+    }
     Ok(())
 }
 
-/// A peer that takes one byte at a time, and then fails.
+/// A peer that takes a byte, is idle, takes another, fails, and goes on.
 #[test]
 fn slow_peer(rt: HostRuntime) -> Result<(), Fail> {
     let writes = [
@@ -137,26 +141,32 @@ fn slow_peer(rt: HostRuntime) -> Result<(), Fail> {
     assert_eq!(rt; transport.failures(), 1);
     assert_eq!(rt; flush_all(&rt, &mut transport, 2), Flushed::Idle);
     assert_eq!(rt; flush_all(&rt, &mut transport, 2), Flushed::Done);
-    assert_eq!(rt; transport.into_inner().output().len(), 16_385);
+    let (below, waiting) = transport.into_parts();
+    assert_eq!(rt; [below.output().len(), waiting.len()], [16_385, 0]);
     Ok(())
 }
 
 #[test]
 fn arrivals(rt: HostRuntime) -> Result<(), Fail> {
-    let turns = vec![in rt.alloc(); Arrival::Failed, Arrival::Idle, Arrival::Came(7u8)]?;
+    let turns = vec![in rt.alloc();
+        Arrival::Came(6u8),
+        Arrival::Failed,
+        Arrival::Idle,
+        Arrival::Came(7),
+    ]?;
     let mut source = ScriptedSource::new(turns);
-    let mut came = None;
-    for _ in 0..4 {
+    let mut came = [0, 0];
+    for place in 0..5usize {
         if source.failures() == u64::MAX || source.arrivals() == u64::MAX {
             panic!(rt; "too often");
         }
         match source.next() {
-            Arrival::Came(value) => came = Some(value),
+            Arrival::Came(value) => came[place / 3] = value,
             Arrival::Idle | Arrival::End | Arrival::Failed => {}
         }
     }
-    assert_eq!(rt; came, Some(7));
-    assert_eq!(rt; [source.failures(), source.arrivals()], [1, 1]);
+    assert_eq!(rt; came, [6, 7]);
+    assert_eq!(rt; [source.failures(), source.arrivals()], [1, 2]);
     Ok(())
 }
 

@@ -1,4 +1,4 @@
-use Rattle.std.proofs.Common.{◌≡◌, ◌<◌, length}
+use Rattle.std.proofs.Common.{◌≡◌, ◌<◌, ◌≤◌, ◌+◌, length}
 use Rattle.transport.proofs.ending.flush_within.Given as goal
 
 abbrev pub invariant-tries : goal.invariant-tries
@@ -9,4 +9,5 @@ invariant-tries g l =
       given : transport.given l.transport ≡ transport.given l.fn.transport;
       accepted : transport.accepted l.transport ≡ transport.accepted l.fn.transport;
       counts : transport.counts l.transport ≡ transport.counts l.fn.transport;
+      each_refused : transport.refusals l.fn.transport + l.counter ≤ transport.refusals l.transport;
     }

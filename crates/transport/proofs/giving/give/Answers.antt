@@ -1,4 +1,4 @@
-use Rattle.std.proofs.Common.{◌∙◌}
+use Rattle.std.proofs.Common.{◌∙◌, arith}
 use Rattle.transport.proofs.Appended.{more_of_rest, within_rest}
 use Rattle.transport.proofs.giving.give.Goals as goal
 
@@ -12,4 +12,5 @@ pieces-preserved g c =
       accepted = more_of_rest (transport.accepted c.args.transport.now) (transport.accepted c.pieces.transport) (transport.accepted c.write.new.self) c.args.bytes.now c.pieces.count c.in-Wrote.more inv.accepted wrote.accepted;
       given = wrote.given ∙ inv.given;
       counts = wrote.counts ∙ inv.counts;
+      refusals = (let risen = wrote.refusals in let before = inv.refusals in omega arith);
     }

@@ -10,6 +10,7 @@ invariant-pieces g l =
       accepted : transport.accepted l.transport ≡ append_known (transport.accepted l.fn.transport) (take l.count l.bytes);
       given : transport.given l.transport ≡ transport.given l.fn.transport;
       counts : transport.counts l.transport ≡ transport.counts l.fn.transport;
+      refusals : transport.refusals l.fn.transport ≤ transport.refusals l.transport;
     }
 
 abbrev pub decreases-pieces : goal.decreases-pieces
