@@ -1,8 +1,8 @@
 //! A transport that keeps writes back until they are worth a call of the system.
 ghost use Rattle.std.specs.Prelude.{◌≡◌, ◌≢◌, ◌++◌, ◌≤◌, ◌<◌, ◌-◌, ◌⊎◌, List, [], length, take, min, vec_capacity, MatchResult, ℕ, nat_eq, if◌then◌else◌};
 ghost use Rattle.std.specs.Io.KnownBytes.{append_known};
-ghost use Rattle.transport.specs.Counting.{MayGoOn, after_flushed, after_got, after_put};
 ghost use Rattle.transport.specs.Behind.{write_behind_room};
+ghost use Rattle.transport.specs.Counting.{MayGoOn, after_flushed, after_got, after_put};
 ghost use Rattle.transport.specs.Scripts.{put_count};
 ghost use Rattle.transport.specs.Streams.{GivesWithin, TakesWithin, after_read, after_write};
 
@@ -16,7 +16,7 @@ use std::marker::Model;
 pub const WRITE_BEHIND_ROOM: usize = 16_384;
 
 /// A transport over another one. What is written waits until there is no room for more, a read comes or it is flushed; so
-/// many small packets cost one write below.
+/// many small packets can go in one write below.
 pub struct WriteBehind<T> {
     inner: T,
     // What was not given to it yet.
