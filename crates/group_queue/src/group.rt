@@ -18,7 +18,8 @@ use std::sync::Wait;
 /// How many messages a port accepts in all: 2^20 (profile).
 pub(crate) const LIFE: u64 = 1 << 20;
 
-/// A group of one share behind a gate, which threads use by reference. It is ended by [`SharedGroup::abandon`].
+/// A group of one share behind a gate, which threads use by reference. It is ended by [`SharedGroup::finish`], or given up by
+/// [`SharedGroup::abandon`].
 ///
 /// Contracts see it as a `GroupId`: its slot, how many ports and places it has, its capacity, its gate, and which its queues
 /// are. Its ports and places show which queues they are of.
