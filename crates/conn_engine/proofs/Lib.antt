@@ -1,0 +1,4 @@
+pub mod Copies
+pub mod Topics
+pub mod Windows
+pub mod Fresh

@@ -1,0 +1,44 @@
+//! What a PUBACK does (section 3.4).
+ghost use Rattle.std.specs.Prelude.{◌≡◌, false};
+ghost use Rattle.conn_engine.specs.Acknowledging.{Acknowledges, SettlesIn};
+
+use crate::supply::Supply;
+use conn_rules::fate_of;
+use group_jobs::Envelope;
+use member_window::Window;
+use mqtt_wire::{PacketIdentifier, ReasonCode};
+use session_desk::{Membership, Session};
+
+/// A PUBACK settles the message under its identifier: it is acknowledged, or refused by a code from 80 hex on. A PUBACK whose
+/// identifier the session does not hold is ignored.
+pub fn acknowledge<P, S: Supply<P>>(
+    supply: &mut S,
+    session: &mut Session<Envelope, P>,
+    identifier: PacketIdentifier,
+    code: ReasonCode,
+)
+    requires { session.old.window.retired ≡ false }
+    ensures { Acknowledges S.call supply.old session.old identifier code session.new supply.new }
+{
+    match &mut session.membership {
+        Membership::NotMember => {}
+        Membership::Member(place) => settle(supply, place, &mut session.window, identifier, code),
+        Membership::Leaving(place) => settle(supply, place, &mut session.window, identifier, code),
+    }
+}
+
+/// The place settles the message under this identifier of the window, if there is one.
+fn settle<P, S: Supply<P>>(
+    supply: &mut S,
+    place: &mut P,
+    window: &mut Window<Envelope>,
+    identifier: PacketIdentifier,
+    code: ReasonCode,
+)
+    requires { window.old.retired ≡ false }
+    ensures { SettlesIn S.call supply.old place.old window.old identifier code place.new window.new supply.new }
+{
+    if let Some(envelope) = window.ack(identifier.get()) {
+        supply.settle(place, envelope, fate_of(code));
+    }
+}

@@ -1,0 +1,86 @@
+//! What becomes of a session whose connection has ended, or whose time is over.
+ghost use Rattle.std.specs.Prelude.{◌≡◌, ℕ, true, false, List, [], IsTrue, MatchResult, OnErr, OnOk};
+ghost use Rattle.group_jobs.specs.Stamps.{Held};
+ghost use Rattle.member_window.specs.Contents.{held_of, IsDown};
+ghost use Rattle.conn_engine.specs.Facts.Fact.{ParkAsIs};
+ghost use Rattle.conn_engine.specs.Ending.{down, ending, ending_session, GivesBack, Ends, Retires, Parts, Sweeps};
+
+use crate::supply::{NoMemory, Supply};
+use group_jobs::Envelope;
+use member_window::Window;
+use session_desk::{Membership, ROWS, Session};
+
+/// The connection of a session has ended: the desk parks it, and it is retired where it ends with its connection.
+pub fn part<P, S: Supply<P>>(supply: &mut S, mut session: Session<Envelope, P>, now: u64)
+    requires { session.window.retired ≡ false }
+    ensures { Parts S.call supply.old session now supply.new }
+{
+    session.window.down();
+    if let Some(session) = supply.park(session, now) {
+        retire(supply, session);
+    }
+}
+
+/// The broker closes: the session of a connection is kept as it is.
+pub fn part_as_is<P, S: Supply<P>>(supply: &mut S, mut session: Session<Envelope, P>)
+    requires { session.window.retired ≡ false }
+    ensures { S.call supply.old (ParkAsIs (down session)) supply.new }
+{
+    session.window.down();
+    supply.park_as_is(session);
+}
+
+/// Retires the sessions that are due at this moment, until none is due or memory was wanted.
+pub fn sweep<P, S: Supply<P>>(supply: &mut S, now: u64)
+    ensures { Sweeps S.call supply.old now 256 supply.new }
+{
+    sweep_most(supply, now, ROWS);
+}
+
+/// Retires the sessions that are due at this moment, so many at most.
+fn sweep_most<P, S: Supply<P>>(supply: &mut S, now: u64, most: usize)
+    ensures { Sweeps S.call supply.old now most supply.new }
+{
+    if most == 0 {
+        return;
+    }
+    if let Some(session) = supply.sweep(now) {
+        if retire(supply, session) {
+            sweep_most(supply, now, most - 1);
+        }
+    }
+}
+
+/// Retires a session: it gives back what it holds, the oldest first, and is gone. Where memory is wanted, it is kept with the
+/// rest, to be retired later. Says whether it is gone.
+pub fn retire<P, S: Supply<P>>(supply: &mut S, session: Session<Envelope, P>) -> bool
+    ensures { Retires S.call supply.old session result supply.new }
+{
+    let Session {
+        identity,
+        expiry,
+        mut window,
+        membership,
+    } = session;
+    window.down();
+    let membership = match membership {
+        Membership::NotMember => Membership::NotMember,
+        Membership::Member(mut place) => {
+            give_back(supply, &mut place, &mut window);
+            Membership::Member(place)
+        }
+        Membership::Leaving(mut place) => {
+            give_back(supply, &mut place, &mut window);
+            Membership::Leaving(place)
+        }
+    };
+    end(
+        supply,
+        Session {
+            identity,
+            expiry,
+            window,
+            membership,
+        },
+    )
+}

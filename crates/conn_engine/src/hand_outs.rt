@@ -1,0 +1,189 @@
+//! What is handed out behind the reply (sections 4.4, 4.6, 4.8.2 and 4.9).
+ghost use Rattle.std.specs.Prelude.{◌≡◌, ◌<◌, ◌∷◌, ◌++◌, [], true, false, ℕ, List, Some, None, Ok, OnOk, OnErr, IfOk, MatchOption, MatchResult};
+ghost use Rattle.mqtt_wire.specs.declared.packet.Packet.{Packet};
+ghost use Rattle.group_jobs.specs.Stamps.{Held};
+ghost use Rattle.member_window.specs.Identifiers.{identifiers, IsLeastFree};
+ghost use Rattle.member_window.specs.Contents.{held_of, HasRoom, IsNextResend, after_put, after_resend};
+ghost use Rattle.conn_rules.specs.Packets.{job};
+ghost use Rattle.conn_engine.specs.HandOuts.{SendsAgain, AsksFor, IsRefused, SendsOne, SendsNone, SendsFresh, LeavesWith, HandsFresh, HandsOut, KeepsHeld, HoldsMore, TakesSome, HandsSome};
+
+use crate::supply::{NoMemory, Supply};
+use conn_rules::job;
+use group_jobs::Envelope;
+use member_window::Window;
+use mqtt_wire::{Packet, PacketIdentifier};
+use session_desk::Membership;
+use std::alloc::Global;
+
+/// Hands out to a session what is due: what waits is sent again; then a member is handed messages while there is room, and who
+/// leaves is no member once it holds nothing. The packets go behind those that are there; the membership comes back.
+///
+/// # Errors
+///
+/// Want of memory. Nothing that the session holds is lost.
+pub fn hand_out<P, S: Supply<P>>(
+    supply: &mut S,
+    alloc: Global,
+    membership: Membership<P>,
+    window: &mut Window<Envelope>,
+    packets: &mut Vec<Packet>,
+) -> (Membership<P>, Result<(), NoMemory>)
+    ensures { MatchResult result.1
+        (λ _. (sent : List Packet) × (packets.new.items ≡ packets.old.items ++ sent)
+            × HandsOut S.call supply.old membership window.old sent result.0 window.new supply.new)
+        (λ _. HandsSome S.call supply.old membership window.old result.0 window.new supply.new) }
+{
+    if let Err(NoMemory) = send_again(alloc, window, packets) {
+        return (membership, Err(NoMemory));
+    }
+    match membership {
+        Membership::NotMember => (Membership::NotMember, Ok(())),
+        Membership::Member(mut place) => {
+            match send_fresh(supply, alloc, &mut place, window, packets) {
+                Ok(()) => (Membership::Member(place), Ok(())),
+                Err(NoMemory) => (Membership::Member(place), Err(NoMemory)),
+            }
+        }
+        Membership::Leaving(place) => (leave(supply, place, window), Ok(())),
+    }
+}
+
+/// Sends again what waits, while the quota lets it.
+fn send_again(
+    alloc: Global,
+    window: &mut Window<Envelope>,
+    packets: &mut Vec<Packet>,
+) -> Result<(), NoMemory>
+    ensures sent { OnOk result ((sent : List Packet) × (packets.new.items ≡ packets.old.items ++ sent) × SendsAgain window.old sent window.new) }
+    ensures kept { KeepsHeld window.old window.new }
+{
+    let Some(packet) = next_again(alloc, window)? else {
+        return Ok(());
+    };
+    packets.push(packet)?;
+    send_again(alloc, window, packets)?;
+    Ok(())
+}
+
+/// Sends the oldest message that waits again, where there is one and the quota lets it, and gives its packet.
+fn next_again(alloc: Global, window: &mut Window<Envelope>) -> Result<Option<Packet>, NoMemory>
+    ensures sent { IfOk result (λ sent. MatchOption sent
+        (IsNextResend window.old None × (window.new ≡ window.old))
+        (λ packet. (entry : ℕ × Held) × IsNextResend window.old (Some entry) × (window.new ≡ after_resend window.old (Some entry))
+            × (packet ≡ job true entry.1.message entry.0))) }
+    ensures kept { KeepsHeld window.old window.new }
+{
+    let _held = window.len();
+    let Some((identifier, envelope)) = window.next_resend() else {
+        return Ok(None);
+    };
+    let message = envelope.message().try_copy(alloc)?;
+    Ok(Some(job(true, message, identifier_of(identifier))))
+}
+
+/// The packet identifier of this number.
+fn identifier_of(number: u16) -> PacketIdentifier
+    requires { 0 < number }
+    ensures { result ≡ number }
+{
+    match PacketIdentifier::new(number) {
+        Some(identifier) => identifier,
+        None => unreachable!(),
+    }
+}
+
+/// Hands messages to a place, and sends them, while there is room.
+#[tactic(auto, using(crate::proofs::Fresh::one_more_sent))]
+fn send_fresh<P, S: Supply<P>>(
+    supply: &mut S,
+    alloc: Global,
+    place: &mut P,
+    window: &mut Window<Envelope>,
+    packets: &mut Vec<Packet>,
+) -> Result<(), NoMemory>
+    ensures sent { OnOk result ((sent : List Packet) × (packets.new.items ≡ packets.old.items ++ sent)
+        × SendsFresh S.call supply.old place.old window.old sent place.new window.new supply.new) }
+    ensures kept { OnErr result ((taken : List Held) × TakesSome S.call supply.old place.old window.old taken place.new window.new supply.new) }
+{
+    packets.reserve(1)?;
+    let Some(packet) = next_fresh(supply, alloc, place, window)? else {
+        return Ok(());
+    };
+    packets.push_reserved(packet);
+    match send_fresh(supply, alloc, place, window, packets) {
+        Ok(()) => Ok(()),
+        Err(NoMemory) => Err(NoMemory),
+    }
+}
+
+/// Hands a message to a place, where there is room and a message, and gives its packet.
+fn next_fresh<P, S: Supply<P>>(
+    supply: &mut S,
+    alloc: Global,
+    place: &mut P,
+    window: &mut Window<Envelope>,
+) -> Result<Option<Packet>, NoMemory>
+    ensures sent { IfOk result (λ sent. MatchOption sent
+        (SendsNone S.call supply.old place.old window.old place.new window.new supply.new)
+        (λ packet. SendsOne S.call supply.old place.old window.old packet place.new window.new supply.new × HoldsMore window.old window.new)) }
+    ensures kept { OnErr result ((taken : List Held) × TakesSome S.call supply.old place.old window.old taken place.new window.new supply.new) }
+{
+    if !window.room() {
+        return Ok(None);
+    }
+    match ask(supply, place) {
+        Ok(Some(envelope)) => match put(alloc, window, envelope) {
+            Ok(packet) => Ok(Some(packet)),
+            Err(NoMemory) => Err(NoMemory),
+        },
+        Ok(None) => Ok(None),
+        Err(NoMemory) => Err(NoMemory),
+    }
+}
+
+/// Puts a message into the window, which has room, and gives the packet in which it goes out.
+fn put(
+    alloc: Global,
+    window: &mut Window<Envelope>,
+    envelope: Envelope,
+) -> Result<Packet, NoMemory>
+    requires { HasRoom window.old }
+    ensures put { (identifier : ℕ) × IsLeastFree (identifiers (held_of window.old)) identifier
+        × (window.new ≡ after_put window.old identifier envelope)
+        × IfOk result (λ packet. packet ≡ job false envelope.message identifier) }
+    ensures progress { HoldsMore window.old window.new }
+{
+    let _held = window.len();
+    let copy = envelope.message().try_copy(alloc);
+    match window.put(envelope) {
+        Ok(identifier) => Ok(job(false, copy?, identifier_of(identifier))),
+        Err(_back) => unreachable!(),
+    }
+}
+
+/// Asks for a message for a place: one that was given back, or else the oldest that is queued.
+fn ask<P, S: Supply<P>>(supply: &mut S, place: &mut P) -> Result<Option<Envelope>, NoMemory>
+    ensures asked { IfOk result (λ found. AsksFor S.call supply.old place.old found place.new supply.new) }
+    ensures refused { OnErr result (IsRefused S.call supply.old place.old place.new supply.new) }
+{
+    match supply.take_back(place)? {
+        Some(envelope) => Ok(Some(envelope)),
+        None => supply.take(place),
+    }
+}
+
+/// Whoever leaves is no member once it holds nothing.
+fn leave<P, S: Supply<P>>(
+    supply: &mut S,
+    place: P,
+    window: &Window<Envelope>,
+) -> Membership<P>
+    ensures { LeavesWith S.call supply.old place window.now result supply.new }
+{
+    if window.is_empty() {
+        supply.take_place(place);
+        Membership::NotMember
+    } else {
+        Membership::Leaving(place)
+    }
+}

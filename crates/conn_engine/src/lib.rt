@@ -1,0 +1,16 @@
+//! What a connection answers, over any supply of sessions, routes and groups.
+#![tactic(auto)]
+
+mod acknowledging;
+mod hand_outs;
+mod publishing;
+mod reply;
+mod subscribing;
+mod supply;
+
+pub use acknowledging::acknowledge;
+pub use hand_outs::hand_out;
+pub use publishing::publish;
+pub use reply::Reply;
+pub use subscribing::{subscribe, unsubscribe};
+pub use supply::{BindRefusal, NoMemory, OfferRefusal, Supply};

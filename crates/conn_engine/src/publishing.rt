@@ -1,0 +1,154 @@
+//! The answer to a PUBLISH (section 3.3).
+ghost use Rattle.std.specs.Prelude.{◌≡◌, ◌≤◌, ◌+◌, Ok, length, All, IfOk, OnErr, vec_len};
+ghost use Rattle.mqtt_topic.specs.Names.{name_of};
+ghost use Rattle.conn_rules.specs.Publishing.{message_of, publish_answer};
+ghost use Rattle.conn_rules.specs.declared.publishing.PublishAnswer.TheVariants as answers;
+ghost use Rattle.conn_engine.specs.Facts.Fact.{Match, Offer};
+ghost use Rattle.conn_engine.specs.Publishing.{Took, Offers, OffersSome, IsOffered, IsCutShort, Publishes};
+
+use crate::reply::Reply;
+use crate::supply::{NoMemory, OfferRefusal, Supply};
+use conn_rules::{PublishAnswer, answer_to_publish, message_of, puback_code};
+use group_jobs::Message;
+use mqtt_topic::{SlotIter, Slots, TopicName};
+use mqtt_wire::{PacketIdentifier, Publish};
+use std::alloc::Global;
+
+/// Answers a PUBLISH of this connection.
+///
+/// # Errors
+///
+/// Want of memory; the message may have been offered to some of the groups that match.
+pub fn publish<P, S: Supply<P>>(
+    supply: &mut S,
+    alloc: Global,
+    connection: u16,
+    publish: Publish,
+) -> Result<Reply, NoMemory>
+    ensures replied { IfOk result (λ reply. Publishes S.call supply.old connection publish reply supply.new) }
+    ensures cut_short { OnErr result (IsCutShort S.call supply.old connection publish supply.new) }
+{
+    match answer_to_publish(&publish) {
+        PublishAnswer::Close(code) => Ok(Reply::closing_with(alloc, code)),
+        PublishAnswer::Refuse(identifier, code) => {
+            Ok(Reply::acknowledging(alloc, identifier, code))
+        }
+        PublishAnswer::Offer(identifier) => {
+            offer(supply, alloc, connection, identifier, publish)
+        }
+    }
+}
+
+/// Offers the message of a PUBLISH to the groups that match, and answers by a PUBACK.
+#[tactic(auto, using(crate::proofs::Topics::offered_is_named))]
+fn offer<P, S: Supply<P>>(
+    supply: &mut S,
+    alloc: Global,
+    connection: u16,
+    identifier: PacketIdentifier,
+    publish: Publish,
+) -> Result<Reply, NoMemory>
+    requires { publish_answer publish ≡ answers.Offer identifier }
+    ensures replied { IfOk result (λ reply. IsOffered S.call supply.old connection publish identifier reply supply.new) }
+    ensures cut_short { OnErr result (IsCutShort S.call supply.old connection publish supply.new) }
+{
+    let (slots, message) = matching(supply, message_of(publish));
+    let taken = offer_to_all(supply, alloc, connection, &slots, message)?;
+    let code = puback_code(slots.len(), taken);
+    Ok(Reply::acknowledging(alloc, identifier, code))
+}
+
+/// The slots of the groups that match a message's topic, and the message.
+fn matching<P, S: Supply<P>>(supply: &mut S, message: Message) -> (Slots, Message)
+    requires { name_of message.topic ≡ Ok message.topic }
+    ensures asked { S.call supply.old (Match message.topic result.0) supply.new }
+    ensures message { result.1 ≡ message }
+{
+    let Message {
+        topic,
+        properties,
+        payload,
+    } = message;
+    let Ok(name) = TopicName::parse(topic) else {
+        unreachable!()
+    };
+    let slots = supply.matching(&name);
+    let message = Message {
+        topic: name.into_text(),
+        properties,
+        payload,
+    };
+    (slots, message)
+}
+
+/// Offers a message to all these groups, and says how many took it. All copies are made before the first is offered.
+fn offer_to_all<P, S: Supply<P>>(
+    supply: &mut S,
+    alloc: Global,
+    connection: u16,
+    slots: &Slots,
+    message: Message,
+) -> Result<usize, NoMemory>
+    ensures offered { IfOk result (λ taken. Offers S.call supply.old connection message slots.now taken supply.new) }
+    ensures cut_short { OnErr result (OffersSome S.call supply.old connection message slots.now supply.new) }
+{
+    let copies = copies_of(alloc, &message, slots.len().saturating_sub(1))?;
+    offer_each(supply, connection, slots.iter(), message, copies)
+}
+
+/// So many copies of a message, which share its bytes.
+fn copies_of(alloc: Global, message: &Message, count: usize) -> Result<Vec<Message>, NoMemory>
+    ensures count { IfOk result (λ copies. vec_len copies ≡ count) }
+    ensures alike { IfOk result (λ copies. All (λ copy. copy ≡ message.now) copies.items) }
+{
+    let mut copies = Vec::with_capacity(alloc, count)?;
+    for _ in 0..count {
+        copies.push(message.try_copy(alloc)?)?;
+    }
+    Ok(copies)
+}
+
+/// Offers a message to these groups, in their order: a copy to each but the last.
+#[tactic(auto, using(crate::proofs::Copies::alike_popped))]
+fn offer_each<P, S: Supply<P>>(
+    supply: &mut S,
+    connection: u16,
+    mut slots: SlotIter,
+    message: Message,
+    mut copies: Vec<Message>,
+) -> Result<usize, NoMemory>
+    requires enough { length slots ≤ vec_len copies + 1 }
+    requires alike { All (λ copy. copy ≡ message) copies.items }
+    ensures offered { IfOk result (λ taken. Offers S.call supply.old connection message slots taken supply.new) }
+    ensures cut_short { OnErr result (OffersSome S.call supply.old connection message slots supply.new) }
+    ensures few { IfOk result (λ taken. taken ≤ length slots) }
+{
+    let Some(slot) = slots.next() else {
+        return Ok(0);
+    };
+    match copies.pop() {
+        None => offer_one(supply, connection, slot, message),
+        Some(copy) => {
+            let first = offer_one(supply, connection, slot, copy)?;
+            let rest = offer_each(supply, connection, slots, message, copies)?;
+            Ok(first + rest)
+        }
+    }
+}
+
+/// Offers a message to one group, and says whether that took it: 1 or 0.
+fn offer_one<P, S: Supply<P>>(
+    supply: &mut S,
+    connection: u16,
+    slot: u8,
+    message: Message,
+) -> Result<usize, NoMemory>
+    ensures offered { (answer : _) × S.call supply.old (Offer slot connection message answer) supply.new
+        × IfOk result (λ taken. Took answer taken × (taken ≤ 1)) }
+{
+    match supply.offer(slot, connection, message) {
+        Ok(_) => Ok(1),
+        Err(OfferRefusal::Memory) => Err(NoMemory),
+        Err(OfferRefusal::Shut | OfferRefusal::LifeSpent | OfferRefusal::Full) => Ok(0),
+    }
+}

@@ -1,0 +1,178 @@
+//! What a connection asks: who has which session, which share is bound to which slot, and who has which message.
+ghost use Rattle.std.specs.Prelude.{◌≡◌, ◌<◌, ◌≤◌, [], length, IfOk, false, ⊤};
+ghost use Rattle.conn_engine.specs.Facts.{Fact};
+ghost use Rattle.conn_engine.specs.Facts.Fact.{Attach, Withdraw, Kicked, Park, ParkAsIs, Keep, Bury, Sweep, LendPlace, TakePlace, Bind, Find, Match, Offer, Take, TakeBack, Settle, GiveBack};
+ghost use Rattle.conn_engine.specs.Ready.{IsReady};
+ghost use Rattle.member_window.specs.Contents.{held_of};
+ghost use Rattle.session_desk.specs.Attaching.{asked};
+
+use group_jobs::{Envelope, Fate, JobError, Message, Stamp};
+use mqtt_topic::{Share, Slots, TopicName};
+use mqtt_wire::Text;
+use session_desk::{Attached, DeskError, Session};
+use std::alloc::{AllocError, AllocFailed};
+use thiserror::Error;
+
+/// Memory was wanted and refused. Nothing has changed then.
+#[derive(Clone, Copy, Debug, PartialEq, Eq, Error)]
+#[error("out of memory")]
+pub struct NoMemory;
+
+impl From<AllocError> for NoMemory {
+    ghost from_gives = { λ _ _. ⊤ };
+
+    fn from(_error: AllocError) -> NoMemory {
+        NoMemory
+    }
+}
+
+impl<T: Drop> From<AllocFailed<T>> for NoMemory {
+    ghost from_gives = { λ _ _. ⊤ };
+
+    fn from(_error: AllocFailed<T>) -> NoMemory {
+        NoMemory
+    }
+}
+
+impl From<JobError> for NoMemory {
+    ghost from_gives = { λ _ _. ⊤ };
+
+    fn from(_error: JobError) -> NoMemory {
+        NoMemory
+    }
+}
+
+/// Why a share is not bound. Nothing has changed then.
+#[derive(Clone, Copy, Debug, PartialEq, Eq, Error)]
+pub enum BindRefusal {
+    /// 205: all eight slots are bound to other shares.
+    #[error("all slots are bound to other shares")]
+    NoSlot,
+    /// 206: memory was wanted and refused.
+    #[error("out of memory")]
+    Memory,
+}
+
+/// Why a group does not accept a message. Nothing has changed then.
+#[derive(Clone, Copy, Debug, PartialEq, Eq, Error)]
+pub enum OfferRefusal {
+    /// 401: the broker is closed.
+    #[error("the group is closed")]
+    Shut,
+    /// 502: the connection's port has accepted all messages of its life.
+    #[error("the port has accepted all messages of its life")]
+    LifeSpent,
+    /// 501: as many messages wait as the group's capacity allows.
+    #[error("the queue is full")]
+    Full,
+    /// 503: memory was wanted and refused.
+    #[error("out of memory")]
+    Memory,
+}
+
+/// What connections share: the desk of all sessions, the routes, and the groups. `P` is a place in a group.
+///
+/// Each call is one fact, which the relation `call` ties to the supply before and after it. So what is proved of a
+/// connection over every supply holds of the calls that were made, in their order, and of no others.
+pub trait Supply<P> {
+    /// What a call with these arguments and this answer makes of the supply.
+    ghost call: { Self → Fact P → Self → Type 0 };
+
+    /// Whether the broker accepts messages and hands them out. It does not any more once it was closed.
+    fn is_open(&self) -> bool;
+
+    /// A session for a connection, as of this moment in milliseconds: see [`Desk::attach`](session_desk::Desk::attach). The
+    /// connection's number is below 1,024, and the identifier of its client has at most 128 bytes.
+    fn attach(
+        &mut self,
+        connection: u16,
+        client: &Text,
+        clean: bool,
+        now: u64,
+    ) -> Result<Attached<Envelope, P>, DeskError>
+        requires known { connection < 1024 }
+        requires short { length client.now ≤ 128 }
+        ensures ready { IfOk result IsReady }
+        ensures called { call self.old (Attach (asked connection client.now clean now) result) self.new };
+
+    /// The connection waits for no session from now on.
+    fn withdraw(&mut self, connection: u16)
+        ensures { call self.old (Withdraw connection) self.new };
+
+    /// Whether another connection asked for this connection's session since it was lent.
+    fn kicked(&mut self, connection: u16) -> bool
+        ensures { call self.old (Kicked connection result) self.new };
+
+    /// A session whose connection has ended is kept until its client comes back or its time is over. One that ends with its
+    /// connection comes back, and is to be retired.
+    fn park(
+        &mut self,
+        session: Session<Envelope, P>,
+        now: u64,
+    ) -> Option<Session<Envelope, P>>
+        requires { session.window.retired ≡ false }
+        ensures { call self.old (Park session now result) self.new };
+
+    /// A session whose connection has ended is kept as it is, whatever its expiry.
+    fn park_as_is(&mut self, session: Session<Envelope, P>)
+        requires { session.window.retired ≡ false }
+        ensures { call self.old (ParkAsIs session) self.new };
+
+    /// An ending session is kept until it is handed out again by a sweep.
+    fn keep(&mut self, session: Session<Envelope, P>)
+        ensures { call self.old (Keep session) self.new };
+
+    /// An ending session that holds nothing any more is gone: its place, if it has one, is free.
+    fn bury(&mut self, session: Session<Envelope, P>)
+        requires { held_of session.window ≡ [] }
+        ensures { call self.old (Bury session) self.new };
+
+    /// A session that is to be retired: one that is kept, or one that is over by time at this moment.
+    fn sweep(&mut self, now: u64) -> Option<Session<Envelope, P>>
+        ensures { call self.old (Sweep now result) self.new };
+
+    /// The least free place of the group of this slot.
+    fn lend_place(&mut self, slot: u8) -> Option<P>
+        ensures { call self.old (LendPlace slot result) self.new };
+
+    /// A place is free from now on.
+    fn take_place(&mut self, place: P)
+        ensures { call self.old (TakePlace place) self.new };
+
+    /// The slot of the share's group: the one that is there, or the least free one.
+    fn bind(&mut self, share: Share) -> Result<u8, BindRefusal>
+        ensures { call self.old (Bind share result) self.new };
+
+    /// The slot of the share's group, where it has one.
+    fn find(&mut self, share: &Share) -> Option<u8>
+        ensures { call self.old (Find share.now result) self.new };
+
+    /// The slots of the groups whose filter matches the topic.
+    fn matching(&mut self, topic: &TopicName) -> Slots
+        ensures { call self.old (Match topic.now result) self.new };
+
+    /// Offers a message of a connection to the group of this slot.
+    fn offer(
+        &mut self,
+        slot: u8,
+        connection: u16,
+        message: Message,
+    ) -> Result<Stamp, OfferRefusal>
+        ensures { call self.old (Offer slot connection message result) self.new };
+
+    /// Hands the oldest queued message to a place; `None` where nothing is queued, or the broker is closed.
+    fn take(&mut self, place: &mut P) -> Result<Option<Envelope>, NoMemory>
+        ensures { call self.old (Take place.old place.new result) self.new };
+
+    /// Hands the message that was given back first to a place; `None` where none is there, or the broker is closed.
+    fn take_back(&mut self, place: &mut P) -> Result<Option<Envelope>, NoMemory>
+        ensures { call self.old (TakeBack place.old place.new result) self.new };
+
+    /// The place settles a message that it was handed.
+    fn settle(&mut self, place: &mut P, envelope: Envelope, fate: Fate)
+        ensures { call self.old (Settle place.old place.new envelope fate) self.new };
+
+    /// The place gives a message back that it was handed. A want of memory hands it back, and changes nothing.
+    fn give_back(&mut self, place: &mut P, envelope: Envelope) -> Result<(), Envelope>
+        ensures { call self.old (GiveBack place.old place.new envelope result) self.new };
+}
