@@ -2,3 +2,4 @@ pub mod Copies
 pub mod Topics
 pub mod Windows
 pub mod Fresh
+pub mod Sweeping

@@ -30,9 +30,10 @@ module _ {S P : Type 0} (call : S → Fact P → S → Type 0) where
       ⊎ (call old (GiveBack place place' entry.1 (Err entry.1)) new × (left ≡ entry ∷ entries))
 
   -- an ending session that holds nothing is gone, and any other is kept
-  abbrev pub Ends : S → Session Held P → List (ℕ × Held) → Bool → S → Type 0
-  Ends old session [] gone new = (gone ≡ true) × call old (Bury session) new
-  Ends old session (entry ∷ entries) gone new = (gone ≡ false) × call old (Keep session) new
+  abbrev pub Ends : S → Session Held P → Bool → S → Type 0
+  Ends old session gone new =
+      ((held_of session.window ≡ []) × (gone ≡ true) × call old (Bury session) new)
+      ⊎ ((held_of session.window ≢ []) × (gone ≡ false) × call old (Keep session) new)
 
   -- through its place, a session gives back what it holds
   pub record RetiresFrom (old : S) (session : Session Held P) (place : P) (again : P → Membership P) (gone : Bool) (new : S) : Type 0 where
@@ -40,11 +41,11 @@ module _ {S P : Type 0} (call : S → Fact P → S → Type 0) where
     pub left : List (ℕ × Held)
     pub mid : S
     pub given : GivesBack old place (held_of session.window) place' left mid
-    pub ended : Ends mid (ending_session session (again place') left) left gone new
+    pub ended : Ends mid (ending_session session (again place') left) gone new
 
   -- a session that is no member has no place to give anything back through, and holds nothing
   abbrev pub RetiresAs : S → Session Held P → Membership P → Bool → S → Type 0
-  RetiresAs old session NotMember gone new = Ends old session (held_of session.window) gone new
+  RetiresAs old session NotMember gone new = Ends old (down session) gone new
   RetiresAs old session (Member place) gone new = RetiresFrom old session place Member gone new
   RetiresAs old session (Leaving place) gone new = RetiresFrom old session place Leaving gone new
 

@@ -6,3 +6,4 @@ pub mod Memberships
 pub mod Acknowledging
 pub mod Subscribing
 pub mod HandOuts
+pub mod Ending

@@ -1,11 +1,11 @@
 //! What becomes of a session whose connection has ended, or whose time is over.
-ghost use Rattle.std.specs.Prelude.{◌≡◌, ℕ, true, false, List, [], IsTrue, MatchResult, OnErr, OnOk};
+ghost use Rattle.std.specs.Prelude.{◌≡◌, ℕ, false, List};
 ghost use Rattle.group_jobs.specs.Stamps.{Held};
 ghost use Rattle.member_window.specs.Contents.{held_of, IsDown};
 ghost use Rattle.conn_engine.specs.Facts.Fact.{ParkAsIs};
-ghost use Rattle.conn_engine.specs.Ending.{down, ending, ending_session, GivesBack, Ends, Retires, Parts, Sweeps};
+ghost use Rattle.conn_engine.specs.Ending.{down, ending, GivesBack, Ends, Retires, Parts, Sweeps};
 
-use crate::supply::{NoMemory, Supply};
+use crate::supply::Supply;
 use group_jobs::Envelope;
 use member_window::Window;
 use session_desk::{Membership, ROWS, Session};
@@ -83,4 +83,32 @@ pub fn retire<P, S: Supply<P>>(supply: &mut S, session: Session<Envelope, P>) ->
             membership,
         },
     )
+}
+
+/// A place gives back what the window holds, the oldest first, until memory is wanted: what is left stays in the window.
+fn give_back<P, S: Supply<P>>(supply: &mut S, place: &mut P, window: &mut Window<Envelope>)
+    requires { IsDown window.old }
+    ensures { (left : List (ℕ × Held)) × GivesBack S.call supply.old place.old (held_of window.old) place.new left supply.new
+        × (window.new ≡ ending left) }
+{
+    let Some((identifier, envelope)) = window.take_first() else {
+        return;
+    };
+    match supply.give_back(place, envelope) {
+        Ok(()) => give_back(supply, place, window),
+        Err(envelope) => window.restore(identifier, envelope),
+    }
+}
+
+/// An ending session that holds nothing is gone, and any other is kept. Says whether it is gone.
+fn end<P, S: Supply<P>>(supply: &mut S, session: Session<Envelope, P>) -> bool
+    ensures { Ends S.call supply.old session result supply.new }
+{
+    if session.window.is_empty() {
+        supply.bury(session);
+        true
+    } else {
+        supply.keep(session);
+        false
+    }
 }

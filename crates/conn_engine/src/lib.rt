@@ -2,6 +2,7 @@
 #![tactic(auto)]
 
 mod acknowledging;
+mod ending;
 mod hand_outs;
 mod publishing;
 mod reply;
@@ -9,6 +10,7 @@ mod subscribing;
 mod supply;
 
 pub use acknowledging::acknowledge;
+pub use ending::{part, part_as_is, retire, sweep};
 pub use hand_outs::hand_out;
 pub use publishing::publish;
 pub use reply::Reply;

@@ -1,5 +1,5 @@
 //! What a connection asks: who has which session, which share is bound to which slot, and who has which message.
-ghost use Rattle.std.specs.Prelude.{◌≡◌, ◌<◌, ◌≤◌, [], length, IfOk, false, ⊤};
+ghost use Rattle.std.specs.Prelude.{◌≡◌, ◌<◌, ◌≤◌, [], length, IfOk, IfErr, IfSome, false, ⊤};
 ghost use Rattle.conn_engine.specs.Facts.{Fact};
 ghost use Rattle.conn_engine.specs.Facts.Fact.{Attach, Withdraw, Kicked, Park, ParkAsIs, Keep, Bury, Sweep, LendPlace, TakePlace, Bind, Find, Match, Offer, Take, TakeBack, Settle, GiveBack};
 ghost use Rattle.conn_engine.specs.Ready.{IsReady};
@@ -111,7 +111,8 @@ pub trait Supply<P> {
         now: u64,
     ) -> Option<Session<Envelope, P>>
         requires { session.window.retired ≡ false }
-        ensures { call self.old (Park session now result) self.new };
+        ensures same { IfSome result (λ back. back ≡ session) }
+        ensures called { call self.old (Park session now result) self.new };
 
     /// A session whose connection has ended is kept as it is, whatever its expiry.
     fn park_as_is(&mut self, session: Session<Envelope, P>)
@@ -174,5 +175,6 @@ pub trait Supply<P> {
 
     /// The place gives a message back that it was handed. A want of memory hands it back, and changes nothing.
     fn give_back(&mut self, place: &mut P, envelope: Envelope) -> Result<(), Envelope>
-        ensures { call self.old (GiveBack place.old place.new envelope result) self.new };
+        ensures same { IfErr result (λ back. back ≡ envelope) }
+        ensures called { call self.old (GiveBack place.old place.new envelope result) self.new };
 }
