@@ -3,3 +3,4 @@ pub mod Topics
 pub mod Windows
 pub mod Fresh
 pub mod Sweeping
+pub mod Resuming

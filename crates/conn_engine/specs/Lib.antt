@@ -7,3 +7,6 @@ pub mod Acknowledging
 pub mod Subscribing
 pub mod HandOuts
 pub mod Ending
+pub mod Standings
+pub mod Connecting
+pub mod Answering

@@ -18,7 +18,8 @@ pub fn acknowledge<P, S: Supply<P>>(
     code: ReasonCode,
 )
     requires { session.old.window.retired ≡ false }
-    ensures { Acknowledges S.call supply.old session.old identifier code session.new supply.new }
+    ensures acknowledged { Acknowledges S.call supply.old session.old identifier code session.new supply.new }
+    ensures sound { session.new.window.retired ≡ false }
 {
     match &mut session.membership {
         Membership::NotMember => {}
@@ -36,7 +37,8 @@ fn settle<P, S: Supply<P>>(
     code: ReasonCode,
 )
     requires { window.old.retired ≡ false }
-    ensures { SettlesIn S.call supply.old place.old window.old identifier code place.new window.new supply.new }
+    ensures settled { SettlesIn S.call supply.old place.old window.old identifier code place.new window.new supply.new }
+    ensures sound { window.new.retired ≡ false }
 {
     if let Some(envelope) = window.ack(identifier.get()) {
         supply.settle(place, envelope, fate_of(code));

@@ -2,17 +2,23 @@
 #![tactic(auto)]
 
 mod acknowledging;
+mod answering;
+mod connecting;
 mod ending;
 mod hand_outs;
 mod publishing;
 mod reply;
+mod standing;
 mod subscribing;
 mod supply;
 
 pub use acknowledging::acknowledge;
+pub use answering::answer;
+pub use connecting::{attach, try_again};
 pub use ending::{part, part_as_is, retire, sweep};
 pub use hand_outs::hand_out;
 pub use publishing::publish;
 pub use reply::Reply;
+pub use standing::{ConnectRequest, Link, Standing};
 pub use subscribing::{subscribe, unsubscribe};
 pub use supply::{BindRefusal, NoMemory, OfferRefusal, Supply};

@@ -1,0 +1,135 @@
+-- What a connection answers to a CONNECT, and to a Tick while it waits for a session (sections 3.1 and 3.2, profile).
+use Rattle.std.specs.Prelude.{◌≡◌, ℕ, ◌+◌, nat_lt, Bool, true, false, not, ◌&&◌, List, [], ◌∷◌, Option, Some, None, Result, Ok, Err}
+use Rattle.mqtt_wire.specs.Forms.{is_text}
+use Rattle.mqtt_wire.specs.declared.packet.ConnectRefusal.{ConnectRefusal}
+use Rattle.mqtt_wire.specs.declared.packet.ConnectRefusal.TheVariants as refusals
+use Rattle.group_jobs.specs.Stamps.{Held}
+use Rattle.member_window.specs.Contents.{after_up}
+use Rattle.session_desk.specs.Sessions.{Who}
+use Rattle.session_desk.specs.Attaching.{asked}
+use Rattle.session_desk.specs.declared.attached.Attached.{Attached}
+use Rattle.session_desk.specs.declared.attached.Attached.TheVariants.{New, Resumed, Replace, Busy}
+use Rattle.session_desk.specs.declared.error.DeskError.{DeskError}
+use Rattle.session_desk.specs.declared.error.DeskError.TheVariants as errors
+use Rattle.session_desk.specs.declared.session.Session.{Session}
+use Rattle.session_desk.specs.declared.session.Membership.{Membership}
+use Rattle.session_desk.specs.declared.session.Membership.TheVariants.{NotMember, Member, Leaving}
+use Rattle.conn_rules.specs.Packets.{accepting, refusing}
+use Rattle.conn_rules.specs.declared.terms.Terms.{Terms}
+use Rattle.conn_engine.specs.declared.reply.Reply.{Reply}
+use Rattle.conn_engine.specs.declared.reply.Reply.TheVariants.{Go, Close}
+use Rattle.conn_engine.specs.declared.standing.ConnectRequest.{ConnectRequest}
+use Rattle.conn_engine.specs.declared.standing.Standing.{Standing}
+use Rattle.conn_engine.specs.declared.standing.Standing.TheVariants.{Waiting, Connected, Ended}
+use Rattle.conn_engine.specs.Facts.{Fact}
+use Rattle.conn_engine.specs.Facts.Fact.{Attach, ParkAsIs, Withdraw}
+use Rattle.conn_engine.specs.Ending.{down, Retires, Parts}
+
+-- how many Ticks a connection waits for a session (profile)
+abbrev pub most_ticks : ℕ
+most_ticks = 100
+
+-- the session of a connection that begins: its quota is made of this CONNECT's Receive Maximum, and its expiry is this CONNECT's (3.1.2.11)
+abbrev pub opened : {P : Type 0} → Session Held P → Terms → Session Held P
+opened session terms = record {
+  identity = session.identity;
+  expiry = record { seconds = terms.session_expiry_interval; parked = session.expiry.parked };
+  window = after_up session.window terms.receive_maximum;
+  membership = session.membership;
+}
+
+-- the name of a client, where it is a text
+abbrev pub name_if : Bool → List ℕ → Option (List ℕ)
+name_if true name = Some name
+name_if false name = None
+
+-- a client without an identifier is told the one that it was given (3.2.2.3.7)
+abbrev pub assigned : List ℕ → Who → Option (List ℕ)
+assigned [] who = name_if (is_text who.client) who.client
+assigned (byte ∷ bytes) who = None
+
+-- the session has a place in a group
+abbrev pub has_place : {P : Type 0} → Membership P → Bool
+has_place NotMember = false
+has_place (Member place) = true
+has_place (Leaving place) = true
+
+-- the connection is refused, and closed (3.2.2.2)
+pub record IsRefused {P : Type 0} (refusal : ConnectRefusal) (standing : Standing P) (reply : Reply) : Type 0 where
+  pub over : standing ≡ Ended
+  pub told : reply ≡ Close (Some (refusing refusal))
+
+-- the connection begins, with this session
+pub record Accepts {P : Type 0} (request : ConnectRequest) (present : Bool) (session : Session Held P) (standing : Standing P) (reply : Reply) : Type 0 where
+  pub begun : standing ≡ Connected (record { session = opened session request.terms; terms = request.terms; heard = request.came })
+  pub told : reply ≡ Go (Some (accepting present (assigned request.client session.identity)))
+
+module _ {S P : Type 0} (call : S → Fact P → S → Type 0) where
+  -- the session that a client had, where it had one, is retired
+  abbrev pub RetiresEarlier : S → Option (Session Held P) → S → Type 0
+  RetiresEarlier old None new = new ≡ old
+  RetiresEarlier old (Some ended) new = (gone : Bool) × Retires call old ended gone new
+
+  -- the session of a member is not for a client that does not take every packet (profile, for now)
+  abbrev pub ResumesAs : Bool → S → ConnectRequest → Session Held P → Standing P → Reply → S → Type 0
+  ResumesAs true old request session standing reply new = call old (ParkAsIs (down session)) new × IsRefused refusals.ImplementationSpecificError standing reply
+  ResumesAs false old request session standing reply new = (new ≡ old) × Accepts request true session standing reply
+
+  -- what becomes of a connection that was given this answer
+  abbrev pub AttachedAs : S → ConnectRequest → Result (Attached Held P) DeskError → Standing P → Reply → S → Type 0
+  AttachedAs old request (Ok (New session ended)) standing reply new = RetiresEarlier old ended new × Accepts request false session standing reply
+  AttachedAs old request (Ok (Resumed session)) standing reply new =
+      ResumesAs (has_place session.membership && not request.terms.takes_all_packets) old request session standing reply new
+  AttachedAs old request (Ok (Replace holder)) standing reply new = (standing ≡ Waiting request 0) × (reply ≡ Go None) × (new ≡ old)
+  AttachedAs old request (Ok Busy) standing reply new = IsRefused refusals.ServerBusy standing reply × (new ≡ old)
+  AttachedAs old request (Err errors.Full) standing reply new = IsRefused refusals.ServerBusy standing reply × (new ≡ old)
+  AttachedAs old request (Err errors.NoPlace) standing reply new = IsRefused refusals.ServerBusy standing reply × (new ≡ old)
+  AttachedAs old request (Err errors.NoName) standing reply new = IsRefused refusals.ClientIdentifierNotValid standing reply × (new ≡ old)
+  AttachedAs old request (Err errors.Memory) standing reply new = ⊥
+
+  -- a session is asked for
+  pub record Attaches (old : S) (number now : ℕ) (request : ConnectRequest) (standing : Standing P) (reply : Reply) (new : S) : Type 0 where
+    pub answer : Result (Attached Held P) DeskError
+    pub mid : S
+    pub asked_for : call old (Attach (asked number request.client request.clean_start now) answer) mid
+    pub answered : AttachedAs mid request answer standing reply new
+
+  -- where memory was wanted, a session that was lent is parked, or ending
+  abbrev pub FailsWith : S → ℕ → ConnectRequest → Result (Attached Held P) DeskError → S → Type 0
+  FailsWith old now request (Ok (New session ended)) new = (mid : S) × RetiresEarlier old ended mid × Parts call mid (opened session request.terms) now new
+  FailsWith old now request (Ok (Resumed session)) new = Parts call old (opened session request.terms) now new
+  FailsWith old now request (Ok (Replace holder)) new = ⊥
+  FailsWith old now request (Ok Busy) new = ⊥
+  FailsWith old now request (Err errors.Full) new = ⊥
+  FailsWith old now request (Err errors.NoPlace) new = ⊥
+  FailsWith old now request (Err errors.NoName) new = ⊥
+  FailsWith old now request (Err errors.Memory) new = new ≡ old
+
+  pub record FailsToAttach (old : S) (number now : ℕ) (request : ConnectRequest) (new : S) : Type 0 where
+    pub answer : Result (Attached Held P) DeskError
+    pub mid : S
+    pub asked_for : call old (Attach (asked number request.client request.clean_start now) answer) mid
+    pub failed : FailsWith mid now request answer new
+
+  -- the wait goes on, or ends: then the connection waits for nothing any more
+  abbrev pub WaitsStill : Bool → S → ℕ → ConnectRequest → ℕ → Standing P → Reply → S → Type 0
+  WaitsStill true old number request ticks standing reply new = (standing ≡ Waiting request (ticks + 1)) × (reply ≡ Go None) × (new ≡ old)
+  WaitsStill false old number request ticks standing reply new = call old (Withdraw number) new × IsRefused refusals.ServerBusy standing reply
+
+  abbrev pub EndsWait : S → ℕ → ℕ → Standing P → Reply → Standing P → Reply → S → Type 0
+  EndsWait old number ticks (Waiting request none) told standing reply new = WaitsStill (nat_lt (ticks + 1) most_ticks) old number request ticks standing reply new
+  EndsWait old number ticks tried told standing reply new = call old (Withdraw number) new × (standing ≡ tried) × (reply ≡ told)
+
+  -- a connection that waits, and was told so many times that its session is still lent, asks for it again
+  pub record TriesAgain (old : S) (number now : ℕ) (request : ConnectRequest) (ticks : ℕ) (standing : Standing P) (reply : Reply) (new : S) : Type 0 where
+    pub tried : Standing P
+    pub told : Reply
+    pub mid : S
+    pub attaches : Attaches old number now request tried told mid
+    pub waits : EndsWait mid number ticks tried told standing reply new
+
+  -- where memory was wanted
+  pub record FailsAgain (old : S) (number now : ℕ) (request : ConnectRequest) (new : S) : Type 0 where
+    pub mid : S
+    pub failed : FailsToAttach old number now request mid
+    pub withdrawn : call mid (Withdraw number) new

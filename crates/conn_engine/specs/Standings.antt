@@ -1,0 +1,16 @@
+-- How far a connection has come.
+use Rattle.std.specs.Prelude.{◌≡◌, ℕ, ◌≤◌, ◌<◌, false, ⊤, length}
+use Rattle.session_desk.specs.declared.session.Session.{Session}
+use Rattle.group_jobs.specs.Stamps.{Held}
+use Rattle.conn_engine.specs.declared.standing.ConnectRequest.{ConnectRequest}
+use Rattle.conn_engine.specs.declared.standing.Link.{Link}
+use Rattle.conn_engine.specs.declared.standing.Standing.{Standing}
+use Rattle.conn_engine.specs.declared.standing.Standing.TheVariants.{Unconnected, Waiting, Connected, Ended}
+
+-- what holds of every connection: the identifier of a client that waits is one that a session may be asked for with, and the session of a
+-- client that is connected is not ending
+abbrev pub IsSoundStanding : {P : Type 0} → Standing P → Type 0
+IsSoundStanding (Unconnected opened) = ⊤
+IsSoundStanding (Waiting request ticks) = (length request.client ≤ 128) × (ticks < 100)
+IsSoundStanding (Connected link) = link.session.window.retired ≡ false
+IsSoundStanding Ended = ⊤

@@ -1,0 +1,195 @@
+//! The answer to a CONNECT, and to a Tick while a connection waits for a session (sections 3.1 and 3.2).
+ghost use Rattle.std.specs.Prelude.{◌≡◌, ◌<◌, ◌≤◌, ◌&&◌, nat_lt, ◌+◌, not, false, length, IfOk, IsOk, MatchResult};
+ghost use Rattle.conn_engine.specs.Connecting.{opened, assigned, has_place, IsRefused, Accepts, RetiresEarlier, ResumesAs, Attaches, FailsToAttach, most_ticks, WaitsStill, TriesAgain, FailsAgain};
+ghost use Rattle.conn_engine.specs.Ending.{Parts};
+ghost use Rattle.conn_engine.specs.Standings.{IsSoundStanding};
+ghost use Rattle.conn_engine.specs.declared.standing.Standing.TheVariants.{Ended};
+
+use crate::ending::{part, part_as_is, retire};
+use crate::reply::Reply;
+use crate::standing::{ConnectRequest, Link, Standing};
+use crate::supply::{NoMemory, Supply};
+use conn_rules::{accepting, refusing};
+use group_jobs::Envelope;
+use mqtt_wire::{ConnectRefusal, Text};
+use session_desk::{Attached, DeskError, Identity, Membership, Session};
+
+/// For how many Ticks a connection waits for a session.
+const MOST_TICKS: u8 = 100;
+
+/// Asks for the session of a client that connects, and answers.
+///
+/// # Errors
+///
+/// Want of memory. The connection has ended then, and a session that was lent is parked or ending.
+pub fn attach<P, S: Supply<P>>(
+    supply: &mut S,
+    number: u16,
+    now: u64,
+    request: ConnectRequest,
+) -> (Standing<P>, Result<Reply, NoMemory>)
+    requires known { number < 1024 }
+    requires short { length request.client ≤ 128 }
+    ensures answered { MatchResult result.1
+        (λ reply. Attaches S.call supply.old number now request result.0 reply supply.new)
+        (λ _. (result.0 ≡ Ended) × FailsToAttach S.call supply.old number now request supply.new) }
+    ensures sound { IsSoundStanding result.0 }
+{
+    match supply.attach(number, &request.client, request.clean_start, now) {
+        Ok(Attached::New { session, ended }) => {
+            retire_earlier(supply, ended);
+            accept(supply, now, request, session, false)
+        }
+        Ok(Attached::Resumed(session)) => resume(supply, now, request, session),
+        Ok(Attached::Replace(_)) => (Standing::Waiting { request, ticks: 0 }, Ok(Reply::Go(None))),
+        Ok(Attached::Busy) => refuse(ConnectRefusal::ServerBusy),
+        Err(DeskError::Full | DeskError::NoPlace) => refuse(ConnectRefusal::ServerBusy),
+        Err(DeskError::NoName) => refuse(ConnectRefusal::ClientIdentifierNotValid),
+        Err(DeskError::Memory) => (Standing::Ended, Err(NoMemory)),
+    }
+}
+
+/// A connection that waits, and has found its session lent at so many Ticks, asks for it again. It waits for 100 Ticks at most.
+///
+/// # Errors
+///
+/// Want of memory. The connection has ended then, and a session that was lent is parked or ending.
+pub fn try_again<P, S: Supply<P>>(
+    supply: &mut S,
+    number: u16,
+    now: u64,
+    request: ConnectRequest,
+    ticks: u8,
+) -> (Standing<P>, Result<Reply, NoMemory>)
+    requires known { number < 1024 }
+    requires short { length request.client ≤ 128 }
+    requires few { ticks < 100 }
+    ensures answered { MatchResult result.1
+        (λ reply. TriesAgain S.call supply.old number now request ticks result.0 reply supply.new)
+        (λ _. (result.0 ≡ Ended) × FailsAgain S.call supply.old number now request supply.new) }
+    ensures sound { IsSoundStanding result.0 }
+{
+    let (standing, replied) = attach(supply, number, now, request);
+    match standing {
+        Standing::Waiting { request, ticks: _ } => wait_on(supply, number, request, ticks),
+        other => {
+            supply.withdraw(number);
+            (other, replied)
+        }
+    }
+}
+
+/// The session was lent at one Tick more: the connection waits on, or has waited long enough.
+fn wait_on<P, S: Supply<P>>(
+    supply: &mut S,
+    number: u16,
+    request: ConnectRequest,
+    ticks: u8,
+) -> (Standing<P>, Result<Reply, NoMemory>)
+    requires short { length request.client ≤ 128 }
+    requires few { ticks < 100 }
+    ensures answered { IfOk result.1 (λ reply. WaitsStill S.call (nat_lt (ticks + 1) most_ticks) supply.old number request ticks result.0 reply supply.new) }
+    ensures fine { IsOk result.1 }
+    ensures sound { IsSoundStanding result.0 }
+{
+    let ticks = ticks + 1;
+    if ticks < MOST_TICKS {
+        (Standing::Waiting { request, ticks }, Ok(Reply::Go(None)))
+    } else {
+        supply.withdraw(number);
+        refuse(ConnectRefusal::ServerBusy)
+    }
+}
+
+/// The connection is refused, and closed.
+fn refuse<P>(refusal: ConnectRefusal) -> (Standing<P>, Result<Reply, NoMemory>)
+    ensures over { result.0 ≡ Ended }
+    ensures told { IfOk result.1 (IsRefused refusal result.0) }
+    ensures fine { IsOk result.1 }
+{
+    (Standing::Ended, Ok(Reply::Close(Some(refusing(refusal)))))
+}
+
+/// Retires the session that a client had, where it had one.
+fn retire_earlier<P, S: Supply<P>>(supply: &mut S, ended: Option<Session<Envelope, P>>)
+    ensures { RetiresEarlier S.call supply.old ended supply.new }
+{
+    if let Some(ended) = ended {
+        retire(supply, ended);
+    }
+}
+
+/// The connection begins with the session that the client had; but a member's is not for a client that does not take every packet.
+fn resume<P, S: Supply<P>>(
+    supply: &mut S,
+    now: u64,
+    request: ConnectRequest,
+    session: Session<Envelope, P>,
+) -> (Standing<P>, Result<Reply, NoMemory>)
+    requires { session.window.retired ≡ false }
+    ensures answered { MatchResult result.1
+        (λ reply. ResumesAs S.call (has_place session.membership && not request.terms.takes_all_packets) supply.old request session result.0 reply supply.new)
+        (λ _. (result.0 ≡ Ended) × Parts S.call supply.old (opened session request.terms) now supply.new) }
+    ensures sound { IsSoundStanding result.0 }
+{
+    if has_place(&session.membership) && !request.terms.takes_all_packets {
+        part_as_is(supply, session);
+        refuse(ConnectRefusal::ImplementationSpecificError)
+    } else {
+        accept(supply, now, request, session, true)
+    }
+}
+
+/// Whether a session has a place in a group.
+fn has_place<P>(membership: &Membership<P>) -> bool
+    ensures { result ≡ has_place membership.now }
+{
+    match membership {
+        Membership::NotMember => false,
+        Membership::Member(_) => true,
+        Membership::Leaving(_) => true,
+    }
+}
+
+/// The connection begins with this session.
+fn accept<P, S: Supply<P>>(
+    supply: &mut S,
+    now: u64,
+    request: ConnectRequest,
+    mut session: Session<Envelope, P>,
+    present: bool,
+) -> (Standing<P>, Result<Reply, NoMemory>)
+    requires { session.window.retired ≡ false }
+    ensures answered { MatchResult result.1
+        (λ reply. Accepts request present session result.0 reply × (supply.new ≡ supply.old))
+        (λ _. (result.0 ≡ Ended) × Parts S.call supply.old (opened session request.terms) now supply.new) }
+    ensures sound { IsSoundStanding result.0 }
+{
+    session.window.up(request.terms.receive_maximum);
+    session.expiry.seconds = request.terms.session_expiry_interval;
+    match assigned(&request.client, &session.identity) {
+        Ok(name) => {
+            let link = Link {
+                session,
+                terms: request.terms,
+                heard: request.came,
+            };
+            (Standing::Connected(link), Ok(Reply::Go(Some(accepting(present, name)))))
+        }
+        Err(NoMemory) => {
+            part(supply, session, now);
+            (Standing::Ended, Err(NoMemory))
+        }
+    }
+}
+
+/// The identifier that a client without one was given.
+fn assigned(client: &Text, identity: &Identity) -> Result<Option<Text>, NoMemory>
+    ensures { IfOk result (λ name. name ≡ assigned client.now identity.now) }
+{
+    if client.as_bytes().is_empty() {
+        Ok(Text::parse(identity.client().clone()?))
+    } else {
+        Ok(None)
+    }
+}

@@ -1,0 +1,48 @@
+//! How far a connection has come.
+use conn_rules::Terms;
+use group_jobs::Envelope;
+use mqtt_wire::Text;
+use session_desk::Session;
+
+/// What a client asked for when it connected, and when.
+#[derive(Debug, Drop)]
+pub struct ConnectRequest {
+    /// The identifier of the client: empty where one is to be assigned (section 3.1.3.1). It has at most 128 bytes.
+    pub client: Text,
+    /// An earlier session of the client is discarded (section 3.1.2.4).
+    pub clean_start: bool,
+    /// What it asked for.
+    pub terms: Terms,
+    /// The moment at which the CONNECT came, in milliseconds.
+    pub came: u64,
+}
+
+/// A connection whose client has its session. `P` is a place in a group.
+pub struct Link<P> {
+    /// The session of the client.
+    pub session: Session<Envelope, P>,
+    /// What the client asked for.
+    pub terms: Terms,
+    /// The moment at which its last packet came, in milliseconds.
+    pub heard: u64,
+}
+
+/// How far a connection has come.
+pub enum Standing<P> {
+    /// No packet came yet.
+    Unconnected {
+        /// The moment at which the connection was opened, in milliseconds.
+        opened: u64,
+    },
+    /// Another connection has the session of the client, and is to give it up.
+    Waiting {
+        /// What the client asked for.
+        request: ConnectRequest,
+        /// How many Ticks found the session still lent: fewer than 100.
+        ticks: u8,
+    },
+    /// The client has its session.
+    Connected(Link<P>),
+    /// The connection has ended.
+    Ended,
+}
