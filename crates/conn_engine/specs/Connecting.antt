@@ -20,7 +20,7 @@ use Rattle.conn_engine.specs.declared.reply.Reply.{Reply}
 use Rattle.conn_engine.specs.declared.reply.Reply.TheVariants.{Go, Close}
 use Rattle.conn_engine.specs.declared.standing.ConnectRequest.{ConnectRequest}
 use Rattle.conn_engine.specs.declared.standing.Standing.{Standing}
-use Rattle.conn_engine.specs.declared.standing.Standing.TheVariants.{Waiting, Connected, Ended}
+use Rattle.conn_engine.specs.declared.standing.Standing.TheVariants.{Unconnected, Waiting, Connected, Ended}
 use Rattle.conn_engine.specs.Facts.{Fact}
 use Rattle.conn_engine.specs.Facts.Fact.{Attach, ParkAsIs, Withdraw}
 use Rattle.conn_engine.specs.Ending.{down, Retires, Parts}
@@ -64,6 +64,11 @@ pub record Accepts {P : Type 0} (request : ConnectRequest) (present : Bool) (ses
   pub begun : standing ≡ Connected (record { session = opened session request.terms; terms = request.terms; heard = request.came })
   pub told : reply ≡ Go (Some (accepting present (assigned request.client session.identity)))
 
+-- the connection waits while it has found its session lent at fewer Ticks than that, and is refused then
+abbrev pub WaitsAs : {P : Type 0} → Bool → ConnectRequest → ℕ → Standing P → Reply → Type 0
+WaitsAs true request ticks standing reply = (standing ≡ Waiting request ticks) × (reply ≡ Go None)
+WaitsAs false request ticks standing reply = IsRefused refusals.ServerBusy standing reply
+
 module _ {S P : Type 0} (call : S → Fact P → S → Type 0) where
   -- the session that a client had, where it had one, is retired
   abbrev pub RetiresEarlier : S → Option (Session Held P) → S → Type 0
@@ -75,24 +80,24 @@ module _ {S P : Type 0} (call : S → Fact P → S → Type 0) where
   ResumesAs true old request session standing reply new = call old (ParkAsIs (down session)) new × IsRefused refusals.ImplementationSpecificError standing reply
   ResumesAs false old request session standing reply new = (new ≡ old) × Accepts request true session standing reply
 
-  -- what becomes of a connection that was given this answer
-  abbrev pub AttachedAs : S → ConnectRequest → Result (Attached Held P) DeskError → Standing P → Reply → S → Type 0
-  AttachedAs old request (Ok (New session ended)) standing reply new = RetiresEarlier old ended new × Accepts request false session standing reply
-  AttachedAs old request (Ok (Resumed session)) standing reply new =
+  -- what becomes of a connection that was given this answer; at so many Ticks before, its session was still lent
+  abbrev pub AttachedAs : S → ConnectRequest → ℕ → Result (Attached Held P) DeskError → Standing P → Reply → S → Type 0
+  AttachedAs old request ticks (Ok (New session ended)) standing reply new = RetiresEarlier old ended new × Accepts request false session standing reply
+  AttachedAs old request ticks (Ok (Resumed session)) standing reply new =
       ResumesAs (has_place session.membership && not request.terms.takes_all_packets) old request session standing reply new
-  AttachedAs old request (Ok (Replace holder)) standing reply new = (standing ≡ Waiting request 0) × (reply ≡ Go None) × (new ≡ old)
-  AttachedAs old request (Ok Busy) standing reply new = IsRefused refusals.ServerBusy standing reply × (new ≡ old)
-  AttachedAs old request (Err errors.Full) standing reply new = IsRefused refusals.ServerBusy standing reply × (new ≡ old)
-  AttachedAs old request (Err errors.NoPlace) standing reply new = IsRefused refusals.ServerBusy standing reply × (new ≡ old)
-  AttachedAs old request (Err errors.NoName) standing reply new = IsRefused refusals.ClientIdentifierNotValid standing reply × (new ≡ old)
-  AttachedAs old request (Err errors.Memory) standing reply new = ⊥
+  AttachedAs old request ticks (Ok (Replace holder)) standing reply new = WaitsAs (nat_lt ticks most_ticks) request ticks standing reply × (new ≡ old)
+  AttachedAs old request ticks (Ok Busy) standing reply new = IsRefused refusals.ServerBusy standing reply × (new ≡ old)
+  AttachedAs old request ticks (Err errors.Full) standing reply new = IsRefused refusals.ServerBusy standing reply × (new ≡ old)
+  AttachedAs old request ticks (Err errors.NoPlace) standing reply new = IsRefused refusals.ServerBusy standing reply × (new ≡ old)
+  AttachedAs old request ticks (Err errors.NoName) standing reply new = IsRefused refusals.ClientIdentifierNotValid standing reply × (new ≡ old)
+  AttachedAs old request ticks (Err errors.Memory) standing reply new = ⊥
 
   -- a session is asked for
-  pub record Attaches (old : S) (number now : ℕ) (request : ConnectRequest) (standing : Standing P) (reply : Reply) (new : S) : Type 0 where
+  pub record Attaches (old : S) (number now : ℕ) (request : ConnectRequest) (ticks : ℕ) (standing : Standing P) (reply : Reply) (new : S) : Type 0 where
     pub answer : Result (Attached Held P) DeskError
     pub mid : S
     pub asked_for : call old (Attach (asked number request.client request.clean_start now) answer) mid
-    pub answered : AttachedAs mid request answer standing reply new
+    pub answered : AttachedAs mid request ticks answer standing reply new
 
   -- where memory was wanted, a session that was lent is parked, or ending
   abbrev pub FailsWith : S → ℕ → ConnectRequest → Result (Attached Held P) DeskError → S → Type 0
@@ -111,22 +116,18 @@ module _ {S P : Type 0} (call : S → Fact P → S → Type 0) where
     pub asked_for : call old (Attach (asked number request.client request.clean_start now) answer) mid
     pub failed : FailsWith mid now request answer new
 
-  -- the wait goes on, or ends: then the connection waits for nothing any more
-  abbrev pub WaitsStill : Bool → S → ℕ → ConnectRequest → ℕ → Standing P → Reply → S → Type 0
-  WaitsStill true old number request ticks standing reply new = (standing ≡ Waiting request (ticks + 1)) × (reply ≡ Go None) × (new ≡ old)
-  WaitsStill false old number request ticks standing reply new = call old (Withdraw number) new × IsRefused refusals.ServerBusy standing reply
+  -- a connection that does not wait any more waits for no session
+  abbrev pub Withdraws : S → ℕ → Standing P → S → Type 0
+  Withdraws old number (Waiting request ticks) new = new ≡ old
+  Withdraws old number (Unconnected opened) new = call old (Withdraw number) new
+  Withdraws old number (Connected link) new = call old (Withdraw number) new
+  Withdraws old number Ended new = call old (Withdraw number) new
 
-  abbrev pub EndsWait : S → ℕ → ℕ → Standing P → Reply → Standing P → Reply → S → Type 0
-  EndsWait old number ticks (Waiting request none) told standing reply new = WaitsStill (nat_lt (ticks + 1) most_ticks) old number request ticks standing reply new
-  EndsWait old number ticks tried told standing reply new = call old (Withdraw number) new × (standing ≡ tried) × (reply ≡ told)
-
-  -- a connection that waits, and was told so many times that its session is still lent, asks for it again
+  -- a connection that waits asks for its session again
   pub record TriesAgain (old : S) (number now : ℕ) (request : ConnectRequest) (ticks : ℕ) (standing : Standing P) (reply : Reply) (new : S) : Type 0 where
-    pub tried : Standing P
-    pub told : Reply
     pub mid : S
-    pub attaches : Attaches old number now request tried told mid
-    pub waits : EndsWait mid number ticks tried told standing reply new
+    pub attaches : Attaches old number now request (ticks + 1) standing reply mid
+    pub withdraws : Withdraws mid number standing new
 
   -- where memory was wanted
   pub record FailsAgain (old : S) (number now : ℕ) (request : ConnectRequest) (new : S) : Type 0 where

@@ -1,9 +1,5 @@
 -- How far a connection has come.
-use Rattle.std.specs.Prelude.{◌≡◌, ℕ, ◌≤◌, ◌<◌, false, ⊤, length}
-use Rattle.session_desk.specs.declared.session.Session.{Session}
-use Rattle.group_jobs.specs.Stamps.{Held}
-use Rattle.conn_engine.specs.declared.standing.ConnectRequest.{ConnectRequest}
-use Rattle.conn_engine.specs.declared.standing.Link.{Link}
+use Rattle.std.specs.Prelude.{◌≡◌, ◌≤◌, ◌<◌, false, ⊤, length}
 use Rattle.conn_engine.specs.declared.standing.Standing.{Standing}
 use Rattle.conn_engine.specs.declared.standing.Standing.TheVariants.{Unconnected, Waiting, Connected, Ended}
 
@@ -14,3 +10,10 @@ IsSoundStanding (Unconnected opened) = ⊤
 IsSoundStanding (Waiting request ticks) = (length request.client ≤ 128) × (ticks < 100)
 IsSoundStanding (Connected link) = link.session.window.retired ≡ false
 IsSoundStanding Ended = ⊤
+
+-- a connection waits for a session
+abbrev pub IsWaiting : {P : Type 0} → Standing P → Type 0
+IsWaiting (Unconnected opened) = ⊥
+IsWaiting (Waiting request ticks) = ⊤
+IsWaiting (Connected link) = ⊥
+IsWaiting Ended = ⊥

@@ -1,8 +1,8 @@
 //! The answer to a CONNECT, and to a Tick while a connection waits for a session (sections 3.1 and 3.2).
-ghost use Rattle.std.specs.Prelude.{◌≡◌, ◌<◌, ◌≤◌, ◌&&◌, nat_lt, ◌+◌, not, false, length, IfOk, IsOk, MatchResult};
-ghost use Rattle.conn_engine.specs.Connecting.{opened, assigned, has_place, IsRefused, Accepts, RetiresEarlier, ResumesAs, Attaches, FailsToAttach, most_ticks, WaitsStill, TriesAgain, FailsAgain};
+ghost use Rattle.std.specs.Prelude.{◌≡◌, ◌<◌, ◌≤◌, ◌↔◌, ◌&&◌, nat_lt, not, false, length, IfOk, IsOk, IsTrue, MatchResult};
+ghost use Rattle.conn_engine.specs.Connecting.{opened, assigned, has_place, IsRefused, Accepts, RetiresEarlier, ResumesAs, Attaches, FailsToAttach, most_ticks, WaitsAs, TriesAgain, FailsAgain};
 ghost use Rattle.conn_engine.specs.Ending.{Parts};
-ghost use Rattle.conn_engine.specs.Standings.{IsSoundStanding};
+ghost use Rattle.conn_engine.specs.Standings.{IsSoundStanding, IsWaiting};
 ghost use Rattle.conn_engine.specs.declared.standing.Standing.TheVariants.{Ended};
 
 use crate::ending::{part, part_as_is, retire};
@@ -17,7 +17,7 @@ use session_desk::{Attached, DeskError, Identity, Membership, Session};
 /// For how many Ticks a connection waits for a session.
 const MOST_TICKS: u8 = 100;
 
-/// Asks for the session of a client that connects, and answers.
+/// Asks for the session of a client that connects, and has found it lent at so many Ticks before, and answers.
 ///
 /// # Errors
 ///
@@ -27,11 +27,12 @@ pub fn attach<P, S: Supply<P>>(
     number: u16,
     now: u64,
     request: ConnectRequest,
+    ticks: u8,
 ) -> (Standing<P>, Result<Reply, NoMemory>)
     requires known { number < 1024 }
     requires short { length request.client ≤ 128 }
     ensures answered { MatchResult result.1
-        (λ reply. Attaches S.call supply.old number now request result.0 reply supply.new)
+        (λ reply. Attaches S.call supply.old number now request ticks result.0 reply supply.new)
         (λ _. (result.0 ≡ Ended) × FailsToAttach S.call supply.old number now request supply.new) }
     ensures sound { IsSoundStanding result.0 }
 {
@@ -41,7 +42,7 @@ pub fn attach<P, S: Supply<P>>(
             accept(supply, now, request, session, false)
         }
         Ok(Attached::Resumed(session)) => resume(supply, now, request, session),
-        Ok(Attached::Replace(_)) => (Standing::Waiting { request, ticks: 0 }, Ok(Reply::Go(None))),
+        Ok(Attached::Replace(_)) => wait(request, ticks),
         Ok(Attached::Busy) => refuse(ConnectRefusal::ServerBusy),
         Err(DeskError::Full | DeskError::NoPlace) => refuse(ConnectRefusal::ServerBusy),
         Err(DeskError::NoName) => refuse(ConnectRefusal::ClientIdentifierNotValid),
@@ -69,34 +70,30 @@ pub fn try_again<P, S: Supply<P>>(
         (λ _. (result.0 ≡ Ended) × FailsAgain S.call supply.old number now request supply.new) }
     ensures sound { IsSoundStanding result.0 }
 {
-    let (standing, replied) = attach(supply, number, now, request);
-    match standing {
-        Standing::Waiting { request, ticks: _ } => wait_on(supply, number, request, ticks),
-        other => {
-            supply.withdraw(number);
-            (other, replied)
-        }
+    let (standing, replied) = attach(supply, number, now, request, ticks + 1);
+    if !is_waiting(&standing) {
+        supply.withdraw(number);
     }
+    (standing, replied)
 }
 
-/// The session was lent at one Tick more: the connection waits on, or has waited long enough.
-fn wait_on<P, S: Supply<P>>(
-    supply: &mut S,
-    number: u16,
-    request: ConnectRequest,
-    ticks: u8,
-) -> (Standing<P>, Result<Reply, NoMemory>)
-    requires short { length request.client ≤ 128 }
-    requires few { ticks < 100 }
-    ensures answered { IfOk result.1 (λ reply. WaitsStill S.call (nat_lt (ticks + 1) most_ticks) supply.old number request ticks result.0 reply supply.new) }
+/// Whether a connection waits for a session.
+pub(crate) fn is_waiting<P>(standing: &Standing<P>) -> bool
+    ensures { IsTrue result ↔ IsWaiting standing.now }
+{
+    matches!(standing, Standing::Waiting { .. })
+}
+
+/// Another connection has the session: this one waits for it, unless it has waited long enough.
+fn wait<P>(request: ConnectRequest, ticks: u8) -> (Standing<P>, Result<Reply, NoMemory>)
+    requires { length request.client ≤ 128 }
+    ensures answered { IfOk result.1 (WaitsAs (nat_lt ticks most_ticks) request ticks result.0) }
     ensures fine { IsOk result.1 }
     ensures sound { IsSoundStanding result.0 }
 {
-    let ticks = ticks + 1;
     if ticks < MOST_TICKS {
         (Standing::Waiting { request, ticks }, Ok(Reply::Go(None)))
     } else {
-        supply.withdraw(number);
         refuse(ConnectRefusal::ServerBusy)
     }
 }
