@@ -28,10 +28,11 @@ pub fn hand_out<P, S: Supply<P>>(
     window: &mut Window<Envelope>,
     packets: &mut Vec<Packet>,
 ) -> (Membership<P>, Result<(), NoMemory>)
-    ensures { MatchResult result.1
+    ensures handed { MatchResult result.1
         (λ _. (sent : List Packet) × (packets.new.items ≡ packets.old.items ++ sent)
             × HandsOut S.call supply.old membership window.old sent result.0 window.new supply.new)
         (λ _. HandsSome S.call supply.old membership window.old result.0 window.new supply.new) }
+    ensures sound { window.new.retired ≡ window.old.retired }
 {
     if let Err(NoMemory) = send_again(alloc, window, packets) {
         return (membership, Err(NoMemory));
@@ -104,6 +105,7 @@ fn send_fresh<P, S: Supply<P>>(
     ensures sent { OnOk result ((sent : List Packet) × (packets.new.items ≡ packets.old.items ++ sent)
         × SendsFresh S.call supply.old place.old window.old sent place.new window.new supply.new) }
     ensures kept { OnErr result ((taken : List Held) × TakesSome S.call supply.old place.old window.old taken place.new window.new supply.new) }
+    ensures sound { window.new.retired ≡ window.old.retired }
 {
     packets.reserve(1)?;
     let Some(packet) = next_fresh(supply, alloc, place, window)? else {
@@ -127,6 +129,7 @@ fn next_fresh<P, S: Supply<P>>(
         (SendsNone S.call supply.old place.old window.old place.new window.new supply.new)
         (λ packet. SendsOne S.call supply.old place.old window.old packet place.new window.new supply.new × HoldsMore window.old window.new)) }
     ensures kept { OnErr result ((taken : List Held) × TakesSome S.call supply.old place.old window.old taken place.new window.new supply.new) }
+    ensures sound { window.new.retired ≡ window.old.retired }
 {
     if !window.room() {
         return Ok(None);
@@ -152,6 +155,7 @@ fn put(
         × (window.new ≡ after_put window.old identifier envelope)
         × IfOk result (λ packet. packet ≡ job false envelope.message identifier) }
     ensures progress { HoldsMore window.old window.new }
+    ensures sound { window.new.retired ≡ window.old.retired }
 {
     let _held = window.len();
     let copy = envelope.message().try_copy(alloc);

@@ -13,6 +13,8 @@ pub enum Reply {
     Go(Option<Packet>),
     /// This packet is sent, if there is one, and the connection is closed.
     Close(Option<Packet>),
+    /// This packet is sent, and the connection is closed: another one has its session.
+    Kicked(Packet),
 }
 
 impl Reply {
