@@ -4,3 +4,4 @@ pub mod Windows
 pub mod Fresh
 pub mod Sweeping
 pub mod Resuming
+pub mod First

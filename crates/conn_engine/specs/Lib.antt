@@ -10,3 +10,4 @@ pub mod Ending
 pub mod Standings
 pub mod Connecting
 pub mod Answering
+pub mod Step

@@ -25,8 +25,7 @@ use Rattle.conn_engine.specs.declared.standing.Link.{Link}
 use Rattle.conn_engine.specs.declared.standing.Standing.{Standing}
 use Rattle.conn_engine.specs.declared.standing.Standing.TheVariants.{Unconnected, Waiting, Connected, Ended}
 use Rattle.conn_engine.specs.Facts.{Fact}
-use Rattle.conn_engine.specs.Facts.Fact.{Withdraw, ParkAsIs}
-use Rattle.conn_engine.specs.Facts.Fact as fact
+use Rattle.conn_engine.specs.Facts.Fact.{Withdraw, ParkAsIs, Kicked as WasKicked}
 use Rattle.conn_engine.specs.Memberships.{with_window, with_membership}
 use Rattle.conn_engine.specs.Replies.{closing_with}
 use Rattle.conn_engine.specs.Ending.{down, Parts, Sweeps}
@@ -139,11 +138,11 @@ module _ {S P : Type 0} (call : S → Fact P → S → Type 0) (slot_of : P → 
   Reacts old number (Waiting request ticks) now inputs.EndOfInput standing reply new = call old (Withdraw number) new × IsClosed standing reply
   Reacts old number (Waiting request ticks) now inputs.Closing standing reply new = call old (Withdraw number) new × IsClosed standing reply
   Reacts old number (Connected link) now (inputs.Packet packet) standing reply new =
-      (kicked : Bool) × (mid : S) × call old (fact.Kicked number kicked) mid
+      (kicked : Bool) × (mid : S) × call old (WasKicked number kicked) mid
       × AnswersUnlessKicked kicked mid link now (AnswersPacket mid number link now packet) standing reply new
   Reacts old number (Connected link) now (inputs.Fault fault) standing reply new = (reply ≡ closing_with (fault_code fault)) × IsParted old link now standing new
   Reacts old number (Connected link) now inputs.Tick standing reply new =
-      (kicked : Bool) × (mid : S) × call old (fact.Kicked number kicked) mid
+      (kicked : Bool) × (mid : S) × call old (WasKicked number kicked) mid
       × AnswersUnlessKicked kicked mid link now (AnswersTick mid link now) standing reply new
   Reacts old number (Connected link) now inputs.EndOfInput standing reply new = (reply ≡ Close None) × IsParted old link now standing new
   Reacts old number (Connected link) now inputs.Closing standing reply new =
@@ -192,20 +191,25 @@ module _ {S P : Type 0} (call : S → Fact P → S → Type 0) (slot_of : P → 
   FailsToReact old number (Unconnected opened) now (inputs.Packet packet) new = FailsFirst old number now packet new
   FailsToReact old number (Waiting request ticks) now inputs.Tick new = (mid : S) × Sweeps call old now 256 mid × FailsAgain call mid number now request new
   FailsToReact old number (Connected link) now (inputs.Packet packet) new =
-      (mid : S) × call old (fact.Kicked number false) mid × FailsOnPacket mid number link now packet new
+      (mid : S) × call old (WasKicked number false) mid × FailsOnPacket mid number link now packet new
   FailsToReact old number other now input new = ⊥
 
-  -- where memory was wanted for what is handed out
+  -- where memory was wanted for what is handed out: nothing that the session holds is lost, and it is parked
+  abbrev pub HandsLess : S → Standing P → ℕ → S → Type 0
+  HandsLess old (Connected link) now new =
+      (membership : Membership P) × (window : Contents Held) × (mid : S)
+      × HandsSome call old link.session.membership link.session.window membership window mid
+      × Parts call mid (after_hand_out link membership window).session now new
+  HandsLess old (Unconnected opened) now new = ⊥
+  HandsLess old (Waiting request ticks) now new = ⊥
+  HandsLess old Ended now new = ⊥
+
   pub record FailsToHand (old : S) (number : ℕ) (standing : Standing P) (now : ℕ) (input : Input) (new : S) : Type 0 where
     pub reply : Reply
-    pub link : Link P
+    pub between : Standing P
     pub mid : S
-    pub membership : Membership P
-    pub window : Contents Held
-    pub after : S
-    pub reacts : Reacts old number standing now input (Connected link) reply mid
-    pub hands : HandsSome call mid link.session.membership link.session.window membership window after
-    pub parts : Parts call after (after_hand_out link membership window).session now new
+    pub reacts : Reacts old number standing now input between reply mid
+    pub hands : HandsLess mid between now new
 
   -- where memory was wanted in a step
   abbrev pub FailsToStep : S → ℕ → Standing P → ℕ → Input → S → Type 0

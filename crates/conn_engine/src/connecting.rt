@@ -99,7 +99,7 @@ fn wait<P>(request: ConnectRequest, ticks: u8) -> (Standing<P>, Result<Reply, No
 }
 
 /// The connection is refused, and closed.
-fn refuse<P>(refusal: ConnectRefusal) -> (Standing<P>, Result<Reply, NoMemory>)
+pub(crate) fn refuse<P>(refusal: ConnectRefusal) -> (Standing<P>, Result<Reply, NoMemory>)
     ensures over { result.0 ≡ Ended }
     ensures told { IfOk result.1 (IsRefused refusal result.0) }
     ensures fine { IsOk result.1 }

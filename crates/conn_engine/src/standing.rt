@@ -1,4 +1,6 @@
 //! How far a connection has come.
+ghost use Rattle.std.specs.Prelude.{◌≡◌};
+
 use conn_rules::Terms;
 use group_jobs::Envelope;
 use mqtt_wire::Text;
@@ -25,6 +27,20 @@ pub struct Link<P> {
     pub terms: Terms,
     /// The moment at which its last packet came, in milliseconds.
     pub heard: u64,
+}
+
+impl<P> Link<P> {
+    /// The session of a connection that ends.
+    pub fn into_session(self) -> Session<Envelope, P>
+        ensures { result ≡ self.session }
+    {
+        let Link {
+            session,
+            terms: _,
+            heard: _,
+        } = self;
+        session
+    }
 }
 
 /// How far a connection has come.
