@@ -1,5 +1,5 @@
 -- How far a connection has come.
-use Rattle.std.specs.Prelude.{◌≡◌, ◌≤◌, ◌<◌, false, ⊤, length}
+use Rattle.std.specs.Prelude.{◌≡◌, ℕ, ◌≤◌, ◌<◌, false, ⊤, length}
 use Rattle.conn_engine.specs.declared.standing.Standing.{Standing}
 use Rattle.conn_engine.specs.declared.standing.Standing.TheVariants.{Unconnected, Waiting, Connected, Ended}
 
@@ -17,3 +17,8 @@ IsWaiting (Unconnected opened) = ⊥
 IsWaiting (Waiting request ticks) = ⊤
 IsWaiting (Connected link) = ⊥
 IsWaiting Ended = ⊥
+
+-- a connection: its number, and how far it has come
+pub record ConnState (P : Type 0) : Type 0 where
+  pub number : ℕ
+  pub standing : Standing P

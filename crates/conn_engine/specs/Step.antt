@@ -76,11 +76,20 @@ abbrev pub WaitsForConnect : {P : Type 0} → Bool → ℕ → Standing P → Re
 WaitsForConnect true opened standing reply = IsClosed standing reply
 WaitsForConnect false opened standing reply = (standing ≡ Unconnected opened) × (reply ≡ Go None)
 
+-- no packet came, and no fault
+abbrev pub IsNoPacket : Input → Type 0
+IsNoPacket (inputs.Packet packet) = ⊥
+IsNoPacket (inputs.Fault fault) = ⊥
+IsNoPacket inputs.Tick = ⊤
+IsNoPacket inputs.EndOfInput = ⊤
+IsNoPacket inputs.Closing = ⊤
+
 -- what comes in while a connection waits for a session is stepped once the wait is over
 abbrev pub IsWanted : {P : Type 0} → Standing P → Input → Type 0
-IsWanted (Waiting request ticks) (inputs.Packet packet) = ⊥
-IsWanted (Waiting request ticks) (inputs.Fault fault) = ⊥
-IsWanted standing input = ⊤
+IsWanted (Unconnected opened) input = ⊤
+IsWanted (Waiting request ticks) input = IsNoPacket input
+IsWanted (Connected link) input = ⊤
+IsWanted Ended input = ⊤
 
 module _ {S P : Type 0} (call : S → Fact P → S → Type 0) (slot_of : P → ℕ) where
   -- the session is parked, and the connection is over

@@ -3,6 +3,7 @@
 
 mod acknowledging;
 mod answering;
+mod conn;
 mod connecting;
 mod ending;
 mod hand_outs;
@@ -16,6 +17,7 @@ mod supply;
 
 pub use acknowledging::acknowledge;
 pub use answering::answer;
+pub use conn::Conn;
 pub use connecting::{attach, try_again};
 pub use ending::{part, part_as_is, retire, sweep};
 pub use hand_outs::hand_out;

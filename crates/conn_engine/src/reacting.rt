@@ -4,7 +4,7 @@ ghost use Rattle.conn_rules.specs.Connecting.{first_answer};
 ghost use Rattle.conn_rules.specs.declared.connecting.FirstAnswer.TheVariants as first;
 ghost use Rattle.conn_engine.specs.declared.standing.Standing.TheVariants as standings;
 ghost use Rattle.conn_engine.specs.Standings.{IsSoundStanding};
-ghost use Rattle.conn_engine.specs.Step.{request_of, IsWanted, IsClosed, AnswersFirst, Concludes, AnswersPacket, IsHeard, AnswersTick, IsKicked, Reacts, FailsOnPacket, FailsFirst, FailsToReact};
+ghost use Rattle.conn_engine.specs.Step.{request_of, IsNoPacket, IsWanted, IsClosed, AnswersFirst, Concludes, AnswersPacket, IsHeard, AnswersTick, IsKicked, Reacts, FailsOnPacket, FailsFirst, FailsToReact};
 
 use crate::answering::answer;
 use crate::connecting::{attach, refuse, try_again};
@@ -162,7 +162,7 @@ fn react_waiting<P: Place, S: Supply<P>>(
     requires known { number < 1024 }
     requires short { length request.client ≤ 128 }
     requires few { ticks < 100 }
-    requires wanted { IsWanted (standings.Waiting request ticks) input }
+    requires wanted { IsNoPacket input }
     ensures reacted { MatchResult result.1
         (λ reply. Reacts S.call P.slot_of supply.old number (standings.Waiting request ticks) now input result.0 reply supply.new)
         (λ _. (result.0 ≡ standings.Ended) × FailsToReact S.call P.slot_of supply.old number (standings.Waiting request ticks) now input supply.new) }
