@@ -26,6 +26,7 @@ use Rattle.conn_engine.specs.declared.standing.Standing.{Standing}
 use Rattle.conn_engine.specs.declared.standing.Standing.TheVariants.{Unconnected, Waiting, Connected, Ended}
 use Rattle.conn_engine.specs.Facts.{Fact}
 use Rattle.conn_engine.specs.Facts.Fact.{Withdraw, ParkAsIs, Kicked as WasKicked}
+use Rattle.conn_engine.specs.Standings.{IsWaiting}
 use Rattle.conn_engine.specs.Memberships.{with_window, with_membership}
 use Rattle.conn_engine.specs.Replies.{closing_with}
 use Rattle.conn_engine.specs.Ending.{down, Parts, Sweeps}
@@ -86,10 +87,7 @@ IsNoPacket inputs.Closing = ⊤
 
 -- what comes in while a connection waits for a session is stepped once the wait is over
 abbrev pub IsWanted : {P : Type 0} → Standing P → Input → Type 0
-IsWanted (Unconnected opened) input = ⊤
-IsWanted (Waiting request ticks) input = IsNoPacket input
-IsWanted (Connected link) input = ⊤
-IsWanted Ended input = ⊤
+IsWanted standing input = IsWaiting standing → IsNoPacket input
 
 module _ {S P : Type 0} (call : S → Fact P → S → Type 0) (slot_of : P → ℕ) where
   -- the session is parked, and the connection is over

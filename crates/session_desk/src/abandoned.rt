@@ -1,4 +1,6 @@
 //! The end of a desk, and of a session, whose places and items may be let go.
+ghost use Rattle.std.specs.Prelude.{◌≡◌, []};
+ghost use Rattle.member_window.specs.Contents.{held_of};
 
 use crate::row::{Row, Standing};
 use crate::session::Session;
@@ -10,6 +12,23 @@ fn abandon_window<E: Drop>(mut window: Window<E>) {
     window.down();
     'held: while let Some(_) = window.take_first() {}
     window.end();
+}
+
+impl<E, P: Drop> Session<E, P> {
+    /// Lets go of a session that holds nothing, as [`Window::is_empty`] tells. Its desk is told nothing, and its row stays as it
+    /// is: for a session that no desk knows.
+    pub fn end(self)
+        requires { held_of self.window ≡ [] }
+    {
+        let Session {
+            identity,
+            expiry: _,
+            window,
+            membership: _,
+        } = self;
+        identity.end();
+        window.end();
+    }
 }
 
 impl<E: Drop, P: Drop> Session<E, P> {

@@ -1,0 +1,216 @@
+//! Rows: what a broker with eight groups writes to its clients.
+use crate::broker::{Coming, written};
+use crate::hall::Hall;
+use crate::spot::Spot;
+use conn_engine::Conn;
+use std::alloc::Global;
+use std::process::Abort;
+use std::test::Fail;
+
+// CONNECT packets of client w1: plain, with Receive Maximum 1, with an expiry of an hour and Receive Maximum 10, and then with 2
+// and Clean Start 0; and the CONNACK without a session.
+const CONNECT: &str = "100F00044D5154540502003C0000027731";
+
+const CONNECT_ONE: &str = "101200044D5154540502003C0321000100027731";
+
+const CONNECT_STAYS: &str = "101700044D5154540502003C081100000E1021000A00027731";
+
+const CONNECT_AGAIN: &str = "101700044D5154540500003C081100000E1021000200027731";
+
+const CONNACK: &str = "200e00000b2401250027000100002900 ";
+
+// A SUBSCRIBE to $share/g/job, and its SUBACK.
+const SUBSCRIBE: &str = "8212000100000C2473686172652F672F6A6F6201";
+
+const SUBACK: &str = "900400010001 ";
+
+// What comes to a connection at a moment, and what is written then.
+type Row = (u64, Coming, &'static str);
+
+// Plays rows to a connection.
+fn play(rt: &impl Abort, alloc: Global, hall: &mut Hall, conn: &mut Conn<Spot>, rows: &[Row]) {
+    for (now, coming, expected) in rows {
+        let told = written(alloc, hall, conn, *now, coming).expect(rt, "a step");
+        assert_eq!(rt; told.as_str(), *expected);
+    }
+}
+
+// Plays rows to the only connection of a broker, which end it, and compares the line of its first group.
+fn alone(rt: &impl Abort, alloc: Global, rows: &[Row], line: &str) {
+    let mut hall = Hall::open(rt, alloc, 1_024);
+    let mut conn = Conn::open(alloc, 0, 0);
+    play(rt, alloc, &mut hall, &mut conn, rows);
+    finish(rt, conn);
+    conclude(rt, hall, line);
+}
+
+// Ends a connection that has ended.
+fn finish(rt: &impl Abort, conn: Conn<Spot>) {
+    if !conn.has_ended() {
+        panic!(rt; "the connection has not ended")
+    }
+    conn.end();
+}
+
+// Ends a broker, and compares the line of its first group.
+fn conclude(rt: &impl Abort, hall: Hall, line: &str) {
+    let told = hall.line(0).expect(rt, "a line");
+    hall.end(rt);
+    assert_eq!(rt; told.as_slice(), line.as_bytes());
+}
+
+#[test]
+fn first_job(rt: HostRuntime) -> Result<(), Fail> {
+    alone(
+        &rt,
+        rt.alloc(),
+        &[
+            (0, Coming::Bytes(CONNECT), CONNACK),
+            (0, Coming::Bytes(SUBSCRIBE), SUBACK),
+            (0, Coming::Bytes("320900036A6F6200070041"), "40020007 320900036a6f6200010041 "),
+            (0, Coming::EndOfInput, "close"),
+        ],
+        "$share/g/job accepted 1 acknowledged 0 refused 0 held 0 queued 0 returned 1\n",
+    );
+    Ok(())
+}
+
+#[test]
+fn receive_maximum_of_one(rt: HostRuntime) -> Result<(), Fail> {
+    alone(
+        &rt,
+        rt.alloc(),
+        &[
+            (0, Coming::Bytes(CONNECT_ONE), CONNACK),
+            (0, Coming::Bytes(SUBSCRIBE), SUBACK),
+            (0, Coming::Bytes("320900036A6F6200070041"), "40020007 320900036a6f6200010041 "),
+            (0, Coming::Bytes("320900036A6F6200080042"), "40020008 "),
+            (0, Coming::Bytes("320900036A6F6200090043"), "40020009 "),
+            (0, Coming::Bytes("40020001"), "320900036a6f6200010042 "),
+            (0, Coming::EndOfInput, "close"),
+        ],
+        "$share/g/job accepted 3 acknowledged 1 refused 0 held 0 queued 1 returned 1\n",
+    );
+    Ok(())
+}
+
+#[test]
+fn refused_job(rt: HostRuntime) -> Result<(), Fail> {
+    alone(
+        &rt,
+        rt.alloc(),
+        &[
+            (0, Coming::Bytes(CONNECT), CONNACK),
+            (0, Coming::Bytes(SUBSCRIBE), SUBACK),
+            (0, Coming::Bytes("320900036A6F6200070041"), "40020007 320900036a6f6200010041 "),
+            (0, Coming::Bytes("4003000180"), ""),
+            (0, Coming::Closing, "e0018b close"),
+        ],
+        "$share/g/job accepted 1 acknowledged 0 refused 1 held 0 queued 0 returned 0\n",
+    );
+    Ok(())
+}
+
+#[test]
+fn unsubscribe(rt: HostRuntime) -> Result<(), Fail> {
+    alone(
+        &rt,
+        rt.alloc(),
+        &[
+            (0, Coming::Bytes(CONNECT), CONNACK),
+            (0, Coming::Bytes(SUBSCRIBE), SUBACK),
+            (0, Coming::Bytes("A211000200000C2473686172652F672F6A6F62"), "b00400020000 "),
+            (0, Coming::Bytes("A211000300000C2473686172652F672F6A6F62"), "b00400030011 "),
+            (0, Coming::Bytes("320900036A6F6200070041"), "40020007 "),
+            (0, Coming::Bytes("320A00046E6F6E6500080041"), "4003000810 "),
+            (90_000, Coming::Tick, "e0018d close"),
+        ],
+        "$share/g/job accepted 1 acknowledged 0 refused 0 held 0 queued 1 returned 0\n",
+    );
+    Ok(())
+}
+
+#[test]
+fn first_packets(rt: HostRuntime) -> Result<(), Fail> {
+    let assigned = "201e00001b12000d6175746f2d30303030303030312401250027000100002900 ";
+    alone(&rt, rt.alloc(), &[(0, Coming::Bytes("100E00044D5154540402003C00027731"), "2003008400 close")], "");
+    alone(&rt, rt.alloc(), &[(0, Coming::Bytes("C000"), "close")], "");
+    alone(&rt, rt.alloc(), &[(9_999, Coming::Tick, ""), (10_000, Coming::Tick, "close")], "");
+    alone(
+        &rt,
+        rt.alloc(),
+        &[
+            (0, Coming::Bytes("100D00044D5154540502003C000000"), assigned),
+            (0, Coming::Bytes("C000"), "d000 "),
+            (0, Coming::Bytes(CONNECT), "e00182 close"),
+        ],
+        "",
+    );
+    Ok(())
+}
+
+#[test]
+fn resume(rt: HostRuntime) -> Result<(), Fail> {
+    let mut hall = Hall::open(&rt, rt.alloc(), 1_024);
+    let mut first = Conn::open(rt.alloc(), 0, 0);
+    let mut second = Conn::open(rt.alloc(), 1, 0);
+    play(
+        &rt,
+        rt.alloc(),
+        &mut hall,
+        &mut first,
+        &[
+            (0, Coming::Bytes(CONNECT_STAYS), CONNACK),
+            (0, Coming::Bytes(SUBSCRIBE), SUBACK),
+            (0, Coming::Bytes("320900036A6F6200010041"), "40020001 320900036a6f6200010041 "),
+            (0, Coming::Bytes("320900036A6F6200020042"), "40020002 320900036a6f6200020042 "),
+            (0, Coming::Bytes("320900036A6F6200030043"), "40020003 320900036a6f6200030043 "),
+            (0, Coming::Bytes("320900036A6F6200040044"), "40020004 320900036a6f6200040044 "),
+            (0, Coming::Bytes("320900036A6F6200050045"), "40020005 320900036a6f6200050045 "),
+            (0, Coming::EndOfInput, "close"),
+        ],
+    );
+    play(
+        &rt,
+        rt.alloc(),
+        &mut hall,
+        &mut second,
+        &[
+            (
+                5,
+                Coming::Bytes(CONNECT_AGAIN),
+                "200e01000b2401250027000100002900 3a0900036a6f6200010041 3a0900036a6f6200020042 ",
+            ),
+            (5, Coming::Bytes("40020005"), ""),
+            (5, Coming::Bytes("40020001"), "3a0900036a6f6200030043 "),
+            (5, Coming::Bytes("40020002"), "3a0900036a6f6200040044 "),
+            (5, Coming::Bytes("40020003"), ""),
+            (5, Coming::Closing, "e0018b close"),
+        ],
+    );
+    finish(&rt, first);
+    finish(&rt, second);
+    conclude(&rt, hall, "$share/g/job accepted 5 acknowledged 4 refused 0 held 1 queued 0 returned 0\n");
+    Ok(())
+}
+
+#[test]
+fn takeover(rt: HostRuntime) -> Result<(), Fail> {
+    let mut hall = Hall::open(&rt, rt.alloc(), 1_024);
+    let mut first = Conn::open(rt.alloc(), 0, 0);
+    let mut second = Conn::open(rt.alloc(), 1, 0);
+    play(&rt, rt.alloc(), &mut hall, &mut first, &[(0, Coming::Bytes(CONNECT), CONNACK)]);
+    play(&rt, rt.alloc(), &mut hall, &mut second, &[(5, Coming::Bytes(CONNECT), ""), (6, Coming::Tick, "")]);
+    play(&rt, rt.alloc(), &mut hall, &mut first, &[(7, Coming::Tick, "e0018e kicked")]);
+    play(
+        &rt,
+        rt.alloc(),
+        &mut hall,
+        &mut second,
+        &[(8, Coming::Tick, CONNACK), (9, Coming::Bytes("E000"), "close")],
+    );
+    finish(&rt, first);
+    finish(&rt, second);
+    conclude(&rt, hall, "");
+    Ok(())
+}
