@@ -7,7 +7,7 @@ use Rattle.mqtt_wire.specs.declared.packet.ConnectRefusal.{ConnectRefusal}
 use Rattle.mqtt_wire.specs.declared.packet.Packet.TheVariants as packets
 use Rattle.conn_rules.specs.declared.connecting.FirstAnswer.{FirstAnswer}
 use Rattle.conn_rules.specs.declared.connecting.FirstAnswer.TheVariants.{Close, Refuse, Attach}
-use Rattle.conn_rules.specs.Connecting.{is_under, connect_answer, first_answer}
+use Rattle.conn_rules.specs.Connecting.{is_under, first_answer}
 
 short_by : (long : Bool) (refusal : ConnectRefusal) (n : ℕ) → nat_lt 128 n ≡ long → cond {A = FirstAnswer} long (Refuse refusal) Attach ≡ Attach → n ≤ 128
 short_by true refusal n is attach = grind arith
@@ -24,4 +24,4 @@ short_if false false false one two three n attach = short_by (nat_lt 128 n) thre
 pub first_is_short : (connect : Connect) → first_answer (packets.Connect connect) ≡ Attach → length connect.client_identifier ≤ 128
 first_is_short connect attach =
     short_if (is_under 5 connect.properties.maximum_packet_size) (is_under 64 connect.properties.maximum_packet_size) (is_some connect.properties.authentication)
-      _ _ _ (length connect.client_identifier) attach
+    _ _ _ (length connect.client_identifier) attach

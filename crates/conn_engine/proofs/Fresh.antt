@@ -23,9 +23,10 @@ module _ {S P : Type 0} (call : S → Fact P → S → Type 0) where
   pub one_more_taken : (old mid new : S) (place between place' : P) (window window_between window' : Contents Held) (packet : Packet) (taken : List Held)
       → SendsOne call old place window packet between window_between mid → TakesSome call mid between window_between taken place' window' new
       → (all : List Held) × TakesSome call old place window all place' window' new
-  one_more_taken old mid new place between place' window window_between window' packet taken sends more =
-      (sends.envelope ∷ taken,
-        (sends.identifier, between, mid, sends.asked, sends.free, subst (λ w. TakesSome call mid between w taken place' window' new) sends.put more))
+  one_more_taken old mid new place between place' window window_between window' packet taken sends more = (
+    sends.envelope ∷ taken,
+    (sends.identifier, between, mid, sends.asked, sends.free, subst (λ w. TakesSome call mid between w taken place' window' new) sends.put more),
+  )
 
   pub taken_one : (old new : S) (place place' : P) (window window' : Contents Held) (envelope : Held) (identifier : ℕ)
       → AsksFor call old place (Some envelope) place' new → IsLeastFree (identifiers (held_of window)) identifier → window' ≡ after_put window identifier envelope

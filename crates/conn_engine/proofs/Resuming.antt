@@ -18,8 +18,8 @@ module _ {S P : Type 0} (call : S → Fact P → S → Type 0) where
   pub resumed : (old mid new : S) (number now : ℕ) (request : ConnectRequest) (ticks : ℕ) (session : Session Held P) (standing : Standing P) (result : Result Reply NoMemory)
       → call old (Attach (asked number request.client request.clean_start now) (Ok (Resumed session))) mid
       → MatchResult result
-          (λ reply. ResumesAs call (has_place session.membership && not request.terms.takes_all_packets) mid request session standing reply new)
-          (λ _. (standing ≡ Ended) × Parts call mid (opened session request.terms) now new)
+      (λ reply. ResumesAs call (has_place session.membership && not request.terms.takes_all_packets) mid request session standing reply new)
+      (λ _. (standing ≡ Ended) × Parts call mid (opened session request.terms) now new)
       → MatchResult result (λ reply. Attaches call old number now request ticks standing reply new) (λ _. (standing ≡ Ended) × FailsToAttach call old number now request new)
   resumed old mid new number now request ticks session standing (Ok reply) called resumes =
       record { answer = Ok (Resumed session); mid = mid; asked_for = called; answered = resumes }

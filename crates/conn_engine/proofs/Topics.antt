@@ -6,8 +6,8 @@ use Rattle.mqtt_wire.specs.declared.packet.Delivery.{Delivery}
 use Rattle.mqtt_wire.specs.declared.packet.Delivery.TheVariants.{AtMostOnce, AtLeastOnce, ExactlyOnce}
 use Rattle.mqtt_wire.specs.declared.packet.Publish.{Publish}
 use Rattle.mqtt_topic.specs.Levels.{is_wildcard}
-use Rattle.mqtt_topic.specs.Names.{name_of, tested, is_some_text, is_plain}
-use Rattle.conn_rules.specs.declared.publishing.PublishAnswer.TheVariants.{Close, Refuse, Offer}
+use Rattle.mqtt_topic.specs.Names.{name_of}
+use Rattle.conn_rules.specs.declared.publishing.PublishAnswer.TheVariants.{Offer}
 use Rattle.conn_rules.specs.Publishing.{closing_code, identified_answer, delivery_answer, publish_answer}
 
 -- a text with a character and without wildcards

@@ -1,5 +1,5 @@
 -- What holds of the entries of a window.
-use Rattle.std.proofs.Common.{◌≡◌, ℕ, ◌≤◌, ◌<◌, List, ◌∷◌, ◌++◌, length, Some, All, subst}
+use Rattle.std.proofs.Common.{ℕ, ◌≤◌, ◌<◌, length, Some, All, subst}
 use Rattle.std.proofs.Math.Seq.{drop-append_seam}
 use Rattle.std.proofs.lemmas.List.Elements.{All-drop, All-head}
 use Rattle.group_jobs.specs.Stamps.{Held}

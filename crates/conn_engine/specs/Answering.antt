@@ -63,7 +63,7 @@ module _ {S P : Type 0} (call : S → Fact P → S → Type 0) (slot_of : P → 
   FailsToAnswer old number link (packets.Publish publish) link' new = IsCutShort call old number publish new × (link' ≡ link)
   FailsToAnswer old number link (packets.Subscribe subscribe) link' new =
       (membership : Membership P) × AnswersSome call slot_of (is_some subscribe.properties.subscription_identifier) link.terms old link.session.membership
-          subscribe.subscriptions membership new
+      subscribe.subscriptions membership new
       × (link' ≡ joining link membership)
   FailsToAnswer old number link (packets.Unsubscribe unsubscribe) link' new = (link' ≡ link) × (new ≡ old)
   FailsToAnswer old number link other link' new = ⊥

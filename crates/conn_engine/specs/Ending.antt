@@ -6,7 +6,7 @@ use Rattle.session_desk.specs.declared.session.Session.{Session}
 use Rattle.session_desk.specs.declared.session.Membership.{Membership}
 use Rattle.session_desk.specs.declared.session.Membership.TheVariants.{NotMember, Member, Leaving}
 use Rattle.conn_engine.specs.Facts.{Fact}
-use Rattle.conn_engine.specs.Facts.Fact.{GiveBack, Keep, Bury, Park, ParkAsIs, Sweep}
+use Rattle.conn_engine.specs.Facts.Fact.{GiveBack, Keep, Bury, Park, Sweep}
 use Rattle.conn_engine.specs.Memberships.{with_window, with_membership}
 
 -- the window of a session that is ending, with what it holds still
@@ -68,4 +68,4 @@ module _ {S P : Type 0} (call : S → Fact P → S → Type 0) where
   Sweeps old now (suc most) new =
       call old (Sweep now None) new
       ⊎ ((session : Session Held P) × (mid : S) × (after : S) × call old (Sweep now (Some session)) mid
-        × ((Retires mid session false new) ⊎ (Retires mid session true after × Sweeps after now most new)))
+      × ((Retires mid session false new) ⊎ (Retires mid session true after × Sweeps after now most new)))

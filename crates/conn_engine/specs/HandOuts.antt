@@ -102,5 +102,5 @@ module _ {S P : Type 0} (call : S → Fact P → S → Type 0) where
   HandsSome old membership window membership' window' new =
       (KeepsHeld window window' × (membership' ≡ membership) × (new ≡ old))
       ⊎ ((place : P) × (place' : P) × (between : Contents Held) × (taken : List Held)
-        × (membership ≡ Member place) × (membership' ≡ Member place') × KeepsHeld window between
-        × TakesSome old place between taken place' window' new)
+      × (membership ≡ Member place) × (membership' ≡ Member place') × KeepsHeld window between
+      × TakesSome old place between taken place' window' new)

@@ -1,6 +1,5 @@
 -- Replies: what a connection answers to an input, before anything is handed out.
-use Rattle.std.specs.Prelude.{ℕ, Option, Some, None}
-use Rattle.mqtt_wire.specs.declared.packet.Packet.{Packet}
+use Rattle.std.specs.Prelude.{ℕ, Some}
 use Rattle.conn_rules.specs.Packets.{disconnect, puback}
 use Rattle.conn_engine.specs.declared.reply.Reply.{Reply}
 use Rattle.conn_engine.specs.declared.reply.Reply.TheVariants.{Go, Close}

@@ -1,6 +1,5 @@
 -- One step of a connection: its reply, and what is handed out behind it.
 use Rattle.std.specs.Prelude.{◌≡◌, ◌⊎◌, ℕ, ◌-◌, Bool, true, false, List, [], ◌∷◌, ◌++◌, Option, Some, None, ⊤}
-use Rattle.mqtt_wire.specs.declared.fault.StreamFault.{StreamFault}
 use Rattle.mqtt_wire.specs.declared.packet.Connect.{Connect}
 use Rattle.mqtt_wire.specs.declared.packet.ConnectRefusal.{ConnectRefusal}
 use Rattle.mqtt_wire.specs.declared.packet.Packet.{Packet}
@@ -8,7 +7,6 @@ use Rattle.mqtt_wire.specs.declared.packet.Packet.TheVariants as packets
 use Rattle.group_jobs.specs.Stamps.{Held}
 use Rattle.member_window.specs.Contents.{Contents}
 use Rattle.session_desk.specs.declared.session.Membership.{Membership}
-use Rattle.session_desk.specs.declared.session.Session.{Session}
 use Rattle.conn_rules.specs.declared.connecting.FirstAnswer.{FirstAnswer}
 use Rattle.conn_rules.specs.declared.connecting.FirstAnswer.TheVariants as first
 use Rattle.conn_rules.specs.Connecting.{first_answer, terms_of}

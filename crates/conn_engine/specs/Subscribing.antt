@@ -13,7 +13,7 @@ use Rattle.conn_rules.specs.Packets.{suback, unsuback}
 use Rattle.session_desk.specs.declared.session.Membership.{Membership}
 use Rattle.session_desk.specs.declared.session.Membership.TheVariants.{NotMember, Member, Leaving}
 use Rattle.conn_engine.specs.declared.reply.Reply.{Reply}
-use Rattle.conn_engine.specs.declared.reply.Reply.TheVariants.{Go, Close}
+use Rattle.conn_engine.specs.declared.reply.Reply.TheVariants.{Go}
 use Rattle.conn_engine.specs.declared.supply.BindRefusal.{BindRefusal}
 use Rattle.conn_engine.specs.declared.supply.BindRefusal.TheVariants as refusal
 use Rattle.conn_engine.specs.Facts.{Fact}
@@ -67,8 +67,8 @@ module _ {S P : Type 0} (call : S → Fact P → S → Type 0) (slot_of : P → 
   AnswersFirst identified terms old membership (entry ∷ entries) membership' new =
       IsUnbound old membership membership' new
       ⊎ ((code : ℕ) × (between : Membership P) × (mid : S)
-        × AnswersEntry old membership (entry_answer identified entry terms) code between mid
-        × AnswersFirst identified terms mid between entries membership' new)
+      × AnswersEntry old membership (entry_answer identified entry terms) code between mid
+      × AnswersFirst identified terms mid between entries membership' new)
 
   -- where memory was wanted, some of the entries were answered, from the first on, or none
   abbrev pub AnswersSome : Bool → Terms → S → Membership P → List Subscription → Membership P → S → Type 0

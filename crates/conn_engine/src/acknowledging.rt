@@ -11,7 +11,7 @@ use session_desk::{Membership, Session};
 
 /// A PUBACK settles the message under its identifier: it is acknowledged, or refused by a code from 80 hex on. A PUBACK whose
 /// identifier the session does not hold is ignored.
-pub fn acknowledge<P, S: Supply<P>>(
+pub(crate) fn acknowledge<P, S: Supply<P>>(
     supply: &mut S,
     session: &mut Session<Envelope, P>,
     identifier: PacketIdentifier,

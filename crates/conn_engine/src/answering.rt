@@ -18,7 +18,7 @@ use std::alloc::Global;
 /// # Errors
 ///
 /// Want of memory. Nothing that the session holds is lost.
-pub fn answer<P: Place, S: Supply<P>>(
+pub(crate) fn answer<P: Place, S: Supply<P>>(
     supply: &mut S,
     alloc: Global,
     number: u16,
@@ -35,7 +35,12 @@ pub fn answer<P: Place, S: Supply<P>>(
         Packet::Publish(packet) => (link, publish(supply, alloc, number, packet)),
         Packet::Puback(packet) => {
             let mut link = link;
-            acknowledge(supply, &mut link.session, packet.packet_identifier, packet.reason_code);
+            acknowledge(
+                supply,
+                &mut link.session,
+                packet.packet_identifier,
+                packet.reason_code,
+            );
             (link, Ok(Reply::Go(None)))
         }
         Packet::Subscribe(packet) => join(supply, alloc, link, packet),
@@ -45,7 +50,10 @@ pub fn answer<P: Place, S: Supply<P>>(
             let (link, reply) = disconnect(alloc, link, &packet);
             (link, Ok(reply))
         }
-        _ => (link, Ok(Reply::closing_with(alloc, ReasonCode::PROTOCOL_ERROR))),
+        _ => (
+            link,
+            Ok(Reply::closing_with(alloc, ReasonCode::PROTOCOL_ERROR)),
+        ),
     }
 }
 
@@ -63,13 +71,12 @@ fn join<P: Place, S: Supply<P>>(
     ensures sound { result.0.session.window.retired ≡ false }
 {
     let Link {
-        session:
-            Session {
-                identity,
-                expiry,
-                window,
-                membership,
-            },
+        session: Session {
+            identity,
+            expiry,
+            window,
+            membership,
+        },
         terms,
         heard,
     } = link;
@@ -104,13 +111,12 @@ fn leave<P: Place, S: Supply<P>>(
     ensures sound { result.0.session.window.retired ≡ false }
 {
     let Link {
-        session:
-            Session {
-                identity,
-                expiry,
-                window,
-                membership,
-            },
+        session: Session {
+            identity,
+            expiry,
+            window,
+            membership,
+        },
         terms,
         heard,
     } = link;
@@ -132,11 +138,7 @@ fn leave<P: Place, S: Supply<P>>(
 }
 
 /// Answers a DISCONNECT (section 3.14).
-fn disconnect<P>(
-    alloc: Global,
-    mut link: Link<P>,
-    packet: &Disconnect,
-) -> (Link<P>, Reply)
+fn disconnect<P>(alloc: Global, mut link: Link<P>, packet: &Disconnect) -> (Link<P>, Reply)
     requires { link.session.window.retired ≡ false }
     ensures answered { Disconnects link packet.now.properties.session_expiry_interval result.0 result.1 }
     ensures sound { result.0.session.window.retired ≡ false }

@@ -102,10 +102,18 @@ impl<P: Place> Conn<P> {
         ensures stepped { MatchResult result
             (λ next. Steps S.call P.slot_of supply.old self.old.number self.old.standing now input packets.new.items next self.new.standing supply.new)
             (λ _. (self.new.standing ≡ standings.Ended) × (packets.new.items ≡ [])
-                × FailsToStep S.call P.slot_of supply.old self.old.number self.old.standing now input supply.new) }
+            × FailsToStep S.call P.slot_of supply.old self.old.number self.old.standing now input supply.new) }
     {
         let standing = mem::replace(&mut self.standing, Standing::Ended);
-        let (standing, next) = step(supply, self.alloc, self.number, standing, now, input, packets);
+        let (standing, next) = step(
+            supply,
+            self.alloc,
+            self.number,
+            standing,
+            now,
+            input,
+            packets,
+        );
         put(&mut self.standing, standing);
         next
     }
@@ -242,13 +250,12 @@ fn hand_to<P: Place, S: Supply<P>>(
     ensures sound { IsSoundStanding result.0 }
 {
     let Link {
-        session:
-            Session {
-                identity,
-                expiry,
-                mut window,
-                membership,
-            },
+        session: Session {
+            identity,
+            expiry,
+            mut window,
+            membership,
+        },
         terms,
         heard,
     } = link;

@@ -22,7 +22,7 @@ const MOST_TICKS: u8 = 100;
 /// # Errors
 ///
 /// Want of memory. The connection has ended then, and a session that was lent is parked or ending.
-pub fn attach<P, S: Supply<P>>(
+pub(crate) fn attach<P, S: Supply<P>>(
     supply: &mut S,
     number: u16,
     now: u64,
@@ -55,7 +55,7 @@ pub fn attach<P, S: Supply<P>>(
 /// # Errors
 ///
 /// Want of memory. The connection has ended then, and a session that was lent is parked or ending.
-pub fn try_again<P, S: Supply<P>>(
+pub(crate) fn try_again<P, S: Supply<P>>(
     supply: &mut S,
     number: u16,
     now: u64,
@@ -171,7 +171,10 @@ fn accept<P, S: Supply<P>>(
                 terms: request.terms,
                 heard: request.came,
             };
-            (Standing::Connected(link), Ok(Reply::Go(Some(accepting(present, name)))))
+            (
+                Standing::Connected(link),
+                Ok(Reply::Go(Some(accepting(present, name)))),
+            )
         }
         Err(NoMemory) => {
             part(supply, session, now);

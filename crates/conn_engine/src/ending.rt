@@ -11,7 +11,7 @@ use member_window::Window;
 use session_desk::{Membership, ROWS, Session};
 
 /// The connection of a session has ended: the desk parks it, and it is retired where it ends with its connection.
-pub fn part<P, S: Supply<P>>(supply: &mut S, mut session: Session<Envelope, P>, now: u64)
+pub(crate) fn part<P, S: Supply<P>>(supply: &mut S, mut session: Session<Envelope, P>, now: u64)
     requires { session.window.retired ≡ false }
     ensures { Parts S.call supply.old session now supply.new }
 {
@@ -22,7 +22,7 @@ pub fn part<P, S: Supply<P>>(supply: &mut S, mut session: Session<Envelope, P>, 
 }
 
 /// The broker closes: the session of a connection is kept as it is.
-pub fn part_as_is<P, S: Supply<P>>(supply: &mut S, mut session: Session<Envelope, P>)
+pub(crate) fn part_as_is<P, S: Supply<P>>(supply: &mut S, mut session: Session<Envelope, P>)
     requires { session.window.retired ≡ false }
     ensures { S.call supply.old (ParkAsIs (down session)) supply.new }
 {
@@ -31,7 +31,7 @@ pub fn part_as_is<P, S: Supply<P>>(supply: &mut S, mut session: Session<Envelope
 }
 
 /// Retires the sessions that are due at this moment, until none is due or memory was wanted.
-pub fn sweep<P, S: Supply<P>>(supply: &mut S, now: u64)
+pub(crate) fn sweep<P, S: Supply<P>>(supply: &mut S, now: u64)
     ensures { Sweeps S.call supply.old now 256 supply.new }
 {
     sweep_most(supply, now, ROWS);

@@ -21,7 +21,7 @@ use std::alloc::Global;
 /// # Errors
 ///
 /// Want of memory. Nothing that the session holds is lost.
-pub fn hand_out<P, S: Supply<P>>(
+pub(crate) fn hand_out<P, S: Supply<P>>(
     supply: &mut S,
     alloc: Global,
     membership: Membership<P>,
@@ -30,7 +30,7 @@ pub fn hand_out<P, S: Supply<P>>(
 ) -> (Membership<P>, Result<(), NoMemory>)
     ensures handed { MatchResult result.1
         (λ _. (sent : List Packet) × (packets.new.items ≡ packets.old.items ++ sent)
-            × HandsOut S.call supply.old membership window.old sent result.0 window.new supply.new)
+        × HandsOut S.call supply.old membership window.old sent result.0 window.new supply.new)
         (λ _. HandsSome S.call supply.old membership window.old result.0 window.new supply.new) }
     ensures sound { window.new.retired ≡ window.old.retired }
 {
@@ -71,7 +71,7 @@ fn next_again(alloc: Global, window: &mut Window<Envelope>) -> Result<Option<Pac
     ensures sent { IfOk result (λ sent. MatchOption sent
         (IsNextResend window.old None × (window.new ≡ window.old))
         (λ packet. (entry : ℕ × Held) × IsNextResend window.old (Some entry) × (window.new ≡ after_resend window.old (Some entry))
-            × (packet ≡ job true entry.1.message entry.0))) }
+        × (packet ≡ job true entry.1.message entry.0))) }
     ensures kept { KeepsHeld window.old window.new }
 {
     let _held = window.len();
@@ -145,11 +145,7 @@ fn next_fresh<P, S: Supply<P>>(
 }
 
 /// Puts a message into the window, which has room, and gives the packet in which it goes out.
-fn put(
-    alloc: Global,
-    window: &mut Window<Envelope>,
-    envelope: Envelope,
-) -> Result<Packet, NoMemory>
+fn put(alloc: Global, window: &mut Window<Envelope>, envelope: Envelope) -> Result<Packet, NoMemory>
     requires { HasRoom window.old }
     ensures put { (identifier : ℕ) × IsLeastFree (identifiers (held_of window.old)) identifier
         × (window.new ≡ after_put window.old identifier envelope)
@@ -177,11 +173,7 @@ fn ask<P, S: Supply<P>>(supply: &mut S, place: &mut P) -> Result<Option<Envelope
 }
 
 /// Whoever leaves is no member once it holds nothing.
-fn leave<P, S: Supply<P>>(
-    supply: &mut S,
-    place: P,
-    window: &Window<Envelope>,
-) -> Membership<P>
+fn leave<P, S: Supply<P>>(supply: &mut S, place: P, window: &Window<Envelope>) -> Membership<P>
     ensures { LeavesWith S.call supply.old place window.now result supply.new }
 {
     if window.is_empty() {

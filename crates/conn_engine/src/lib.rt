@@ -1,4 +1,18 @@
-//! What a connection answers, over any supply of sessions, routes and groups.
+//! What a connection answers, and what it is handed: one client's side of a broker, with no clock, socket or thread.
+//!
+//! A [`Conn`] takes what comes to it, one [`Input`] a step, with the moment, and gives the packets that are to be written and
+//! whether it goes on. What it asks of sessions, routes and groups it asks of a [`Supply`], which one thread or many may stand
+//! behind.
+//!
+//! ```
+//! let mut conn = Conn::open(alloc, 0, now);
+//! let next = conn.step(&mut supply, now, Input::Packet(connect), &mut packets)?; // a CONNACK, and what was sent before
+//! let next = conn.step(&mut supply, now, Input::Tick, &mut packets)?; // what has come for its client since
+//! let next = conn.step(&mut supply, now, Input::EndOfInput, &mut packets)?; // its session is parked: Then::Close
+//! conn.end();
+//! ```
+//!
+//! A session that is ending, and that a sweep of the supply's gave, is retired by [`retire`].
 #![tactic(auto)]
 
 mod acknowledging;
@@ -15,15 +29,7 @@ mod standing;
 mod subscribing;
 mod supply;
 
-pub use acknowledging::acknowledge;
-pub use answering::answer;
 pub use conn::Conn;
-pub use connecting::{attach, try_again};
-pub use ending::{part, part_as_is, retire, sweep};
-pub use hand_outs::hand_out;
+pub use ending::retire;
 pub use input::{Input, Then};
-pub use publishing::publish;
-pub use reply::Reply;
-pub use standing::{ConnectRequest, Link, Standing};
-pub use subscribing::{subscribe, unsubscribe};
 pub use supply::{BindRefusal, NoMemory, OfferRefusal, Supply};

@@ -19,7 +19,7 @@ use std::alloc::Global;
 /// # Errors
 ///
 /// Want of memory; the message may have been offered to some of the groups that match.
-pub fn publish<P, S: Supply<P>>(
+pub(crate) fn publish<P, S: Supply<P>>(
     supply: &mut S,
     alloc: Global,
     connection: u16,

@@ -217,7 +217,10 @@ fn react_connected<P: Place, S: Supply<P>>(
         }
         Input::Fault(fault) => {
             part(supply, link.into_session(), now);
-            (Standing::Ended, Ok(Reply::closing_with(alloc, fault_code(fault))))
+            (
+                Standing::Ended,
+                Ok(Reply::closing_with(alloc, fault_code(fault))),
+            )
         }
         Input::EndOfInput => {
             part(supply, link.into_session(), now);
@@ -225,7 +228,10 @@ fn react_connected<P: Place, S: Supply<P>>(
         }
         Input::Closing => {
             part_as_is(supply, link.into_session());
-            (Standing::Ended, Ok(Reply::closing_with(alloc, ReasonCode::SERVER_SHUTTING_DOWN)))
+            (
+                Standing::Ended,
+                Ok(Reply::closing_with(alloc, ReasonCode::SERVER_SHUTTING_DOWN)),
+            )
         }
     }
 }
@@ -307,7 +313,10 @@ fn tick<P: Place, S: Supply<P>>(
     sweep(supply, now);
     if is_overdue(link.terms.keep_alive, now.saturating_sub(link.heard)) {
         part(supply, link.into_session(), now);
-        return (Standing::Ended, Ok(Reply::closing_with(alloc, ReasonCode::KEEP_ALIVE_TIMEOUT)));
+        return (
+            Standing::Ended,
+            Ok(Reply::closing_with(alloc, ReasonCode::KEEP_ALIVE_TIMEOUT)),
+        );
     }
     (Standing::Connected(link), Ok(Reply::Go(None)))
 }

@@ -8,7 +8,7 @@ use std::alloc::Global;
 
 /// What a connection answers to an input, before anything is handed out.
 #[derive(Debug, Drop)]
-pub enum Reply {
+pub(crate) enum Reply {
     /// This packet is sent, if there is one, and the connection goes on.
     Go(Option<Packet>),
     /// This packet is sent, if there is one, and the connection is closed.

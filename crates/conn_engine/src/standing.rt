@@ -8,7 +8,7 @@ use session_desk::Session;
 
 /// What a client asked for when it connected, and when.
 #[derive(Debug, Drop)]
-pub struct ConnectRequest {
+pub(crate) struct ConnectRequest {
     /// The identifier of the client: empty where one is to be assigned (section 3.1.3.1). It has at most 128 bytes.
     pub client: Text,
     /// An earlier session of the client is discarded (section 3.1.2.4).
@@ -20,7 +20,7 @@ pub struct ConnectRequest {
 }
 
 /// A connection whose client has its session. `P` is a place in a group.
-pub struct Link<P> {
+pub(crate) struct Link<P> {
     /// The session of the client.
     pub session: Session<Envelope, P>,
     /// What the client asked for.
@@ -31,7 +31,7 @@ pub struct Link<P> {
 
 impl<P> Link<P> {
     /// The session of a connection that ends.
-    pub fn into_session(self) -> Session<Envelope, P>
+    pub(crate) fn into_session(self) -> Session<Envelope, P>
         ensures { result ≡ self.session }
     {
         let Link {
@@ -44,7 +44,7 @@ impl<P> Link<P> {
 }
 
 /// How far a connection has come.
-pub enum Standing<P> {
+pub(crate) enum Standing<P> {
     /// No packet came yet.
     Unconnected {
         /// The moment at which the connection was opened, in milliseconds.

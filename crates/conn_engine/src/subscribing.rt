@@ -14,7 +14,9 @@ use conn_rules::{
     EntryAnswer, Terms, answer_to_entry, suback, subscribe_refusal, unsuback, unsubscribe_refusal,
 };
 use mqtt_topic::Share;
-use mqtt_wire::{NonEmpty, PacketIdentifier, ReasonCode, Subscribe, Subscription, Text, Unsubscribe};
+use mqtt_wire::{
+    NonEmpty, PacketIdentifier, ReasonCode, Subscribe, Subscription, Text, Unsubscribe,
+};
 use session_desk::{Membership, Place};
 use std::alloc::Global;
 use std::vec::IntoIter;
@@ -24,7 +26,7 @@ use std::vec::IntoIter;
 /// # Errors
 ///
 /// Want of memory; some of the entries may have been answered.
-pub fn subscribe<P: Place, S: Supply<P>>(
+pub(crate) fn subscribe<P: Place, S: Supply<P>>(
     supply: &mut S,
     alloc: Global,
     membership: Membership<P>,
@@ -44,7 +46,14 @@ pub fn subscribe<P: Place, S: Supply<P>>(
     let Ok(mut codes) = Vec::with_capacity(alloc, entries.len()) else {
         return (membership, Err(NoMemory));
     };
-    match answer_entries(supply, membership, identified, terms, entries.into_iter(), &mut codes) {
+    match answer_entries(
+        supply,
+        membership,
+        identified,
+        terms,
+        entries.into_iter(),
+        &mut codes,
+    ) {
         (membership, Ok(())) => (membership, Ok(granted(identifier, codes))),
         (membership, Err(NoMemory)) => (membership, Err(NoMemory)),
     }
@@ -74,13 +83,17 @@ fn answer_entries<P: Place, S: Supply<P>>(
     requires counted { length (into_iter_items entries) ≡ into_iter_len entries }
     ensures { MatchResult result.1
         (λ _. (rest : List ℕ) × AnswersEntries S.call P.slot_of identified terms.now supply.old membership (into_iter_items entries) rest result.0 supply.new
-            × (codes.new.items ≡ codes.old.items ++ rest) × (length rest ≡ into_iter_len entries))
+        × (codes.new.items ≡ codes.old.items ++ rest) × (length rest ≡ into_iter_len entries))
         (λ _. AnswersFirst S.call P.slot_of identified terms.now supply.old membership (into_iter_items entries) result.0 supply.new) }
 {
     let Some(entry) = entries.next() else {
         return (membership, Ok(()));
     };
-    match answer_entry(supply, membership, answer_to_entry(identified, entry, terms)) {
+    match answer_entry(
+        supply,
+        membership,
+        answer_to_entry(identified, entry, terms),
+    ) {
         (membership, Ok(code)) => {
             codes.push_reserved(code);
             answer_entries(supply, membership, identified, terms, entries, codes)
@@ -159,7 +172,7 @@ fn enter<P: Place, S: Supply<P>>(
 /// # Errors
 ///
 /// Want of memory; nothing was asked.
-pub fn unsubscribe<P: Place, S: Supply<P>>(
+pub(crate) fn unsubscribe<P: Place, S: Supply<P>>(
     supply: &mut S,
     alloc: Global,
     membership: Membership<P>,
@@ -201,7 +214,7 @@ fn leave_each<P: Place, S: Supply<P>>(
 ) -> Membership<P>
     requires { vec_len codes.old + into_iter_len filters ≤ vec_capacity codes.old }
     ensures { (rest : List ℕ) × LeavesByAll S.call P.slot_of supply.old membership (into_iter_items filters) rest result supply.new
-            × (codes.new.items ≡ codes.old.items ++ rest) × (length rest ≡ into_iter_len filters) }
+        × (codes.new.items ≡ codes.old.items ++ rest) × (length rest ≡ into_iter_len filters) }
 {
     let Some(filter) = filters.next() else {
         return membership;

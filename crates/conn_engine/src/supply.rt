@@ -105,11 +105,7 @@ pub trait Supply<P> {
 
     /// A session whose connection has ended is kept until its client comes back or its time is over. One that ends with its
     /// connection comes back, and is to be retired.
-    fn park(
-        &mut self,
-        session: Session<Envelope, P>,
-        now: u64,
-    ) -> Option<Session<Envelope, P>>
+    fn park(&mut self, session: Session<Envelope, P>, now: u64) -> Option<Session<Envelope, P>>
         requires { session.window.retired ≡ false }
         ensures same { IfSome result (λ back. back ≡ session) }
         ensures called { call self.old (Park session now result) self.new };
@@ -153,12 +149,7 @@ pub trait Supply<P> {
         ensures { call self.old (Match topic.now result) self.new };
 
     /// Offers a message of a connection to the group of this slot.
-    fn offer(
-        &mut self,
-        slot: u8,
-        connection: u16,
-        message: Message,
-    ) -> Result<Stamp, OfferRefusal>
+    fn offer(&mut self, slot: u8, connection: u16, message: Message) -> Result<Stamp, OfferRefusal>
         ensures { call self.old (Offer slot connection message result) self.new };
 
     /// Hands the oldest queued message to a place; `None` where nothing is queued, or the broker is closed.

@@ -1,5 +1,5 @@
 //! A supply on one thread, for tests: a desk, routes and eight groups of 64 ports and 32 places.
-ghost use Rattle.std.specs.Prelude.{◌≡◌, [], ⊤};
+ghost use Rattle.std.specs.Prelude.{◌≡◌, [], false, IfSome, ⊤};
 ghost use Rattle.member_window.specs.Contents.{held_of, IsDown};
 
 use crate::spot::Spot;
@@ -146,19 +146,35 @@ impl Supply<Spot> for Hall {
         self.desk.kicked(connection)
     }
 
-    fn park(&mut self, session: Session<Envelope, Spot>, now: u64) -> Option<Session<Envelope, Spot>> {
+    fn park(
+        &mut self,
+        session: Session<Envelope, Spot>,
+        now: u64,
+    ) -> Option<Session<Envelope, Spot>>
+        requires { session.window.retired ≡ false }
+        ensures same { IfSome result (λ back. back ≡ session) }
+        ensures called { ⊤ }
+    {
         self.desk.park(session, now)
     }
 
-    fn park_as_is(&mut self, session: Session<Envelope, Spot>) {
+    fn park_as_is(&mut self, session: Session<Envelope, Spot>)
+        requires { session.window.retired ≡ false }
+        ensures { ⊤ }
+    {
         dissolve(self.desk.park_as_is(session));
     }
 
-    fn keep(&mut self, session: Session<Envelope, Spot>) {
+    fn keep(&mut self, session: Session<Envelope, Spot>)
+        ensures { ⊤ }
+    {
         dissolve(self.desk.keep(session));
     }
 
-    fn bury(&mut self, session: Session<Envelope, Spot>) {
+    fn bury(&mut self, session: Session<Envelope, Spot>)
+        requires { held_of session.window ≡ [] }
+        ensures { ⊤ }
+    {
         dissolve(self.desk.bury(session));
     }
 

@@ -1,5 +1,5 @@
 -- No entry is left.
-use Rattle.std.proofs.Common.{rules, arith, ◌≡◌, List, [], length, refl, sym, append-nil}
+use Rattle.std.proofs.Common.{rules, arith, ◌≡◌, [], refl}
 use Rattle.std.specs.Vec.Iter.{into_iter_items}
 use Rattle.std.proofs.lemmas.List.{nil_from_length}
 use Rattle.conn_engine.proofs.subscribing.+answer_entries.Goals as goal
