@@ -18,5 +18,6 @@ pub mod JoinedPlaces
 pub mod Touching
 pub mod Stored
 pub mod Added
+pub mod Clear
 pub mod Merged
 pub mod Counts

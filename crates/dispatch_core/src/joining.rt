@@ -2,7 +2,7 @@
 ghost use Rattle.std.specs.Prelude.{◌≡◌, false, ◌<◌, ◌≤◌, ◌+◌, ◌++◌, ◌↔◌, length, IsTrue, MatchBool, All, take, drop, vec_len, vec_capacity, Contains, insert};
 ghost use Rattle.std.specs.List.{list_any};
 ghost use Rattle.dispatch_core.specs.JobRuns.{alone, jobs_of, IsFilled, EachBefore, BeginsBefore, LiesApart};
-ghost use Rattle.dispatch_core.specs.Joining.{covers, begins_by, IsPlaceOf, EndsBefore, BeginsBehind, Joins};
+ghost use Rattle.dispatch_core.specs.Joining.{covers, begins_by, LiesClear, IsPlaceOf, EndsBefore, BeginsBehind, Joins};
 ghost use Rattle.dispatch_core.specs.Merging.{merged, TakesBehind, Lengthens, IsOpened, Shortens, GetsOwnIf, first_of};
 ghost use Rattle.dispatch_core.specs.Walks.{IsBehindFirst};
 
@@ -43,6 +43,13 @@ impl Run {
             from: self.from + 1,
             ..self
         })
+    }
+
+    /// Whether it ends before the other begins. They may touch.
+    pub(crate) fn lies_clear(&self, other: Run) -> bool
+        ensures { MatchBool result (LiesClear self.now other) (¬ LiesClear self.now other) }
+    {
+        self.port < other.port || (self.port == other.port && self.last < other.from)
     }
 
     /// Whether it begins at this job, or before it.

@@ -1,7 +1,7 @@
 //! Sorted lists of runs made one.
-ghost use Rattle.std.specs.Prelude.{◌≡◌, ◌<◌, ◌≤◌, ◌+◌, ◌++◌, [], length, All, take, vec_len, vec_capacity};
-ghost use Rattle.dispatch_core.specs.JobRuns.{IsFilled, EachBefore, BeginsBefore};
-ghost use Rattle.dispatch_core.specs.Joining.{LiesClear, AreJoined};
+ghost use Rattle.std.specs.Prelude.{◌≡◌, ◌<◌, ◌≤◌, ◌+◌, ◌++◌, [], length, All, MatchBool, take, vec_len, vec_capacity};
+ghost use Rattle.dispatch_core.specs.JobRuns.{jobs_of, IsFilled, NoneTwice, EachBefore, BeginsBefore};
+ghost use Rattle.dispatch_core.specs.Joining.{LiesClear, AreJoined, AreTidied};
 ghost use Rattle.dispatch_core.specs.Merging.{merged};
 
 use crate::joining::ends_before;
@@ -83,8 +83,36 @@ fn append(runs: &mut Vec<Run>, more: &[Run])
     }
 }
 
+/// Joins sorted runs that touch, where no job is in two of them. Where some is, they stay, and it tells so.
+pub(crate) fn tidy(runs: &mut Vec<Run>) -> bool
+    requires filled { All IsFilled runs.old.items }
+    requires sorted { EachBefore BeginsBefore runs.old.items }
+    ensures tidied { AreTidied runs.old.items runs.new.items result }
+    ensures capacity { vec_capacity runs.new ≡ vec_capacity runs.old }
+{
+    if have_common(runs) {
+        return true;
+    }
+    join_touching(runs);
+    false
+}
+
+/// Whether some job is in two of these sorted runs.
+fn have_common(runs: &[Run]) -> bool
+    requires filled { All IsFilled runs.now }
+    requires sorted { EachBefore BeginsBefore runs.now }
+    ensures { MatchBool result (¬ NoneTwice (jobs_of runs.now)) (EachBefore LiesClear runs.now) }
+{
+    for place in 1..runs.len() {
+        if !runs[place - 1].lies_clear(runs[place]) {
+            return true;
+        }
+    }
+    false
+}
+
 /// Joins runs that touch, of sorted ones that have no job in common.
-pub(crate) fn join_touching(runs: &mut Vec<Run>)
+fn join_touching(runs: &mut Vec<Run>)
     requires filled { All IsFilled runs.old.items }
     requires clear { EachBefore LiesClear runs.old.items }
     ensures joined { AreJoined runs.old.items runs.new.items }

@@ -11,7 +11,7 @@ ghost use Rattle.dispatch_core.specs.Joining.{covers};
 use crate::error::RoomError;
 use crate::event::Job;
 use crate::joining::{any_has, gets_own, has_either, insert_at, join, place_of};
-use crate::merging::{join_touching, make_way, merge_into, recent_room, settle};
+use crate::merging::{make_way, merge_into, recent_room, settle, tidy};
 use crate::walks::{InOrder, Jobs, job_at};
 use std::alloc::Global;
 use std::marker::Model;
@@ -208,11 +208,11 @@ impl Runs {
         job_at(self.runs(), at)
     }
 
-    /// Puts all jobs of another list into this one. It goes over the runs of both a fixed number of times.
+    /// Puts all jobs of another list into this one: a job that is in both is there twice then. It goes over the
+    /// runs of both a fixed number of times.
     ///
-    /// The two together have no job twice, and there is room for the other's runs, as [`Runs::spare`] tells.
+    /// There is room for the other's runs, as [`Runs::spare`] tells.
     pub fn merge(&mut self, other: Runs)
-        requires none_twice { NoneTwice (jobs_of self.old.runs ++ jobs_of other.runs) }
         requires room { length other.runs ≤ self.old.spare }
         ensures jobs { IsPermutation (jobs_of self.old.runs ++ jobs_of other.runs) (jobs_of self.new.runs) }
         ensures room { length self.new.runs + self.new.spare ≡ length self.old.runs + self.old.spare }
@@ -221,7 +221,7 @@ impl Runs {
         settle(&mut self.settled, &mut self.recent);
         merge_into(&mut self.settled, &other.settled);
         merge_into(&mut self.settled, &other.recent);
-        join_touching(&mut self.settled);
+        self.has_repeats = tidy(&mut self.settled);
     }
 }
 
