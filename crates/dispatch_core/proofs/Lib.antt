@@ -15,6 +15,8 @@ pub mod JoinedCases
 pub mod MergedPasses
 pub mod JoinedLists
 pub mod JoinedPlaces
+pub mod MergedThree
+pub mod Tiered
 pub mod Touching
 pub mod Stored
 pub mod Added

@@ -3,13 +3,21 @@ ghost use Rattle.std.specs.Prelude.{◌≡◌, ◌<◌, ◌≤◌, ◌+◌, ◌+
 ghost use Rattle.dispatch_core.specs.JobRuns.{jobs_of, IsFilled, NoneTwice, EachBefore, BeginsBefore};
 ghost use Rattle.dispatch_core.specs.Joining.{LiesClear, AreJoined, AreTidied};
 ghost use Rattle.dispatch_core.specs.Merging.{merged};
+ghost use Rattle.dispatch_core.specs.Tiered.{both};
 
 use crate::joining::ends_before;
 use crate::runs::Run;
+use crate::tiers::Tiers;
 
-/// How many runs are recent at most. They are moved by each job that comes between them, and when they are
-/// so many, all runs are gone over once.
-const RECENT: usize = 1024;
+/// How many runs are recent at most. They are moved by each job that comes between them.
+const RECENT: usize = 128;
+
+/// How many runs the short one of two lists has at most. They are gone over when there are many recent ones, and
+/// when they are so many, all runs are gone over once.
+const SHORT: usize = 4096;
+
+/// From how many runs in all on a short list is worth its room.
+const MANY: usize = 1024;
 
 /// How many recent runs there should be room for, where there is to be room for so many more runs.
 pub(crate) fn recent_room(count: usize) -> usize
@@ -19,23 +27,31 @@ pub(crate) fn recent_room(count: usize) -> usize
     count.min(RECENT)
 }
 
-/// Makes room for one more recent run: where there is none, or there are many, they are settled.
-pub(crate) fn make_way(settled: &mut Vec<Run>, recent: &mut Vec<Run>)
-    requires sorted { EachBefore BeginsBefore settled.old.items }
+/// How many runs the short list should have room for, where there is to be room for so many runs in all.
+pub(crate) fn short_room(all: usize) -> usize {
+    if all < MANY {
+        return 0;
+    }
+    all.min(SHORT)
+}
+
+/// Makes room for one more recent run: where there is none, or there are many, they are put to the older ones.
+pub(crate) fn make_way(older: &mut Tiers, recent: &mut Vec<Run>)
+    requires sorted { EachBefore BeginsBefore (both older.old) }
     requires recent_sorted { EachBefore BeginsBefore recent.old.items }
-    requires room { vec_len settled.old + vec_len recent.old ≤ vec_capacity settled.old }
+    requires room { vec_len older.old.long + vec_len older.old.short + vec_len recent.old ≤ vec_capacity older.old.long }
     requires some { 1 ≤ vec_capacity recent.old }
-    ensures same { merged settled.new.items recent.new.items ≡ merged settled.old.items recent.old.items }
+    ensures same { merged (both older.new) recent.new.items ≡ merged (both older.old) recent.old.items }
     ensures way { vec_len recent.new < vec_capacity recent.new }
-    ensures settled { vec_capacity settled.new ≡ vec_capacity settled.old }
+    ensures older { vec_capacity older.new.long ≡ vec_capacity older.old.long }
     ensures recent { vec_capacity recent.new ≡ vec_capacity recent.old }
 {
     if recent.len() >= recent.capacity().min(RECENT) {
-        settle(settled, recent);
+        older.take_in(recent);
     }
 }
 
-/// Puts the recent runs among the settled ones.
+/// Puts sorted runs among sorted runs, and takes them from where they were.
 pub(crate) fn settle(settled: &mut Vec<Run>, recent: &mut Vec<Run>)
     requires sorted { EachBefore BeginsBefore settled.old.items }
     requires recent_sorted { EachBefore BeginsBefore recent.old.items }
