@@ -8,6 +8,7 @@ mod group;
 mod job;
 mod matching;
 mod reading;
+mod settling;
 
 use std::process::ExitCode;
 use std::rt::Env;
@@ -32,6 +33,8 @@ enum Run {
     Matching { names: u32 },
     /// So many PUBLISH packets are read, in pieces of so many bytes.
     Reading { packets: u32, piece: usize },
+    /// So many isolated jobs of so many ports, in turn, are put into a list of jobs.
+    Settling { ports: u8, jobs: u32 },
     /// So many sweeps find nothing due among so many parked sessions.
     Sweeps { sessions: u32, sweeps: u32 },
 }
@@ -39,7 +42,7 @@ enum Run {
 fn main(rt: HostRuntime) -> ExitCode {
     let Ok(Some(run)) = run_in_words(&rt) else {
         let _ = eprintln!(rt;
-            "usage: benchmark desk OTHERS TIMES | group JOBS | job JOBS | matching NAMES | reading PACKETS PIECE | sweeps SESSIONS SWEEPS"
+            "usage: benchmark desk OTHERS TIMES | group JOBS | job JOBS | matching NAMES | reading PACKETS PIECE | settling PORTS JOBS | sweeps SESSIONS SWEEPS"
         );
         return ExitCode::from(USAGE);
     };
@@ -49,6 +52,7 @@ fn main(rt: HostRuntime) -> ExitCode {
         Run::Job { jobs } => job::written(rt.alloc(), jobs),
         Run::Matching { names } => matching::matched(rt.alloc(), names),
         Run::Reading { packets, piece } => reading::read(rt.alloc(), packets, piece),
+        Run::Settling { ports, jobs } => settling::isolated(rt.alloc(), ports, jobs),
         Run::Sweeps { sessions, sweeps } => desk::idle_sweeps(rt.alloc(), sessions, sweeps),
     };
     let Some(counted) = counted else {
@@ -65,6 +69,9 @@ fn main(rt: HostRuntime) -> ExitCode {
         Run::Reading { packets, .. } => println!(rt;
             "{packets} packets had {counted} bytes of payload"
         ),
+        Run::Settling { ports, jobs } => {
+            println!(rt; "{jobs} isolated jobs of {ports} ports make {counted} runs")
+        }
         Run::Sweeps { sessions, sweeps } => println!(rt;
             "{counted} of {sweeps} sweeps found nothing due among {sessions} sessions"
         ),
@@ -95,6 +102,9 @@ fn run_in_words(rt: &(impl Env + Alloc)) -> io::Result<Option<Run>> {
             packets,
             piece: piece as usize,
         }),
+        ("settling", Some(ports), Some(jobs)) => u8::try_from(ports)
+            .ok()
+            .map(|ports| Run::Settling { ports, jobs }),
         ("sweeps", Some(sessions), Some(sweeps)) => Some(Run::Sweeps { sessions, sweeps }),
         _ => None,
     })

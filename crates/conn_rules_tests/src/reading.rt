@@ -1,9 +1,22 @@
-//! Packets from hex digits.
-use mqtt_wire::{Fault, Packet, Splitter};
+//! Packets from hex digits, and what the rules answer to them.
+use conn_rules::{
+    FirstAnswer, PublishAnswer, Terms, answer_to_first, answer_to_publish, subscribe_refusal,
+    terms_of, unsubscribe_refusal,
+};
+use mqtt_wire::{Fault, Packet, ReasonCode, Splitter};
 use std::alloc::Global;
 
+/// What the rules say of a first packet.
+#[derive(Clone, Copy)]
+pub struct Told {
+    /// The answer to it.
+    pub first: FirstAnswer,
+    /// What the client of a CONNECT asked for.
+    pub terms: Option<Terms>,
+}
+
 /// The first packet of these bytes; `None` where there is none.
-pub fn read(alloc: Global, bytes: &[u8]) -> Result<Option<Packet>, Fault> {
+fn read(alloc: Global, bytes: &[u8]) -> Result<Option<Packet>, Fault> {
     let mut splitter = Splitter::new(alloc);
     splitter.feed(bytes)?;
     splitter.next()
@@ -14,5 +27,70 @@ pub fn packet(alloc: Global, digits: &str) -> Result<Option<Packet>, Fault> {
     match hex::decode(alloc, digits) {
         Ok(bytes) => read(alloc, &bytes),
         Err(_) => Ok(None),
+    }
+}
+
+/// What a client asked for, where its packet is a CONNECT.
+fn terms_in(packet: &Packet) -> Option<Terms> {
+    match packet {
+        Packet::Connect(connect) => Some(terms_of(connect)),
+        _ => None,
+    }
+}
+
+/// What the rules say of a first packet.
+fn answers_to(packet: &Packet) -> Told {
+    Told {
+        first: answer_to_first(packet),
+        terms: terms_in(packet),
+    }
+}
+
+/// What the rules say of the first packet of these bytes; `None` where there is none.
+pub fn answers(alloc: Global, bytes: &[u8]) -> Result<Option<Told>, Fault> {
+    match read(alloc, bytes)? {
+        Some(packet) => Ok(Some(answers_to(&packet))),
+        None => Ok(None),
+    }
+}
+
+/// What the rules say of the first packet of what hex digits say; `None` where there is none.
+pub fn answers_in(alloc: Global, digits: &str) -> Result<Option<Told>, Fault> {
+    match hex::decode(alloc, digits) {
+        Ok(bytes) => answers(alloc, &bytes),
+        Err(_) => Ok(None),
+    }
+}
+
+/// What becomes of a packet, where it is a PUBLISH.
+fn answer_to(packet: &Packet) -> Option<PublishAnswer> {
+    match packet {
+        Packet::Publish(publish) => Some(answer_to_publish(publish)),
+        _ => None,
+    }
+}
+
+/// What becomes of the PUBLISH that hex digits say; `None` where they say none.
+pub fn published(alloc: Global, digits: &str) -> Result<Option<PublishAnswer>, Fault> {
+    match packet(alloc, digits)? {
+        Some(packet) => Ok(answer_to(&packet)),
+        None => Ok(None),
+    }
+}
+
+/// The Reason Code with which a SUBSCRIBE or an UNSUBSCRIBE closes the connection.
+fn refusal_of(packet: &Packet) -> Option<ReasonCode> {
+    match packet {
+        Packet::Subscribe(subscribe) => subscribe_refusal(subscribe),
+        Packet::Unsubscribe(unsubscribe) => unsubscribe_refusal(unsubscribe),
+        _ => Some(ReasonCode::SUCCESS),
+    }
+}
+
+/// That of the first packet of these bytes; success where there is none.
+pub fn refusal(alloc: Global, bytes: &[u8]) -> Result<Option<ReasonCode>, Fault> {
+    match read(alloc, bytes)? {
+        Some(packet) => Ok(refusal_of(&packet)),
+        None => Ok(Some(ReasonCode::SUCCESS)),
     }
 }

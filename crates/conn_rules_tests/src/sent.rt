@@ -8,9 +8,14 @@ use mqtt_wire::{
 use std::alloc::Global;
 use std::test::Fail;
 
+// The bytes of a packet.
+fn written(alloc: Global, packet: Packet) -> Result<Vec<u8>, Fault> {
+    encode(alloc, &packet)
+}
+
 // The bytes of a packet, in hex digits.
 fn sent(alloc: Global, packet: Packet) -> Result<String, Fail> {
-    let bytes = encode(alloc, &packet)?;
+    let bytes = written(alloc, packet)?;
     Ok(hex::encode(alloc, &bytes)?)
 }
 
@@ -68,29 +73,27 @@ fn subacks_and_unsubacks(rt: HostRuntime) -> Result<(), Fail> {
     Ok(())
 }
 
-// A PUBLISH as it goes out under another identifier.
-fn passed_on(alloc: Global, digits: &str, dup: bool) -> Result<Option<Packet>, Fault> {
-    let Some(identifier) = PacketIdentifier::new(1) else {
-        return Ok(None);
+// The bytes of a PUBLISH as it goes out under identifier 1; none where it is another packet.
+fn passed_on(alloc: Global, digits: &str, dup: bool) -> Result<Vec<u8>, Fault> {
+    let Some(one) = PacketIdentifier::new(1) else {
+        return Ok(Vec::new(alloc));
     };
     match packet(alloc, digits)? {
-        Some(Packet::Publish(publish)) => Ok(Some(job(dup, message_of(publish), identifier))),
-        _ => Ok(None),
+        Some(Packet::Publish(publish)) => written(alloc, job(dup, message_of(publish), one)),
+        _ => Ok(Vec::new(alloc)),
     }
 }
 
 #[test]
 fn jobs(rt: HostRuntime) -> Result<(), Fail> {
     let digits = "3A1000016100070901010300016223000142";
-    let first = passed_on(rt.alloc(), digits, false)?.ok_or("a PUBLISH")?;
-    assert_eq!(rt;
-        sent(rt.alloc(), first)?.as_str(),
-        "320d00016100010601010300016242"
-    );
-    let again = passed_on(rt.alloc(), digits, true)?.ok_or("a PUBLISH")?;
-    assert_eq!(rt;
-        sent(rt.alloc(), again)?.as_str(),
-        "3a0d00016100010601010300016242"
-    );
+    let rows = [
+        (false, "320d00016100010601010300016242"),
+        (true, "3a0d00016100010601010300016242"),
+    ];
+    for (dup, wanted) in &rows {
+        let bytes = passed_on(rt.alloc(), digits, *dup)?;
+        assert_eq!(rt; hex::encode(rt.alloc(), &bytes)?.as_str(), *wanted);
+    }
     Ok(())
 }

@@ -150,16 +150,16 @@ none_begins job xs ys no_first no_second begins =
     (begins_one begins.run xs ys (begins.back, begins.there))
 
 -- the run right behind a job, in the first list and in the second
-pub opened_first : (job : Job) (back beyond : List Run) → Back job beyond → (begins : BeginsBehind back job) → IsOpened (merged back beyond) job begins.run.last (merged begins.back beyond)
-opened_first job back beyond after begins =
+pub begins_first : (job : Job) (back beyond : List Run) → Back job beyond → (begins : BeginsBehind back job) → (b : BeginsBehind (merged back beyond) job) × (begins.run.last ≡ b.run.last) × (merged begins.back beyond ≡ b.back)
+begins_first job back beyond after begins =
     let run = begins.run in
     let is : merged back beyond ≡ run ∷ merged begins.back beyond =
     ap (λ rs. merged rs beyond) begins.there
     ∙ before_all (run ∷ []) begins.back beyond (All-cons (λ x. All (BeginsBefore x) beyond) run [] (All-weaker (λ r. BeginsAfter r job) (BeginsBefore run) (λ r h. before_after job run r begins.port begins.touches h) beyond after) (All-nil (λ x. All (BeginsBefore x) beyond))) in
-    inr (record { run = run; back = merged begins.back beyond; there = is; port = begins.port; touches = begins.touches }, refl, refl)
+    (record { run = run; back = merged begins.back beyond; there = is; port = begins.port; touches = begins.touches }, refl, refl)
 
-pub opened_second : (job : Job) (back beyond : List Run) → Back job back → All IsFilled back → All IsFilled beyond → EachBefore LiesApart (merged back beyond) → (begins : BeginsBehind beyond job) → IsOpened (merged back beyond) job begins.run.last (merged back begins.back)
-opened_second job back beyond after full beyond_full apart begins =
+pub begins_second : (job : Job) (back beyond : List Run) → Back job back → All IsFilled back → All IsFilled beyond → EachBefore LiesApart (merged back beyond) → (begins : BeginsBehind beyond job) → (b : BeginsBehind (merged back beyond) job) × (begins.run.last ≡ b.run.last) × (merged back begins.back ≡ b.back)
+begins_second job back beyond after full beyond_full apart begins =
     let run = begins.run in
     let parts : All (λ y. All (λ x. Part x y) back) (run ∷ begins.back) = subst (All (λ y. All (λ x. Part x y) back)) begins.there (merged_apart back beyond apart) in
     let part = All-head (λ y. All (λ x. Part x y) back) run begins.back parts in
@@ -167,7 +167,13 @@ opened_second job back beyond after full beyond_full apart begins =
     let sooner : All (BeginsSooner run) back = λ k d less. later_apart job run (get_or back k d) begins.port begins.touches run_full (after k d less) (full k d less) (⊎_elim (λ l. inr l) (λ r. inl r) (part k d less)) in
     let is : merged back beyond ≡ run ∷ merged back begins.back =
     ap (merged back) begins.there ∙ sooner_all back (run ∷ []) begins.back (All-cons (λ y. All (BeginsSooner y) back) run [] sooner (All-nil (λ y. All (BeginsSooner y) back))) in
-    inr (record { run = run; back = merged back begins.back; there = is; port = begins.port; touches = begins.touches }, refl, refl)
+    (record { run = run; back = merged back begins.back; there = is; port = begins.port; touches = begins.touches }, refl, refl)
+
+opened_first : (job : Job) (back beyond : List Run) → Back job beyond → (begins : BeginsBehind back job) → IsOpened (merged back beyond) job begins.run.last (merged begins.back beyond)
+opened_first job back beyond after begins = inr (begins_first job back beyond after begins)
+
+opened_second : (job : Job) (back beyond : List Run) → Back job back → All IsFilled back → All IsFilled beyond → EachBefore LiesApart (merged back beyond) → (begins : BeginsBehind beyond job) → IsOpened (merged back beyond) job begins.run.last (merged back begins.back)
+opened_second job back beyond after full beyond_full apart begins = inr (begins_second job back beyond after full beyond_full apart begins)
 
 -- the run that ends right before a job goes on, in the first list and in the second
 module _ (job : Job) (last : ℕ) (front near back beyond : List Run) (f : Front job front) (n : Front job near) (b : Back job back) (y : Back job beyond) where

@@ -15,8 +15,11 @@ pub mod JoinedCases
 pub mod MergedPasses
 pub mod JoinedLists
 pub mod JoinedPlaces
+pub mod MergedThree
+pub mod Tiered
 pub mod Touching
 pub mod Stored
 pub mod Added
+pub mod Clear
 pub mod Merged
 pub mod Counts

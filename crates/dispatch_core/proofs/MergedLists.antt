@@ -21,7 +21,7 @@ sooner_before run other sooner =
     (λ (same : (run.port ≡ other.port) × (run.from < other.from)). let from : run.from ≤ other.from = omega (arith, same.1) in inr (same.0, from))
     sooner
 
-not_both : (run other : Run) → BeginsBefore run other → ¬ BeginsSooner other run
+pub not_both : (run other : Run) → BeginsBefore run other → ¬ BeginsSooner other run
 not_both run other before sooner =
     ⊎_elim
     (λ (less : run.port < other.port).

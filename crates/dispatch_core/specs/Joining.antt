@@ -68,3 +68,8 @@ pub record AreJoined (old new : List Run) : Type 0 where
   pub filled : All IsFilled new
   pub apart : EachBefore LiesApart new
   pub fewer : length new ≤ length old
+
+-- runs that touch are joined, unless some job is there twice: a mark tells which
+pub record AreTidied (old new : List Run) (has_repeats : Bool) : Type 0 where
+  pub jobs : jobs_of new ≡ jobs_of old
+  pub stored : IsStored new (length old) has_repeats

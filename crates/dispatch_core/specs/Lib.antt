@@ -9,6 +9,7 @@ pub mod Refusals
 pub mod JobRuns
 pub mod Joining
 pub mod Merging
+pub mod Tiered
 pub mod Rows
 pub mod Walks
 pub mod Layout

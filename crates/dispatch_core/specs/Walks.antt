@@ -5,6 +5,11 @@ use Rattle.dispatch_core.specs.declared.runs.Run.{Run}
 use Rattle.dispatch_core.specs.JobRuns.{jobs_of_run, IsFilled}
 use Rattle.dispatch_core.specs.Merging.{first_of}
 
+-- the first run that is left, and those behind it
+abbrev pub ahead_of : Option Run → List Run → List Run
+ahead_of None behind = []
+ahead_of (Some run) behind = run ∷ behind
+
 -- the jobs of a run that was begun
 abbrev pub jobs_begun : Option Run → List Job
 jobs_begun None = []

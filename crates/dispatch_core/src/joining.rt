@@ -2,12 +2,14 @@
 ghost use Rattle.std.specs.Prelude.{◌≡◌, false, ◌<◌, ◌≤◌, ◌+◌, ◌++◌, ◌↔◌, length, IsTrue, MatchBool, All, take, drop, vec_len, vec_capacity, Contains, insert};
 ghost use Rattle.std.specs.List.{list_any};
 ghost use Rattle.dispatch_core.specs.JobRuns.{alone, jobs_of, IsFilled, EachBefore, BeginsBefore, LiesApart};
-ghost use Rattle.dispatch_core.specs.Joining.{covers, begins_by, IsPlaceOf, EndsBefore, BeginsBehind, Joins};
+ghost use Rattle.dispatch_core.specs.Joining.{covers, begins_by, LiesClear, IsPlaceOf, EndsBefore, BeginsBehind, Joins};
 ghost use Rattle.dispatch_core.specs.Merging.{merged, TakesBehind, Lengthens, IsOpened, Shortens, GetsOwnIf, first_of};
+ghost use Rattle.dispatch_core.specs.Tiered.{both, ArePlacesOf, AreCutAt};
 ghost use Rattle.dispatch_core.specs.Walks.{IsBehindFirst};
 
 use crate::event::Job;
 use crate::runs::Run;
+use crate::tiers::{Places, Tiers};
 
 impl Run {
     /// The run of one job.
@@ -45,6 +47,13 @@ impl Run {
         })
     }
 
+    /// Whether it ends before the other begins. They may touch.
+    pub(crate) fn lies_clear(&self, other: Run) -> bool
+        ensures { MatchBool result (LiesClear self.now other) (¬ LiesClear self.now other) }
+    {
+        self.port < other.port || (self.port == other.port && self.last < other.from)
+    }
+
     /// Whether it begins at this job, or before it.
     pub(crate) fn begins_by(&self, job: Job) -> bool
         ensures { result ≡ begins_by job self.now }
@@ -73,33 +82,33 @@ pub(crate) fn has_at(runs: &[Run], place: usize, job: Job) -> bool
     }
 }
 
-/// Whether one of two lists of runs that are one has this job, where they lie apart.
-pub(crate) fn has_either(settled: &[Run], recent: &[Run], job: Job) -> bool
-    requires sorted { EachBefore BeginsBefore (merged settled.now recent.now) }
-    requires apart { EachBefore LiesApart (merged settled.now recent.now) }
-    ensures { IsTrue result ↔ Contains (jobs_of (merged settled.now recent.now)) job }
+/// Whether one of these runs has this job, where they lie apart.
+pub(crate) fn has_either(older: &Tiers, recent: &[Run], job: Job) -> bool
+    requires sorted { EachBefore BeginsBefore (merged (both older.now) recent.now) }
+    requires apart { EachBefore LiesApart (merged (both older.now) recent.now) }
+    ensures { IsTrue result ↔ Contains (jobs_of (merged (both older.now) recent.now)) job }
 {
-    has_at(settled, place_of(settled, job), job) || has_at(recent, place_of(recent, job), job)
+    older.has_at(older.places_of(job), job) || has_at(recent, place_of(recent, job), job)
 }
 
 /// Whether the job gets a run of its own: it is there, or some job is there twice.
 pub(crate) fn gets_own(
     has_repeats: bool,
-    settled: &[Run],
+    older: &Tiers,
     recent: &[Run],
-    place: usize,
+    places: Places,
     near: usize,
     job: Job,
 ) -> bool
-    requires place { IsPlaceOf settled.now job place }
+    requires places { ArePlacesOf older.now job places }
     requires near { IsPlaceOf recent.now job near }
-    requires apart { has_repeats ≡ false → EachBefore LiesApart (merged settled.now recent.now) }
-    ensures { GetsOwnIf has_repeats (jobs_of (merged settled.now recent.now)) job result }
+    requires apart { has_repeats ≡ false → EachBefore LiesApart (merged (both older.now) recent.now) }
+    ensures { GetsOwnIf has_repeats (jobs_of (merged (both older.now) recent.now)) job result }
 {
     if has_repeats {
         return true;
     }
-    has_at(settled, place, job) || has_at(recent, near, job)
+    older.has_at(places, job) || has_at(recent, near, job)
 }
 
 /// How many of the sorted runs begin at this job or before it.
@@ -134,7 +143,7 @@ fn begins_behind(runs: &[Run], job: Job) -> bool
 
 /// Takes the run right behind the job out, if there is one, and gives its last number. So many of the runs
 /// begin by the job.
-fn take_behind(runs: &mut Vec<Run>, place: usize, job: Job) -> Option<u64>
+pub(crate) fn take_behind(runs: &mut Vec<Run>, place: usize, job: Job) -> Option<u64>
     requires within { place ≤ vec_len runs.old }
     requires small { job.number < u64.MAX }
     ensures taken { TakesBehind runs.old.items place job result runs.new.items }
@@ -149,7 +158,7 @@ fn take_behind(runs: &mut Vec<Run>, place: usize, job: Job) -> Option<u64>
 
 /// Lets the run that ends right before the job go on to this last number, and tells whether there is one.
 /// So many of the runs begin by the job.
-fn lengthen(runs: &mut Vec<Run>, place: usize, job: Job, last: u64) -> bool
+pub(crate) fn lengthen(runs: &mut Vec<Run>, place: usize, job: Job, last: u64) -> bool
     requires within { place ≤ vec_len runs.old }
     requires filled { All IsFilled (take place runs.old.items) }
     ensures lengthened { Lengthens runs.old.items place job last result runs.new.items }
@@ -163,30 +172,24 @@ fn lengthen(runs: &mut Vec<Run>, place: usize, job: Job, last: u64) -> bool
     true
 }
 
-/// Puts a job that is not there into two lists that are one, and joins it with the runs that it touches in
-/// either. `place` settled runs and `near` recent ones begin by it. It takes no memory: there is room for
-/// one more recent run.
-pub(crate) fn join(
-    settled: &mut Vec<Run>,
-    recent: &mut Vec<Run>,
-    place: usize,
-    near: usize,
-    job: Job,
-)
-    requires filled { All IsFilled (merged settled.old.items recent.old.items) }
-    requires sorted { EachBefore BeginsBefore (merged settled.old.items recent.old.items) }
-    requires apart { EachBefore LiesApart (merged settled.old.items recent.old.items) }
-    requires place { IsPlaceOf settled.old.items job place }
+/// Puts a job that is not there among these runs, and joins it with those that it touches. `places` of the
+/// older runs and `near` of the recent ones begin by it. It takes no memory: there is room for one more recent
+/// run.
+pub(crate) fn join(older: &mut Tiers, recent: &mut Vec<Run>, places: Places, near: usize, job: Job)
+    requires filled { All IsFilled (merged (both older.old) recent.old.items) }
+    requires sorted { EachBefore BeginsBefore (merged (both older.old) recent.old.items) }
+    requires apart { EachBefore LiesApart (merged (both older.old) recent.old.items) }
+    requires places { ArePlacesOf older.old job places }
     requires near { IsPlaceOf recent.old.items job near }
-    requires absent { ¬ Contains (jobs_of (merged settled.old.items recent.old.items)) job }
+    requires absent { ¬ Contains (jobs_of (merged (both older.old) recent.old.items)) job }
     requires small { job.number < u64.MAX }
     requires room { vec_len recent.old < vec_capacity recent.old }
-    ensures joined { Joins (merged settled.old.items recent.old.items) job (merged settled.new.items recent.new.items) }
-    ensures settled { vec_capacity settled.new ≡ vec_capacity settled.old }
+    ensures joined { Joins (merged (both older.old) recent.old.items) job (merged (both older.new) recent.new.items) }
+    ensures older { vec_capacity older.new.long ≡ vec_capacity older.old.long }
     ensures recent { vec_capacity recent.new ≡ vec_capacity recent.old }
 {
-    let last = take_either(settled, recent, place, near, job);
-    if lengthen(settled, place, job, last) || lengthen(recent, near, job, last) {
+    let last = take_either(older, recent, places, near, job);
+    if older.lengthen(places, job, last) || lengthen(recent, near, job, last) {
         return;
     }
     let run = Run {
@@ -200,25 +203,26 @@ pub(crate) fn join(
 /// Takes the run right behind the job out of the list that has it, and gives the last number to which the
 /// job's run goes then.
 fn take_either(
-    settled: &mut Vec<Run>,
+    older: &mut Tiers,
     recent: &mut Vec<Run>,
-    place: usize,
+    places: Places,
     near: usize,
     job: Job,
 ) -> u64
-    requires filled { All IsFilled (merged settled.old.items recent.old.items) }
-    requires apart { EachBefore LiesApart (merged settled.old.items recent.old.items) }
-    requires place { IsPlaceOf settled.old.items job place }
+    requires filled { All IsFilled (merged (both older.old) recent.old.items) }
+    requires apart { EachBefore LiesApart (merged (both older.old) recent.old.items) }
+    requires places { ArePlacesOf older.old job places }
     requires near { IsPlaceOf recent.old.items job near }
     requires small { job.number < u64.MAX }
-    ensures opened { IsOpened (merged (drop place settled.old.items) (drop near recent.old.items)) job result
-        (merged (drop place settled.new.items) (drop near recent.new.items)) }
-    ensures settled { Shortens settled.old.items place job settled.new.items }
+    ensures opened { IsOpened (merged (drop (places.long + places.short) (both older.old)) (drop near recent.old.items)) job result
+        (merged (drop (places.long + places.short) (both older.new)) (drop near recent.new.items)) }
+    ensures older { Shortens (both older.old) (places.long + places.short) job (both older.new) }
+    ensures cut { AreCutAt older.new job places }
     ensures recent { Shortens recent.old.items near job recent.new.items }
-    ensures settled_capacity { vec_capacity settled.new ≡ vec_capacity settled.old }
+    ensures older_capacity { vec_capacity older.new.long ≡ vec_capacity older.old.long }
     ensures recent_capacity { vec_capacity recent.new ≡ vec_capacity recent.old }
 {
-    match take_behind(settled, place, job) {
+    match older.take_behind(places, job) {
         Some(last) => last,
         None => match take_behind(recent, near, job) {
             Some(last) => last,

@@ -43,6 +43,7 @@ mod merging;
 mod port;
 mod runs;
 mod state;
+mod tiers;
 mod walks;
 
 pub use error::{ReplayError, RoomError, StepError, Why};

@@ -1,15 +1,23 @@
 //! Sorted lists of runs made one.
-ghost use Rattle.std.specs.Prelude.{◌≡◌, ◌<◌, ◌≤◌, ◌+◌, ◌++◌, [], length, All, take, vec_len, vec_capacity};
-ghost use Rattle.dispatch_core.specs.JobRuns.{IsFilled, EachBefore, BeginsBefore};
-ghost use Rattle.dispatch_core.specs.Joining.{LiesClear, AreJoined};
+ghost use Rattle.std.specs.Prelude.{◌≡◌, ◌<◌, ◌≤◌, ◌+◌, ◌++◌, [], length, All, MatchBool, take, vec_len, vec_capacity};
+ghost use Rattle.dispatch_core.specs.JobRuns.{jobs_of, IsFilled, NoneTwice, EachBefore, BeginsBefore};
+ghost use Rattle.dispatch_core.specs.Joining.{LiesClear, AreJoined, AreTidied};
 ghost use Rattle.dispatch_core.specs.Merging.{merged};
+ghost use Rattle.dispatch_core.specs.Tiered.{both};
 
 use crate::joining::ends_before;
 use crate::runs::Run;
+use crate::tiers::Tiers;
 
-/// How many runs are recent at most. They are moved by each job that comes between them, and when they are
-/// so many, all runs are gone over once.
-const RECENT: usize = 1024;
+/// How many runs are recent at most. They are moved by each job that comes between them.
+const RECENT: usize = 128;
+
+/// How many runs the short one of two lists has at most. They are gone over when there are many recent ones, and
+/// when they are so many, all runs are gone over once.
+const SHORT: usize = 4096;
+
+/// From how many runs in all on a short list is worth its room.
+const MANY: usize = 1024;
 
 /// How many recent runs there should be room for, where there is to be room for so many more runs.
 pub(crate) fn recent_room(count: usize) -> usize
@@ -19,23 +27,31 @@ pub(crate) fn recent_room(count: usize) -> usize
     count.min(RECENT)
 }
 
-/// Makes room for one more recent run: where there is none, or there are many, they are settled.
-pub(crate) fn make_way(settled: &mut Vec<Run>, recent: &mut Vec<Run>)
-    requires sorted { EachBefore BeginsBefore settled.old.items }
+/// How many runs the short list should have room for, where there is to be room for so many runs in all.
+pub(crate) fn short_room(all: usize) -> usize {
+    if all < MANY {
+        return 0;
+    }
+    all.min(SHORT)
+}
+
+/// Makes room for one more recent run: where there is none, or there are many, they are put to the older ones.
+pub(crate) fn make_way(older: &mut Tiers, recent: &mut Vec<Run>)
+    requires sorted { EachBefore BeginsBefore (both older.old) }
     requires recent_sorted { EachBefore BeginsBefore recent.old.items }
-    requires room { vec_len settled.old + vec_len recent.old ≤ vec_capacity settled.old }
+    requires room { vec_len older.old.long + vec_len older.old.short + vec_len recent.old ≤ vec_capacity older.old.long }
     requires some { 1 ≤ vec_capacity recent.old }
-    ensures same { merged settled.new.items recent.new.items ≡ merged settled.old.items recent.old.items }
+    ensures same { merged (both older.new) recent.new.items ≡ merged (both older.old) recent.old.items }
     ensures way { vec_len recent.new < vec_capacity recent.new }
-    ensures settled { vec_capacity settled.new ≡ vec_capacity settled.old }
+    ensures older { vec_capacity older.new.long ≡ vec_capacity older.old.long }
     ensures recent { vec_capacity recent.new ≡ vec_capacity recent.old }
 {
     if recent.len() >= recent.capacity().min(RECENT) {
-        settle(settled, recent);
+        older.take_in(recent);
     }
 }
 
-/// Puts the recent runs among the settled ones.
+/// Puts sorted runs among sorted runs, and takes them from where they were.
 pub(crate) fn settle(settled: &mut Vec<Run>, recent: &mut Vec<Run>)
     requires sorted { EachBefore BeginsBefore settled.old.items }
     requires recent_sorted { EachBefore BeginsBefore recent.old.items }
@@ -83,8 +99,36 @@ fn append(runs: &mut Vec<Run>, more: &[Run])
     }
 }
 
+/// Joins sorted runs that touch, where no job is in two of them. Where some is, they stay, and it tells so.
+pub(crate) fn tidy(runs: &mut Vec<Run>) -> bool
+    requires filled { All IsFilled runs.old.items }
+    requires sorted { EachBefore BeginsBefore runs.old.items }
+    ensures tidied { AreTidied runs.old.items runs.new.items result }
+    ensures capacity { vec_capacity runs.new ≡ vec_capacity runs.old }
+{
+    if have_common(runs) {
+        return true;
+    }
+    join_touching(runs);
+    false
+}
+
+/// Whether some job is in two of these sorted runs.
+fn have_common(runs: &[Run]) -> bool
+    requires filled { All IsFilled runs.now }
+    requires sorted { EachBefore BeginsBefore runs.now }
+    ensures { MatchBool result (¬ NoneTwice (jobs_of runs.now)) (EachBefore LiesClear runs.now) }
+{
+    for place in 1..runs.len() {
+        if !runs[place - 1].lies_clear(runs[place]) {
+            return true;
+        }
+    }
+    false
+}
+
 /// Joins runs that touch, of sorted ones that have no job in common.
-pub(crate) fn join_touching(runs: &mut Vec<Run>)
+fn join_touching(runs: &mut Vec<Run>)
     requires filled { All IsFilled runs.old.items }
     requires clear { EachBefore LiesClear runs.old.items }
     ensures joined { AreJoined runs.old.items runs.new.items }

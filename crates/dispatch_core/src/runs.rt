@@ -11,7 +11,8 @@ ghost use Rattle.dispatch_core.specs.Joining.{covers};
 use crate::error::RoomError;
 use crate::event::Job;
 use crate::joining::{any_has, gets_own, has_either, insert_at, join, place_of};
-use crate::merging::{join_touching, make_way, merge_into, recent_room, settle};
+use crate::merging::{make_way, merge_into, recent_room, short_room, tidy};
+use crate::tiers::Tiers;
 use crate::walks::{InOrder, Jobs, job_at};
 use std::alloc::Global;
 use std::marker::Model;
@@ -54,8 +55,8 @@ impl Run {
 /// number of runs for which there is room. No call but [`Runs::reserve`] takes memory.
 #[derive(Debug, Drop)]
 pub struct Runs {
-    // The runs lie in two sorted lists that are seen as one, so that a new run moves only the recent ones.
-    settled: Vec<Run>,
+    // The runs lie in sorted lists that are seen as one, so that a new run moves only the recent ones.
+    older: Tiers,
     recent: Vec<Run>,
     // Some job is there twice, so one run lies in another. Else no two runs touch.
     has_repeats: bool,
@@ -65,15 +66,16 @@ impl Model for Runs {
     ghost use Rattle.std.specs.Prelude.{vec_len, vec_capacity, ◌-◌, ◌+◌};
     ghost use Rattle.dispatch_core.specs.JobRuns.{JobRuns};
     ghost use Rattle.dispatch_core.specs.Merging.{merged, IsKeptIn};
+    ghost use Rattle.dispatch_core.specs.Tiered.{both};
 
     ghost Value = { JobRuns };
 
     ghost view = { λ r. record {
-      runs = merged r.settled.items r.recent.items;
-      spare = vec_capacity r.settled - (vec_len r.settled + vec_len r.recent);
+      runs = merged (both r.older) r.recent.items;
+      spare = vec_capacity r.older.long - (vec_len r.older.long + vec_len r.older.short + vec_len r.recent);
     } };
 
-    ghost invariant = { λ r. IsKeptIn r.settled.items r.recent.items (vec_capacity r.settled) (vec_capacity r.recent) r.has_repeats };
+    ghost invariant = { λ r. IsKeptIn (both r.older) r.recent.items (vec_capacity r.older.long) (vec_capacity r.recent) r.has_repeats };
 }
 
 impl Runs {
@@ -82,14 +84,17 @@ impl Runs {
         ensures { result ≡ record { runs = []; spare = 0 } }
     {
         Runs {
-            settled: Vec::new(alloc),
+            older: Tiers {
+                long: Vec::new(alloc),
+                short: Vec::new(alloc),
+            },
             recent: Vec::new(alloc),
             has_repeats: false,
         }
     }
 
-    /// Makes room for so many more runs, of whatever ports: a run takes 24 bytes, and up to 1024 of them take
-    /// as many once more.
+    /// Makes room for so many more runs, of whatever ports: a run takes 24 bytes, the recent ones, of which there
+    /// are at most 128, as many once more, and from 1024 runs in all on, so do up to 4096 of them.
     ///
     /// # Errors
     ///
@@ -106,11 +111,15 @@ impl Runs {
             let _ = self.recent.reserve(recent_room(count));
             return Ok(());
         }
-        let Some(wanted) = count.checked_add(self.recent.len()) else {
+        let besides = self.older.short.len() + self.recent.len();
+        let Some(wanted) = count.checked_add(besides) else {
             return Err(RoomError::Memory);
         };
+        let all = wanted.saturating_add(self.older.long.len());
+        let short = short_room(all).saturating_sub(self.older.short.len());
         self.recent.reserve(recent_room(count))?;
-        self.settled.reserve(wanted)?;
+        self.older.short.reserve(short)?;
+        self.older.long.reserve(wanted)?;
         Ok(())
     }
 
@@ -118,7 +127,8 @@ impl Runs {
     pub fn spare(&self) -> usize
         ensures { result ≡ self.now.spare }
     {
-        self.settled.capacity() - (self.settled.len() + self.recent.len())
+        self.older.long.capacity()
+            - (self.older.long.len() + self.older.short.len() + self.recent.len())
     }
 
     /// The runs, in rising order of port and first number. Where no job is there twice, the runs of a port
@@ -127,7 +137,7 @@ impl Runs {
         ensures value { result ≡ self.now.runs }
         ensures kept { AreKept self.now.runs }
     {
-        InOrder::of(&self.settled, &self.recent)
+        InOrder::of(&self.older, &self.recent)
     }
 
     /// The jobs, run after run.
@@ -143,9 +153,9 @@ impl Runs {
         ensures { IsTrue result ↔ Contains (jobs_of self.now.runs) job }
     {
         if self.has_repeats {
-            any_has(&self.settled, job) || any_has(&self.recent, job)
+            self.older.any_has(job) || any_has(&self.recent, job)
         } else {
-            has_either(&self.settled, &self.recent, job)
+            has_either(&self.older, &self.recent, job)
         }
     }
 
@@ -153,8 +163,9 @@ impl Runs {
     /// its own, and so does each job from then on.
     ///
     /// It costs no more than [`Runs::contains`] where the job joins the run before it, as at the end of its
-    /// port. Where it gets a run of its own, it moves recent runs, of which there are at most 1024, and each
-    /// 1024th time it goes over all runs. Where it joins the run behind it, it may move all that follow.
+    /// port. Where it gets a run of its own, it moves recent runs, of which there are at most 128; each 128th
+    /// time it goes over at most 4096 runs, and each 4096th time over all. Where it joins the run behind it, it
+    /// may move all that follow.
     ///
     /// There is room for a run, as [`Runs::spare`] tells, and the number is below 2^64 - 1.
     pub fn add(&mut self, job: Job)
@@ -169,21 +180,21 @@ impl Runs {
         ensures joins { NoneTwice (job ∷ jobs_of self.old.runs) →
             JoinsRuns (jobs_of self.old.runs) job (length self.old.runs) (length self.new.runs) }
     {
-        make_way(&mut self.settled, &mut self.recent);
-        let place = place_of(&self.settled, job);
+        make_way(&mut self.older, &mut self.recent);
+        let places = self.older.places_of(job);
         let near = place_of(&self.recent, job);
         if gets_own(
             self.has_repeats,
-            &self.settled,
+            &self.older,
             &self.recent,
-            place,
+            places,
             near,
             job,
         ) {
             insert_at(&mut self.recent, near, Run::of(job));
             self.has_repeats = true;
         } else {
-            join(&mut self.settled, &mut self.recent, place, near, job);
+            join(&mut self.older, &mut self.recent, places, near, job);
         }
     }
 
@@ -191,14 +202,14 @@ impl Runs {
     pub fn len(&self) -> u128
         ensures { result ≡ length (jobs_of self.now.runs) }
     {
-        count(&self.settled) + count(&self.recent)
+        self.older.count() + count(&self.recent)
     }
 
     /// Whether there is no job.
     pub fn is_empty(&self) -> bool
         ensures { IsTrue result ↔ (jobs_of self.now.runs ≡ []) }
     {
-        self.settled.is_empty() && self.recent.is_empty()
+        self.older.is_empty() && self.recent.is_empty()
     }
 
     /// The job at this place of the list, from 0; `None` from [`Runs::len`] on.
@@ -208,20 +219,21 @@ impl Runs {
         job_at(self.runs(), at)
     }
 
-    /// Puts all jobs of another list into this one. It goes over the runs of both a fixed number of times.
+    /// Puts all jobs of another list into this one: a job that is in both is there twice then. It goes over the
+    /// runs of both a fixed number of times.
     ///
-    /// The two together have no job twice, and there is room for the other's runs, as [`Runs::spare`] tells.
+    /// There is room for the other's runs, as [`Runs::spare`] tells.
     pub fn merge(&mut self, other: Runs)
-        requires none_twice { NoneTwice (jobs_of self.old.runs ++ jobs_of other.runs) }
         requires room { length other.runs ≤ self.old.spare }
         ensures jobs { IsPermutation (jobs_of self.old.runs ++ jobs_of other.runs) (jobs_of self.new.runs) }
         ensures room { length self.new.runs + self.new.spare ≡ length self.old.runs + self.old.spare }
         ensures grown { length self.new.runs ≤ length self.old.runs + length other.runs }
     {
-        settle(&mut self.settled, &mut self.recent);
-        merge_into(&mut self.settled, &other.settled);
-        merge_into(&mut self.settled, &other.recent);
-        join_touching(&mut self.settled);
+        let mut other = other;
+        other.older.settle_all(&mut other.recent);
+        self.older.settle_all(&mut self.recent);
+        merge_into(&mut self.older.long, &other.older.long);
+        self.has_repeats = tidy(&mut self.older.long);
     }
 }
 
@@ -244,7 +256,7 @@ impl PartialEq for Runs {
 }
 
 /// How many jobs the runs have.
-fn count(runs: &[Run]) -> u128
+pub(crate) fn count(runs: &[Run]) -> u128
     requires { All IsFilled runs.now }
     ensures jobs { result ≡ length (jobs_of runs.now) }
     ensures bound { result ≤ 18446744073709551615 * length runs.now }

@@ -3,16 +3,20 @@ ghost use Rattle.std.specs.Prelude.{◌≡◌, ◌<◌, ◌++◌, All, slice_get
 ghost use Rattle.std.specs.Iterator.{YieldsFirst, item_count};
 ghost use Rattle.dispatch_core.specs.JobRuns.{jobs_of, IsFilled};
 ghost use Rattle.dispatch_core.specs.Merging.{merged};
+ghost use Rattle.dispatch_core.specs.Tiered.{both};
 
 use crate::event::Job;
 use crate::runs::Run;
+use crate::tiers::Tiers;
 use std::marker::Model;
 
 /// The runs that are left of a list of jobs, in rising order of port and first number. Contracts see it as
 /// that list.
 #[derive(Debug, Drop)]
 pub struct InOrder<'a> {
-    settled: &'a [Run],
+    // The first of the older runs that are left.
+    ahead: Option<Run>,
+    older: Older<'a>,
     recent: &'a [Run],
 }
 
@@ -20,18 +24,27 @@ impl<'a> Model for InOrder<'a> {
     ghost use Rattle.std.specs.Prelude.{List};
     ghost use Rattle.dispatch_core.specs.declared.runs.Run.{Run};
     ghost use Rattle.dispatch_core.specs.Merging.{merged};
+    ghost use Rattle.dispatch_core.specs.Walks.{ahead_of};
 
     ghost Value = { List Run };
 
-    ghost view = { λ s. merged s.settled.now s.recent.now };
+    ghost view = { λ s. merged (ahead_of s.ahead s.older) s.recent.now };
 }
 
 impl<'a> InOrder<'a> {
-    /// The runs of two sorted lists that are one.
-    pub(crate) fn of(settled: &'a [Run], recent: &'a [Run]) -> InOrder<'a>
-        ensures { result ≡ merged settled.now recent.now }
+    /// The runs of older and recent ones that are one list.
+    pub(crate) fn of(older: &'a Tiers, recent: &'a [Run]) -> InOrder<'a>
+        ensures { result ≡ merged (both older.now) recent.now }
     {
-        InOrder { settled, recent }
+        let mut older = Older {
+            long: &older.long,
+            short: &older.short,
+        };
+        InOrder {
+            ahead: older.next(),
+            older,
+            recent,
+        }
     }
 }
 
@@ -43,7 +56,7 @@ impl<'a> Iterator for InOrder<'a> {
     ghost remaining = { item_count (λ s. s) };
 
     fn next(&mut self) -> Option<Run> {
-        let Some((run, settled)) = self.settled.split_first() else {
+        let Some(run) = self.ahead else {
             let (run, recent) = self.recent.split_first()?;
             self.recent = recent;
             return Some(*run);
@@ -54,7 +67,50 @@ impl<'a> Iterator for InOrder<'a> {
                 Some(*other)
             }
             _ => {
-                self.settled = settled;
+                self.ahead = self.older.next();
+                Some(run)
+            }
+        }
+    }
+}
+
+/// The runs that are left of two sorted lists, in order.
+#[derive(Debug, Drop)]
+struct Older<'a> {
+    long: &'a [Run],
+    short: &'a [Run],
+}
+
+impl<'a> Model for Older<'a> {
+    ghost use Rattle.std.specs.Prelude.{List};
+    ghost use Rattle.dispatch_core.specs.declared.runs.Run.{Run};
+    ghost use Rattle.dispatch_core.specs.Merging.{merged};
+
+    ghost Value = { List Run };
+
+    ghost view = { λ s. merged s.long.now s.short.now };
+}
+
+impl<'a> Iterator for Older<'a> {
+    type Item = Run;
+
+    ghost next_gives = { YieldsFirst (λ s. s) };
+
+    ghost remaining = { item_count (λ s. s) };
+
+    fn next(&mut self) -> Option<Run> {
+        let Some((run, long)) = self.long.split_first() else {
+            let (run, short) = self.short.split_first()?;
+            self.short = short;
+            return Some(*run);
+        };
+        match self.short.split_first() {
+            Some((other, short)) if !run.begins_by(other.first()) => {
+                self.short = short;
+                Some(*other)
+            }
+            _ => {
+                self.long = long;
                 Some(*run)
             }
         }

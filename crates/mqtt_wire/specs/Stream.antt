@@ -1,9 +1,12 @@
 -- A stream as packets, one after another, and then what is open or a fault (sections 2.1 and 4.13).
 use Rattle.std.specs.Prelude.{◌≡◌, ℕ, ◌<◌, ◌≤◌, ◌⊎◌, nat_lt, slice_index, if◌then◌else◌, List, [], ◌∷◌, ◌++◌, length, take, Option, Some, None, Result, Ok, Err}
+use Rattle.std.specs.Io.KnownBytes.{Consumes, Keeps, IsAtEnd}
 use Rattle.mqtt_wire.specs.declared.fault.StreamFault.{StreamFault}
 use Rattle.mqtt_wire.specs.declared.fault.StreamFault.TheVariants.{Malformed, TooLarge}
 use Rattle.mqtt_wire.specs.declared.fault.Fault.{Fault}
 use Rattle.mqtt_wire.specs.declared.fault.Fault.TheVariants.{Stream, Memory}
+use Rattle.mqtt_wire.specs.declared.fault.ReadFault.{ReadFault}
+use Rattle.mqtt_wire.specs.declared.fault.ReadFault.TheVariants.{Refused, Device}
 use Rattle.mqtt_wire.specs.declared.packet.Packet.{Packet}
 use Rattle.mqtt_wire.specs.declared.kind.Kind.{Kind}
 use Rattle.mqtt_wire.specs.Faults.{◌>>=◌}
@@ -102,6 +105,12 @@ abbrev pub FeedAnswers : Unread → List ℕ → Result (Unit {0}) Fault → Unr
 FeedAnswers old piece (Ok done) new = (old.fault ≡ None) × (new ≡ record old { bytes = old.bytes ++ piece })
 FeedAnswers old piece (Err (Stream fault)) new = (old.fault ≡ Some fault) × (new ≡ old)
 FeedAnswers old piece (Err Memory) new = (old.fault ≡ None) × (new ≡ old)
+
+-- what `read_from` answers, what is unread then, and what the reader will give before and after, where that is known
+abbrev pub ReadAnswers : Unread → Option (List ℕ) → Result ℕ ReadFault → Unread → Option (List ℕ) → Type 0
+ReadAnswers old ahead (Ok count) new left = (piece : List ℕ) × (length piece ≡ count) × FeedAnswers old piece (Ok tt) new × Consumes ahead left piece × (count ≡ 0 → IsAtEnd left)
+ReadAnswers old ahead (Err (Refused fault)) new left = FeedAnswers old [] (Err fault) new × (left ≡ ahead)
+ReadAnswers old ahead (Err (Device error)) new left = (old.fault ≡ None) × (new ≡ old) × Keeps ahead left
 
 -- a reading of a stream: its packets, its rest, its fault
 abbrev pub Reading : List ℕ → Type 0

@@ -1,10 +1,12 @@
 //! Why a packet could not be read or written.
 
 ghost use Rattle.mqtt_wire.specs.declared.fault.Fault.TheVariants.{Memory, Stream};
+ghost use Rattle.mqtt_wire.specs.declared.fault.ReadFault.TheVariants.{Refused, Device};
 ghost use Rattle.std.specs.Prelude.{◌≡◌};
 ghost use Rattle.mqtt_wire.specs.Faults.{number_of};
 
 use std::alloc::{AllocError, AllocFailed};
+use std::io;
 use thiserror::Error;
 
 /// What is wrong with a packet's bytes (section 4.13).
@@ -68,5 +70,32 @@ impl<T: Drop> From<AllocFailed<T>> for Fault {
 
     fn from(_error: AllocFailed<T>) -> Fault {
         Fault::Memory
+    }
+}
+
+/// Why a splitter read nothing.
+#[derive(Debug, Drop, Error)]
+pub enum ReadFault {
+    /// Refusals 101 to 104: the stream is at fault, or there was no room for more of it.
+    #[error("{0}")]
+    Refused(Fault),
+    /// The reader failed, and this is its error.
+    #[error("{0}")]
+    Device(io::Error),
+}
+
+impl From<AllocError> for ReadFault {
+    ghost from_gives = { λ _ result. result ≡ Refused Memory };
+
+    fn from(_: AllocError) -> ReadFault {
+        ReadFault::Refused(Fault::Memory)
+    }
+}
+
+impl From<io::Error> for ReadFault {
+    ghost from_gives = { λ error result. result ≡ Device error };
+
+    fn from(error: io::Error) -> ReadFault {
+        ReadFault::Device(error)
     }
 }

@@ -50,7 +50,7 @@ mod values;
 mod writing;
 
 pub use binary::Binary;
-pub use fault::{Fault, StreamFault};
+pub use fault::{Fault, ReadFault, StreamFault};
 pub use identifier::PacketIdentifier;
 pub use laws::{
     first_fault_counts, pieces_are_read_as_the_whole, spellings_are_told_apart,

@@ -1,17 +1,21 @@
 //! A stream in pieces, and the packets that it spells (section 2.1).
 
-ghost use Rattle.std.specs.Prelude.{◌≡◌, [], None, Some};
-ghost use Rattle.mqtt_wire.specs.Stream.{NextAnswers, FeedAnswers};
+ghost use Rattle.std.specs.Prelude.{◌≡◌, [], length, None, Some};
+ghost use Rattle.mqtt_wire.specs.Stream.{AreBytes, NextAnswers, FeedAnswers, ReadAnswers};
 ghost use Rattle.mqtt_wire.specs.Frame.{IsHeld, ReachesHeader, ReachesPacket, TakesPacket, fault_in};
 
-use crate::fault::{Fault, StreamFault};
+use crate::fault::{Fault, ReadFault, StreamFault};
 use crate::frame::{Frame, read_frame, take_body, take_header};
 use crate::header::FixedHeader;
 use crate::packet::Packet;
 use crate::short::take_short;
 use bytes::BytesMut;
 use std::alloc::Global;
+use std::io::Read;
 use std::marker::Model;
+
+/// For how many bytes at least there is room where a reader is read.
+const LEAST_ROOM: usize = 4_096;
 
 /// What was taken of the packet in front, and was not answered yet.
 #[derive(Drop)]
@@ -80,6 +84,24 @@ impl Splitter {
         Ok(())
     }
 
+    /// Takes what one read of a reader gives, of at most as many bytes as the stream's buffer has room for, which it is
+    /// read into; it makes room for 4,096 at least. `Ok(0)` tells the reader's end.
+    ///
+    /// Where it is refused, nothing has changed: where a fault was met before, that is answered again, and the reader is not
+    /// asked; nor is it where memory is refused. An interrupted read is answered as [`ReadFault::Device`], too.
+    pub fn read_from<R: Read>(&mut self, reader: &mut R) -> Result<usize, ReadFault>
+        ensures { ReadAnswers self.old (R.remaining reader.old) result self.new (R.remaining reader.new) }
+    {
+        if let Some(fault) = self.fault {
+            return Err(ReadFault::Refused(Fault::Stream(fault)));
+        }
+        self.stream.reserve(LEAST_ROOM)?;
+        self.block = self.block.max(self.stream.capacity());
+        let before = self.stream.len();
+        self.stream.read_from(reader)?;
+        Ok(count(&self.stream) - before)
+    }
+
     /// Takes the next packet from the front; `None` where it is not whole yet.
     ///
     /// What it answers fits its types, so what [`encode_into`](crate::encode_into) writes of it is read again. A fault of the
@@ -95,6 +117,14 @@ impl Splitter {
         self.fault = stream_fault(&answer);
         answer
     }
+}
+
+/// How many bytes these are: the contract tells that they are bytes, too.
+fn count(stream: &[u8]) -> usize
+    ensures count { result ≡ length stream.now }
+    ensures bytes { AreBytes stream.now }
+{
+    stream.len()
 }
 
 /// The fault of the stream that an answer tells, if it tells one.

@@ -2,12 +2,14 @@
 #![tactic(auto)]
 
 #[cfg(test)]
+mod reading;
+#[cfg(test)]
 mod streams;
 #[cfg(test)]
 mod values;
 
 #[cfg(test)]
-use mqtt_wire::{Fault, Packet, encode};
+use mqtt_wire::{Fault, Packet, Splitter, encode};
 #[cfg(test)]
 use std::alloc::Global;
 
@@ -15,4 +17,13 @@ use std::alloc::Global;
 #[cfg(test)]
 fn written(alloc: Global, packet: Packet) -> Result<Vec<u8>, Fault> {
     encode(alloc, &packet)
+}
+
+/// The next packet in its written form; `None` where it is not whole yet.
+#[cfg(test)]
+fn next_written(alloc: Global, splitter: &mut Splitter) -> Result<Option<Vec<u8>>, Fault> {
+    match splitter.next()? {
+        Some(packet) => Ok(Some(written(alloc, packet)?)),
+        None => Ok(None),
+    }
 }

@@ -1,6 +1,6 @@
 //! Streams of packets, read and written again, and the faults that they show.
 
-use crate::written;
+use crate::next_written;
 use mqtt_wire::{Fault, Splitter};
 use std::alloc::Global;
 use std::test::Fail;
@@ -12,14 +12,6 @@ const STREAM: [u8; 54] = [
     0x2F, 0x6A, 0x6F, 0x62, 0x01, 0x32, 0x09, 0x00, 0x03, 0x6A, 0x6F, 0x62, 0x00, 0x07, 0x00, 0x41,
     0x40, 0x02, 0x00, 0x01, 0xE0, 0x00,
 ];
-
-// The next packet in its written form; `None` where it is not whole yet.
-fn next_written(alloc: Global, splitter: &mut Splitter) -> Result<Option<Vec<u8>>, Fault> {
-    match splitter.next()? {
-        Some(packet) => Ok(Some(written(alloc, packet)?)),
-        None => Ok(None),
-    }
-}
 
 // Feeds a piece, and writes each packet again that is whole then.
 fn write_again(
