@@ -19,7 +19,9 @@ use Rattle.group_queue.proofs.MainLaws.{posts}
 use Rattle.group_queue.proofs.Partition.{sum_by-map, sum_by-same}
 use Rattle.group_queue.proofs.MainEnds.{worth, bit, count_in, all_popped, all_sent, all_counted, count_all}
 use Rattle.group_queue.proofs.ReturnsEnds.{all_given, all_parts}
-use Rattle.group_queue.proofs.Lengths.{balanced_lengths}
+use Rattle.group_jobs.specs.declared.ledger.Ledger.{Ledger}
+use Rattle.shared_ledger.specs.Giving.{jobs_in as jobs_in_ledger}
+use Rattle.group_queue.proofs.Lengths.{balanced_lengths, gathered}
 
 one : Posted → ℕ
 one posted = 1
@@ -79,12 +81,12 @@ module _ (shape : Shape) (places : List PlaceState) (ports : List PortState)
     ones items,
   )
 
-  module _ (balanced : All IsBalanced places) (room : ℕ) (enough : IsRoomFor ports places room) where
+  module _ (balanced : All IsBalanced places) (ledger : Ledger) (had : jobs_in_ledger ledger ≡ sum_by gathered places) (room : ℕ) (enough : IsRoomFor ports places ledger room) where
     pub room_returned : (there : List Posted) → Stands (knowing shape [] places ports) there → (left items : List Posted) → StandsBack (popping_back v left) items → length left ≤ room
-    room_returned there stands left items back = omega (arith, main_length [] there stands, back_length left items back, balanced_lengths places balanced, enough)
+    room_returned there stands left items back = omega (arith, main_length [] there stands, back_length left items back, balanced_lengths places balanced, had, enough)
 
     pub room_queued : (returned : List Posted) → StandsBack (popping_back v returned) [] → (left items : List Posted) → Stands (knowing shape left places ports) items → length left ≤ room
-    room_queued returned back left items stands = omega (arith, main_length left items stands, back_length returned [] back, balanced_lengths places balanced, enough)
+    room_queued returned back left items stands = omega (arith, main_length left items stands, back_length returned [] back, balanced_lengths places balanced, had, enough)
 
   pub adds_first : (accepted : List ℕ) → AreCounts shape.ports ports accepted → (left : List Posted) → Stands (knowing shape left places ports) [] → (job : Job)
       → sum_by (λ (p : PlaceState). count_of job (jobs_in p.firsts)) places + count_of job (jobs_in left) ≡ times_accepted accepted job
