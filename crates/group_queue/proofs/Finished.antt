@@ -1,5 +1,5 @@
 -- All was taken in and popped: the report adds up.
-use Rattle.std.proofs.Common.{◌≡◌, ℕ, zero, suc, ◌+◌, ◌≤◌, List, [], ◌∷◌, length, get_or, Contains, All, refl, sym, ap, ◌∙◌, subst, arith}
+use Rattle.std.proofs.Common.{◌≡◌, ℕ, zero, suc, ◌+◌, ◌≤◌, List, [], ◌∷◌, length, get_or, Contains, All, refl, sym, ap, ◌∙◌, subst, arith, Bool, true, false, ltb}
 use Rattle.std.specs.Prelude.{map, sum_by}
 use Rattle.std.proofs.lemmas.List.Sorted.{Contains-permutation, sum_by-IsPermutation}
 use Rattle.std.proofs.lemmas.List.Elements.{All-cons, All-nil, All-head, All-tail, Contains-get_or}
@@ -19,7 +19,9 @@ use Rattle.group_queue.specs.declared.posted.Posted.{Posted}
 use Rattle.group_queue.specs.declared.place.Passes.{Passes}
 use Rattle.group_queue.specs.declared.view.View.{View}
 use Rattle.group_queue.specs.Views.{popping}
-use Rattle.group_queue.specs.Past.{Stands}
+use Rattle.std.proofs.lemmas.Bool.{ltb-false, le-ltb}
+use Rattle.group_queue.specs.Past.{Stands, through}
+use Rattle.group_queue.proofs.MainLaws.{posts}
 use Rattle.group_queue.specs.Returns.{bag_of, popping_back, StandsBack}
 use Rattle.group_queue.specs.Ports.{GroupId, PortState}
 use Rattle.group_queue.specs.Places.{PlaceState, IsBalanced, account_of, jobs_in}
@@ -30,8 +32,9 @@ use Rattle.std.proofs.lemmas.List.Sums.{sum_by-cons}
 use Rattle.group_queue.specs.Known.{knowing, ended, IsRoomFor, IsJoined, HasGathered}
 use Rattle.group_queue.proofs.Lengths.{as_many}
 use Rattle.group_queue.proofs.Partition.{sum_by-map}
+use Rattle.group_queue.proofs.MainEnds.{bit}
 use Rattle.group_queue.proofs.Checks.{present, All-there}
-use Rattle.group_queue.proofs.Rooms.{room_returned, room_queued, adds_first, adds_given, adds_held}
+use Rattle.group_queue.proofs.Rooms.{room_returned, room_queued, firsts_below, adds_first, adds_given, adds_held}
 
 -- what has this number
 there_with : (places : List PlaceState) (n : ℕ) → Contains (place_numbers places) n → (p : PlaceState) × Contains places p × (p.number ≡ n)
@@ -49,6 +52,20 @@ All-accounts (p ∷ places) all = All-cons Balance (account_of p) (map account_o
 sum_by-both : (f g : PlaceState → ℕ) (places : List PlaceState) → sum_by (λ p. f p + g p) places ≡ sum_by f places + sum_by g places
 sum_by-both f g [] = refl
 sum_by-both f g (p ∷ places) = omega (arith, sum_by-both f g places, sum_by-cons (λ (q : PlaceState). f q + g q) p places, sum_by-cons f p places, sum_by-cons g p places)
+
+at_most_one : (b : Bool) → bit b ≤ 1
+at_most_one true = omega arith
+at_most_one false = omega arith
+
+not_below : (k n : ℕ) → bit (ltb k n) ≡ 0 → n ≤ k
+not_below k n none = cases (ltb k n) refl none
+  where
+    cases : (b : Bool) → ltb k n ≡ b → bit b ≡ 0 → n ≤ k
+    cases true is e = absurd (omega (arith, e))
+    cases false is e = ltb-false k n is
+
+above : (k n : ℕ) → n ≤ k → bit (ltb k n) ≡ 0
+above k n most = ap (λ b. bit b) (le-ltb k n most)
 
 module _ (group : GroupId) (ports : List PortState) (places : List PlaceState) (held : List Held) (passes : Passes) (dockets : List Kept)
     (before holder : HolderState) (j : IsJoined group ports places passes dockets) (gave : HasGathered group places before holder) (whole : IsWhole group ports places held)
@@ -124,6 +141,18 @@ module _ (group : GroupId) (ports : List PortState) (places : List PlaceState) (
       summed (λ (p : PlaceState). count_of job (jobs_in p.agains)),
       summed (λ (p : PlaceState). count_of job (jobs_in p.given)),
     )
+
+    -- what a port accepted after a queued job is queued
+    pub youngest : (items : List Posted) → Stands (view passes.main) items → (older younger : Job) → older.port ≡ younger.port → older.number ≤ younger.number → 1 ≤ count_of older (jobs_in queued)
+        → count_of younger (jobs_in queued) ≡ times_accepted accepted younger
+    youngest items there older younger port later some =
+        let stands = subst (λ (v : View). Stands v items) j.names there in
+        let popped = λ (p : ℕ). length (through p (posts stands.holds.past)) in
+        let below = λ (job : Job). firsts_below group.shape j.order ports all_places whole.all_ports (bag_of passes.returns) j.parts j.popped j.pushed items stands job in
+        let firsts = λ (job : Job). sum_by-map (λ (a : Account). count_of job a.firsts) account_of places ∙ sym (summed (λ (p : PlaceState). count_of job (jobs_in p.firsts))) in
+        let none = not_below older.number (popped older.port) (omega (arith, below older, firsts older, first older, some, at_most_one (ltb older.number (get_or accepted older.port 0)))) in
+        let same = ap (λ (p : ℕ). length (through p (posts stands.holds.past))) port in
+        omega (arith, below younger, firsts younger, first younger, above younger.number (popped younger.port) (omega (arith, none, later, same)))
 
     settled_sum : (fate : Fate) (job : Job)
         → sum_by (λ (a : Account). a.settled fate job) (map account_of places) ≡ sum_by (λ (d : Kept). count_of job (settled_as fate d.settled)) dockets + count_of job (settled_as fate ledger)
