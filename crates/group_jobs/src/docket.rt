@@ -1,6 +1,6 @@
 //! The docket of a place: what it has out, and what it settled.
-ghost use Rattle.std.specs.Prelude.{◌≡◌, ◌≤◌, ◌<◌, ◌+◌, ◌↔◌, [], ◌∷◌, ◌++◌, OnOk, OnErr, IsTrue, Contains, vec_capacity, slice_get, Some, ◌≢◌, ℕ};
-ghost use Rattle.group_jobs.specs.Settled.{KeepsSettled, IsUnsettled, Settles};
+ghost use Rattle.std.specs.Prelude.{◌≡◌, ◌≤◌, ◌<◌, ◌+◌, ◌↔◌, [], ◌∷◌, ◌++◌, IfOk, OnOk, OnErr, IsTrue, Contains, vec_capacity, slice_get, Some, ◌≢◌, ℕ};
+ghost use Rattle.group_jobs.specs.Settled.{KeepsSettled, IsUnsettled, Settles, least_spare};
 ghost use Rattle.group_jobs.specs.Dockets.{TakesOff};
 
 use crate::error::JobError;
@@ -9,6 +9,7 @@ use crate::ledger::Ledger;
 use dispatch_core::Job;
 use std::alloc::Global;
 use std::marker::Model;
+use std::mem;
 
 /// The jobs that a place has out, in the order in which they were handed out, and those that it settled.
 ///
@@ -104,6 +105,31 @@ impl Docket {
         ensures { result ≡ self.settled }
     {
         self.settled
+    }
+
+    /// A ledger in which nothing is settled, with no less room than the docket's own has left.
+    ///
+    /// # Errors
+    ///
+    /// 503 [`JobError::Memory`].
+    pub fn equal_room(&self, alloc: Global) -> Result<Ledger, JobError>
+        ensures none { IfOk result IsUnsettled }
+        ensures room { IfOk result (λ ledger. least_spare self.now.settled ≤ least_spare ledger) }
+    {
+        let mut ledger = Ledger::new(alloc);
+        ledger.reserve(self.settled.spare())?;
+        Ok(ledger)
+    }
+
+    /// Gives away what was settled, and goes on with another ledger, which has no less room.
+    pub fn exchange(&mut self, ledger: Ledger) -> Ledger
+        requires { least_spare self.old.settled ≤ least_spare ledger }
+        ensures given { result ≡ self.old.settled }
+        ensures settled { self.new.settled ≡ ledger }
+        ensures out { self.new.out ≡ self.old.out }
+        ensures room { self.old.room ≤ self.new.room }
+    {
+        mem::replace(&mut self.settled, ledger)
     }
 
     /// A job that is out is settled.

@@ -2,7 +2,6 @@
 ghost use Rattle.std.specs.Prelude.{◌≡◌, ◌≤◌, ◌<◌, ◌+◌, ◌++◌, length, min, IfOk, OnOk, OnErr};
 ghost use Rattle.group_jobs.specs.declared.fate.Fate.TheVariants as fates;
 ghost use Rattle.std.specs.List.Sorted.{IsPermutation};
-ghost use Rattle.dispatch_core.specs.JobRuns.{NoneTwice};
 
 use crate::error::JobError;
 use crate::fate::Fate;
@@ -106,11 +105,9 @@ impl Ledger {
         }
     }
 
-    /// Puts all jobs of another ledger to those here. The two together have no job twice under one fate, and for each fate
-    /// there is room for the other's runs.
+    /// Puts all jobs of another ledger to those here. For each fate there is room for the other's runs.
     pub fn merge(&mut self, other: Ledger)
-        requires none_twice { (fate : fate_type) → NoneTwice (settled_as fate self.old ++ settled_as fate other) }
-        requires room { (fate : fate_type) → length (runs_of fate other) ≤ spare_of fate self.old }
+        requires { (fate : fate_type) → length (runs_of fate other) ≤ spare_of fate self.old }
         ensures jobs { (fate : fate_type) → IsPermutation (settled_as fate self.old ++ settled_as fate other) (settled_as fate self.new) }
         ensures room { (fate : fate_type) → spare_of fate self.old ≤ spare_of fate self.new + length (runs_of fate other) }
     {

@@ -1,10 +1,16 @@
 -- All passes are taken in: who did so knows of every port and place.
-use Rattle.std.proofs.Common.{◌≡◌, ◌≢◌, ℕ, zero, suc, ◌+◌, ◌-◌, ◌≤◌, Bool, true, false, ltb, eqb, eq-eqb, true≢false, None, Global, List, [], ◌∷◌, length, get_or, refl, sym, ap, ◌∙◌, arith}
+use Rattle.std.proofs.Common.{◌≡◌, ◌≢◌, ℕ, zero, suc, ◌+◌, ◌-◌, ◌≤◌, Bool, true, false, ltb, eqb, eq-eqb, true≢false, None, Global, List, [], ◌∷◌, length, ◌++◌, All, get_or, refl, sym, ap, ◌∙◌, arith}
 use Rattle.std.specs.Prelude.{map, sum_by}
 use Rattle.std.specs.List.Sorted.{IsPermutation}
 use Rattle.std.proofs.lemmas.Bool.{ltb-true, ltb-false, lt-ltb, le-ltb, eqb-true}
 use Rattle.std.proofs.lemmas.List.Sums.{sum_by-cons, sum_by-append, get_or-le-sum_by, count_by-le-length}
-use Rattle.std.proofs.lemmas.List.Sorted.{length_permutation}
+use Rattle.std.proofs.lemmas.List.Sorted.{length_permutation, Contains-permutation, IsPermutation-sym, sum_by-IsPermutation}
+use Rattle.std.proofs.lemmas.List.Elements.{All-head, All-tail, Contains-get_or}
+use Rattle.dispatch_core.specs.JobRuns.{count_of}
+use Rattle.group_jobs.specs.declared.ledger.Ledger.{Ledger}
+use Rattle.group_jobs.specs.Settled.{settled_as}
+use Rattle.shared_ledger.specs.Giving.{times_in}
+use Rattle.shared_ledger.specs.Givers.{GiverState, HolderState, IsNewHolder}
 use Rattle.crossbeam_queue.specs.SegTies.{SegId, IsSegPassOf}
 use Rattle.group_queue.specs.declared.posted.Posted.{Posted}
 use Rattle.group_queue.specs.declared.place.Passes.{Passes}
@@ -14,11 +20,12 @@ use Rattle.group_queue.specs.declared.view.Name.TheVariants.{Place}
 use Rattle.group_queue.specs.Views.{one, keeper, joined, with_entries}
 use Rattle.group_queue.specs.Returns.{bag, joined as joined_bags}
 use Rattle.group_queue.specs.Ports.{GroupId, PortState, Shape}
-use Rattle.group_queue.specs.Places.{PlaceState}
+use Rattle.group_queue.specs.Places.{PlaceState, IsPlaceOf}
 use Rattle.group_queue.specs.Openings.{AreOf}
 use Rattle.group_queue.specs.Ends.{HasAll, place_numbers}
-use Rattle.group_queue.specs.Known.{port_entry, place_entry, knowing, TakesInParts}
+use Rattle.group_queue.specs.Known.{port_entry, place_entry, knowing, TakesInParts, TakesInGivers, HasGathered}
 use Rattle.group_queue.proofs.MainEnds.{bit}
+use Rattle.group_queue.proofs.Checks.{All-there}
 
 -- as many numbers as are there
 below : ℕ → ℕ → ℕ
@@ -58,7 +65,7 @@ pub enough : (count : ℕ) (numbers : List ℕ) → HasAll count numbers → cou
 unfolding below
 enough count numbers all = omega (arith, few count numbers all, count_by-le-length (λ number. ltb number count) numbers)
 
-length_map : {X : Type 0} (f : X → ℕ) (xs : List X) → length (map f xs) ≡ length xs
+pub length_map : {X : Type 0} (f : X → ℕ) (xs : List X) → length (map f xs) ≡ length xs
 length_map f [] = refl
 length_map f (x ∷ xs) = ap suc (length_map f xs)
 
@@ -113,3 +120,49 @@ module _ (last last' : PlaceState) (rest : List PlaceState) (parts : ℕ) (b0 b1
     ap (λ (p : PlaceState). sum_by w p.given) same,
     sum_by-cons (λ (p : PlaceState). sum_by w p.given) last rest,
   )
+
+-- every place has a part of the ledger
+parts_enough : (group : GroupId) (places : List PlaceState) → All (IsPlaceOf group) places → length places ≤ sum_by (λ (p : PlaceState). p.giver.parts) places
+parts_enough group [] all = omega arith
+parts_enough group (p ∷ places) all = omega (
+  arith,
+  (All-head (IsPlaceOf group) p places all).some_part,
+  parts_enough group places (All-tail (IsPlaceOf group) p places all),
+  sum_by-cons (λ (q : PlaceState). q.giver.parts) p places,
+)
+
+-- who took in the givers of all places has all parts of the ledger, and what all gave
+pub given_all : (group : GroupId) (places : List PlaceState) (last : PlaceState) (rest : List PlaceState) (giver : GiverState) (h0 h1 h2 : HolderState) → IsPermutation places (last ∷ rest)
+    → All (IsPlaceOf group) places → HasAll group.shape.places (place_numbers places) → last.number + 1 ≡ group.shape.places → giver ≡ last.giver → IsNewHolder group.ledger h0
+    → h1 ≡ record h0 { parts = h0.parts + giver.parts; gave = h0.gave ++ giver.gave } → TakesInGivers h1 rest h2 → HasGathered group places h0 h2
+given_all group places last rest giver h0 h1 h2 same all whole number is new joined takes =
+    let each : All (IsPlaceOf group) (last ∷ rest) = λ k d less.
+    let x = get_or (last ∷ rest) k d in
+    All-there (IsPlaceOf group) places x all (Contains-permutation (last ∷ rest) places x (IsPermutation-sym places (last ∷ rest) same) (Contains-get_or (last ∷ rest) k d less)) in
+    let here = All-head (IsPlaceOf group) last rest each in
+    record {
+      of = takes.of ∙ (ap (λ (h : HolderState). h.ledger) joined ∙ new.of);
+      all = omega (
+        arith,
+        takes.parts_are,
+        ap (λ (h : HolderState). h.parts) joined,
+        new.parts_are,
+        ap (λ (s : GiverState). s.parts) is,
+        here.parts_left number,
+        parts_enough group rest (All-tail (IsPlaceOf group) last rest each),
+        length_permutation places (last ∷ rest) same,
+        enough group.shape.places (place_numbers places) whole,
+        length_map (λ (p : PlaceState). p.number) places,
+      );
+      gave_all = (λ fate job. omega (
+        arith,
+        takes.gave_are fate job,
+        ap (λ (h : HolderState). times_in h.gave fate job) joined,
+        sum_by-append (λ (l : Ledger). count_of job (settled_as fate l)) h0.gave giver.gave,
+        ap (λ l. times_in l fate job) new.gave_none,
+        ap (λ (s : GiverState). times_in s.gave fate job) is,
+        sum_by-cons (λ (p : PlaceState). times_in p.giver.gave fate job) last rest,
+        sum_by-IsPermutation (λ (p : PlaceState). times_in p.giver.gave fate job) places (last ∷ rest) same,
+      ));
+      settled_is = takes.settled_is ∙ ap (λ (h : HolderState). h.settled) joined;
+    }

@@ -1,5 +1,5 @@
 -- Lists that have each job equally often are equally long.
-use Rattle.std.proofs.Common.{◌≡◌, ◌≢◌, ◌+◌, ◌≤◌, ◌⊎◌, ⊎_elim, inl, inr, List, [], ◌∷◌, ◌++◌, length, refl, ap, ◌∙◌, arith, length-append, eqb, eqb-true, cond, true, false}
+use Rattle.std.proofs.Common.{◌≡◌, ◌≢◌, ◌+◌, ◌≤◌, ◌⊎◌, ⊎_elim, inl, inr, List, ℕ, [], ◌∷◌, ◌++◌, length, refl, sym, ap, ◌∙◌, arith, length-append, eqb, eqb-true, cond, true, false}
 use Rattle.std.specs.Prelude.{sum_by, ◌&&◌, All}
 use Rattle.std.proofs.lemmas.Bool.{cases_eq}
 use Rattle.std.proofs.lemmas.List.Elements.{All-head, All-tail}
@@ -8,7 +8,10 @@ use Rattle.dispatch_core.specs.declared.event.Job.{Job}
 use Rattle.dispatch_core.specs.JobRuns.{count_of}
 use Rattle.dispatch_core.proofs.JobLists.{count_of-append, count_of-cons, count_of_contained}
 use Rattle.group_jobs.specs.declared.fate.Fate.TheVariants.{Acknowledged, Refused}
+use Rattle.group_jobs.specs.declared.fate.Fate.{Fate}
+use Rattle.group_jobs.specs.declared.ledger.Ledger.{Ledger}
 use Rattle.group_jobs.specs.Settled.{settled_as}
+use Rattle.shared_ledger.specs.Giving.{times_in, jobs_in as jobs_given}
 use Rattle.group_queue.specs.Places.{PlaceState, IsBalanced, jobs_in}
 use Rattle.group_queue.specs.Known.{ended}
 use Rattle.group_queue.proofs.Endings.{length_jobs}
@@ -61,23 +64,87 @@ same_lengths (x ∷ xs) ys same =
     let tail = same_lengths xs rest.0 (λ job. omega (arith, same job, count_of-cons job x xs, rest.2 job)) in
     omega (arith, tail, rest.1)
 
+-- all jobs of a fate in these ledgers
+abbrev pub listed : Fate → List Ledger → List Job
+listed fate [] = []
+listed fate (l ∷ ls) = settled_as fate l ++ listed fate ls
+
+count_listed : (fate : Fate) (job : Job) (ls : List Ledger) → count_of job (listed fate ls) ≡ times_in ls fate job
+count_listed fate job [] = refl
+count_listed fate job (l ∷ ls) =
+    omega (arith, count_of-append job (settled_as fate l) (listed fate ls), count_listed fate job ls, sum_by-cons (λ (k : Ledger). count_of job (settled_as fate k)) l ls)
+
+-- how many jobs a place gave to the group's ledger
+pub gathered : PlaceState → ℕ
+gathered place = length (listed Acknowledged place.giver.gave) + length (listed Refused place.giver.gave)
+
+-- all jobs of a fate that these places gave
+abbrev pub all_listed : Fate → List PlaceState → List Job
+all_listed fate [] = []
+all_listed fate (p ∷ places) = listed fate p.giver.gave ++ all_listed fate places
+
+count_all_listed : (fate : Fate) (job : Job) (places : List PlaceState) → count_of job (all_listed fate places) ≡ sum_by (λ (p : PlaceState). times_in p.giver.gave fate job) places
+count_all_listed fate job [] = refl
+count_all_listed fate job (p ∷ places) = omega (
+  arith,
+  count_of-append job (listed fate p.giver.gave) (all_listed fate places),
+  count_listed fate job p.giver.gave,
+  count_all_listed fate job places,
+  sum_by-cons (λ (q : PlaceState). times_in q.giver.gave fate job) p places,
+)
+
+length_all_listed : (places : List PlaceState) → length (all_listed Acknowledged places) + length (all_listed Refused places) ≡ sum_by gathered places
+unfolding gathered
+length_all_listed [] = refl
+length_all_listed (p ∷ places) = omega (
+  arith,
+  length-append (listed Acknowledged p.giver.gave) (all_listed Acknowledged places),
+  length-append (listed Refused p.giver.gave) (all_listed Refused places),
+  length_all_listed places,
+  sum_by-cons gathered p places,
+)
+
+-- a ledger that has what these places gave has as many jobs as they gave
+pub as_many : (ledger : Ledger) (places : List PlaceState) → ((fate : Fate) (job : Job) → count_of job (settled_as fate ledger) ≡ sum_by (λ (p : PlaceState). times_in p.giver.gave fate job) places)
+    → jobs_given ledger ≡ sum_by gathered places
+as_many ledger places same =
+    let each = λ (fate : Fate). same_lengths (settled_as fate ledger) (all_listed fate places) (λ job. same fate job ∙ sym (count_all_listed fate job places)) in
+    omega (arith, each Acknowledged, each Refused, length_all_listed places)
+
 -- as many hand-outs as ends
-pub balanced_length : (place : PlaceState) → IsBalanced place → length place.firsts + length place.agains ≡ ended place + length place.given + length place.docket.out
+pub balanced_length : (place : PlaceState) → IsBalanced place → length place.firsts + length place.agains ≡ ended place + gathered place + length place.given + length place.docket.out
+unfolding gathered
 balanced_length place balanced =
     let done = settled_as Acknowledged place.docket.settled in
     let no = settled_as Refused place.docket.settled in
+    let before = listed Acknowledged place.giver.gave in
+    let before_no = listed Refused place.giver.gave in
     let out = place.docket.out in
     let firsts = jobs_in place.firsts in
     let agains = jobs_in place.agains in
     let given = jobs_in place.given in
-    let same = same_lengths (firsts ++ agains) (done ++ (no ++ (given ++ out)))
-    (λ job. omega (arith, balanced job, count_of-append job firsts agains, count_of-append job done (no ++ (given ++ out)), count_of-append job no (given ++ out), count_of-append job given out)) in
+    let last = given ++ out in
+    let same = same_lengths (firsts ++ agains) (done ++ (no ++ (before ++ (before_no ++ last))))
+    (λ job. omega (
+      arith,
+      balanced job,
+      count_listed Acknowledged job place.giver.gave,
+      count_listed Refused job place.giver.gave,
+      count_of-append job firsts agains,
+      count_of-append job done (no ++ (before ++ (before_no ++ last))),
+      count_of-append job no (before ++ (before_no ++ last)),
+      count_of-append job before (before_no ++ last),
+      count_of-append job before_no last,
+      count_of-append job given out,
+    )) in
     omega (
       arith,
       same,
       length-append firsts agains,
-      length-append done (no ++ (given ++ out)),
-      length-append no (given ++ out),
+      length-append done (no ++ (before ++ (before_no ++ last))),
+      length-append no (before ++ (before_no ++ last)),
+      length-append before (before_no ++ last),
+      length-append before_no last,
       length-append given out,
       length_jobs place.firsts,
       length_jobs place.agains,
@@ -87,7 +154,7 @@ balanced_length place balanced =
 -- and so of all places together
 pub balanced_lengths : (places : List PlaceState) → All IsBalanced places
     → sum_by (λ (p : PlaceState). length p.firsts) places + sum_by (λ (p : PlaceState). length p.agains) places
-    ≡ sum_by ended places + sum_by (λ (p : PlaceState). length p.given) places + sum_by (λ (p : PlaceState). length p.docket.out) places
+    ≡ sum_by ended places + sum_by gathered places + sum_by (λ (p : PlaceState). length p.given) places + sum_by (λ (p : PlaceState). length p.docket.out) places
 balanced_lengths [] all = refl
 balanced_lengths (p ∷ places) all = omega (
   arith,
@@ -96,6 +163,7 @@ balanced_lengths (p ∷ places) all = omega (
   sum_by-cons (λ (q : PlaceState). length q.firsts) p places,
   sum_by-cons (λ (q : PlaceState). length q.agains) p places,
   sum_by-cons ended p places,
+  sum_by-cons gathered p places,
   sum_by-cons (λ (q : PlaceState). length q.given) p places,
   sum_by-cons (λ (q : PlaceState). length q.docket.out) p places,
 )

@@ -1,6 +1,6 @@
 -- What a step of one of its passes makes of a place.
 use Rattle.std.proofs.Common.{◌≡◌, ◌≢◌, ℕ, zero, suc, ◌+◌, ◌<◌, ◌≤◌, length, slice_get, length-append, List, [], ◌∷◌, ◌++◌, All, Option, Some, None, refl, sym, ap, ◌∙◌, subst, arith}
-use Rattle.std.specs.Prelude.{map, MatchOption, ◌-◌}
+use Rattle.std.specs.Prelude.{map, MatchOption, ◌-◌, Bool, true, false, Result, Ok, Err}
 use Rattle.std.proofs.Common.{Global}
 use Rattle.atomic_blocks.specs.declared.web.Seat.{Seat}
 use Rattle.crossbeam_queue.specs.declared.seg_queue.Going.{Going}
@@ -11,7 +11,12 @@ use Rattle.dispatch_core.specs.declared.event.Job.{Job}
 use Rattle.dispatch_core.specs.JobRuns.{jobs_of, count_of}
 use Rattle.group_jobs.specs.declared.fate.Fate.{Fate}
 use Rattle.group_jobs.specs.declared.fate.Fate.TheVariants.{Acknowledged, Refused}
-use Rattle.group_jobs.specs.Settled.{IsUnsettled, KeepsSettled, Settles}
+use Rattle.std.proofs.lemmas.List.Sums.{sum_by-append}
+use Rattle.group_jobs.specs.declared.ledger.Ledger.{Ledger}
+use Rattle.group_jobs.specs.Settled.{settled_as, IsUnsettled, KeepsSettled, Settles}
+use Rattle.shared_ledger.specs.Giving.{times_in}
+use Rattle.shared_ledger.specs.Givers.{GiverState, GivesAll, Gathers}
+use Rattle.group_jobs.specs.declared.error.JobError.{JobError}
 use Rattle.group_jobs.specs.Dockets.{Kept, TakesOff}
 use Rattle.group_jobs.proofs.Taking.{All-taken}
 use Rattle.group_queue.specs.declared.posted.Posted.{Posted}
@@ -44,9 +49,9 @@ pub record SamePasses (old new : Passes) : Type 0 where
   pub bare : AreBare new
 
 -- nothing changed but the room of the docket
-pub keeps_hands : (number : ℕ) (old new : Kept) (t u : Passes) → IsInHands number old t → new.out ≡ old.out → KeepsSettled old.settled new.settled
-    → SamePasses t u → view u.main ≡ view t.main → bag_of u.returns ≡ bag_of t.returns → IsInHands number new u
-keeps_hands number old new t u h out settled same main returns = record {
+pub keeps_hands : (number : ℕ) (old new : Kept) (t u : Passes) (giver : GiverState) → IsInHands number old t giver → new.out ≡ old.out → KeepsSettled old.settled new.settled
+    → SamePasses t u → view u.main ≡ view t.main → bag_of u.returns ≡ bag_of t.returns → IsInHands number new u giver
+keeps_hands number old new t u giver h out settled same main returns = record {
   main = subst (IsOf (Place number)) (sym main) h.main;
   part = same.part ∙ h.part;
   bare = same.bare;
@@ -70,9 +75,9 @@ pub small_back : (v w : Bag) (x : Posted) → PopsBack v x w → IsSmall x.job
 small_back v w x pops = All-head (λ (posted : Posted). posted.job.number < 18446744073709551615) x pops.items pops.before.holds.small
 
 -- the front of the main queue came out
-pub takes_front : (number : ℕ) (old new : Kept) (t u : Passes) (x : Posted) → IsInHands number old t → new.out ≡ old.out ++ x.job ∷ [] → KeepsSettled old.settled new.settled
-    → SamePasses t u → Takes (view t.main) x (view u.main) → bag_of u.returns ≡ bag_of t.returns → IsSmall x.job → IsInHands number new u
-takes_front number old new t u x h out settled same takes returns few =
+pub takes_front : (number : ℕ) (old new : Kept) (t u : Passes) (giver : GiverState) (x : Posted) → IsInHands number old t giver → new.out ≡ old.out ++ x.job ∷ [] → KeepsSettled old.settled new.settled
+    → SamePasses t u → Takes (view t.main) x (view u.main) → bag_of u.returns ≡ bag_of t.returns → IsSmall x.job → IsInHands number new u giver
+takes_front number old new t u giver x h out settled same takes returns few =
     let grew = list-grown (Place number) (view t.main) (view u.main) x h.main takes.is in
     record {
       main = of-grown (Place number) (view t.main) (view u.main) x h.main takes.is;
@@ -89,9 +94,9 @@ takes_front number old new t u x h out settled same takes returns few =
     }
 
 -- the front of the returns queue came out
-pub takes_back : (number : ℕ) (old new : Kept) (t u : Passes) (x : Posted) → IsInHands number old t → new.out ≡ old.out ++ x.job ∷ [] → KeepsSettled old.settled new.settled
-    → SamePasses t u → view u.main ≡ view t.main → PopsBack (bag_of t.returns) x (bag_of u.returns) → IsSmall x.job → IsInHands number new u
-takes_back number old new t u x h out settled same main pops few = record {
+pub takes_back : (number : ℕ) (old new : Kept) (t u : Passes) (giver : GiverState) (x : Posted) → IsInHands number old t giver → new.out ≡ old.out ++ x.job ∷ [] → KeepsSettled old.settled new.settled
+    → SamePasses t u → view u.main ≡ view t.main → PopsBack (bag_of t.returns) x (bag_of u.returns) → IsSmall x.job → IsInHands number new u giver
+takes_back number old new t u giver x h out settled same main pops few = record {
   main = subst (IsOf (Place number)) (sym main) h.main;
   part = same.part ∙ h.part;
   bare = same.bare;
@@ -106,9 +111,9 @@ takes_back number old new t u x h out settled same main pops few = record {
 }
 
 -- what was out went back
-pub gives_back : (number : ℕ) (old new : Kept) (t u : Passes) (x : Posted) → IsInHands number old t → TakesOff old.out x.job new.out → KeepsSettled old.settled new.settled
-    → SamePasses t u → view u.main ≡ view t.main → PushesBack (bag_of t.returns) x (bag_of u.returns) → IsInHands number new u
-gives_back number old new t u x h out settled same main pushes = record {
+pub gives_back : (number : ℕ) (old new : Kept) (t u : Passes) (giver : GiverState) (x : Posted) → IsInHands number old t giver → TakesOff old.out x.job new.out → KeepsSettled old.settled new.settled
+    → SamePasses t u → view u.main ≡ view t.main → PushesBack (bag_of t.returns) x (bag_of u.returns) → IsInHands number new u giver
+gives_back number old new t u giver x h out settled same main pushes = record {
   main = subst (IsOf (Place number)) (sym main) h.main;
   part = same.part ∙ h.part;
   bare = same.bare;
@@ -123,8 +128,8 @@ gives_back number old new t u x h out settled same main pushes = record {
 }
 
 -- what was out is settled
-pub settles_hands : (number : ℕ) (old new : Kept) (t : Passes) (job : Job) (fate : Fate) → IsInHands number old t → TakesOff old.out job new.out → Settles old.settled job fate new.settled → IsInHands number new t
-settles_hands number old new t one fate h out settled = record {
+pub settles_hands : (number : ℕ) (old new : Kept) (t : Passes) (giver : GiverState) (job : Job) (fate : Fate) → IsInHands number old t giver → TakesOff old.out job new.out → Settles old.settled job fate new.settled → IsInHands number new t giver
+settles_hands number old new t giver one fate h out settled = record {
   main = h.main;
   part = h.part;
   bare = h.bare;
@@ -135,9 +140,30 @@ settles_hands number old new t one fate h out settled = record {
   small = All-taken old.out one new.out out IsSmall h.small;
 }
 
+-- what was settled was given
+pub gathers_hands : (number : ℕ) (old new : Kept) (t : Passes) (giver after : GiverState) → IsInHands number old t giver → GivesAll giver old after new → IsInHands number new t after
+gathers_hands number old new t giver after h g = record {
+  main = h.main;
+  part = h.part;
+  bare = h.bare;
+  balanced = (λ job.
+      let was = h.balanced job in
+      let o = ap (count_of job) g.out in
+      let a = ap (λ runs. count_of job (jobs_of runs)) (g.settled Acknowledged) in
+      let r = ap (λ runs. count_of job (jobs_of runs)) (g.settled Refused) in
+      let more = λ (fate : Fate). ap (λ (s : GiverState). times_in s.gave fate job) g.is ∙ sum_by-append (λ (l : Ledger). count_of job (settled_as fate l)) giver.gave (g.given ∷ []) in
+      omega (arith, was, o, a, r, more Acknowledged, more Refused, g.counts Acknowledged job, g.counts Refused job));
+  small = subst (All IsSmall) (sym g.out) h.small;
+}
+
+pub gathers_any : (number : ℕ) (old new : Kept) (t : Passes) (giver after : GiverState) (result : Result Bool JobError) → IsInHands number old t giver → Gathers giver old result after new → IsInHands number new t after
+gathers_any number old new t giver after (Ok true) h g = gathers_hands number old new t giver after h g
+gathers_any number old new t giver after (Ok false) h g = subst (λ (q : Kept × GiverState). IsInHands number q.0 t q.1) (λ i. (sym g.1 i, sym g.0 i)) h
+gathers_any number old new t giver after (Err error) h g = subst (λ (q : Kept × GiverState). IsInHands number q.0 t q.1) (λ i. (sym g.1 i, sym g.0 i)) h
+
 -- nothing changed but the room of the docket
-pub keeps_place : (number : ℕ) (old new : Kept) (t : Passes) → IsInHands number old t → new.out ≡ old.out → KeepsSettled old.settled new.settled → IsInHands number new t
-keeps_place number old new t h out settled = keeps_hands number old new t t h out settled (record { part = refl; bare = h.bare }) refl refl
+pub keeps_place : (number : ℕ) (old new : Kept) (t : Passes) (giver : GiverState) → IsInHands number old t giver → new.out ≡ old.out → KeepsSettled old.settled new.settled → IsInHands number new t giver
+keeps_place number old new t giver h out settled = keeps_hands number old new t t giver h out settled (record { part = refl; bare = h.bare }) refl refl
 
 -- what is left of the passes of who opened the group is of the same queues
 pub keeps_left : (t u : Passes) (kept : Option Passes) → hands_of u ≡ hands_of t → IsKept t kept → IsKept u kept
@@ -170,9 +196,9 @@ new_left group number t (Some left) of few h =
     }
 
 -- a place that did nothing
-pub new_hands : (number : ℕ) (docket : Kept) (t : Passes) → view t.main ≡ one (Place number) [] → bag_of t.returns ≡ bag 1 [] []
-    → AreBare t → docket.out ≡ [] → IsUnsettled docket.settled → IsInHands number docket t
-new_hands number docket t main returns bare out unsettled = record {
+pub new_hands : (number : ℕ) (docket : Kept) (t : Passes) (giver : GiverState) → giver.gave ≡ [] → view t.main ≡ one (Place number) [] → bag_of t.returns ≡ bag 1 [] []
+    → AreBare t → docket.out ≡ [] → IsUnsettled docket.settled → IsInHands number docket t giver
+new_hands number docket t giver none main returns bare out unsettled = record {
   main = main ∙ ap (one (Place number)) (sym (ap list_in main));
   part = ap (λ b. b.parts) returns;
   bare = bare;
@@ -183,7 +209,8 @@ new_hands number docket t main returns bare out unsettled = record {
       let o = ap (count_of job) out in
       let a = ap (λ runs. count_of job (jobs_of runs)) (unsettled Acknowledged) in
       let r = ap (λ runs. count_of job (jobs_of runs)) (unsettled Refused) in
-      omega (arith, firsts, agains, given, o, a, r));
+      let n = λ (fate : Fate). ap (λ l. times_in l fate job) none in
+      omega (arith, firsts, agains, given, o, a, r, n Acknowledged, n Refused));
   small = subst (All IsSmall) (sym out) (All-nil IsSmall);
 }
 

@@ -1,5 +1,5 @@
 -- What was accepted and is neither settled nor out is what is left in both queues; and how all of it adds up.
-use Rattle.std.proofs.Common.{◌≡◌, ℕ, suc, ◌+◌, ◌≤◌, Bool, true, false, cond, eqb, eq-eqb, ltb, List, [], ◌∷◌, length, get_or, All, refl, sym, ap, ◌∙◌, arith}
+use Rattle.std.proofs.Common.{◌≡◌, ℕ, suc, ◌+◌, ◌≤◌, Bool, true, false, cond, eqb, eq-eqb, ltb, List, [], ◌∷◌, ◌++◌, append_assoc, length, get_or, All, refl, sym, ap, ◌∙◌, arith}
 use Rattle.std.specs.Prelude.{map, sum_by, ◌&&◌}
 use Rattle.std.proofs.lemmas.List.Sums.{sum_by-cons, sum_by-append, get_or-le-sum_by}
 use Rattle.dispatch_core.specs.declared.event.Job.{Job}
@@ -9,7 +9,7 @@ use Rattle.group_jobs.specs.Stamps.{Held, job_of, stamp_of}
 use Rattle.group_jobs.specs.Reports.{times_accepted}
 use Rattle.group_queue.specs.declared.posted.Posted.{Posted}
 use Rattle.group_queue.specs.declared.view.Bag.{Bag}
-use Rattle.group_queue.specs.Past.{Stands, all_of}
+use Rattle.group_queue.specs.Past.{Stands, all_of, through, AreNumbered}
 use Rattle.group_queue.specs.Returns.{popping_back, StandsBack}
 use Rattle.group_queue.specs.Ports.{GroupId, PortState, Shape}
 use Rattle.group_queue.specs.Places.{PlaceState, IsBalanced, jobs_in}
@@ -19,7 +19,9 @@ use Rattle.group_queue.proofs.MainLaws.{posts}
 use Rattle.group_queue.proofs.Partition.{sum_by-map, sum_by-same}
 use Rattle.group_queue.proofs.MainEnds.{worth, bit, count_in, all_popped, all_sent, all_counted, count_all}
 use Rattle.group_queue.proofs.ReturnsEnds.{all_given, all_parts}
-use Rattle.group_queue.proofs.Lengths.{balanced_lengths}
+use Rattle.group_jobs.specs.declared.ledger.Ledger.{Ledger}
+use Rattle.shared_ledger.specs.Giving.{jobs_in as jobs_in_ledger}
+use Rattle.group_queue.proofs.Lengths.{balanced_lengths, gathered}
 
 one : Posted → ℕ
 one posted = 1
@@ -79,12 +81,12 @@ module _ (shape : Shape) (places : List PlaceState) (ports : List PortState)
     ones items,
   )
 
-  module _ (balanced : All IsBalanced places) (room : ℕ) (enough : IsRoomFor ports places room) where
+  module _ (balanced : All IsBalanced places) (ledger : Ledger) (had : jobs_in_ledger ledger ≡ sum_by gathered places) (room : ℕ) (enough : IsRoomFor ports places ledger room) where
     pub room_returned : (there : List Posted) → Stands (knowing shape [] places ports) there → (left items : List Posted) → StandsBack (popping_back v left) items → length left ≤ room
-    room_returned there stands left items back = omega (arith, main_length [] there stands, back_length left items back, balanced_lengths places balanced, enough)
+    room_returned there stands left items back = omega (arith, main_length [] there stands, back_length left items back, balanced_lengths places balanced, had, enough)
 
     pub room_queued : (returned : List Posted) → StandsBack (popping_back v returned) [] → (left items : List Posted) → Stands (knowing shape left places ports) items → length left ≤ room
-    room_queued returned back left items stands = omega (arith, main_length left items stands, back_length returned [] back, balanced_lengths places balanced, enough)
+    room_queued returned back left items stands = omega (arith, main_length left items stands, back_length returned [] back, balanced_lengths places balanced, had, enough)
 
   pub adds_first : (accepted : List ℕ) → AreCounts shape.ports ports accepted → (left : List Posted) → Stands (knowing shape left places ports) [] → (job : Job)
       → sum_by (λ (p : PlaceState). count_of job (jobs_in p.firsts)) places + count_of job (jobs_in left) ≡ times_accepted accepted job
@@ -102,6 +104,20 @@ module _ (shape : Shape) (places : List PlaceState) (ports : List PortState)
         sum_by-append (worth job) (posts h.past) [],
         there,
         ap (λ n. bit (ltb job.number n)) counted,
+      )
+
+  -- before anything is left over, a job was handed out exactly where its number is below how many of its port were
+  pub firsts_below : (items : List Posted) (stands : Stands (knowing shape [] places ports) items) (job : Job)
+      → sum_by (λ (p : PlaceState). count_of job (jobs_in p.firsts)) places ≡ bit (ltb job.number (length (through job.port (posts stands.holds.past))))
+  firsts_below items stands job =
+      let h = stands.holds in
+      let fits = h.fits stands.pass (knowing shape [] places ports) stands.there in
+      let front : AreNumbered (posts h.past) = λ f b x e. h.numbered f (b ++ items) x (ap (λ l. l ++ items) e ∙ append_assoc f (x ∷ b) items) in
+      omega (
+        arith,
+        all_popped h.past items h.owner stands.pass shape [] places ports h.no_port fits all_places all_ports (worth job),
+        sum_by-same (λ (p : PlaceState). count_of job (jobs_in p.firsts)) (λ (p : PlaceState). sum_by (worth job) p.firsts) (λ p. count_in job p.firsts) places,
+        count_all job (posts h.past) front,
       )
 
   pub adds_given : (left : List Posted) → StandsBack (popping_back v left) [] → (job : Job)

@@ -6,7 +6,11 @@ use Rattle.group_jobs.specs.Dockets.{Kept}
 use Rattle.group_jobs.specs.declared.fate.Fate.{Fate}
 use Rattle.group_jobs.specs.Stamps.{Held, job_of}
 use Rattle.group_jobs.specs.declared.fate.Fate.TheVariants.{Acknowledged, Refused}
-use Rattle.group_jobs.specs.Settled.{settled_as, runs_of, least_spare, IsUnsettled}
+use Rattle.group_jobs.specs.Settled.{settled_as, runs_of, least_spare}
+use Rattle.dispatch_core.specs.declared.event.Job.{Job}
+use Rattle.group_jobs.specs.declared.ledger.Ledger.{Ledger}
+use Rattle.shared_ledger.specs.Giving.{times_in, jobs_in}
+use Rattle.shared_ledger.specs.Givers.{HolderState}
 use Rattle.group_queue.specs.declared.reserving.Lists.{Lists}
 use Rattle.group_queue.specs.Ends.{AreCounts}
 use Rattle.group_queue.specs.declared.posted.Posted.{Posted}
@@ -37,26 +41,40 @@ pub record TakesInParts (old : Bag) (places : List PlaceState) (new : Bag) : Typ
   pub popped : (worth : Posted → ℕ) → sum_by worth new.popped ≡ sum_by worth old.popped + sum_by (λ (p : PlaceState). sum_by worth p.agains) places
   pub pushed : (worth : Posted → ℕ) → sum_by worth new.pushed ≡ sum_by worth old.pushed + sum_by (λ (p : PlaceState). sum_by worth p.given) places
 
--- how many jobs a place settled
+-- the givers of these places were taken in, with what they gave
+pub record TakesInGivers (old : HolderState) (places : List PlaceState) (new : HolderState) : Type 0 where
+  pub of : new.ledger ≡ old.ledger
+  pub parts_are : new.parts ≡ old.parts + sum_by (λ (p : PlaceState). p.giver.parts) places
+  pub gave_are : (fate : Fate) (job : Job) → times_in new.gave fate job ≡ times_in old.gave fate job + sum_by (λ (p : PlaceState). times_in p.giver.gave fate job) places
+  pub settled_is : new.settled ≡ old.settled
+
+-- who has the group's ledger in hands has all parts of it, and with them what all places gave
+pub record HasGathered (group : GroupId) (places : List PlaceState) (old new : HolderState) : Type 0 where
+  pub of : new.ledger ≡ group.ledger
+  pub all : 64 ≤ new.parts
+  pub gave_all : (fate : Fate) (job : Job) → times_in new.gave fate job ≡ sum_by (λ (p : PlaceState). times_in p.giver.gave fate job) places
+  pub settled_is : new.settled ≡ old.settled
+
+-- how many jobs a place settled and did not give to the group's ledger
 abbrev pub ended : PlaceState → ℕ
 ended place = length (settled_as Acknowledged place.docket.settled) + length (settled_as Refused place.docket.settled)
 
--- there is room for all that was accepted, but what was settled and what is out
-abbrev pub IsRoomFor : List PortState → List PlaceState → ℕ → Type 0
-IsRoomFor ports places room = sum_by (λ (p : PortState). length p.sent) ports ≤ room + sum_by ended places + sum_by (λ (p : PlaceState). length p.docket.out) places
+-- there is room for all that was accepted, but what was settled, and gathered in this ledger or not, and what is out
+abbrev pub IsRoomFor : List PortState → List PlaceState → Ledger → ℕ → Type 0
+IsRoomFor ports places gathered room =
+    sum_by (λ (p : PortState). length p.sent) ports ≤ room + sum_by ended places + sum_by (λ (p : PlaceState). length p.docket.out) places + jobs_in gathered
 
--- what is known of a report, and room for the rest
-pub record AreReady (count : ℕ) (ports : List PortState) (places : List PlaceState) (held : List Held) (lists : Lists) : Type 0 where
+-- what is known of a report, and room for the rest: for what is settled, in the group's ledger
+pub record AreReady (count : ℕ) (ports : List PortState) (places : List PlaceState) (held : List Held) (lists : Lists) (holder : HolderState) : Type 0 where
   pub counts : AreCounts count ports lists.accepted.items
   pub envelopes : lists.held.items ≡ map (λ envelope. job_of envelope.stamp) held
   pub no_docket : lists.dockets.items ≡ []
   pub room_for_dockets : length places ≤ vec_capacity lists.dockets
-  pub unsettled : IsUnsettled lists.settled
-  pub room_for_settled : (fate : Fate) → sum_by (λ (p : PlaceState). length (runs_of fate p.docket.settled)) places ≤ least_spare lists.settled
+  pub room_for_settled : (fate : Fate) → sum_by (λ (p : PlaceState). length (runs_of fate p.docket.settled)) places ≤ least_spare holder.settled
   pub none_queued : lists.queued.items ≡ []
-  pub room_for_queued : IsRoomFor ports places (vec_capacity lists.queued)
+  pub room_for_queued : IsRoomFor ports places holder.settled (vec_capacity lists.queued)
   pub none_returned : lists.returned.items ≡ []
-  pub room_for_returned : IsRoomFor ports places (vec_capacity lists.returned)
+  pub room_for_returned : IsRoomFor ports places holder.settled (vec_capacity lists.returned)
 
 -- all passes were taken in, in some order of the places, and the dockets kept
 pub record IsJoined (group : GroupId) (ports : List PortState) (places : List PlaceState) (passes : Passes) (dockets : List Kept) : Type 0 where

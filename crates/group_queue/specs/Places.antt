@@ -1,5 +1,5 @@
 -- Places as contracts see them, and what their calls make of them.
-use Rattle.std.specs.Prelude.{◌≡◌, ℕ, ◌+◌, List, [], ◌∷◌, ◌++◌, map, ◌<◌, length, slice_get, Contains, Option, Some, None, Result, Ok, Err}
+use Rattle.std.specs.Prelude.{◌≡◌, ℕ, ◌+◌, List, [], ◌∷◌, ◌++◌, map, ◌<◌, ◌≤◌, length, slice_get, Contains, Bool, Option, Some, None, Result, Ok, Err}
 use Rattle.std.proofs.Common.{Global}
 use Rattle.atomic_table.specs.Seated.{TableId}
 use Rattle.crossbeam_queue.specs.SegTies.{SegId}
@@ -12,6 +12,8 @@ use Rattle.group_jobs.specs.Stamps.{Held, stamp_of, job_of}
 use Rattle.group_jobs.specs.Settled.{settled_as, KeepsSettled, IsUnsettled, Settles}
 use Rattle.group_jobs.specs.Dockets.{Kept, TakesOff}
 use Rattle.group_jobs.specs.Balance.{Account, Balance}
+use Rattle.shared_ledger.specs.Giving.{times_in}
+use Rattle.shared_ledger.specs.Givers.{GiverState, Gathers}
 use Rattle.group_queue.specs.declared.posted.Posted.{Posted}
 use Rattle.group_queue.specs.declared.view.Name.TheVariants.{Place}
 use Rattle.group_queue.specs.Views.{one}
@@ -24,8 +26,8 @@ pub record Hands : Type 0 where
   pub main : TableId
   pub returns : SegId Global
 
--- a place: its group's slot, its number, its docket, and what it was the first to be handed, what it was handed again and what
--- it gave back, in order; the last one keeps how many ports and places there are
+-- a place: its group's slot, its number, its docket, what it was the first to be handed, what it was handed again and what it
+-- gave back, in order, and what it gave to the group's ledger; the last one keeps how many ports and places there are
 pub record PlaceState : Type 0 where
   pub group : ℕ
   pub number : ℕ
@@ -35,6 +37,7 @@ pub record PlaceState : Type 0 where
   pub given : List Posted
   pub hands : Hands
   pub keeps : Option Shape
+  pub giver : GiverState
 
 -- it is a place of this group
 pub record IsPlaceOf (group : GroupId) (place : PlaceState) : Type 0 where
@@ -42,10 +45,14 @@ pub record IsPlaceOf (group : GroupId) (place : PlaceState) : Type 0 where
   pub number : place.number < group.shape.places
   pub hands : place.hands ≡ record { main = group.main; returns = group.returns }
   pub keeps : place.number + 1 ≡ group.shape.places → place.keeps ≡ Some group.shape
+  pub giver_of : place.giver.ledger ≡ group.ledger
+  -- it has a part of the ledger, and the last place all that are left
+  pub some_part : 1 ≤ place.giver.parts
+  pub parts_left : place.number + 1 ≡ group.shape.places → 65 ≤ place.giver.parts + group.shape.places
 
 -- it is the same place, whatever it did
 abbrev pub IsSamePlace : PlaceState → PlaceState → Type 0
-IsSamePlace old new = (new.group ≡ old.group) × (new.number ≡ old.number) × (new.hands ≡ old.hands) × (new.keeps ≡ old.keeps)
+IsSamePlace old new = (new.group ≡ old.group) × (new.number ≡ old.number) × (new.hands ≡ old.hands) × (new.keeps ≡ old.keeps) × (new.giver ≡ old.giver)
 
 -- a place that was handed nothing
 pub record IsNewPlace (group : GroupId) (number : ℕ) (place : PlaceState) : Type 0 where
@@ -56,6 +63,7 @@ pub record IsNewPlace (group : GroupId) (number : ℕ) (place : PlaceState) : Ty
   pub firsts : place.firsts ≡ []
   pub agains : place.agains ≡ []
   pub given : place.given ≡ []
+  pub gathered : place.giver.gave ≡ []
 
 -- these are all places of a group, numbered from 0 on, and none was handed a message
 pub record AreNewPlaces (group : GroupId) (count : ℕ) (places : List PlaceState) : Type 0 where
@@ -65,14 +73,14 @@ pub record AreNewPlaces (group : GroupId) (count : ℕ) (places : List PlaceStat
 abbrev pub jobs_in : List Posted → List Job
 jobs_in list = map (λ posted. posted.job) list
 
--- what the place did with jobs
+-- what the place did with jobs: what it settled is in its docket, or in what it gave to the group's ledger
 abbrev pub account_of : PlaceState → Account
 account_of place = record {
   firsts = jobs_in place.firsts;
   agains = jobs_in place.agains;
   given = jobs_in place.given;
   out = place.docket.out;
-  settled = λ fate job. count_of job (settled_as fate place.docket.settled);
+  settled = λ fate job. count_of job (settled_as fate place.docket.settled) + times_in place.giver.gave fate job;
 }
 
 -- each hand-out to the place ended once, by a fate or by being given back, or the job is out
@@ -141,3 +149,7 @@ pub record GivesBack (old : PlaceState) (envelope : Held) (new : PlaceState) : T
 abbrev pub GiveBackAnswers : PlaceState → Held → Result (Unit {0}) Held → PlaceState → Type 0
 GiveBackAnswers old envelope (Ok done) new = GivesBack old envelope new
 GiveBackAnswers old envelope (Err back) new = (back ≡ envelope) × (new ≡ old)
+
+-- what `gather` answers: what the place had settled was given to the group's ledger; or the place is as it was
+abbrev pub GatherAnswers : PlaceState → Result Bool JobError → PlaceState → Type 0
+GatherAnswers old result new = Gathers old.giver old.docket result new.giver new.docket × (new ≡ record old { docket = new.docket; giver = new.giver })

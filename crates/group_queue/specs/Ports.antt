@@ -14,7 +14,7 @@ pub record Shape : Type 0 where
   pub places : ℕ
 
 -- which group it is: its slot, how many ports and places it has, how many messages wait in it at most, its gate, and its two
--- queues, which no other group has
+-- queues and its ledger, which no other group has
 pub record GroupId : Type 0 where
   pub slot : ℕ
   pub shape : Shape
@@ -22,6 +22,7 @@ pub record GroupId : Type 0 where
   pub gate : GateId
   pub main : TableId
   pub returns : SegId Global
+  pub ledger : TableId
 
 -- a port: its group's slot, its number, how many messages it has sent, and which, in order; and its group's main queue
 pub record PortState : Type 0 where

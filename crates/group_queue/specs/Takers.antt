@@ -3,6 +3,7 @@ use Rattle.std.specs.Prelude.{◌≡◌, ℕ, ◌<◌, ◌≤◌, ◌-◌, [], A
 use Rattle.crossbeam_queue.specs.Passes.{view}
 use Rattle.group_jobs.specs.Dockets.{Kept}
 use Rattle.group_jobs.specs.Balance.{Balance}
+use Rattle.shared_ledger.specs.Givers.{GiverState}
 use Rattle.group_queue.specs.declared.place.Passes.{Passes}
 use Rattle.group_queue.specs.declared.view.Name.TheVariants.{Place}
 use Rattle.group_queue.specs.Views.{list_in, IsOf, keeper}
@@ -18,8 +19,8 @@ abbrev pub shape_in : Option Passes → Option Shape
 shape_in (Some passes) = Some (record { ports = (view passes.main).ports; places = (view passes.main).places })
 shape_in None = None
 
-abbrev pub place_of : ℕ → ℕ → Kept → Passes → Option Passes → PlaceState
-place_of group number docket passes kept =
+abbrev pub place_of : ℕ → ℕ → Kept → Passes → Option Passes → GiverState → PlaceState
+place_of group number docket passes kept giver =
     record {
       group = group;
       number = number;
@@ -29,6 +30,7 @@ place_of group number docket passes kept =
       given = (bag_of passes.returns).pushed;
       hands = hands_of passes;
       keeps = shape_in kept;
+      giver = giver;
     }
 
 -- the passes carry nothing
@@ -37,12 +39,12 @@ pub record AreBare (passes : Passes) : Type 0 where
   pub hand : passes.returns.me.hand ≡ None
   pub spare : passes.returns.me.spare ≡ None
 
--- the passes are those of this place, and the docket is in balance with what they know
-pub record IsInHands (number : ℕ) (docket : Kept) (passes : Passes) : Type 0 where
+-- the passes are those of this place, and the docket is in balance with what they know and with what was given
+pub record IsInHands (number : ℕ) (docket : Kept) (passes : Passes) (giver : GiverState) : Type 0 where
   pub main : IsOf (Place number) (view passes.main)
   pub part : (bag_of passes.returns).parts ≡ 1
   pub bare : AreBare passes
-  pub balanced : Balance (account_of (place_of 0 number docket passes None))
+  pub balanced : Balance (account_of (place_of 0 number docket passes None giver))
   pub small : All (λ job. job.number < 18446744073709551615) docket.out
 
 -- the passes are what is left of those of who opened the group

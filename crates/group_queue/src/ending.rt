@@ -9,7 +9,7 @@ ghost use Rattle.group_queue.specs.Past.{Stands};
 ghost use Rattle.group_queue.specs.Returns.{bag, bag_of, joined as joined_bags, popping_back, StandsBack};
 ghost use Rattle.group_queue.specs.Ports.{PortState};
 ghost use Rattle.group_queue.specs.Places.{PlaceState, Hands, IsBalanced, jobs_in};
-ghost use Rattle.group_queue.specs.Known.{port_entry, place_entry, TakesInParts};
+ghost use Rattle.group_queue.specs.Known.{port_entry, place_entry, TakesInParts, TakesInGivers};
 
 use crate::main_queue::{MainPass, MainQueue};
 use crate::place::{Passes, Place};
@@ -18,6 +18,7 @@ use crate::returns_queue::{ReturnsPass, ReturnsQueue};
 use crate::{main_queue, returns_queue};
 use dispatch_core::Job;
 use group_jobs::Docket;
+use shared_ledger::{Giver, Holder, SharedLedger};
 use std::sync::Wait;
 
 /// Takes in the passes of these ports.
@@ -32,11 +33,13 @@ pub fn join_ports(queue: &MainQueue, pass: &mut MainPass, ports: Vec<Port>)
     }
 }
 
-/// Takes in the passes of these places, and keeps their dockets.
+/// Takes in the passes and the givers of these places, and keeps their dockets.
 pub fn join_places(
     main: &MainQueue,
     returns: &ReturnsQueue,
+    ledger: &SharedLedger,
     passes: &mut Passes,
+    holder: &mut Holder,
     places: Vec<Place>,
     dockets: &mut Vec<Docket>,
 )
@@ -44,26 +47,31 @@ pub fn join_places(
     requires returns { IsSegPassOf returns.now passes.old.returns }
     requires parts { 1 ≤ (bag_of passes.old.returns).parts }
     requires places { All (λ place. place.hands ≡ record { main = main.now.table.shared.table_id; returns = returns.now }) places.items }
+    requires holder { holder.old.ledger ≡ ledger.now }
+    requires givers { All (λ place. (place.giver.ledger ≡ ledger.now) × (1 ≤ place.giver.parts)) places.items }
     requires room { vec_len dockets.old + length places.items ≤ vec_capacity dockets.old }
     ensures main { IsPassOf main.now passes.new.main }
     ensures returns { IsSegPassOf returns.now passes.new.returns }
     ensures names { view passes.new.main ≡ with_entries (view passes.old.main) (map place_entry places.items) }
     ensures parts { TakesInParts (bag_of passes.old.returns) places.items (bag_of passes.new.returns) }
+    ensures givers { TakesInGivers holder.old places.items holder.new }
     ensures dockets { dockets.new.items ≡ dockets.old.items ++ map (λ place. place.docket) places.items }
     ensures balanced { All IsBalanced places.items }
 {
     for place in places {
-        dockets.push_reserved(join_place(main, returns, passes, place));
+        let (docket, giver) = join_place(main, returns, passes, place);
+        ledger.take_in(holder, giver);
+        dockets.push_reserved(docket);
     }
 }
 
-/// Takes in the passes of a place, and gives its docket.
+/// Takes in the passes of a place, and gives its docket and its giver.
 pub fn join_place(
     main: &MainQueue,
     returns: &ReturnsQueue,
     passes: &mut Passes,
     place: Place,
-) -> Docket
+) -> (Docket, Giver)
     requires main { IsPassOf main.now passes.old.main }
     requires returns { IsSegPassOf returns.now passes.old.returns }
     requires parts { 1 ≤ (bag_of passes.old.returns).parts }
@@ -72,17 +80,19 @@ pub fn join_place(
     ensures returns { IsSegPassOf returns.now passes.new.returns }
     ensures names { view passes.new.main ≡ joined (view passes.old.main) (one (names.Place place.number) place.firsts) }
     ensures parts { bag_of passes.new.returns ≡ joined_bags (bag_of passes.old.returns) (bag 1 place.given place.agains) }
-    ensures docket { result ≡ place.docket }
+    ensures docket { result.0 ≡ place.docket }
+    ensures giver { result.1 ≡ place.giver }
     ensures balanced { IsBalanced place }
 {
     let Place {
         passes: own,
         docket,
+        giver,
         ..
     } = place;
     main_queue::join(main, &mut passes.main, own.main);
     returns_queue::join(returns, &mut passes.returns, own.returns);
-    docket
+    (docket, giver)
 }
 
 /// Pops what is left of the main queue.

@@ -56,7 +56,7 @@ pub enum FinishError {
     #[error("a port, a place or an envelope is missing")]
     Missing(Lack),
     /// 507: an envelope is there more often than its message is out.
-    #[error("an envelope is not of this group")]
+    #[error("an envelope is not of this group, or is there twice")]
     Stranger(Stamp),
     /// 506: memory was wanted and refused.
     #[error("out of memory")]

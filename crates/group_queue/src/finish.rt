@@ -9,7 +9,8 @@ ghost use Rattle.group_queue.specs.Places.{IsPlaceOf};
 ghost use Rattle.group_queue.specs.Openings.{AreLeftOf};
 ghost use Rattle.group_queue.specs.Ends.{place_numbers, HasAll, IsWhole, Reports};
 ghost use Rattle.group_queue.specs.Finishing.{Finishes, IsPrepared};
-ghost use Rattle.group_queue.specs.Known.{AreReady, IsJoined};
+ghost use Rattle.shared_ledger.specs.Givers.{IsNewHolder};
+ghost use Rattle.group_queue.specs.Known.{AreReady, IsJoined, HasGathered};
 
 use crate::checking::place_of;
 use crate::ending::{join_place, join_places, join_ports, pop_queued, pop_returned};
@@ -20,6 +21,7 @@ use crate::place::{Passes, Place};
 use crate::port::Port;
 use crate::reserving::{Lists, reserve};
 use group_jobs::{Docket, Envelope, Ledger, Report};
+use shared_ledger::Holder;
 use std::alloc::Global;
 use std::sync::Wait;
 
@@ -74,8 +76,9 @@ impl<'a> SharedGroup<'a> {
         requires places { All (IsPlaceOf self) places.items }
         ensures { Finishes self.entry ports.items places.items held.items result }
     {
-        match self.prepare(alloc, &ports, &places, &held) {
-            Ok(lists) => Ok(self.end(rt, lists, ports, places, held)),
+        let mut places = places;
+        match self.prepare(rt, alloc, &ports, &mut places, &held) {
+            Ok((lists, holder)) => Ok(self.end(rt, lists, holder, ports, places, held)),
             Err(error) => Err(Unfinished {
                 error,
                 group: self,
@@ -86,21 +89,40 @@ impl<'a> SharedGroup<'a> {
         }
     }
 
-    // Looks whether all is there, and makes room for the report.
-    fn prepare(
+    // Looks whether all is there, takes the group's ledger up, and makes room for the report.
+    fn prepare<R: Wait>(
         &self,
+        rt: &R,
         alloc: Global,
         ports: &[Port],
-        places: &[Place],
+        places: &mut Vec<Place>,
         held: &[Envelope],
-    ) -> Result<Lists, FinishError>
-        ensures { IsPrepared self.now ports.now places.now held.now result }
+    ) -> Result<(Lists, Holder), FinishError>
+        requires { All (IsPlaceOf self.now) places.old.items }
+        ensures same { places.new.items ≡ places.old.items }
+        ensures answer { IsPrepared self.now ports.now places.old.items held.now result }
     {
         self.check(ports, places, held)?;
-        match reserve(alloc, self.ports, ports, places, held) {
-            Ok(lists) => Ok(lists),
-            Err(error) => Err(FinishError::from(error)),
+        let mut holder = self.hold(rt, places);
+        match reserve(alloc, self.ports, ports, places, held, &mut holder) {
+            Ok(lists) => Ok((lists, holder)),
+            Err(error) => {
+                self.ledger.put_back(rt, holder);
+                Err(FinishError::from(error))
+            }
         }
+    }
+
+    // Takes the group's ledger up, which no place has in hands.
+    fn hold<R: Wait>(&self, rt: &R, places: &mut Vec<Place>) -> Holder
+        requires places { All (IsPlaceOf self.now) places.old.items }
+        requires whole { HasAll self.now.shape.places (place_numbers places.old.items) }
+        ensures same { places.new.items ≡ places.old.items }
+        ensures holder { IsNewHolder self.now.ledger result }
+    {
+        let ledger = &self.ledger;
+        let place = &mut places[0];
+        ledger.hold(rt, &mut place.giver)
     }
 
     // Ends a group of which all is there, with room for the report.
@@ -108,6 +130,7 @@ impl<'a> SharedGroup<'a> {
         self,
         rt: &R,
         lists: Lists,
+        holder: Holder,
         ports: Vec<Port>,
         places: Vec<Place>,
         held: Vec<Envelope>,
@@ -115,7 +138,8 @@ impl<'a> SharedGroup<'a> {
         requires ports { All (IsPortOf self) ports.items }
         requires places { All (IsPlaceOf self) places.items }
         requires whole { IsWhole self ports.items places.items held.items }
-        requires ready { AreReady self.shape.ports ports.items places.items held.items lists }
+        requires ready { AreReady self.shape.ports ports.items places.items held.items lists holder }
+        requires holder { IsNewHolder self.ledger holder }
         ensures { Reports self.entry ports.items places.items held.items result }
     {
         spend(held);
@@ -123,11 +147,12 @@ impl<'a> SharedGroup<'a> {
             accepted,
             held,
             mut dockets,
-            mut settled,
             mut queued,
             mut returned,
         } = lists;
-        let mut passes = self.join_all(ports, places, &mut dockets);
+        let mut holder = holder;
+        let mut passes = self.join_all(ports, places, &mut dockets, &mut holder);
+        let mut settled = self.ledger.end(holder);
         main_queue::look(&self.main, &mut passes.main);
         pop_returned(rt, &self.returns, &mut passes.returns, &mut returned);
         pop_queued(rt, &self.main, &mut passes.main, &mut queued);
@@ -143,13 +168,21 @@ impl<'a> SharedGroup<'a> {
     }
 
     // Takes all passes in into those of who opened the group.
-    fn join_all(&self, ports: Vec<Port>, places: Vec<Place>, dockets: &mut Vec<Docket>) -> Passes
+    fn join_all(
+        &self,
+        ports: Vec<Port>,
+        places: Vec<Place>,
+        dockets: &mut Vec<Docket>,
+        holder: &mut Holder,
+    ) -> Passes
         requires ports { All (IsPortOf self.now) ports.items }
         requires places { All (IsPlaceOf self.now) places.items }
         requires whole { HasAll self.now.shape.places (place_numbers places.items) }
         requires none { dockets.old.items ≡ [] }
         requires room { length places.items ≤ vec_capacity dockets.old }
-        ensures { IsJoined self.now ports.items places.items result dockets.new.items }
+        requires holder { IsNewHolder self.now.ledger holder.old }
+        ensures joined { IsJoined self.now ports.items places.items result dockets.new.items }
+        ensures given { HasGathered self.now places.items holder.old holder.new }
     {
         let mut places = places;
         let Some(at) = place_of(&places, self.places - 1) else {
@@ -157,8 +190,18 @@ impl<'a> SharedGroup<'a> {
         };
         let mut last = places.remove(at);
         let mut passes = self.take_keeper(&mut last);
-        dockets.push_reserved(join_place(&self.main, &self.returns, &mut passes, last));
-        join_places(&self.main, &self.returns, &mut passes, places, dockets);
+        let (docket, giver) = join_place(&self.main, &self.returns, &mut passes, last);
+        self.ledger.take_in(holder, giver);
+        dockets.push_reserved(docket);
+        join_places(
+            &self.main,
+            &self.returns,
+            &self.ledger,
+            &mut passes,
+            holder,
+            places,
+            dockets,
+        );
         join_ports(&self.main, &mut passes.main, ports);
         passes
     }
@@ -178,11 +221,9 @@ impl<'a> SharedGroup<'a> {
     }
 }
 
-// Puts what all dockets settled into one ledger. No job was settled twice.
+// Puts what all dockets settled into one ledger.
 fn merge_all(settled: &mut Ledger, dockets: Vec<Docket>)
-    requires once { (fate : fate_type) (job : job_type) →
-        count_of job (settled_as fate settled.old) + sum_by (λ docket. count_of job (settled_as fate docket.settled)) dockets.items ≤ 1 }
-    requires room { (fate : fate_type) → sum_by (λ docket. length (runs_of fate docket.settled)) dockets.items ≤ spare_of fate settled.old }
+    requires { (fate : fate_type) → sum_by (λ docket. length (runs_of fate docket.settled)) dockets.items ≤ spare_of fate settled.old }
     ensures { (fate : fate_type) (job : job_type) → count_of job (settled_as fate settled.new)
         ≡ count_of job (settled_as fate settled.old) + sum_by (λ docket. count_of job (settled_as fate docket.settled)) dockets.items }
 {

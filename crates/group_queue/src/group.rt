@@ -12,6 +12,8 @@ use crate::{main_queue, returns_queue};
 use dispatch_core::Job;
 use gate_word::{Drained, Gate, Turn};
 use group_jobs::{Envelope, JobError, Message, Stamp};
+use shared_ledger::SharedLedger;
+use std::alloc::Global;
 use std::marker::Model;
 use std::sync::Wait;
 
@@ -22,7 +24,7 @@ pub(crate) const LIFE: u64 = 1 << 20;
 /// [`SharedGroup::abandon`].
 ///
 /// Contracts see it as a `GroupId`: its slot, how many ports and places it has, its capacity, its gate, and which its queues
-/// are. Its ports and places show which queues they are of.
+/// and its ledger are. Its ports and places show which they are of.
 pub struct SharedGroup<'a> {
     pub(crate) slot: u8,
     pub(crate) ports: u8,
@@ -30,6 +32,7 @@ pub struct SharedGroup<'a> {
     pub(crate) gate: &'a Gate,
     pub(crate) main: MainQueue,
     pub(crate) returns: ReturnsQueue,
+    pub(crate) ledger: SharedLedger,
 }
 
 impl<'a> Model for SharedGroup<'a> {
@@ -39,14 +42,14 @@ impl<'a> Model for SharedGroup<'a> {
 
     ghost Value = { GroupId };
 
-    ghost view = { λ g. record { slot = g.slot; shape = record { ports = g.ports; places = g.places }; capacity = ruled_capacity g.main; gate = g.gate.now; main = g.main.table.shared.table_id; returns = g.returns } };
+    ghost view = { λ g. record { slot = g.slot; shape = record { ports = g.ports; places = g.places }; capacity = ruled_capacity g.main; gate = g.gate.now; main = g.main.table.shared.table_id; returns = g.returns; ledger = g.ledger } };
 
     ghost invariant = { λ g. 1 ≤ g.places };
 }
 
 impl<'a> SharedGroup<'a> {
     ghost use Rattle.group_queue.specs.Ports.{IsPortOf, next_posted, next_stamp};
-    ghost use Rattle.group_queue.specs.Places.{IsPlaceOf, IsSamePlace, Holds, TakeAnswers, TakeBackAnswers, GiveBackAnswers};
+    ghost use Rattle.group_queue.specs.Places.{IsPlaceOf, IsSamePlace, Holds, TakeAnswers, TakeBackAnswers, GiveBackAnswers, GatherAnswers};
     ghost use Rattle.group_queue.specs.Offers.{OfferAnswers};
 
     /// Accepts a message through a port of this group, whose gate is open. It takes no memory. A step of the queue may wait
@@ -178,6 +181,28 @@ impl<'a> SharedGroup<'a> {
         }
     }
 
+    /// Moves what a place of this group settled into the group's ledger, where the runs of all places join, so that memory
+    /// does not grow with the jobs that are done. `false` only where another had the ledger in hands at one moment of the
+    /// call. A step of the ledger's queue may wait for another thread's.
+    ///
+    /// # Errors
+    ///
+    /// 503 [`JobError::Memory`]. The place is as it was then, and where the answer is `false`.
+    pub fn gather<R: Wait>(
+        &self,
+        rt: &R,
+        alloc: Global,
+        place: &mut Place,
+    ) -> Result<bool, JobError>
+        requires { IsPlaceOf self.now place.old }
+        ensures answer { GatherAnswers place.old result place.new }
+        ensures of { IsPlaceOf self.now place.new }
+        ensures room { place.old.docket.room ≤ place.new.docket.room }
+    {
+        self.ledger
+            .gather(rt, alloc, &mut place.giver, &mut place.docket)
+    }
+
     /// **Nothing is accepted or handed out after close.** Who has the token of the group's gate, and a turn as
     /// [`SharedGroup::offer`], [`SharedGroup::take`] and [`SharedGroup::take_back`] ask for, has what is false: so there is no
     /// such call in any run from then on.
@@ -198,6 +223,7 @@ impl<'a> SharedGroup<'a> {
             gate: _,
             main: _,
             returns,
+            ledger: _,
         } = self;
         returns.destroy();
     }

@@ -10,11 +10,13 @@ use crate::port::Port;
 use crate::{main_queue, returns_queue};
 use gate_word::Gate;
 use group_jobs::{Docket, JobError};
+use shared_ledger::{Giver, SharedLedger};
 use std::alloc::Global;
 
 impl<'a> SharedGroup<'a> {
     ghost use Rattle.group_queue.specs.Ports.{new_port, IsPortOf, AreNewPorts};
     ghost use Rattle.group_queue.specs.Places.{IsNewPlace, IsPlaceOf, AreNewPlaces};
+    ghost use Rattle.shared_ledger.specs.Givers.{new_giver};
     ghost use Rattle.group_queue.specs.Openings.{IsPassTo, AreLeftOf, AreNewPasses};
 
     /// A group behind a gate, with all its ports and places, numbered from 0 on. It has 1 to 64 ports, 1 to 32 places, and
@@ -46,6 +48,7 @@ impl<'a> SharedGroup<'a> {
         let mut all_ports = Vec::with_capacity(alloc, usize::from(ports))?;
         let mut all_places = Vec::with_capacity(alloc, usize::from(places))?;
         let (main, mut pass) = main_queue::open(alloc, capacity)?;
+        let (ledger, giver) = SharedLedger::open(alloc)?;
         let (returns, part) = returns_queue::open(alloc)?;
         let group = SharedGroup {
             slot,
@@ -54,13 +57,14 @@ impl<'a> SharedGroup<'a> {
             gate,
             main,
             returns,
+            ledger,
         };
         group.fill_ports(&mut pass, &mut all_ports);
         let left = Passes {
             main: pass,
             returns: part,
         };
-        group.fill_places(alloc, left, &mut all_places);
+        group.fill_places(alloc, left, giver, &mut all_places);
         Ok((group, all_ports, all_places))
     }
 
@@ -96,20 +100,23 @@ impl<'a> SharedGroup<'a> {
     }
 
     // Makes all places. The last one has what is left of the passes.
-    fn fill_places(&self, alloc: Global, left: Passes, places: &mut Vec<Place>)
+    fn fill_places(&self, alloc: Global, left: Passes, giver: Giver, places: &mut Vec<Place>)
         requires left { AreLeftOf self.now 0 left }
+        requires giver { giver ≡ new_giver self.now.ledger 64 }
         requires count { (1 ≤ self.now.shape.places) × (self.now.shape.places ≤ 32) }
         requires room { (places.old.items ≡ []) × (self.now.shape.places ≤ vec_capacity places.old) }
         ensures places { AreNewPlaces self.now self.now.shape.places places.new.items }
     {
         let mut left = left;
+        let mut giver = giver;
         let last = self.places - 1;
         for number in 0..last {
             let passes = self.cut(&mut left, number);
-            places.push_reserved(self.new_place(alloc, number, passes, None));
+            let own = self.ledger.another(&mut giver);
+            places.push_reserved(self.new_place(alloc, number, passes, own, None));
         }
         let passes = self.cut(&mut left, last);
-        places.push_reserved(self.new_place(alloc, last, passes, Some(left)));
+        places.push_reserved(self.new_place(alloc, last, passes, giver, Some(left)));
     }
 
     // Gives the passes of the next place away, which has this number.
@@ -126,8 +133,17 @@ impl<'a> SharedGroup<'a> {
     }
 
     // A place with these passes, and in the last one what is left.
-    fn new_place(&self, alloc: Global, number: u8, passes: Passes, keeper: Option<Passes>) -> Place
+    fn new_place(
+        &self,
+        alloc: Global,
+        number: u8,
+        passes: Passes,
+        giver: Giver,
+        keeper: Option<Passes>,
+    ) -> Place
         requires passes { AreNewPasses self.now number passes }
+        requires giver { giver ≡ new_giver self.now.ledger giver.parts }
+        requires parts { (1 ≤ giver.parts) × (number + 1 ≡ self.now.shape.places → 65 ≤ giver.parts + self.now.shape.places) }
         requires number { number < self.now.shape.places }
         requires keeper { MatchOption keeper (number + 1 ≢ self.now.shape.places) (AreLeftOf self.now self.now.shape.places) }
         requires few { self.now.shape.places ≤ 32 }
@@ -138,6 +154,7 @@ impl<'a> SharedGroup<'a> {
             number,
             docket: Docket::new(alloc),
             passes,
+            giver,
             keeper,
         }
     }

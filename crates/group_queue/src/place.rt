@@ -5,20 +5,23 @@ ghost use Rattle.group_jobs.specs.Stamps.{stamp_of, job_of};
 use crate::main_queue::MainPass;
 use crate::returns_queue::ReturnsPass;
 use group_jobs::{Docket, Envelope, Fate, Stamp};
+use shared_ledger::Giver;
 use std::marker::Model;
 
 /// Who has it alone takes messages at it. A place belongs to the group that it was opened with, may go to another thread,
 /// and keeps in its docket what it has out and what it settled.
 ///
 /// Contracts see it as a `PlaceState`: the group's slot, the place's number, its docket, the messages that it was the first
-/// to be handed, those that it was handed again and those that it gave back, in order, and, of the group's last place, how
-/// many ports and places there are.
+/// to be handed, those that it was handed again and those that it gave back, in order, what it gave to the group's ledger, and,
+/// of the group's last place, how many ports and places there are.
 #[derive(Drop)]
 pub struct Place {
     pub(crate) group: u8,
     pub(crate) number: u8,
     pub(crate) docket: Docket,
     pub(crate) passes: Passes,
+    // Its right to give to the group's ledger what it settled.
+    pub(crate) giver: Giver,
     // What is left of the passes of who opened the group, which ends it: it is in the last place.
     pub(crate) keeper: Option<Passes>,
 }
@@ -37,9 +40,9 @@ impl Model for Place {
 
     ghost use Rattle.group_queue.specs.Takers.{place_of, IsInHands, IsKept};
 
-    ghost view = { λ p. place_of p.group p.number p.docket p.passes p.keeper };
+    ghost view = { λ p. place_of p.group p.number p.docket p.passes p.keeper p.giver };
 
-    ghost invariant = { λ p. IsInHands p.number p.docket p.passes × IsKept p.passes p.keeper };
+    ghost invariant = { λ p. IsInHands p.number p.docket p.passes p.giver × IsKept p.passes p.keeper };
 }
 
 impl Place {
@@ -52,7 +55,7 @@ impl Place {
         self.number
     }
 
-    /// What it has out, and what it settled: each hand-out of a job to it ended once, by a fate or by being given back, or the
+    /// What it has out, and what it settled and did not gather: each hand-out of a job to it ended once, by a fate or by being given back, or the
     /// job is out.
     pub fn docket(&self) -> &Docket
         ensures value { result.now ≡ self.now.docket }

@@ -1,7 +1,7 @@
 //! Room for what a report says. It is made before anything is joined or popped, so that who has no memory keeps all.
 ghost use Rattle.std.specs.Prelude.{◌≡◌, ◌≤◌, ◌<◌, ◌+◌, [], map, length, sum_by, IfOk, OnOk, vec_capacity};
 ghost use Rattle.group_jobs.specs.declared.fate.Fate.{Fate as fate_type};
-ghost use Rattle.group_jobs.specs.Settled.{least_spare, runs_of, IsUnsettled};
+ghost use Rattle.group_jobs.specs.Settled.{least_spare, runs_of};
 ghost use Rattle.group_jobs.specs.Stamps.{job_of};
 ghost use Rattle.group_queue.specs.Ends.{port_numbers, HasAll, AreCounts};
 ghost use Rattle.group_queue.specs.Known.{AreReady, IsRoomFor, ended};
@@ -10,7 +10,8 @@ use crate::checking::accepted_by;
 use crate::place::Place;
 use crate::port::Port;
 use dispatch_core::Job;
-use group_jobs::{Docket, Envelope, JobError, Ledger};
+use group_jobs::{Docket, Envelope, JobError};
+use shared_ledger::Holder;
 use std::alloc::Global;
 
 /// What a report says, as far as it is known, and room for the rest.
@@ -20,30 +21,30 @@ pub struct Lists {
     pub held: Vec<Job>,
     // No docket, and room for that of each place.
     pub dockets: Vec<Docket>,
-    // Nothing, and room for what all places settled.
-    pub settled: Ledger,
     // Nothing, and room for what was accepted and is neither settled nor out.
     pub queued: Vec<Job>,
     pub returned: Vec<Job>,
 }
 
-/// Makes room.
+/// Makes room, also in the group's ledger for what all places settled.
 pub fn reserve(
     alloc: Global,
     count: u8,
     ports: &[Port],
     places: &[Place],
     held: &[Envelope],
+    holder: &mut Holder,
 ) -> Result<Lists, JobError>
     requires { HasAll count (port_numbers ports.now) }
-    ensures { IfOk result (AreReady count ports.now places.now held.now) }
+    ensures ready { IfOk result (λ lists. AreReady count ports.now places.now held.now lists holder.new) }
+    ensures same { holder.new ≡ record holder.old { settled = holder.new.settled } }
 {
-    let left = left_over(ports, places)?;
+    room_for(holder, places)?;
+    let left = left_over(ports, places, holder)?;
     Ok(Lists {
         accepted: counts_of(alloc, count, ports)?,
         held: jobs_of(alloc, held)?,
         dockets: Vec::with_capacity(alloc, places.len())?,
-        settled: room_for(alloc, places)?,
         queued: Vec::with_capacity(alloc, left)?,
         returned: Vec::with_capacity(alloc, left)?,
     })
@@ -75,23 +76,23 @@ fn jobs_of(alloc: Global, held: &[Envelope]) -> Result<Vec<Job>, JobError>
     Ok(jobs)
 }
 
-// A ledger with room for what all places settled.
-fn room_for(alloc: Global, places: &[Place]) -> Result<Ledger, JobError>
-    ensures none { IfOk result IsUnsettled }
-    ensures room { IfOk result (λ ledger. (fate : fate_type) → sum_by (λ place. length (runs_of fate place.docket.settled)) places.now ≤ least_spare ledger) }
+// Makes room in the group's ledger for what all places settled.
+fn room_for(holder: &mut Holder, places: &[Place]) -> Result<(), JobError>
+    ensures room { OnOk result ((fate : fate_type) → sum_by (λ place. length (runs_of fate place.docket.settled)) places.now ≤ least_spare holder.new.settled) }
+    ensures same { holder.new ≡ record holder.old { settled = holder.new.settled } }
 {
-    let mut ledger = Ledger::new(alloc);
     for place in places {
-        ledger.reserve_for(place.docket.settled())?;
+        holder.reserve_for(place.docket.settled())?;
     }
-    Ok(ledger)
+    Ok(())
 }
 
 // For how many messages there has to be room: what was accepted and is neither settled nor out.
-fn left_over(ports: &[Port], places: &[Place]) -> Result<usize, JobError>
-    ensures { IfOk result (IsRoomFor ports.now places.now) }
+fn left_over(ports: &[Port], places: &[Place], holder: &Holder) -> Result<usize, JobError>
+    ensures { IfOk result (IsRoomFor ports.now places.now holder.now.settled) }
 {
-    match usize::try_from(accepted_in_all(ports).saturating_sub(ended_in_all(places))) {
+    let ended = ended_in_all(places).saturating_add(holder.len());
+    match usize::try_from(accepted_in_all(ports).saturating_sub(ended)) {
         Ok(left) => Ok(left),
         Err(_) => Err(JobError::Memory),
     }

@@ -6,4 +6,8 @@ mod finishing;
 #[cfg(test)]
 mod group_ledger;
 #[cfg(test)]
+mod row;
+#[cfg(test)]
+mod threads;
+#[cfg(test)]
 mod values;

@@ -4,6 +4,9 @@ use Rattle.std.specs.Prelude.{map, sum_by}
 use Rattle.std.specs.Vec.Iter.{into_iter_items}
 use Rattle.crossbeam_queue.specs.Passes.{view, IsPassOf}
 use Rattle.crossbeam_queue.specs.SegTies.{IsSegPassOf}
+use Rattle.dispatch_core.specs.declared.event.Job.{Job}
+use Rattle.group_jobs.specs.declared.fate.Fate.{Fate}
+use Rattle.shared_ledger.specs.Giving.{times_in}
 use Rattle.group_queue.specs.declared.posted.Posted.{Posted}
 use Rattle.group_queue.specs.Places.{PlaceState, IsBalanced}
 use Rattle.group_queue.specs.Views.{with_entries}
@@ -25,5 +28,11 @@ invariant-loop-place l = record {
       ≡ sum_by worth (bag_of l.initial.passes.returns).pushed + sum_by (λ (p : PlaceState). sum_by worth p.given) l.fn.places.items;
   dockets : l.dockets.items ++ map (λ (p : PlaceState). p.docket) (into_iter_items l.place-iterator) ≡ l.initial.dockets.items ++ map (λ (p : PlaceState). p.docket) l.fn.places.items;
   balanced : All IsBalanced (into_iter_items l.place-iterator) → All IsBalanced l.fn.places.items;
+  holder : l.holder.ledger ≡ l.initial.holder.ledger;
+  givers : All (λ (place : PlaceState). (place.giver.ledger ≡ l.ledger) × (1 ≤ place.giver.parts)) (into_iter_items l.place-iterator);
+  shares : l.holder.parts + sum_by (λ (p : PlaceState). p.giver.parts) (into_iter_items l.place-iterator) ≡ l.initial.holder.parts + sum_by (λ (p : PlaceState). p.giver.parts) l.fn.places.items;
+  gave : (fate : Fate) (job : Job) → times_in l.holder.gave fate job + sum_by (λ (p : PlaceState). times_in p.giver.gave fate job) (into_iter_items l.place-iterator)
+      ≡ times_in l.initial.holder.gave fate job + sum_by (λ (p : PlaceState). times_in p.giver.gave fate job) l.fn.places.items;
+  settled : l.holder.settled ≡ l.initial.holder.settled;
   room : vec_len l.dockets + length (into_iter_items l.place-iterator) ≤ vec_capacity l.dockets;
 }

@@ -12,18 +12,8 @@ use Rattle.group_jobs.specs.Dockets.{Kept}
 use Rattle.group_queue.proofs.Endings.{nothing_left}
 use Rattle.group_queue.proofs.finish.merge_all.Goals as goal
 
-pub merge-requires-clause-none_twice : goal.merge-requires-clause-none_twice
-merge-requires-clause-none_twice c = λ fate job. omega (
-  arith,
-  c.requires.once fate job,
-  c.loop-docket.invariant.jobs fate job,
-  ap (sum_by (λ (d : Kept). count_of job (settled_as fate d.settled))) c.in-Some.ensures.steps.0 ∙ sum_by-cons (λ (d : Kept). count_of job (settled_as fate d.settled)) c.in-Some.docket (into_iter_items c.next.new.self),
-  count_of-append job (settled_as fate c.loop-docket.settled) (settled_as fate c.into_settled.result),
-  ap (λ (l : Ledger). count_of job (settled_as fate l)) c.into_settled.ensures,
-)
-
-pub merge-requires-clause-room : goal.merge-requires-clause-room
-merge-requires-clause-room c = λ fate. omega (
+pub merge-requires : goal.merge-requires
+merge-requires c = λ fate. omega (
   arith,
   c.loop-docket.invariant.room fate,
   ap (sum_by (λ (d : Kept). length (runs_of fate d.settled))) c.in-Some.ensures.steps.0 ∙ sum_by-cons (λ (d : Kept). length (runs_of fate d.settled)) c.in-Some.docket (into_iter_items c.next.new.self),

@@ -1,5 +1,6 @@
 -- One place more was made.
-use Rattle.std.proofs.Common.{◌≡◌, ◌-◌, ◌++◌, ◌∷◌, [], subst, arith}
+use Rattle.std.proofs.Common.{◌≡◌, ◌-◌, ◌++◌, ◌∷◌, [], subst, sym, ap, ◌∙◌, arith}
+use Rattle.shared_ledger.specs.Givers.{GiverState, new_giver}
 use Rattle.group_queue.specs.Places.{AreNewPlaces}
 use Rattle.group_queue.proofs.Places.{new_places-push}
 use Rattle.group_queue.proofs.group.SharedGroup.fill_places.Goals as goal
@@ -13,6 +14,8 @@ loop-number-preserved c =
       few = before.few;
       places = rw c.push_reserved.ensures.items (new_places-push _ _ _ _ before.places c.new_place.ensures.place);
       length = omega (arith, c.push_reserved.ensures.len, before.length);
+      giver = c.another-own.ensures.rest ∙ (ap (λ (s : GiverState). record s { parts = s.parts - 1 }) before.giver ∙ ap (λ n. new_giver c.args.self.now.ledger n) (sym (ap (λ s. s.parts) c.another-own.ensures.rest)));
+      parts = omega (arith, before.parts, ap (λ s. s.parts) c.another-own.ensures.rest, before.last, before.few, c.loop-number-test.true);
       room = omega (arith, c.push_reserved.ensures.capacity, before.room);
     }
 

@@ -14,7 +14,7 @@ invariant_of-place g c =
     let u : Passes = record { main = t.main; returns = c.push.new.pass } in
     let queue = c.in-Ok.ensures.queue in
     let hands = ap (λ p. p.hands.returns) c.place.view_is ∙ (ap (λ h. h.returns) c.requires.place.hands ∙ sym (ap (λ p. p.returns) c.self.view_is)) in (
-      gives_back _ _ _ t u _ h c.give_back.ensures.out (λ fate. ap (λ (l : Ledger). runs_of fate l) c.give_back.ensures.settled)
+      gives_back _ _ _ t u _ _ h c.give_back.ensures.out (λ fate. ap (λ (l : Ledger). runs_of fate l) c.give_back.ensures.settled)
           (record { part = ap (λ (b : Bag). b.parts) c.in-Ok.ensures.answer.is; bare = record { main = h.bare.main; hand = queue.1; spare = queue.2 } })
           refl c.in-Ok.ensures.answer,
       keeps_left t u _ (returns_hands t u.returns _ queue.0 hands) c.place.invariant.1,
@@ -27,7 +27,7 @@ invariant_of-place-in-Err g c =
     let u : Passes = record { main = t.main; returns = c.push.new.pass } in
     let queue = c.in-Err.ensures.queue in
     let hands = ap (λ p. p.hands.returns) c.place.view_is ∙ (ap (λ h. h.returns) c.requires.place.hands ∙ sym (ap (λ p. p.returns) c.self.view_is)) in (
-      keeps_hands _ _ _ t u h refl (λ fate. refl)
+      keeps_hands _ _ _ t u _ h refl (λ fate. refl)
           (record { part = ap (λ (b : Bag). b.parts) c.in-Err.ensures.answer.1; bare = record { main = h.bare.main; hand = queue.1; spare = queue.2 } })
           refl c.in-Err.ensures.answer.1,
       keeps_left t u _ (returns_hands t u.returns _ queue.0 hands) c.place.invariant.1,

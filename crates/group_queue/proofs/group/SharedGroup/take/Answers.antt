@@ -9,7 +9,7 @@ use Rattle.group_queue.proofs.Places.{keeps_place, keeps_hands, keeps_left, main
 use Rattle.group_queue.proofs.group.SharedGroup.take.Goals as goal
 
 pub invariant_of-place : goal.invariant_of-place
-invariant_of-place g c = (keeps_place _ _ _ _ c.place.invariant.0 c.reserve.ensures.out c.reserve.ensures.settled, c.place.invariant.1)
+invariant_of-place g c = (keeps_place _ _ _ _ _ c.place.invariant.0 c.reserve.ensures.out c.reserve.ensures.settled, c.place.invariant.1)
 
 pub invariant_of-place-in_default : goal.invariant_of-place-in_default
 invariant_of-place-in_default g c =
@@ -18,7 +18,7 @@ invariant_of-place-in_default g c =
     let u : Passes = record { main = c.pop-popped.new.pass; returns = t.returns } in
     let queue = c.in_default.ensures.queue in
     let tie = queue.0 ∙ (ap (λ p. p.main) c.self.view_is ∙ sym (ap (λ p. p.hands.main) c.place.view_is ∙ ap (λ h. h.main) c.requires.place.hands)) in (
-      keeps_hands _ _ _ t u h c.reserve.ensures.out c.reserve.ensures.settled (record { part = refl; bare = record { main = queue.1; hand = h.bare.hand; spare = h.bare.spare } })
+      keeps_hands _ _ _ t u _ h c.reserve.ensures.out c.reserve.ensures.settled (record { part = refl; bare = record { main = queue.1; hand = h.bare.hand; spare = h.bare.spare } })
           c.in_default.ensures.answer.0 refl,
       keeps_left t u _ (main_hands t u.main tie) c.place.invariant.1,
     )
@@ -31,7 +31,7 @@ invariant_of-place-2 g c =
     let x = c.in-Some.field-0 in
     let queue = c.in-Some.ensures.queue in
     let tie = queue.0 ∙ (ap (λ p. p.main) c.self.view_is ∙ sym (ap (λ p. p.hands.main) c.place.view_is ∙ ap (λ h. h.main) c.requires.place.hands)) in (
-      takes_front _ _ _ t u x h (c.take_out.ensures.out ∙ ap (λ l. l ++ x.job ∷ []) c.reserve.ensures.out)
+      takes_front _ _ _ t u _ x h (c.take_out.ensures.out ∙ ap (λ l. l ++ x.job ∷ []) c.reserve.ensures.out)
           (λ fate. ap (λ (l : Ledger). runs_of fate l) c.take_out.ensures.settled ∙ c.reserve.ensures.settled fate)
           (record { part = refl; bare = record { main = queue.1; hand = h.bare.hand; spare = h.bare.spare } }) c.in-Some.ensures.answer refl (small_front _ _ _ c.in-Some.ensures.answer),
       keeps_left t u _ (main_hands t u.main tie) c.place.invariant.1,

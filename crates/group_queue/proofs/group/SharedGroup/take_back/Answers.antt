@@ -10,7 +10,7 @@ use Rattle.group_queue.proofs.Places.{keeps_place, keeps_hands, keeps_left, retu
 use Rattle.group_queue.proofs.group.SharedGroup.take_back.Goals as goal
 
 pub invariant_of-place : goal.invariant_of-place
-invariant_of-place g c = (keeps_place _ _ _ _ c.place.invariant.0 c.reserve.ensures.out c.reserve.ensures.settled, c.place.invariant.1)
+invariant_of-place g c = (keeps_place _ _ _ _ _ c.place.invariant.0 c.reserve.ensures.out c.reserve.ensures.settled, c.place.invariant.1)
 
 pub invariant_of-place-in_default : goal.invariant_of-place-in_default
 invariant_of-place-in_default g c =
@@ -19,7 +19,7 @@ invariant_of-place-in_default g c =
     let u : Passes = record { main = t.main; returns = c.pop-popped.new.pass } in
     let queue = c.in_default.ensures.queue in
     let hands = ap (λ p. p.hands.returns) c.place.view_is ∙ (ap (λ h. h.returns) c.requires.place.hands ∙ sym (ap (λ p. p.returns) c.self.view_is)) in (
-      keeps_hands _ _ _ t u h c.reserve.ensures.out c.reserve.ensures.settled
+      keeps_hands _ _ _ t u _ h c.reserve.ensures.out c.reserve.ensures.settled
           (record { part = ap (λ (b : Bag). b.parts) c.in_default.ensures.answer.0; bare = record { main = h.bare.main; hand = queue.1; spare = queue.2 } })
           refl c.in_default.ensures.answer.0,
       keeps_left t u _ (returns_hands t u.returns _ queue.0 hands) c.place.invariant.1,
@@ -33,7 +33,7 @@ invariant_of-place-2 g c =
     let x = c.in-Some.field-0 in
     let queue = c.in-Some.ensures.queue in
     let hands = ap (λ p. p.hands.returns) c.place.view_is ∙ (ap (λ h. h.returns) c.requires.place.hands ∙ sym (ap (λ p. p.returns) c.self.view_is)) in (
-      takes_back _ _ _ t u x h (c.take_out.ensures.out ∙ ap (λ l. l ++ x.job ∷ []) c.reserve.ensures.out)
+      takes_back _ _ _ t u _ x h (c.take_out.ensures.out ∙ ap (λ l. l ++ x.job ∷ []) c.reserve.ensures.out)
           (λ fate. ap (λ (l : Ledger). runs_of fate l) c.take_out.ensures.settled ∙ c.reserve.ensures.settled fate)
           (record { part = ap (λ (b : Bag). b.parts) c.in-Some.ensures.answer.is; bare = record { main = h.bare.main; hand = queue.1; spare = queue.2 } })
           refl c.in-Some.ensures.answer (small_back _ _ _ c.in-Some.ensures.answer),

@@ -1,0 +1,291 @@
+//! One row of calls, of which each that memory refuses is made again, so that the report is the same whichever allocation
+//! fails: four offers; the near place takes two, of which it settles one and gives one back; the far place takes one; the
+//! gate is shut and drained; the group ends.
+ghost use Rattle.std.specs.Prelude.{◌≡◌, All, IfSome};
+ghost use Rattle.gate_word.specs.Seats.{AreSeatsOf};
+ghost use Rattle.group_queue.specs.Ports.{IsPortOf};
+ghost use Rattle.group_queue.specs.Places.{IsPlaceOf, Holds};
+
+use crate::group_ledger::{offer, take_seat};
+use dispatch_core::Job;
+use gate_word::{Gate, GateSeat, Turn};
+use group_jobs::{Envelope, Fate, Report};
+use group_queue::{Place, Port, SharedGroup, Unfinished};
+use std::alloc::Global;
+use std::sync::Wait;
+use std::test::Fail;
+
+/// Ends a group; where that was refused, once more.
+fn end<R: Wait>(
+    rt: &R,
+    alloc: Global,
+    group: SharedGroup<'_>,
+    ports: Vec<Port>,
+    places: Vec<Place>,
+    held: Vec<Envelope>,
+) -> Option<Report>
+    requires ports { All (IsPortOf group) ports.items }
+    requires places { All (IsPlaceOf group) places.items }
+{
+    match group.finish(rt, alloc, ports, places, held) {
+        Ok(report) => Some(report),
+        Err(unfinished) => end_again(rt, alloc, unfinished),
+    }
+}
+
+/// Ends a group that was not ended.
+fn end_again<R: Wait>(rt: &R, alloc: Global, unfinished: Unfinished<'_>) -> Option<Report>
+    requires ports { All (IsPortOf unfinished.group) unfinished.ports.items }
+    requires places { All (IsPlaceOf unfinished.group) unfinished.places.items }
+{
+    let Unfinished {
+        error: _,
+        group,
+        ports,
+        places,
+        held,
+    } = unfinished;
+    match group.finish(rt, alloc, ports, places, held) {
+        Ok(report) => Some(report),
+        Err(unfinished) => {
+            unfinished.abandon();
+            None
+        }
+    }
+}
+
+/// Offers a message; where there was no memory for it, once more.
+fn offer_again<R: Wait>(
+    rt: &R,
+    alloc: Global,
+    group: &SharedGroup<'_>,
+    port: &mut Port,
+    turn: &Turn,
+) -> bool
+    requires port { IsPortOf group.now port.old }
+    requires turn { turn.now.gate ≡ group.now.gate }
+    ensures { IsPortOf group.now port.new }
+{
+    if offer(rt, alloc, group, port, turn).is_ok() {
+        return true;
+    }
+    offer(rt, alloc, group, port, turn).is_ok()
+}
+
+/// Takes a message; where that was refused, once more.
+fn take_again<R: Wait>(
+    rt: &R,
+    group: &SharedGroup<'_>,
+    place: &mut Place,
+    turn: &Turn,
+) -> Option<Envelope>
+    requires place { IsPlaceOf group.now place.old }
+    requires turn { turn.now.gate ≡ group.now.gate }
+    ensures place { IsPlaceOf group.now place.new }
+    ensures held { IfSome result (Holds place.new) }
+{
+    match group.take(rt, place, turn) {
+        Ok(taken) => taken,
+        Err(_) => match group.take(rt, place, turn) {
+            Ok(taken) => taken,
+            Err(_) => None,
+        },
+    }
+}
+
+/// Gives a message back; where that was refused, once more, and else it is refused.
+fn give_again<R: Wait>(rt: &R, group: &SharedGroup<'_>, place: &mut Place, envelope: Envelope)
+    requires place { IsPlaceOf group.now place.old }
+    requires held { Holds place.old envelope }
+    ensures { IsPlaceOf group.now place.new }
+{
+    if let Err(envelope) = group.give_back(rt, place, envelope) {
+        if let Err(envelope) = group.give_back(rt, place, envelope) {
+            place.settle(envelope, Fate::Refused);
+        }
+    }
+}
+
+/// The near place takes two messages, settles one and gives one back, and gathers.
+fn near_works<R: Wait>(
+    rt: &R,
+    alloc: Global,
+    group: &SharedGroup<'_>,
+    near: &mut Place,
+    turn: &Turn,
+)
+    requires near { IsPlaceOf group.now near.old }
+    requires turn { turn.now.gate ≡ group.now.gate }
+    ensures { IsPlaceOf group.now near.new }
+{
+    if let Some(envelope) = take_again(rt, group, near, turn) {
+        near.settle(envelope, Fate::Acknowledged);
+    }
+    if let Some(envelope) = take_again(rt, group, near, turn) {
+        give_again(rt, group, near, envelope);
+    }
+    if group.gather(rt, alloc, near).is_err() {
+        let _gathered = group.gather(rt, alloc, near);
+    }
+}
+
+/// A list of what is out. Room for it is asked for twice at most.
+fn held_list(alloc: Global, taken: Option<Envelope>) -> Vec<Envelope> {
+    let mut held = match Vec::with_capacity(alloc, 1) {
+        Ok(held) => held,
+        Err(_) => Vec::new(alloc),
+    };
+    if let Some(envelope) = taken {
+        if let Err(refused) = held.push(envelope) {
+            let (_stamp, _message) = refused.value.open();
+        }
+    }
+    held
+}
+
+/// The last of these ports.
+pub fn take_port(group: &SharedGroup<'_>, ports: &mut Vec<Port>) -> Option<Port>
+    requires { All (IsPortOf group.now) ports.old.items }
+    ensures last { IfSome result (IsPortOf group.now) }
+    ensures others { All (IsPortOf group.now) ports.new.items }
+{
+    let _ = group;
+    ports.pop()
+}
+
+/// The last of these places.
+pub fn take_place(group: &SharedGroup<'_>, places: &mut Vec<Place>) -> Option<Place>
+    requires { All (IsPlaceOf group.now) places.old.items }
+    ensures last { IfSome result (IsPlaceOf group.now) }
+    ensures others { All (IsPlaceOf group.now) places.new.items }
+{
+    let _ = group;
+    places.pop()
+}
+
+/// Puts a port back to the others, for which there is room.
+fn put_port(group: &SharedGroup<'_>, ports: &mut Vec<Port>, port: Port) -> bool
+    requires others { All (IsPortOf group.now) ports.old.items }
+    requires port { IsPortOf group.now port }
+    ensures { All (IsPortOf group.now) ports.new.items }
+{
+    let _ = group;
+    match ports.push(port) {
+        Ok(()) => true,
+        Err(_) => false,
+    }
+}
+
+/// Puts a place back to the others, for which there is room.
+fn put_place(group: &SharedGroup<'_>, places: &mut Vec<Place>, place: Place) -> bool
+    requires others { All (IsPlaceOf group.now) places.old.items }
+    requires place { IsPlaceOf group.now place }
+    ensures { All (IsPlaceOf group.now) places.new.items }
+{
+    let _ = group;
+    let Ok(()) = places.push(place) else {
+        return false;
+    };
+    true
+}
+
+/// The calls of the row with a turn. What the far place holds then.
+fn play<R: Wait>(
+    rt: &R,
+    alloc: Global,
+    group: &SharedGroup<'_>,
+    ports: &mut Vec<Port>,
+    places: &mut Vec<Place>,
+    turn: &Turn,
+) -> Option<Envelope>
+    requires ports { All (IsPortOf group.now) ports.old.items }
+    requires places { All (IsPlaceOf group.now) places.old.items }
+    requires turn { turn.now.gate ≡ group.now.gate }
+    ensures ports { All (IsPortOf group.now) ports.new.items }
+    ensures places { All (IsPlaceOf group.now) places.new.items }
+{
+    let mut port = take_port(group, ports)?;
+    let mut far = take_place(group, places)?;
+    let mut near = take_place(group, places)?;
+    for _ in 0..4 {
+        let _offered = offer_again(rt, alloc, group, &mut port, turn);
+    }
+    near_works(rt, alloc, group, &mut near, turn);
+    let taken = take_again(rt, group, &mut far, turn);
+    let _port = put_port(group, ports, port);
+    let _near = put_place(group, places, near);
+    let _far = put_place(group, places, far);
+    taken
+}
+
+/// The row.
+fn row<R: Wait>(
+    rt: &R,
+    alloc: Global,
+    gate: &Gate,
+    seat: GateSeat,
+    opened: (SharedGroup<'_>, Vec<Port>, Vec<Place>),
+) -> Option<Report>
+    requires seat { seat.gate ≡ gate.now }
+    requires gate { opened.0.gate ≡ gate.now }
+    requires ports { All (IsPortOf opened.0) opened.1.items }
+    requires places { All (IsPlaceOf opened.0) opened.2.items }
+{
+    let (group, mut ports, mut places) = opened;
+    let Ok(turn) = gate.enter(seat) else {
+        group.abandon();
+        return None;
+    };
+    let taken = play(rt, alloc, &group, &mut ports, &mut places, &turn);
+    let mut seat = gate.leave(turn);
+    gate.shut(&mut seat);
+    let _drained = gate.drained(&mut seat);
+    end(rt, alloc, group, ports, places, held_list(alloc, taken))
+}
+
+/// A gate with one seat; where that was refused, once more.
+fn open_gate(alloc: Global) -> Option<(Gate, GateSeat)>
+    ensures { IfSome result (λ opened. opened.1.gate ≡ opened.0) }
+{
+    let (gate, mut seats) = match Gate::open(alloc, 1) {
+        Ok(opened) => opened,
+        Err(_) => Gate::open(alloc, 1).ok()?,
+    };
+    let seat = take_seat(&gate, &mut seats)?;
+    Some((gate, seat))
+}
+
+/// A group with a port, two places and room for eight messages; where that was refused, once more.
+fn open_group<'a>(alloc: Global, gate: &'a Gate) -> Option<(SharedGroup<'a>, Vec<Port>, Vec<Place>)>
+    ensures gate { IfSome result (λ opened. opened.0.gate ≡ gate.entry.now) }
+    ensures ports { IfSome result (λ opened. All (IsPortOf opened.0) opened.1.items) }
+    ensures places { IfSome result (λ opened. All (IsPlaceOf opened.0) opened.2.items) }
+{
+    if let Ok(opened) = SharedGroup::open(alloc, gate, 0, 1, 2, 8) {
+        return Some(opened);
+    }
+    SharedGroup::open(alloc, gate, 0, 1, 2, 8).ok()
+}
+
+#[test]
+fn refused_calls_made_again(rt: HostRuntime) -> Result<(), Fail> {
+    let (gate, seat) = open_gate(rt.alloc()).ok_or("a gate")?;
+    let opened = open_group(rt.alloc(), &gate).ok_or("a group")?;
+    let report = row(&rt, rt.alloc(), &gate, seat, opened).ok_or("a report")?;
+    assert_eq!(rt; report.accepted.as_slice(), &[4][..]);
+    assert_eq!(rt; report.settled.acknowledged.len(), 1);
+    assert!(rt;
+        report
+            .settled
+            .acknowledged
+            .contains(Job { port: 0, number: 0 })
+    );
+    assert!(rt; report.settled.refused.is_empty());
+    assert_eq!(rt; report.held.as_slice(), &[Job { port: 0, number: 2 }][..]);
+    assert_eq!(rt; report.queued.as_slice(), &[Job { port: 0, number: 3 }][..]);
+    assert_eq!(rt;
+        report.returned.as_slice(),
+        &[Job { port: 0, number: 1 }][..]
+    );
+    Ok(())
+}

@@ -1,0 +1,68 @@
+//! Who gives to a shared ledger, and who has it in hands.
+ghost use Rattle.std.specs.Prelude.{◌≡◌, ◌≤◌, ◌+◌, length, min, OnOk};
+ghost use Rattle.group_jobs.specs.declared.fate.Fate.{Fate};
+ghost use Rattle.group_jobs.specs.Settled.{KeepsSettled, least_spare, runs_of};
+ghost use Rattle.shared_ledger.specs.Giving.{jobs_in};
+
+use crate::queue::LedgerPass;
+use group_jobs::{JobError, Ledger};
+use std::marker::Model;
+
+/// The right to give to a shared ledger. Contracts see it as a `GiverState`: which ledger it is, how many of its 64 parts this
+/// is, and the ledgers that were given, in order.
+#[derive(Drop)]
+pub struct Giver {
+    pub(crate) pass: LedgerPass,
+}
+
+impl Model for Giver {
+    ghost use Rattle.shared_ledger.specs.Givers.{GiverState};
+    ghost use Rattle.shared_ledger.specs.Behind.{giver_of, IsFree};
+
+    ghost Value = { GiverState };
+
+    ghost view = { λ g. giver_of g.pass };
+
+    ghost invariant = { λ g. IsFree g.pass };
+}
+
+/// A shared ledger in hands. Contracts see it as a `HolderState`: which ledger it is, how many of its parts came together here,
+/// the ledgers that were given with them, and the ledger itself.
+#[derive(Drop)]
+pub struct Holder {
+    pub(crate) pass: LedgerPass,
+    pub(crate) ledger: Ledger,
+}
+
+impl Model for Holder {
+    ghost use Rattle.shared_ledger.specs.Givers.{HolderState};
+    ghost use Rattle.shared_ledger.specs.Behind.{holder_of, IsHeld};
+
+    ghost Value = { HolderState };
+
+    ghost view = { λ h. holder_of h.pass h.ledger };
+
+    ghost invariant = { λ h. IsHeld h.pass h.ledger };
+}
+
+impl Holder {
+    /// How many jobs are in the ledger, of whatever fate, or 2^128 - 1 where there are more.
+    pub fn len(&self) -> u128
+        ensures { result ≡ min (jobs_in self.now.settled) u128.MAX }
+    {
+        self.ledger.len()
+    }
+
+    /// Makes room for the runs of another ledger, beside all the room that there is.
+    ///
+    /// # Errors
+    ///
+    /// 503 [`JobError::Memory`]. The jobs stay, and there is no less room than before.
+    pub fn reserve_for(&mut self, other: &Ledger) -> Result<(), JobError>
+        ensures ok { OnOk result ((fate : Fate) → least_spare self.old.settled + length (runs_of fate other.now) ≤ least_spare self.new.settled) }
+        ensures kept { KeepsSettled self.old.settled self.new.settled }
+        ensures same { self.new ≡ record self.old { settled = self.new.settled } }
+    {
+        self.ledger.reserve_for(other)
+    }
+}
