@@ -70,10 +70,12 @@ impl Hall {
             alloc: _,
         } = self;
         match desk.into_all() {
-            Ok(All {
-                places: _,
-                envelopes,
-            }) => {
+            Ok(
+                All {
+                    places: _,
+                    envelopes,
+                },
+            ) => {
                 spend(envelopes);
             }
             Err(_desk) => panic!(rt; "memory for all"),

@@ -67,7 +67,11 @@ fn first_job(rt: HostRuntime) -> Result<(), Fail> {
         &[
             (0, Coming::Bytes(CONNECT), CONNACK),
             (0, Coming::Bytes(SUBSCRIBE), SUBACK),
-            (0, Coming::Bytes("320900036A6F6200070041"), "40020007 320900036a6f6200010041 "),
+            (
+                0,
+                Coming::Bytes("320900036A6F6200070041"),
+                "40020007 320900036a6f6200010041 ",
+            ),
             (0, Coming::EndOfInput, "close"),
         ],
         "$share/g/job accepted 1 acknowledged 0 refused 0 held 0 queued 0 returned 1\n",
@@ -83,7 +87,11 @@ fn receive_maximum_of_one(rt: HostRuntime) -> Result<(), Fail> {
         &[
             (0, Coming::Bytes(CONNECT_ONE), CONNACK),
             (0, Coming::Bytes(SUBSCRIBE), SUBACK),
-            (0, Coming::Bytes("320900036A6F6200070041"), "40020007 320900036a6f6200010041 "),
+            (
+                0,
+                Coming::Bytes("320900036A6F6200070041"),
+                "40020007 320900036a6f6200010041 ",
+            ),
             (0, Coming::Bytes("320900036A6F6200080042"), "40020008 "),
             (0, Coming::Bytes("320900036A6F6200090043"), "40020009 "),
             (0, Coming::Bytes("40020001"), "320900036a6f6200010042 "),
@@ -102,7 +110,11 @@ fn refused_job(rt: HostRuntime) -> Result<(), Fail> {
         &[
             (0, Coming::Bytes(CONNECT), CONNACK),
             (0, Coming::Bytes(SUBSCRIBE), SUBACK),
-            (0, Coming::Bytes("320900036A6F6200070041"), "40020007 320900036a6f6200010041 "),
+            (
+                0,
+                Coming::Bytes("320900036A6F6200070041"),
+                "40020007 320900036a6f6200010041 ",
+            ),
             (0, Coming::Bytes("4003000180"), ""),
             (0, Coming::Closing, "e0018b close"),
         ],
@@ -119,8 +131,16 @@ fn unsubscribe(rt: HostRuntime) -> Result<(), Fail> {
         &[
             (0, Coming::Bytes(CONNECT), CONNACK),
             (0, Coming::Bytes(SUBSCRIBE), SUBACK),
-            (0, Coming::Bytes("A211000200000C2473686172652F672F6A6F62"), "b00400020000 "),
-            (0, Coming::Bytes("A211000300000C2473686172652F672F6A6F62"), "b00400030011 "),
+            (
+                0,
+                Coming::Bytes("A211000200000C2473686172652F672F6A6F62"),
+                "b00400020000 ",
+            ),
+            (
+                0,
+                Coming::Bytes("A211000300000C2473686172652F672F6A6F62"),
+                "b00400030011 ",
+            ),
             (0, Coming::Bytes("320900036A6F6200070041"), "40020007 "),
             (0, Coming::Bytes("320A00046E6F6E6500080041"), "4003000810 "),
             (90_000, Coming::Tick, "e0018d close"),
@@ -133,9 +153,23 @@ fn unsubscribe(rt: HostRuntime) -> Result<(), Fail> {
 #[test]
 fn first_packets(rt: HostRuntime) -> Result<(), Fail> {
     let assigned = "201e00001b12000d6175746f2d30303030303030312401250027000100002900 ";
-    alone(&rt, rt.alloc(), &[(0, Coming::Bytes("100E00044D5154540402003C00027731"), "2003008400 close")], "");
+    alone(
+        &rt,
+        rt.alloc(),
+        &[(
+            0,
+            Coming::Bytes("100E00044D5154540402003C00027731"),
+            "2003008400 close",
+        )],
+        "",
+    );
     alone(&rt, rt.alloc(), &[(0, Coming::Bytes("C000"), "close")], "");
-    alone(&rt, rt.alloc(), &[(9_999, Coming::Tick, ""), (10_000, Coming::Tick, "close")], "");
+    alone(
+        &rt,
+        rt.alloc(),
+        &[(9_999, Coming::Tick, ""), (10_000, Coming::Tick, "close")],
+        "",
+    );
     alone(
         &rt,
         rt.alloc(),
@@ -162,11 +196,31 @@ fn resume(rt: HostRuntime) -> Result<(), Fail> {
         &[
             (0, Coming::Bytes(CONNECT_STAYS), CONNACK),
             (0, Coming::Bytes(SUBSCRIBE), SUBACK),
-            (0, Coming::Bytes("320900036A6F6200010041"), "40020001 320900036a6f6200010041 "),
-            (0, Coming::Bytes("320900036A6F6200020042"), "40020002 320900036a6f6200020042 "),
-            (0, Coming::Bytes("320900036A6F6200030043"), "40020003 320900036a6f6200030043 "),
-            (0, Coming::Bytes("320900036A6F6200040044"), "40020004 320900036a6f6200040044 "),
-            (0, Coming::Bytes("320900036A6F6200050045"), "40020005 320900036a6f6200050045 "),
+            (
+                0,
+                Coming::Bytes("320900036A6F6200010041"),
+                "40020001 320900036a6f6200010041 ",
+            ),
+            (
+                0,
+                Coming::Bytes("320900036A6F6200020042"),
+                "40020002 320900036a6f6200020042 ",
+            ),
+            (
+                0,
+                Coming::Bytes("320900036A6F6200030043"),
+                "40020003 320900036a6f6200030043 ",
+            ),
+            (
+                0,
+                Coming::Bytes("320900036A6F6200040044"),
+                "40020004 320900036a6f6200040044 ",
+            ),
+            (
+                0,
+                Coming::Bytes("320900036A6F6200050045"),
+                "40020005 320900036a6f6200050045 ",
+            ),
             (0, Coming::EndOfInput, "close"),
         ],
     );
@@ -190,7 +244,11 @@ fn resume(rt: HostRuntime) -> Result<(), Fail> {
     );
     finish(&rt, first);
     finish(&rt, second);
-    conclude(&rt, hall, "$share/g/job accepted 5 acknowledged 4 refused 0 held 1 queued 0 returned 0\n");
+    conclude(
+        &rt,
+        hall,
+        "$share/g/job accepted 5 acknowledged 4 refused 0 held 1 queued 0 returned 0\n",
+    );
     Ok(())
 }
 
@@ -199,15 +257,36 @@ fn takeover(rt: HostRuntime) -> Result<(), Fail> {
     let mut hall = Hall::open(&rt, rt.alloc(), 1_024);
     let mut first = Conn::open(rt.alloc(), 0, 0);
     let mut second = Conn::open(rt.alloc(), 1, 0);
-    play(&rt, rt.alloc(), &mut hall, &mut first, &[(0, Coming::Bytes(CONNECT), CONNACK)]);
-    play(&rt, rt.alloc(), &mut hall, &mut second, &[(5, Coming::Bytes(CONNECT), ""), (6, Coming::Tick, "")]);
-    play(&rt, rt.alloc(), &mut hall, &mut first, &[(7, Coming::Tick, "e0018e kicked")]);
+    play(
+        &rt,
+        rt.alloc(),
+        &mut hall,
+        &mut first,
+        &[(0, Coming::Bytes(CONNECT), CONNACK)],
+    );
     play(
         &rt,
         rt.alloc(),
         &mut hall,
         &mut second,
-        &[(8, Coming::Tick, CONNACK), (9, Coming::Bytes("E000"), "close")],
+        &[(5, Coming::Bytes(CONNECT), ""), (6, Coming::Tick, "")],
+    );
+    play(
+        &rt,
+        rt.alloc(),
+        &mut hall,
+        &mut first,
+        &[(7, Coming::Tick, "e0018e kicked")],
+    );
+    play(
+        &rt,
+        rt.alloc(),
+        &mut hall,
+        &mut second,
+        &[
+            (8, Coming::Tick, CONNACK),
+            (9, Coming::Bytes("E000"), "close"),
+        ],
     );
     finish(&rt, first);
     finish(&rt, second);
