@@ -1,0 +1,44 @@
+-- A client: its connection, and the stream of its bytes.
+use Rattle.std.specs.Prelude.{◌≡◌, ℕ, ◌⊎◌, List, [], None}
+use Rattle.mqtt_wire.specs.declared.packet.Packet.{Packet}
+use Rattle.mqtt_wire.specs.Stream.{Unread}
+use Rattle.conn_engine.specs.declared.input.Input.{Input}
+use Rattle.conn_engine.specs.declared.input.Input.TheVariants as inputs
+use Rattle.conn_engine.specs.declared.input.Then.{Then}
+use Rattle.conn_engine.specs.declared.standing.Standing.TheVariants.{Ended}
+use Rattle.conn_engine.specs.Facts.{Fact}
+use Rattle.conn_engine.specs.Standings.{ConnState}
+use Rattle.conn_engine.specs.Step.{Steps, FailsToStep}
+
+-- a connection, and the bytes of its client that it has not read yet
+pub record ClientState (P : Type 0) : Type 0 where
+  pub conn : ConnState P
+  pub unread : Unread
+
+-- a client whose connection was opened at this moment, and that sent nothing yet
+abbrev pub arrived : {P : Type 0} → ConnState P → ClientState P
+arrived conn = record { conn = conn; unread = record { bytes = []; fault = None } }
+
+-- what one step of a connection wrote, and what became of the connection
+pub record Said : Type 0 where
+  pub connection : ℕ
+  pub packets : List Packet
+  pub next : Then
+
+module _ {S P : Type 0} (call : S → Fact P → S → Type 0) (slot_of : P → ℕ) where
+  -- one step of a client's connection; what is unread is another matter
+  pub record Moves (old : S) (client : ClientState P) (now : ℕ) (input : Input) (said : Said) (client' : ClientState P) (new : S) : Type 0 where
+    pub told : said.connection ≡ client.conn.number
+    pub same : client'.conn.number ≡ client.conn.number
+    pub stepped : Steps call slot_of old client.conn.number client.conn.standing now input said.packets said.next client'.conn.standing new
+
+  -- memory was wanted in a step: nothing was written, and the connection has ended
+  pub record FailsToMove (old : S) (client : ClientState P) (now : ℕ) (input : Input) (client' : ClientState P) (new : S) : Type 0 where
+    pub same : client'.conn.number ≡ client.conn.number
+    pub over : client'.conn.standing ≡ Ended
+    pub failed : FailsToStep call slot_of old client.conn.number client.conn.standing now input new
+
+  -- memory was wanted between two steps: the connection ends as where its client's stream has ended, and nothing is written of it
+  abbrev pub IsGivenUp : S → ClientState P → ℕ → ClientState P → S → Type 0
+  IsGivenUp old client now client' new =
+      ((said : Said) × Moves old client now inputs.EndOfInput said client' new) ⊎ FailsToMove old client now inputs.EndOfInput client' new

@@ -1,0 +1,84 @@
+-- What a client sent is read packet by packet, and each packet is stepped before the next one is read.
+use Rattle.std.specs.Prelude.{◌≡◌, ◌≢◌, ℕ, ◌⊎◌, List, [], ◌∷◌, ◌++◌, None, ⊤}
+use Rattle.mqtt_wire.specs.declared.packet.Packet.{Packet}
+use Rattle.mqtt_wire.specs.Stream.{Unread, Takes, Stops, IsOpen}
+use Rattle.conn_engine.specs.declared.input.Input.{Input}
+use Rattle.conn_engine.specs.declared.input.Input.TheVariants as inputs
+use Rattle.conn_engine.specs.declared.input.Then.{Then}
+use Rattle.conn_engine.specs.declared.input.Then.TheVariants.{Go, Close, Kicked}
+use Rattle.conn_engine.specs.Facts.{Fact}
+use Rattle.conn_engine.specs.Standings.{IsWaiting}
+use Rattle.client_table.specs.declared.client.Reading.{Reading}
+use Rattle.client_table.specs.declared.client.Reading.TheVariants as readings
+use Rattle.client_table.specs.Clients.{ClientState, Said, Moves, FailsToMove, IsGivenUp}
+
+-- the same client, behind a further piece of its stream
+abbrev pub fed : {P : Type 0} → ClientState P → List ℕ → ClientState P
+fed client piece = record { conn = client.conn; unread = record { bytes = client.unread.bytes ++ piece; fault = client.unread.fault } }
+
+-- nothing is to be read: the connection waits for a session, or no whole packet and no fault stands in front
+abbrev pub IsRead : {P : Type 0} → ClientState P → Type 0
+IsRead client = IsWaiting client.conn.standing ⊎ ((client.unread.fault ≡ None) × IsOpen client.unread.bytes)
+
+-- the packet, or the fault, that stands in front of a stream
+abbrev pub IsInFront : Unread → Input → Unread → Type 0
+IsInFront unread (inputs.Packet packet) unread' = Takes unread packet unread'
+IsInFront unread (inputs.Fault fault) unread' = Stops unread fault unread'
+IsInFront unread inputs.Tick unread' = ⊥
+IsInFront unread inputs.EndOfInput unread' = ⊥
+IsInFront unread inputs.Closing unread' = ⊥
+
+-- a fault closes the connection (4.13), and so does a packet behind which it does not go on
+abbrev pub Closes : Input → Then → Type 0
+Closes (inputs.Packet packet) next = next ≢ Go
+Closes (inputs.Fault fault) next = ⊤
+Closes inputs.Tick next = ⊥
+Closes inputs.EndOfInput next = ⊥
+Closes inputs.Closing next = ⊥
+
+-- a client goes on behind a packet where its connection does
+abbrev pub reading_behind : Then → Reading
+reading_behind Go = readings.GoesOn
+reading_behind Close = readings.Closed
+reading_behind Kicked = readings.Closed
+
+module _ {S P : Type 0} (call : S → Fact P → S → Type 0) (slot_of : P → ℕ) where
+  -- the packet in front is taken and stepped, and the connection goes on
+  pub record ReadsOne (old : S) (client : ClientState P) (now : ℕ) (said : Said) (client' : ClientState P) (new : S) : Type 0 where
+    pub packet : Packet
+    pub taken : Takes client.unread packet client'.unread
+    pub moved : Moves call slot_of old client now (inputs.Packet packet) said client' new
+    pub goes : said.next ≡ Go
+
+  -- what is in front is taken and stepped, and the connection is closed by it
+  pub record ReadsLast (old : S) (client : ClientState P) (now : ℕ) (said : Said) (client' : ClientState P) (new : S) : Type 0 where
+    pub input : Input
+    pub front : IsInFront client.unread input client'.unread
+    pub moved : Moves call slot_of old client now input said client' new
+    pub closes : Closes input said.next
+
+  -- all that is whole is read at one moment, each packet stepped before the next one is read: until the connection closes or waits, or
+  -- nothing whole stands in front. What each step wrote, in their order
+  abbrev pub Reads : S → ClientState P → ℕ → List Said → ClientState P → S → Type 0
+  Reads old client now [] client' new = IsRead client × (client' ≡ client) × (new ≡ old)
+  Reads old client now (said ∷ rest) client' new =
+      (ReadsLast old client now said client' new × (rest ≡ []))
+      ⊎ ((between : ClientState P) × (mid : S) × ReadsOne old client now said between mid × Reads mid between now rest client' new)
+
+  -- memory was wanted for the next step: the connection has ended
+  abbrev pub FailsToReadOne : S → ClientState P → ℕ → ClientState P → S → Type 0
+  FailsToReadOne old client now client' new =
+      IsGivenUp call slot_of old client now client' new
+      ⊎ ((input : Input) × IsInFront client.unread input client'.unread × FailsToMove call slot_of old client now input client' new)
+
+  -- memory was wanted behind so many steps, which are as ever
+  abbrev pub FailsToRead : S → ClientState P → ℕ → List Said → ClientState P → S → Type 0
+  FailsToRead old client now [] client' new = FailsToReadOne old client now client' new
+  FailsToRead old client now (said ∷ rest) client' new =
+      (between : ClientState P) × (mid : S) × ReadsOne old client now said between mid × FailsToRead mid between now rest client' new
+
+  -- what came of reading once, and what was said before and after
+  abbrev pub ReadsAs : Reading → S → ClientState P → ℕ → List Said → List Said → ClientState P → S → Type 0
+  ReadsAs readings.Nothing old client now before after client' new = IsRead client × (client' ≡ client) × (new ≡ old) × (after ≡ before)
+  ReadsAs readings.GoesOn old client now before after client' new = (said : Said) × (after ≡ before ++ said ∷ []) × ReadsOne old client now said client' new
+  ReadsAs readings.Closed old client now before after client' new = (said : Said) × (after ≡ before ++ said ∷ []) × ReadsLast old client now said client' new

@@ -1,0 +1,56 @@
+//! What a step of a connection wrote.
+ghost use Rattle.std.specs.Prelude.{◌≡◌};
+
+use conn_engine::Then;
+use mqtt_wire::Packet;
+use std::marker::Model;
+
+/// What one step of a connection wrote, and what became of the connection.
+#[derive(Drop)]
+pub struct Said {
+    connection: u8,
+    packets: Vec<Packet>,
+    next: Then,
+}
+
+impl Model for Said {
+    ghost use Rattle.client_table.specs.Clients.{Said as Words};
+
+    ghost Value = { Words };
+
+    ghost view = { λ s. record { connection = s.connection; packets = s.packets.items; next = s.next } };
+}
+
+impl Said {
+    /// What the connection with this number wrote in a step.
+    pub(crate) fn new(connection: u8, packets: Vec<Packet>, next: Then) -> Said
+        ensures { result ≡ record { connection = connection; packets = packets.items; next = next } }
+    {
+        Said {
+            connection,
+            packets,
+            next,
+        }
+    }
+
+    /// The number of the connection.
+    pub fn connection(&self) -> u8
+        ensures { result ≡ self.now.connection }
+    {
+        self.connection
+    }
+
+    /// The packets that it wrote, in their order.
+    pub fn packets(&self) -> &[Packet]
+        ensures { result.now ≡ self.now.packets }
+    {
+        &self.packets
+    }
+
+    /// What became of the connection.
+    pub fn next(&self) -> Then
+        ensures { result ≡ self.now.next }
+    {
+        self.next
+    }
+}
