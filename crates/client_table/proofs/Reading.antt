@@ -11,7 +11,7 @@ use Rattle.client_table.specs.Clients.{ClientState, Said, Moves}
 use Rattle.client_table.specs.Streams.{reading_behind, ReadsAs, ReadsOne, ReadsLast, Reads, FailsToReadOne, FailsToRead, IsRead}
 
 -- what is said behind what was said
-joined : (before after after' rest : List Said) (said : Said) → after ≡ before ++ said ∷ [] → after' ≡ after ++ rest → after' ≡ before ++ said ∷ rest
+pub joined : (before after after' rest : List Said) (said : Said) → after ≡ before ++ said ∷ [] → after' ≡ after ++ rest → after' ≡ before ++ said ∷ rest
 joined before after after' rest said one more = more ∙ ap (λ xs. xs ++ rest) one ∙ append_assoc before (said ∷ []) rest
 
 -- nothing is said behind what was said

@@ -3,7 +3,6 @@ use Rattle.std.specs.Prelude.{◌≡◌, ℕ, ◌⊎◌, List, [], None}
 use Rattle.mqtt_wire.specs.declared.packet.Packet.{Packet}
 use Rattle.mqtt_wire.specs.Stream.{Unread}
 use Rattle.conn_engine.specs.declared.input.Input.{Input}
-use Rattle.conn_engine.specs.declared.input.Input.TheVariants as inputs
 use Rattle.conn_engine.specs.declared.input.Then.{Then}
 use Rattle.conn_engine.specs.declared.standing.Standing.TheVariants.{Ended}
 use Rattle.conn_engine.specs.Facts.{Fact}
@@ -38,7 +37,6 @@ module _ {S P : Type 0} (call : S → Fact P → S → Type 0) (slot_of : P → 
     pub over : client'.conn.standing ≡ Ended
     pub failed : FailsToStep call slot_of old client.conn.number client.conn.standing now input new
 
-  -- memory was wanted between two steps: the connection ends as where its client's stream has ended, and nothing is written of it
-  abbrev pub IsGivenUp : S → ClientState P → ℕ → ClientState P → S → Type 0
-  IsGivenUp old client now client' new =
-      ((said : Said) × Moves old client now inputs.EndOfInput said client' new) ⊎ FailsToMove old client now inputs.EndOfInput client' new
+  -- memory was wanted between two steps: this input ends the connection, and nothing is written of it
+  abbrev pub IsGivenUp : S → ClientState P → ℕ → Input → ClientState P → S → Type 0
+  IsGivenUp old client now input client' new = ((said : Said) × Moves old client now input said client' new) ⊎ FailsToMove old client now input client' new

@@ -1,6 +1,7 @@
 -- What a client sent is read packet by packet, and each packet is stepped before the next one is read.
-use Rattle.std.specs.Prelude.{◌≡◌, ◌≢◌, ℕ, ◌⊎◌, List, [], ◌∷◌, ◌++◌, None, ⊤}
+use Rattle.std.specs.Prelude.{◌≡◌, ◌≢◌, ℕ, ◌⊎◌, List, [], ◌∷◌, ◌++◌, Option, Some, None, Result, Ok, Err, ⊤}
 use Rattle.mqtt_wire.specs.declared.packet.Packet.{Packet}
+use Rattle.mqtt_wire.specs.declared.fault.StreamFault.{StreamFault}
 use Rattle.mqtt_wire.specs.Stream.{Unread, Takes, Stops, IsOpen}
 use Rattle.conn_engine.specs.declared.input.Input.{Input}
 use Rattle.conn_engine.specs.declared.input.Input.TheVariants as inputs
@@ -8,13 +9,19 @@ use Rattle.conn_engine.specs.declared.input.Then.{Then}
 use Rattle.conn_engine.specs.declared.input.Then.TheVariants.{Go, Close, Kicked}
 use Rattle.conn_engine.specs.Facts.{Fact}
 use Rattle.conn_engine.specs.Standings.{IsWaiting}
+use Rattle.conn_engine.specs.declared.supply.NoMemory.{NoMemory}
 use Rattle.client_table.specs.declared.client.Reading.{Reading}
 use Rattle.client_table.specs.declared.client.Reading.TheVariants as readings
 use Rattle.client_table.specs.Clients.{ClientState, Said, Moves, FailsToMove, IsGivenUp}
 
+-- a further piece of a stream: behind a fault nothing is read
+abbrev pub longer : Option StreamFault → List ℕ → List ℕ → Unread
+longer None bytes piece = record { bytes = bytes ++ piece; fault = None }
+longer (Some fault) bytes piece = record { bytes = bytes; fault = Some fault }
+
 -- the same client, behind a further piece of its stream
 abbrev pub fed : {P : Type 0} → ClientState P → List ℕ → ClientState P
-fed client piece = record { conn = client.conn; unread = record { bytes = client.unread.bytes ++ piece; fault = client.unread.fault } }
+fed client piece = record { conn = client.conn; unread = longer client.unread.fault client.unread.bytes piece }
 
 -- nothing is to be read: the connection waits for a session, or no whole packet and no fault stands in front
 abbrev pub IsRead : {P : Type 0} → ClientState P → Type 0
@@ -68,7 +75,7 @@ module _ {S P : Type 0} (call : S → Fact P → S → Type 0) (slot_of : P → 
   -- memory was wanted for the next step: the connection has ended
   abbrev pub FailsToReadOne : S → ClientState P → ℕ → ClientState P → S → Type 0
   FailsToReadOne old client now client' new =
-      IsGivenUp call slot_of old client now client' new
+      IsGivenUp call slot_of old client now inputs.EndOfInput client' new
       ⊎ ((input : Input) × IsInFront client.unread input client'.unread × FailsToMove call slot_of old client now input client' new)
 
   -- memory was wanted behind so many steps, which are as ever
@@ -76,6 +83,23 @@ module _ {S P : Type 0} (call : S → Fact P → S → Type 0) (slot_of : P → 
   FailsToRead old client now [] client' new = FailsToReadOne old client now client' new
   FailsToRead old client now (said ∷ rest) client' new =
       (between : ClientState P) × (mid : S) × ReadsOne old client now said between mid × FailsToRead mid between now rest client' new
+
+  -- time goes on: behind that is read what came while the connection waited
+  abbrev pub Ticks : S → ClientState P → ℕ → List Said → ClientState P → S → Type 0
+  Ticks old client now [] client' new = ⊥
+  Ticks old client now (said ∷ rest) client' new =
+      (Moves call slot_of old client now inputs.Tick said client' new × (said.next ≢ Go) × (rest ≡ []))
+      ⊎ ((between : ClientState P) × (mid : S) × Moves call slot_of old client now inputs.Tick said between mid × (said.next ≡ Go) × Reads mid between now rest client' new)
+
+  abbrev pub FailsToTick : S → ClientState P → ℕ → List Said → ClientState P → S → Type 0
+  FailsToTick old client now [] client' new = IsGivenUp call slot_of old client now inputs.EndOfInput client' new ⊎ FailsToMove call slot_of old client now inputs.Tick client' new
+  FailsToTick old client now (said ∷ rest) client' new =
+      (between : ClientState P) × (mid : S) × Moves call slot_of old client now inputs.Tick said between mid × (said.next ≡ Go) × FailsToRead mid between now rest client' new
+
+  -- one last step, and what was said before and after; memory may be wanted in it or for it
+  abbrev pub Leaves : S → ClientState P → ℕ → Input → List Said → Result (Unit {0}) NoMemory → List Said → ClientState P → S → Type 0
+  Leaves old client now input before (Ok done) after client' new = (said : Said) × (after ≡ before ++ said ∷ []) × Moves call slot_of old client now input said client' new
+  Leaves old client now input before (Err error) after client' new = (after ≡ before) × IsGivenUp call slot_of old client now input client' new
 
   -- what came of reading once, and what was said before and after
   abbrev pub ReadsAs : Reading → S → ClientState P → ℕ → List Said → List Said → ClientState P → S → Type 0

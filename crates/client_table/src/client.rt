@@ -1,10 +1,10 @@
 //! A client: its connection, and the stream of its bytes.
 ghost use Rattle.std.specs.Prelude.{◌≡◌, ◌<◌, ◌++◌, ◌↔◌, ◌⊎◌, ◌∷◌, [], List, IsTrue, MatchResult, None, vec_capacity, vec_len};
-ghost use Rattle.conn_engine.specs.Step.{IsWanted};
+ghost use Rattle.conn_engine.specs.Step.{IsNoPacket, IsWanted};
 ghost use Rattle.conn_engine.specs.declared.input.Input.TheVariants as inputs;
 ghost use Rattle.conn_engine.specs.declared.standing.Standing.TheVariants as standings;
 ghost use Rattle.client_table.specs.Clients.{Said as Words, arrived, Moves, FailsToMove, IsGivenUp};
-ghost use Rattle.client_table.specs.Streams.{fed, reading_behind, ReadsAs, FailsToReadOne, Reads, FailsToRead};
+ghost use Rattle.client_table.specs.Streams.{fed, reading_behind, ReadsAs, FailsToReadOne, Reads, FailsToRead, Ticks, FailsToTick, Leaves};
 
 use crate::said::Said;
 use conn_engine::{Conn, Input, NoMemory, Supply, Then};
@@ -97,7 +97,7 @@ impl<P: Place> Client<P> {
     /// # Errors
     ///
     /// [`NoMemory`]: the connection has ended, and its session is parked or ending, with all that it holds. The step that wanted
-    /// memory wrote nothing.
+    /// memory wrote nothing; what was said before it stays.
     pub fn receive<S: Supply<P>>(
         &mut self,
         supply: &mut S,
@@ -105,16 +105,16 @@ impl<P: Place> Client<P> {
         piece: &[u8],
         said: &mut Vec<Said>,
     ) -> Result<(), NoMemory>
-        requires { self.old.unread.fault ≡ None }
         ensures { (more : List Words) × (said.new.items ≡ said.old.items ++ more)
             × MatchResult result
             (λ _. Reads S.call P.slot_of supply.old (fed self.old piece.now) now more self.new supply.new)
-            (λ _. (IsGivenUp S.call P.slot_of supply.old self.old now self.new supply.new × (more ≡ []))
+            (λ _. (IsGivenUp S.call P.slot_of supply.old self.old now inputs.EndOfInput self.new supply.new × (more ≡ []))
             ⊎ FailsToRead S.call P.slot_of supply.old (fed self.old piece.now) now more self.new supply.new) }
     {
         match self.stream.feed(piece) {
             Ok(()) => self.read(supply, now, said),
-            Err(_) => Err(self.give_up(supply, now)),
+            Err(Fault::Stream(_)) => self.read(supply, now, said),
+            Err(Fault::Memory) => Err(self.give_up(supply, now, Input::EndOfInput)),
         }
     }
 
@@ -130,7 +130,6 @@ impl<P: Place> Client<P> {
         now: u64,
         said: &mut Vec<Said>,
     ) -> Result<(), NoMemory>
-        requires { self.old.unread.fault ≡ None }
         ensures { (more : List Words) × (said.new.items ≡ said.old.items ++ more)
             × MatchResult result
             (λ _. Reads S.call P.slot_of supply.old self.old now more self.new supply.new)
@@ -152,7 +151,6 @@ impl<P: Place> Client<P> {
         now: u64,
         said: &mut Vec<Said>,
     ) -> Result<Reading, NoMemory>
-        requires { self.old.unread.fault ≡ None }
         ensures { MatchResult result
             (λ reading. ReadsAs S.call P.slot_of reading supply.old self.old now said.old.items said.new.items self.new supply.new)
             (λ _. (said.new.items ≡ said.old.items) × FailsToReadOne S.call P.slot_of supply.old self.old now self.new supply.new) }
@@ -161,7 +159,7 @@ impl<P: Place> Client<P> {
             return Ok(Reading::Nothing);
         }
         if said.reserve(1).is_err() {
-            return Err(self.give_up(supply, now));
+            return Err(self.give_up(supply, now, Input::EndOfInput));
         }
         match self.stream.next() {
             Ok(None) => Ok(Reading::Nothing),
@@ -173,7 +171,7 @@ impl<P: Place> Client<P> {
                 Ok(_) => Ok(Reading::Closed),
                 Err(NoMemory) => Err(NoMemory),
             },
-            Err(Fault::Memory) => Err(self.give_up(supply, now)),
+            Err(Fault::Memory) => Err(self.give_up(supply, now, Input::EndOfInput)),
         }
     }
 
@@ -203,12 +201,94 @@ impl<P: Place> Client<P> {
         }
     }
 
-    /// Its connection ends as where its stream has ended, since memory was wanted.
-    fn give_up<S: Supply<P>>(&mut self, supply: &mut S, now: u64) -> NoMemory
-        ensures { IsGivenUp S.call P.slot_of supply.old self.old now self.new supply.new }
+    /// This input ends its connection, since memory was wanted.
+    fn give_up<S: Supply<P>>(&mut self, supply: &mut S, now: u64, input: Input) -> NoMemory
+        requires { IsNoPacket input }
+        ensures { IsGivenUp S.call P.slot_of supply.old self.old now input self.new supply.new }
     {
         let mut packets = Vec::new(self.alloc);
-        let _ = self.conn.step(supply, now, Input::EndOfInput, &mut packets);
+        let _ = self.conn.step(supply, now, input, &mut packets);
         NoMemory
+    }
+
+    /// Time has gone on, to this moment in milliseconds. Where its connection does not wait any more, what came meanwhile is
+    /// read.
+    ///
+    /// # Errors
+    ///
+    /// As [`Client::receive`].
+    #[tactic(auto, using(crate::proofs::Ticking::last_tick, crate::proofs::Ticking::tick_and_more, crate::proofs::Ticking::fails_at_tick, crate::proofs::Ticking::fails_behind_tick))]
+    pub fn tick<S: Supply<P>>(
+        &mut self,
+        supply: &mut S,
+        now: u64,
+        said: &mut Vec<Said>,
+    ) -> Result<(), NoMemory>
+        ensures { (more : List Words) × (said.new.items ≡ said.old.items ++ more)
+            × MatchResult result
+            (λ _. Ticks S.call P.slot_of supply.old self.old now more self.new supply.new)
+            (λ _. FailsToTick S.call P.slot_of supply.old self.old now more self.new supply.new) }
+    {
+        if said.reserve(1).is_err() {
+            return Err(self.give_up(supply, now, Input::EndOfInput));
+        }
+        match self.step(supply, now, Input::Tick, said) {
+            Ok(Then::Go) => self.read(supply, now, said),
+            Ok(Then::Close) => Ok(()),
+            Ok(Then::Kicked) => Ok(()),
+            Err(NoMemory) => Err(NoMemory),
+        }
+    }
+
+    /// Its stream has ended, at this moment in milliseconds.
+    ///
+    /// # Errors
+    ///
+    /// As [`Client::receive`].
+    pub fn end_of_input<S: Supply<P>>(
+        &mut self,
+        supply: &mut S,
+        now: u64,
+        said: &mut Vec<Said>,
+    ) -> Result<(), NoMemory>
+        ensures { Leaves S.call P.slot_of supply.old self.old now inputs.EndOfInput said.old.items result said.new.items self.new supply.new }
+    {
+        self.leave(supply, now, Input::EndOfInput, said)
+    }
+
+    /// The broker closes, at this moment in milliseconds.
+    ///
+    /// # Errors
+    ///
+    /// As [`Client::receive`].
+    pub fn closing<S: Supply<P>>(
+        &mut self,
+        supply: &mut S,
+        now: u64,
+        said: &mut Vec<Said>,
+    ) -> Result<(), NoMemory>
+        ensures { Leaves S.call P.slot_of supply.old self.old now inputs.Closing said.old.items result said.new.items self.new supply.new }
+    {
+        self.leave(supply, now, Input::Closing, said)
+    }
+
+    /// One last step of its connection.
+    fn leave<S: Supply<P>>(
+        &mut self,
+        supply: &mut S,
+        now: u64,
+        input: Input,
+        said: &mut Vec<Said>,
+    ) -> Result<(), NoMemory>
+        requires { IsNoPacket input }
+        ensures { Leaves S.call P.slot_of supply.old self.old now input said.old.items result said.new.items self.new supply.new }
+    {
+        if said.reserve(1).is_err() {
+            return Err(self.give_up(supply, now, input));
+        }
+        match self.step(supply, now, input, said) {
+            Ok(_) => Ok(()),
+            Err(NoMemory) => Err(NoMemory),
+        }
     }
 }
