@@ -1,3 +1,7 @@
 pub mod Reading
 pub mod Waits
 pub mod Ticking
+pub mod InCells
+pub mod Given
+pub mod Over
+pub mod Leaving

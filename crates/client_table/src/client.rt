@@ -3,7 +3,7 @@ ghost use Rattle.std.specs.Prelude.{◌≡◌, ◌<◌, ◌++◌, ◌↔◌, ◌
 ghost use Rattle.conn_engine.specs.Step.{IsNoPacket, IsWanted};
 ghost use Rattle.conn_engine.specs.declared.input.Input.TheVariants as inputs;
 ghost use Rattle.conn_engine.specs.declared.standing.Standing.TheVariants as standings;
-ghost use Rattle.client_table.specs.Clients.{Said as Words, arrived, Moves, FailsToMove, IsGivenUp};
+ghost use Rattle.client_table.specs.Clients.{ClientState, Said as Words, arrived, Moves, FailsToMove, IsGivenUp};
 ghost use Rattle.client_table.specs.Streams.{fed, reading_behind, ReadsAs, FailsToReadOne, Reads, FailsToRead, Ticks, FailsToTick, Leaves};
 
 use crate::said::Said;
@@ -202,13 +202,16 @@ impl<P: Place> Client<P> {
     }
 
     /// This input ends its connection, since memory was wanted.
+    #[tactic(auto, using(crate::proofs::Given::unsaid))]
     fn give_up<S: Supply<P>>(&mut self, supply: &mut S, now: u64, input: Input) -> NoMemory
         requires { IsNoPacket input }
         ensures { IsGivenUp S.call P.slot_of supply.old self.old now input self.new supply.new }
     {
         let mut packets = Vec::new(self.alloc);
-        let _ = self.conn.step(supply, now, input, &mut packets);
-        NoMemory
+        match self.conn.step(supply, now, input, &mut packets) {
+            Ok(_unsaid) => NoMemory,
+            Err(refused) => refused,
+        }
     }
 
     /// Time has gone on, to this moment in milliseconds. Where its connection does not wait any more, what came meanwhile is
@@ -270,6 +273,15 @@ impl<P: Place> Client<P> {
         ensures { Leaves S.call P.slot_of supply.old self.old now inputs.Closing said.old.items result said.new.items self.new supply.new }
     {
         self.leave(supply, now, Input::Closing, said)
+    }
+
+    /// Lets go of a client: its connection ends as where the broker closes, and nothing is written of it.
+    #[tactic(auto, using(crate::proofs::Over::is_over))]
+    pub fn abandon<S: Supply<P>>(mut self, supply: &mut S, now: u64)
+        ensures { (client : ClientState P) × IsGivenUp S.call P.slot_of supply.old self now inputs.Closing client supply.new }
+    {
+        let _unsaid = self.give_up(supply, now, Input::Closing);
+        self.end();
     }
 
     /// One last step of its connection.

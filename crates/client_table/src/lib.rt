@@ -1,10 +1,22 @@
 //! The clients of a broker: their connections, the streams of their bytes, and a table of them.
 //!
-//! A [`Client`] reads what its client sent and steps its connection, packet by packet.
+//! A [`Client`] reads what its client sent and steps its connection, packet by packet. A [`ClientTable`] has one for each number,
+//! and lets go of those whose connections have ended. What each step wrote is [`Said`].
+//!
+//! ```
+//! let mut clients = ClientTable::new(alloc)?;
+//! clients.open(0, now);
+//! clients.receive(&mut supply, 0, now, &piece, &mut said)?; // the packets in this piece, answered one by one
+//! clients.tick(&mut supply, 0, now, &mut said)?; // what has come for this client since
+//! clients.end_of_input(&mut supply, 0, now, &mut said)?; // its session is parked
+//! ```
 #![tactic(auto)]
 
+mod cell;
 mod client;
 mod said;
+mod table;
 
 pub use client::Client;
 pub use said::Said;
+pub use table::{CLIENTS, ClientTable};

@@ -1,0 +1,183 @@
+//! The clients of a broker, by the numbers of their connections.
+ghost use Rattle.std.specs.Prelude.{◌≡◌, ◌<◌, ◌++◌, List, IfOk, None, replicate};
+ghost use Rattle.conn_engine.specs.declared.input.Input.TheVariants as inputs;
+ghost use Rattle.client_table.specs.Clients.{Said as Words};
+ghost use Rattle.client_table.specs.Cells.{Abandons, AbandonsEach, InCell, Opens, Receives, TicksFor, EndsFor};
+
+use crate::cell;
+use crate::client::Client;
+use crate::said::Said;
+use conn_engine::{NoMemory, Supply};
+use session_desk::Place;
+use std::alloc::Global;
+use std::marker::Model;
+
+/// How many connections a table has room for: their numbers are below that.
+pub const CLIENTS: usize = 64;
+
+/// The clients of a broker, each at the number of its connection. `P` is a place in a group.
+///
+/// What happens to a connection that is not open is passed over, and so is the opening of one that is.
+pub struct ClientTable<P> {
+    cells: Vec<Option<Client<P>>>,
+    alloc: Global,
+}
+
+impl<P> Model for ClientTable<P> {
+    ghost use Rattle.std.specs.Prelude.{◌≡◌, List, Option, length};
+    ghost use Rattle.client_table.specs.Clients.{ClientState};
+
+    ghost Value = { List (Option (ClientState P)) };
+
+    ghost view = { λ t. t.cells.items };
+
+    ghost invariant = { λ t. length t.cells.items ≡ 64 };
+}
+
+impl<P> ClientTable<P> {
+    /// No connection is open. Takes the memory for [`CLIENTS`] connections.
+    pub fn new(alloc: Global) -> Result<ClientTable<P>, NoMemory>
+        ensures { IfOk result (λ table. table ≡ replicate 64 None) }
+    {
+        let mut cells = Vec::with_capacity(alloc, CLIENTS)?;
+        'cells: for _ in 0..CLIENTS {
+            cells.push_reserved(None);
+        }
+        Ok(ClientTable { cells, alloc })
+    }
+
+    /// The connection of this number, below [`CLIENTS`], is opened at this moment in milliseconds.
+    pub fn open(&mut self, number: u8, now: u64)
+        requires { number < 64 }
+        ensures { InCell self.old number (Opens number now) self.new }
+    {
+        cell::open(
+            &mut self.cells[usize::from(number)],
+            self.alloc,
+            number,
+            now,
+        );
+    }
+}
+
+impl<P: Place> ClientTable<P> {
+    /// A piece of a client's stream has come, at this moment in milliseconds: its connection is stepped by each packet that is
+    /// whole. What each step wrote goes behind what was said before.
+    ///
+    /// # Errors
+    ///
+    /// [`NoMemory`]: this connection has ended, and its session is parked or ending, with all that it holds. The step that
+    /// wanted memory wrote nothing; what was said before it stays.
+    pub fn receive<S: Supply<P>>(
+        &mut self,
+        supply: &mut S,
+        number: u8,
+        now: u64,
+        piece: &[u8],
+        said: &mut Vec<Said>,
+    ) -> Result<(), NoMemory>
+        requires { number < 64 }
+        ensures { (more : List Words) × (said.new.items ≡ said.old.items ++ more)
+            × InCell self.old number
+            (λ before after. Receives S.call P.slot_of supply.old before now piece.now more result after supply.new) self.new }
+    {
+        cell::receive(
+            &mut self.cells[usize::from(number)],
+            supply,
+            now,
+            piece,
+            said,
+        )
+    }
+
+    /// Time has gone on for a connection, to this moment in milliseconds.
+    ///
+    /// # Errors
+    ///
+    /// As [`ClientTable::receive`].
+    pub fn tick<S: Supply<P>>(
+        &mut self,
+        supply: &mut S,
+        number: u8,
+        now: u64,
+        said: &mut Vec<Said>,
+    ) -> Result<(), NoMemory>
+        requires { number < 64 }
+        ensures { (more : List Words) × (said.new.items ≡ said.old.items ++ more)
+            × InCell self.old number (λ before after. TicksFor S.call P.slot_of supply.old before now more result after supply.new) self.new }
+    {
+        cell::tick(&mut self.cells[usize::from(number)], supply, now, said)
+    }
+
+    /// A client's stream has ended, at this moment in milliseconds.
+    ///
+    /// # Errors
+    ///
+    /// As [`ClientTable::receive`].
+    pub fn end_of_input<S: Supply<P>>(
+        &mut self,
+        supply: &mut S,
+        number: u8,
+        now: u64,
+        said: &mut Vec<Said>,
+    ) -> Result<(), NoMemory>
+        requires { number < 64 }
+        ensures { (more : List Words) × (said.new.items ≡ said.old.items ++ more)
+            × InCell self.old number
+            (λ before after. EndsFor S.call P.slot_of supply.old before now inputs.EndOfInput more result after supply.new) self.new }
+    {
+        cell::end_of_input(&mut self.cells[usize::from(number)], supply, now, said)
+    }
+
+    /// The broker closes, at this moment in milliseconds: this connection is told so, and ends.
+    ///
+    /// # Errors
+    ///
+    /// As [`ClientTable::receive`].
+    pub fn closing<S: Supply<P>>(
+        &mut self,
+        supply: &mut S,
+        number: u8,
+        now: u64,
+        said: &mut Vec<Said>,
+    ) -> Result<(), NoMemory>
+        requires { number < 64 }
+        ensures { (more : List Words) × (said.new.items ≡ said.old.items ++ more)
+            × InCell self.old number
+            (λ before after. EndsFor S.call P.slot_of supply.old before now inputs.Closing more result after supply.new) self.new }
+    {
+        cell::closing(&mut self.cells[usize::from(number)], supply, now, said)
+    }
+
+    /// Lets go of the clients: each connection that is open ends as where the broker closes, that of the greatest number first,
+    /// and nothing is written of it.
+    pub fn abandon<S: Supply<P>>(self, supply: &mut S, now: u64)
+        ensures { AbandonsEach S.call P.slot_of supply.old self now supply.new }
+    {
+        let ClientTable { cells, alloc: _ } = self;
+        abandon_each(cells, supply, now);
+    }
+}
+
+/// Lets go of the clients in these cells, the last one first.
+#[tactic(auto, using(crate::proofs::Leaving::last_first))]
+fn abandon_each<P: Place, S: Supply<P>>(mut cells: Vec<Option<Client<P>>>, supply: &mut S, now: u64)
+    ensures { AbandonsEach S.call P.slot_of supply.old cells.items now supply.new }
+{
+    match cells.pop() {
+        None => cells.destroy_empty(),
+        Some(cell) => {
+            abandon(cell, supply, now);
+            abandon_each(cells, supply, now);
+        }
+    }
+}
+
+/// Lets go of the client in a cell.
+fn abandon<P: Place, S: Supply<P>>(cell: Option<Client<P>>, supply: &mut S, now: u64)
+    ensures { Abandons S.call P.slot_of supply.old cell now supply.new }
+{
+    if let Some(client) = cell {
+        client.abandon(supply, now);
+    }
+}
