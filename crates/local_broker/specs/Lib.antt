@@ -1,0 +1,4 @@
+pub mod Places
+pub mod Groups
+pub mod Broker
+pub mod Calls
