@@ -2,3 +2,4 @@ pub mod Places
 pub mod Groups
 pub mod Broker
 pub mod Calls
+pub mod Reporting

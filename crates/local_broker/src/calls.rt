@@ -2,10 +2,12 @@
 ghost use Rattle.std.specs.Prelude.{◌≡◌, ◌≤◌, ◌<◌, [], false, length, IfOk, IfErr, IfSome};
 ghost use Rattle.member_window.specs.Contents.{held_of};
 ghost use Rattle.conn_engine.specs.Facts.Fact.{Park, ParkAsIs, Keep, Bury};
+ghost use Rattle.local_broker.specs.Broker.{is_open};
 ghost use Rattle.local_broker.specs.Calls.{Calls};
 
 use crate::groups;
 use crate::letting_go::dissolve;
+use crate::opening::SLOTS;
 use crate::place::LocalPlace;
 use crate::supply::LocalSupply;
 use conn_engine::{BindRefusal, NoMemory, OfferRefusal, Supply};
@@ -17,13 +19,12 @@ use session_desk::{Attached, DeskError, Place, Session};
 /// How many ports a group has: one for each connection whose number is below this.
 const PORTS: u16 = 64;
 
-/// How many groups there are.
-const SLOTS: u8 = 8;
-
 impl Supply<LocalPlace> for LocalSupply {
     ghost call = { Calls };
 
-    fn is_open(&self) -> bool {
+    fn is_open(&self) -> bool
+        ensures { result ≡ is_open self.now }
+    {
         self.groups.iter().all(|group| !group.is_closed())
     }
 

@@ -1,6 +1,6 @@
 //! The calls of one group, as a connection is answered them.
 ghost use Rattle.std.specs.Prelude.{◌≡◌, ◌<◌, ◌↔◌, IsTrue};
-ghost use Rattle.local_broker.specs.Groups.{told_as, IsOffered, HandsOut, HandsOutAgain, IsOutAt, IsSettled, IsGivenBack};
+ghost use Rattle.local_broker.specs.Groups.{ClosesEach, told_as, IsOffered, HandsOut, HandsOutAgain, IsOutAt, IsSettled, IsGivenBack};
 
 use crate::letting_go::let_go;
 use conn_engine::{NoMemory, OfferRefusal};
@@ -84,5 +84,14 @@ pub(crate) fn give_back(group: &mut LocalGroup, place: u8, envelope: Envelope)
         group.give_back(envelope);
     } else {
         let_go(envelope);
+    }
+}
+
+/// Closes every group.
+pub(crate) fn close_each(groups: &mut Vec<LocalGroup>)
+    ensures { ClosesEach groups.old.items groups.new.items }
+{
+    'groups: for slot in 0..groups.len() {
+        groups[slot].close();
     }
 }

@@ -14,6 +14,7 @@
 mod calls;
 mod groups;
 mod letting_go;
+mod opening;
 mod place;
 mod supply;
 
