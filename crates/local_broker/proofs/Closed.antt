@@ -7,7 +7,7 @@ use Rattle.dispatch_core.proofs.Spots.{slice_get-set_same, slice_get-set_other}
 use Rattle.local_group.specs.Groups.{Group, Closes}
 use Rattle.local_broker.specs.Groups.{HasGroup, ClosesEach}
 
-either : (b : Bool) → (b ≡ true) ⊎ (b ≡ false)
+pub either : (b : Bool) → (b ≡ true) ⊎ (b ≡ false)
 either true = inl refl
 either false = inr refl
 

@@ -1,3 +1,5 @@
 pub mod Desks
 pub mod Opened
 pub mod Closed
+pub mod Events
+pub mod Happened

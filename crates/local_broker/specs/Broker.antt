@@ -49,6 +49,7 @@ pub record HasAllPlaces (desk : Books Held GroupPlace) : Type 0 where
 pub record IsNewBroker (capacity : ℕ) (b : Broker) : Type 0 where
   pub desk : HasAllPlaces b.desk
   pub routes : b.routes ≡ []
+  pub eight : length b.groups ≡ 8
   pub groups : AreNewGroups capacity b.groups
 
 abbrev pub broker_code : Coded (Books Held GroupPlace) → Coded Share → Coded Group → Coded Broker

@@ -3,3 +3,4 @@ pub mod Groups
 pub mod Broker
 pub mod Calls
 pub mod Reporting
+pub mod Histories

@@ -13,6 +13,7 @@
 
 mod calls;
 mod groups;
+pub mod laws;
 mod letting_go;
 mod opening;
 mod place;

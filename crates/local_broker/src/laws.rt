@@ -1,0 +1,31 @@
+//! Laws of a broker on one thread: what holds whatever happens to it. Each is the contract of a function that does nothing, stated
+//! over the definitions that the contracts of [`LocalSupply`](crate::LocalSupply) cite.
+ghost use Rattle.std.specs.Prelude.{◌≡◌, ℕ, List, Some, slice_get};
+ghost use Rattle.session_desk.specs.Hands.{DeskLaw};
+ghost use Rattle.local_group.specs.Groups.{Group};
+ghost use Rattle.local_broker.specs.Broker.{Broker, IsClosed, IsNewBroker};
+ghost use Rattle.local_broker.specs.Histories.{Happening, HappensAll, AreRunning, OnlyEnds};
+
+/// **The desk law holds always**, whatever calls are made of a new broker: at most 256 sessions, no two of one client that are lent
+/// or parked, each row's session its own, and none that is parked is ending.
+pub fn desk_law()
+    ensures { (capacity : ℕ) (happenings : List Happening) (first b : Broker) →
+        IsNewBroker capacity first → HappensAll first happenings b → DeskLaw b.desk.rows b.desk.made }
+{}
+
+/// **Each group's events are a run** to where its jobs are, whatever calls are made of a new broker; and it has the number of its
+/// slot. So every law of runs holds of each of the groups.
+pub fn running_law()
+    ensures { (capacity : ℕ) (happenings : List Happening) (first b : Broker) →
+        IsNewBroker capacity first → HappensAll first happenings b → AreRunning b }
+{}
+
+/// **Behind the close** nothing is accepted and handed out: a closed broker stays closed, and all that is added to the events of a
+/// group ends a hand-out.
+pub fn closing_law()
+    ensures closed { (happenings : List Happening) (old b : Broker) →
+        IsClosed old → HappensAll old happenings b → IsClosed b }
+    ensures only_ends { (happenings : List Happening) (old b : Broker) →
+        IsClosed old → HappensAll old happenings b →
+        (slot : ℕ) (group : Group) → slice_get b.groups slot ≡ Some group → OnlyEnds old slot group }
+{}
