@@ -6,6 +6,7 @@ ghost use Rattle.local_broker.specs.Calls.{Closes};
 ghost use Rattle.local_broker.specs.Reporting.{IsLineOf, TellsLine};
 
 use crate::groups::close_each;
+use crate::letting_go::let_go;
 use crate::opening::{open_desk, open_groups};
 use crate::place::LocalPlace;
 use conn_engine::NoMemory;
@@ -68,6 +69,16 @@ impl LocalSupply {
         ensures told { is_open self.new ≡ false }
     {
         close_each(&mut self.groups);
+    }
+
+    /// Ends the broker: all that its sessions and its groups have is let go. It takes no memory.
+    pub fn end(self) {
+        let LocalSupply {
+            desk,
+            routes: _,
+            groups: _,
+        } = self;
+        desk.abandon_with(&let_go);
     }
 
     /// The shares that are bound, the one of slot n at place n.

@@ -1,8 +1,7 @@
 //! Rows: what a broker with eight groups writes to its clients.
 use crate::broker::{Coming, written};
-use crate::hall::Hall;
-use crate::spot::Spot;
 use conn_engine::Conn;
+use local_broker::{LocalPlace, LocalSupply};
 use std::alloc::Global;
 use std::process::Abort;
 use std::test::Fail;
@@ -28,35 +27,43 @@ const SUBACK: &str = "900400010001 ";
 type Row = (u64, Coming, &'static str);
 
 // Plays rows to a connection.
-fn play(rt: &impl Abort, alloc: Global, hall: &mut Hall, conn: &mut Conn<Spot>, rows: &[Row]) {
+fn play(rt: &impl Abort, alloc: Global, supply: &mut LocalSupply, conn: &mut Conn<LocalPlace>, rows: &[Row]) {
     for (now, coming, expected) in rows {
-        let told = written(alloc, hall, conn, *now, coming).expect(rt, "a step");
+        let told = written(alloc, supply, conn, *now, coming).expect(rt, "a step");
         assert_eq!(rt; told.as_str(), *expected);
     }
 }
 
 // Plays rows to the only connection of a broker, which end it, and compares the line of its first group.
 fn alone(rt: &impl Abort, alloc: Global, rows: &[Row], line: &str) {
-    let mut hall = Hall::open(rt, alloc, 1_024);
+    let mut supply = open(rt, alloc);
     let mut conn = Conn::open(alloc, 0, 0);
-    play(rt, alloc, &mut hall, &mut conn, rows);
+    play(rt, alloc, &mut supply, &mut conn, rows);
     finish(rt, conn);
-    conclude(rt, hall, line);
+    conclude(rt, alloc, supply, line);
 }
 
 // Ends a connection that has ended.
-fn finish(rt: &impl Abort, conn: Conn<Spot>) {
+fn finish(rt: &impl Abort, conn: Conn<LocalPlace>) {
     if !conn.has_ended() {
         panic!(rt; "the connection has not ended")
     }
     conn.end();
 }
 
-// Ends a broker, and compares the line of its first group.
-fn conclude(rt: &impl Abort, hall: Hall, line: &str) {
-    let told = hall.line(0).expect(rt, "a line");
-    hall.end(rt);
-    assert_eq!(rt; told.as_slice(), line.as_bytes());
+// A broker, in each of whose groups 1,024 messages may wait.
+fn open(rt: &impl Abort, alloc: Global) -> LocalSupply {
+    LocalSupply::open(alloc, 1_024).ok().expect(rt, "a broker")
+}
+
+// Ends a broker, and compares the line of its first group, which is empty where no share is bound.
+fn conclude(rt: &impl Abort, alloc: Global, supply: LocalSupply, line: &str) {
+    let told = supply.line(alloc, 0).ok().expect(rt, "a line");
+    supply.end();
+    match told {
+        Some(told) => assert_eq!(rt; told.as_slice(), line.as_bytes()),
+        None => assert_eq!(rt; "", line),
+    }
 }
 
 #[test]
@@ -185,13 +192,13 @@ fn first_packets(rt: HostRuntime) -> Result<(), Fail> {
 
 #[test]
 fn resume(rt: HostRuntime) -> Result<(), Fail> {
-    let mut hall = Hall::open(&rt, rt.alloc(), 1_024);
+    let mut supply = open(&rt, rt.alloc());
     let mut first = Conn::open(rt.alloc(), 0, 0);
     let mut second = Conn::open(rt.alloc(), 1, 0);
     play(
         &rt,
         rt.alloc(),
-        &mut hall,
+        &mut supply,
         &mut first,
         &[
             (0, Coming::Bytes(CONNECT_STAYS), CONNACK),
@@ -227,7 +234,7 @@ fn resume(rt: HostRuntime) -> Result<(), Fail> {
     play(
         &rt,
         rt.alloc(),
-        &mut hall,
+        &mut supply,
         &mut second,
         &[
             (
@@ -246,7 +253,8 @@ fn resume(rt: HostRuntime) -> Result<(), Fail> {
     finish(&rt, second);
     conclude(
         &rt,
-        hall,
+        rt.alloc(),
+        supply,
         "$share/g/job accepted 5 acknowledged 4 refused 0 held 1 queued 0 returned 0\n",
     );
     Ok(())
@@ -254,34 +262,34 @@ fn resume(rt: HostRuntime) -> Result<(), Fail> {
 
 #[test]
 fn takeover(rt: HostRuntime) -> Result<(), Fail> {
-    let mut hall = Hall::open(&rt, rt.alloc(), 1_024);
+    let mut supply = open(&rt, rt.alloc());
     let mut first = Conn::open(rt.alloc(), 0, 0);
     let mut second = Conn::open(rt.alloc(), 1, 0);
     play(
         &rt,
         rt.alloc(),
-        &mut hall,
+        &mut supply,
         &mut first,
         &[(0, Coming::Bytes(CONNECT), CONNACK)],
     );
     play(
         &rt,
         rt.alloc(),
-        &mut hall,
+        &mut supply,
         &mut second,
         &[(5, Coming::Bytes(CONNECT), ""), (6, Coming::Tick, "")],
     );
     play(
         &rt,
         rt.alloc(),
-        &mut hall,
+        &mut supply,
         &mut first,
         &[(7, Coming::Tick, "e0018e kicked")],
     );
     play(
         &rt,
         rt.alloc(),
-        &mut hall,
+        &mut supply,
         &mut second,
         &[
             (8, Coming::Tick, CONNACK),
@@ -290,6 +298,6 @@ fn takeover(rt: HostRuntime) -> Result<(), Fail> {
     );
     finish(&rt, first);
     finish(&rt, second);
-    conclude(&rt, hall, "");
+    conclude(&rt, rt.alloc(), supply, "");
     Ok(())
 }

@@ -1,7 +1,6 @@
 //! What comes to a connection, in hex, and what is written to it.
-use crate::hall::Hall;
-use crate::spot::Spot;
 use conn_engine::{Conn, Input, Then};
+use local_broker::{LocalPlace, LocalSupply};
 use mqtt_wire::{Fault, Packet, Splitter, encode_into};
 use std::alloc::Global;
 
@@ -38,8 +37,8 @@ fn read(alloc: Global, digits: &str) -> Option<Input> {
 /// What is written to a connection: packets in hex, each with a blank behind it, and a word where the connection is closed.
 pub fn written(
     alloc: Global,
-    hall: &mut Hall,
-    conn: &mut Conn<Spot>,
+    supply: &mut LocalSupply,
+    conn: &mut Conn<LocalPlace>,
     now: u64,
     coming: &Coming,
 ) -> Option<String> {
@@ -48,7 +47,7 @@ pub fn written(
         return None;
     }
     let mut packets = Vec::new(alloc);
-    let next = conn.step(hall, now, input, &mut packets).ok()?;
+    let next = conn.step(supply, now, input, &mut packets).ok()?;
     told(alloc, &packets, next)
 }
 
