@@ -1,5 +1,5 @@
 -- What a call adds to the events of one group.
-use Rattle.std.proofs.Common.{◌≡◌, ◌≢◌, ℕ, ◌⊎◌, Bool, true, false, Option, Some, None, Result, Ok, Err, refl, sym, ap, ◌∙◌, subst, inl, inr, ⊎_elim}
+use Rattle.std.proofs.Common.{◌≡◌, ℕ, ◌⊎◌, true, false, Option, Some, None, Result, Ok, Err, refl, ap, ◌∙◌, inl, inr, ⊎_elim}
 use Rattle.dispatch_core.specs.declared.event.Event.{Event}
 use Rattle.dispatch_core.specs.declared.event.Event.TheVariants.{Accept, First, Ack, Refuse, Back, Again, Close}
 use Rattle.dispatch_core.specs.GroupState.{GroupState}
@@ -9,7 +9,7 @@ use Rattle.group_jobs.specs.declared.fate.Fate.TheVariants as fate
 use Rattle.group_jobs.specs.declared.message.Message.{Message}
 use Rattle.group_jobs.specs.declared.stamp.Stamp.{Stamp}
 use Rattle.group_jobs.specs.Stamps.{Held, job_of}
-use Rattle.local_group.specs.Groups.{Group, Adds, Settles, Closes, event_of}
+use Rattle.local_group.specs.Groups.{Group, Adds, Settles, Closes}
 use Rattle.conn_engine.specs.declared.supply.NoMemory.{NoMemory}
 use Rattle.conn_engine.specs.declared.supply.OfferRefusal.{OfferRefusal}
 use Rattle.local_broker.specs.Groups.{IsOffered, HandsOut, HandsOutAgain, IsOutAt, IsSettled, IsGivenBack, LetsGo}

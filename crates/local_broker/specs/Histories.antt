@@ -5,10 +5,12 @@ use Rattle.dispatch_core.specs.declared.event.Event.{Event}
 use Rattle.dispatch_core.specs.declared.event.Event.TheVariants as event
 use Rattle.dispatch_core.specs.History.{IsRun}
 use Rattle.group_jobs.specs.declared.stamp.Stamp.{Stamp}
+use Rattle.group_jobs.specs.Stamps.{Held}
 use Rattle.local_group.specs.Groups.{Group}
 use Rattle.conn_engine.specs.Facts.{Fact}
 use Rattle.conn_engine.specs.Facts.Fact.{Settle, GiveBack}
 use Rattle.local_broker.specs.Places.{GroupPlace}
+use Rattle.local_broker.specs.Groups.{HasGroup, IsOutAt}
 use Rattle.local_broker.specs.Broker.{Broker}
 use Rattle.local_broker.specs.Calls.{Calls, Closes}
 
@@ -57,3 +59,11 @@ abbrev pub Spends : Stamp → Happening → Type 0
 Spends stamp (Called (Settle place place' envelope fate)) = envelope.stamp ≡ stamp
 Spends stamp (Called (GiveBack place place' envelope answer)) = envelope.stamp ≡ stamp
 Spends stamp _ = ⊥
+
+abbrev pub NoneSpends : Stamp → List Happening → Type 0
+NoneSpends stamp [] = Unit {0}
+NoneSpends stamp (first ∷ others) = ¬ Spends stamp first × NoneSpends stamp others
+
+-- the place was handed this message, and has neither settled it nor given it back
+abbrev pub HasOut : Broker → GroupPlace → Held → Type 0
+HasOut b place envelope = HasGroup b.groups place.slot (λ group. IsOutAt group place.number envelope)

@@ -3,6 +3,7 @@ use conn_engine::{Conn, Input, Then};
 use local_broker::{LocalPlace, LocalSupply};
 use mqtt_wire::{Fault, Packet, Splitter, encode_into};
 use std::alloc::Global;
+use std::process::Abort;
 
 /// What comes to a connection: the first packet of bytes in hex, or something else.
 #[derive(Drop)]
@@ -66,4 +67,44 @@ fn told(alloc: Global, packets: &[Packet], next: Then) -> Option<String> {
         Then::Kicked => told.push_str("kicked").ok()?,
     }
     Some(told)
+}
+
+/// What comes to a connection at a moment, and what is written then.
+pub type Row = (u64, Coming, &'static str);
+
+/// Plays rows to a connection.
+pub fn play(
+    rt: &impl Abort,
+    alloc: Global,
+    supply: &mut LocalSupply,
+    conn: &mut Conn<LocalPlace>,
+    rows: &[Row],
+) {
+    for (now, coming, expected) in rows {
+        let told = written(alloc, supply, conn, *now, coming).expect(rt, "a step");
+        assert_eq!(rt; told.as_str(), *expected);
+    }
+}
+
+/// Ends a connection that has ended.
+pub fn finish(rt: &impl Abort, conn: Conn<LocalPlace>) {
+    if !conn.has_ended() {
+        panic!(rt; "the connection has not ended")
+    }
+    conn.end();
+}
+
+/// A broker, in each of whose groups 1,024 messages may wait.
+pub fn open(rt: &impl Abort, alloc: Global) -> LocalSupply {
+    LocalSupply::open(alloc, 1_024).ok().expect(rt, "a broker")
+}
+
+/// Ends a broker, and compares the line of its first group, which is empty where no share is bound.
+pub fn conclude(rt: &impl Abort, alloc: Global, supply: LocalSupply, line: &str) {
+    let told = supply.line(alloc, 0).ok().expect(rt, "a line");
+    supply.end();
+    match told {
+        Some(told) => assert_eq!(rt; told.as_slice(), line.as_bytes()),
+        None => assert_eq!(rt; "", line),
+    }
 }

@@ -5,4 +5,8 @@
 #[cfg(test)]
 mod broker;
 #[cfg(test)]
+mod packets;
+#[cfg(test)]
+mod returned;
+#[cfg(test)]
 mod rows;

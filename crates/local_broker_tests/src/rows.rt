@@ -1,38 +1,15 @@
 //! Rows: what a broker with eight groups writes to its clients.
-use crate::broker::{Coming, written};
+use crate::broker::{Coming, Row, conclude, finish, open, play};
+use crate::packets::{CONNACK, CONNECT, CONNECT_STAYS, SUBACK, SUBSCRIBE};
 use conn_engine::Conn;
-use local_broker::{LocalPlace, LocalSupply};
 use std::alloc::Global;
 use std::process::Abort;
 use std::test::Fail;
 
-// CONNECT packets of client w1: plain, with Receive Maximum 1, with an expiry of an hour and Receive Maximum 10, and then with 2
-// and Clean Start 0; and the CONNACK without a session.
-const CONNECT: &str = "100F00044D5154540502003C0000027731";
-
+// CONNECT packets of client w1 with Receive Maximum 1; with an expiry of an hour, Receive Maximum 2 and Clean Start 0.
 const CONNECT_ONE: &str = "101200044D5154540502003C0321000100027731";
 
-const CONNECT_STAYS: &str = "101700044D5154540502003C081100000E1021000A00027731";
-
 const CONNECT_AGAIN: &str = "101700044D5154540500003C081100000E1021000200027731";
-
-const CONNACK: &str = "200e00000b2401250027000100002900 ";
-
-// A SUBSCRIBE to $share/g/job, and its SUBACK.
-const SUBSCRIBE: &str = "8212000100000C2473686172652F672F6A6F6201";
-
-const SUBACK: &str = "900400010001 ";
-
-// What comes to a connection at a moment, and what is written then.
-type Row = (u64, Coming, &'static str);
-
-// Plays rows to a connection.
-fn play(rt: &impl Abort, alloc: Global, supply: &mut LocalSupply, conn: &mut Conn<LocalPlace>, rows: &[Row]) {
-    for (now, coming, expected) in rows {
-        let told = written(alloc, supply, conn, *now, coming).expect(rt, "a step");
-        assert_eq!(rt; told.as_str(), *expected);
-    }
-}
 
 // Plays rows to the only connection of a broker, which end it, and compares the line of its first group.
 fn alone(rt: &impl Abort, alloc: Global, rows: &[Row], line: &str) {
@@ -41,29 +18,6 @@ fn alone(rt: &impl Abort, alloc: Global, rows: &[Row], line: &str) {
     play(rt, alloc, &mut supply, &mut conn, rows);
     finish(rt, conn);
     conclude(rt, alloc, supply, line);
-}
-
-// Ends a connection that has ended.
-fn finish(rt: &impl Abort, conn: Conn<LocalPlace>) {
-    if !conn.has_ended() {
-        panic!(rt; "the connection has not ended")
-    }
-    conn.end();
-}
-
-// A broker, in each of whose groups 1,024 messages may wait.
-fn open(rt: &impl Abort, alloc: Global) -> LocalSupply {
-    LocalSupply::open(alloc, 1_024).ok().expect(rt, "a broker")
-}
-
-// Ends a broker, and compares the line of its first group, which is empty where no share is bound.
-fn conclude(rt: &impl Abort, alloc: Global, supply: LocalSupply, line: &str) {
-    let told = supply.line(alloc, 0).ok().expect(rt, "a line");
-    supply.end();
-    match told {
-        Some(told) => assert_eq!(rt; told.as_slice(), line.as_bytes()),
-        None => assert_eq!(rt; "", line),
-    }
 }
 
 #[test]
