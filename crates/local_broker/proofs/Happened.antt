@@ -56,7 +56,7 @@ law_next old new (GiveBack place place' envelope (Err back)) law does = absurd d
 pub law_all_along : (happenings : List Happening) (old new : Broker) → DeskLaw old.desk.rows old.desk.made → HappensAll old happenings new → DeskLaw new.desk.rows new.desk.made
 law_all_along [] old new law all = subst (λ (b : Broker). DeskLaw b.desk.rows b.desk.made) (sym all) law
 law_all_along (Called fact ∷ others) old new law all = law_all_along others all.0 new (law_next old all.0 fact law all.1) all.2
-law_all_along (Closed ∷ others) old new law all = law_all_along others all.0 new (same_desk old all.0 law all.1.rest.desk) all.2
+law_all_along (Closed ∷ others) old new law all = law_all_along others all.0 new (same_desk old all.0 law all.1.desk) all.2
 
 -- the group of this slot was this one before, and one event more happened in it at most
 pub record Came (old : List Group) (slot : ℕ) (group : Group) : Type 0 where

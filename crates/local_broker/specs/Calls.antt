@@ -20,7 +20,7 @@ use Rattle.local_broker.specs.Places.{GroupPlace, cell_of}
 use Rattle.local_broker.specs.Groups.{IsOffered, HandsOut, HandsOutAgain, IsSettled, IsGivenBack, InGroup, ClosesEach}
 use Rattle.local_broker.specs.Broker.{Broker}
 
--- a call of the desk, which is allowed, and nothing else
+-- a call of the desk, which may be made, and nothing else
 pub record AsksDesk (old : Broker) (call : Call Held GroupPlace) (new : Broker) : Type 0 where
   pub allowed : IsAllowed call
   pub makes : Makes cell_of old.desk call new.desk
@@ -35,12 +35,13 @@ HandsIn old call new = (back : Option (Session Held GroupPlace)) × AsksDesk old
 abbrev pub HandsInPlace : Broker → GroupPlace → Broker → Type 0
 HandsInPlace old place new = (back : Option GroupPlace) × AsksDesk old (desk.TakePlace place back) new
 
--- the routes and the groups: what else there is stays
-pub record KeepsOthers (old new : Broker) : Type 0 where
+-- a call of the routes, and nothing else
+pub record AsksRoutes (old new : Broker) : Type 0 where
   pub desk : new.desk ≡ old.desk
   pub groups : new.groups ≡ old.groups
 
-pub record KeepsRest (old new : Broker) : Type 0 where
+-- a call of a group, and nothing else
+pub record AsksGroup (old new : Broker) : Type 0 where
   pub desk : new.desk ≡ old.desk
   pub routes : new.routes ≡ old.routes
 
@@ -58,6 +59,7 @@ OffersFrom old slot connection message answer new =
     ⊎ (((connection < 64) × (8 ≤ slot) × (answer ≡ Err refusal.Shut) × (new ≡ old))
     ⊎ ((connection < 64) × (slot < 8) × InGroup old slot (λ before after. IsOffered before connection message answer after) new))
 
+-- what each call makes, with its answer
 abbrev pub Calls : Broker → Fact GroupPlace → Broker → Type 0
 Calls old (Attach request answer) new = AsksDesk old (desk.Attach request answer) new
 Calls old (Withdraw connection) new = AsksDesk old (desk.Withdraw connection) new
@@ -69,21 +71,22 @@ Calls old (Bury session) new = HandsIn old (λ back. desk.Bury session back) new
 Calls old (Sweep now answer) new = AsksDesk old (desk.Sweep now answer) new
 Calls old (LendPlace slot answer) new = AsksDesk old (desk.LendPlace slot answer) new
 Calls old (TakePlace place) new = HandsInPlace old place new
-Calls old (Bind share answer) new = Binds old.routes share answer new.routes × KeepsOthers old new
+Calls old (Bind share answer) new = Binds old.routes share answer new.routes × AsksRoutes old new
 Calls old (Find share answer) new = (answer ≡ slot_of share.text old.routes) × (new ≡ old)
 Calls old (Match topic slots) new = (slots ≡ places_of 0 (routed topic old.routes)) × (new ≡ old)
-Calls old (Offer slot connection message answer) new = OffersFrom old.groups slot connection message answer new.groups × KeepsRest old new
+Calls old (Offer slot connection message answer) new = OffersFrom old.groups slot connection message answer new.groups × AsksGroup old new
 Calls old (Take place place' answer) new =
-    InGroup old.groups place.slot (λ before after. HandsOut before place.number answer after) new.groups × (place' ≡ place) × KeepsRest old new
+    InGroup old.groups place.slot (λ before after. HandsOut before place.number answer after) new.groups × (place' ≡ place) × AsksGroup old new
 Calls old (TakeBack place place' answer) new =
-    InGroup old.groups place.slot (λ before after. HandsOutAgain before place.number answer after) new.groups × (place' ≡ place) × KeepsRest old new
+    InGroup old.groups place.slot (λ before after. HandsOutAgain before place.number answer after) new.groups × (place' ≡ place) × AsksGroup old new
 Calls old (Settle place place' envelope fate) new =
-    InGroup old.groups place.slot (λ before after. IsSettled before place.number envelope fate after) new.groups × (place' ≡ place) × KeepsRest old new
+    InGroup old.groups place.slot (λ before after. IsSettled before place.number envelope fate after) new.groups × (place' ≡ place) × AsksGroup old new
 Calls old (GiveBack place place' envelope (Ok done)) new =
-    InGroup old.groups place.slot (λ before after. IsGivenBack before place.number envelope after) new.groups × (place' ≡ place) × KeepsRest old new
+    InGroup old.groups place.slot (λ before after. IsGivenBack before place.number envelope after) new.groups × (place' ≡ place) × AsksGroup old new
 Calls old (GiveBack place place' envelope (Err back)) new = ⊥
 
--- the broker is closed: every group is
+-- the close: each group is closed, and the rest stays
 pub record Closes (old new : Broker) : Type 0 where
   pub groups : ClosesEach old.groups new.groups
-  pub rest : KeepsRest old new
+  pub desk : new.desk ≡ old.desk
+  pub routes : new.routes ≡ old.routes

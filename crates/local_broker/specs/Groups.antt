@@ -75,7 +75,7 @@ pub record HasGroup (groups : List Group) (slot : ℕ) (IsSo : Group → Type 0)
   pub there : slice_get groups slot ≡ Some group
   pub is_so : IsSo group
 
--- every group is closed
+-- each group is closed, in its place
 pub record ClosesEach (old new : List Group) : Type 0 where
   pub as_many : length new ≡ length old
   pub each : (slot : ℕ) (before : Group) → slice_get old slot ≡ Some before → HasGroup new slot (Closes before)

@@ -1,4 +1,5 @@
-use Rattle.std.proofs.Common.{sym, ap, subst, [], ◌∷◌, length, arith, length-append}
+use Rattle.std.proofs.Common.{ℕ, List, sym, ap, subst, [], ◌∷◌, length, arith, length-append}
+use Rattle.local_group.specs.Groups.{Group}
 use Rattle.local_broker.specs.Broker.{AreNewGroups, IsNewGroup}
 use Rattle.local_broker.proofs.Opened.{group_more}
 use Rattle.local_broker.proofs.opening.open_groups.Goals as goal
@@ -12,5 +13,5 @@ slots-preserved c =
     let many = c.slots.invariant.many in
     record {
       many = omega (arith, ap length pushed, length-append groups (group ∷ []));
-      fresh = subst (AreNewGroups c.args.capacity) (sym pushed) (group_more c.args.capacity groups group c.slots.invariant.fresh (subst (λ n. IsNewGroup n c.args.capacity group) (sym many) new));
+      fresh = subst (AreNewGroups c.args.capacity) (sym {A = List Group} pushed) (group_more c.args.capacity groups group c.slots.invariant.fresh (subst (λ n. IsNewGroup n c.args.capacity group) (sym {A = ℕ} many) new));
     }
