@@ -86,6 +86,13 @@ impl LocalGroup {
         &self.events
     }
 
+    /// Whether the group is closed: it accepts nothing and hands nothing out any more.
+    pub fn is_closed(&self) -> bool
+        ensures { result ≡ self.now.state.closed }
+    {
+        self.state.closed()
+    }
+
     /// Where its jobs are.
     pub(crate) fn state(&self) -> &State
         ensures value { result.now ≡ self.now.state }

@@ -52,6 +52,13 @@ impl Text {
         self.text.as_bytes().as_slice()
     }
 
+    /// The bytes of the text, to be shared.
+    pub fn shared_bytes(&self) -> &Bytes
+        ensures { result.now ≡ self.now }
+    {
+        self.text.as_bytes()
+    }
+
     /// The text.
     pub fn as_str(&self) -> &str
         ensures { result.now ≡ self.now }

@@ -7,10 +7,14 @@ use crate::session::Session;
 use indexmap::IndexMap;
 use member_window::Window;
 
-/// Lets go of everything in a window, and ends it.
-fn abandon_window<E: Drop>(mut window: Window<E>) {
+/// Gives everything in a window to who lets go of it, and ends the window.
+fn abandon_window<E, F: Fn(E)>(mut window: Window<E>, let_go: &F)
+    requires { F.IsAlwaysCallable let_go.now }
+{
     window.down();
-    'held: while let Some(_) = window.take_first() {}
+    'held: while let Some((_, item)) = window.take_first() {
+        let_go(item);
+    }
     window.end();
 }
 
@@ -31,10 +35,12 @@ impl<E, P: Drop> Session<E, P> {
     }
 }
 
-impl<E: Drop, P: Drop> Session<E, P> {
-    /// Lets go of a session and of everything in it. Its desk is told nothing, and its row stays as it is: for who ends,
-    /// and has no use for what the session holds.
-    pub fn abandon(self) {
+impl<E, P: Drop> Session<E, P> {
+    /// Lets go of a session, and gives everything in it to who lets go of that. Its desk is told nothing, and its row stays as it
+    /// is: for who ends, and has no use for what the session holds.
+    pub fn abandon_with<F: Fn(E)>(self, let_go: &F)
+        requires { F.IsAlwaysCallable let_go.now }
+    {
         let Session {
             identity,
             expiry: _,
@@ -42,12 +48,21 @@ impl<E: Drop, P: Drop> Session<E, P> {
             membership: _,
         } = self;
         identity.end();
-        abandon_window(window);
+        abandon_window(window, let_go);
+    }
+}
+
+impl<E: Drop, P: Drop> Session<E, P> {
+    /// Lets go of a session and of everything in it, as [`Session::abandon_with`] does.
+    pub fn abandon(self) {
+        self.abandon_with(&|_item| {});
     }
 }
 
 /// Lets go of everything in a row.
-fn abandon_row<E: Drop, P: Drop>(row: Row<E, P>) {
+fn abandon_row<E, P: Drop, F: Fn(E)>(row: Row<E, P>, let_go: &F)
+    requires { F.IsAlwaysCallable let_go.now }
+{
     let Row {
         client: _,
         wait: _,
@@ -56,15 +71,17 @@ fn abandon_row<E: Drop, P: Drop>(row: Row<E, P>) {
     match standing {
         Standing::Lent(_) => {}
         Standing::Away => {}
-        Standing::Parked(session) => session.abandon(),
-        Standing::Kept(session) => session.abandon(),
+        Standing::Parked(session) => session.abandon_with(let_go),
+        Standing::Kept(session) => session.abandon_with(let_go),
     }
 }
 
 /// Lets go of everything in the rows, and ends them.
-pub(crate) fn abandon_rows<E: Drop, P: Drop>(mut rows: IndexMap<u64, Row<E, P>>) {
+pub(crate) fn abandon_rows<E, P: Drop, F: Fn(E)>(mut rows: IndexMap<u64, Row<E, P>>, let_go: &F)
+    requires { F.IsAlwaysCallable let_go.now }
+{
     'rows: while let Some((_, row)) = rows.pop() {
-        abandon_row(row);
+        abandon_row(row, let_go);
     }
     rows.destroy_empty();
 }

@@ -262,10 +262,12 @@ impl<E, P: Place> Desk<E, P> {
     }
 }
 
-impl<E: Drop, P: Drop> Desk<E, P> {
-    /// Ends the desk and lets go of all places and all items that it has, which takes no memory: for who finds none for
-    /// [`Desk::into_all`].
-    pub fn abandon(self) {
+impl<E, P: Drop> Desk<E, P> {
+    /// Ends the desk: lets go of all places, and gives each item that it has to who lets go of that. It takes no memory: for who
+    /// finds none for [`Desk::into_all`].
+    pub fn abandon_with<F: Fn(E)>(self, let_go: &F)
+        requires { F.IsAlwaysCallable let_go.now }
+    {
         let Desk {
             table,
             waits: _,
@@ -274,7 +276,14 @@ impl<E: Drop, P: Drop> Desk<E, P> {
             assigned: _,
             alloc: _,
         } = self;
-        table.abandon();
+        table.abandon(let_go);
         free.abandon();
+    }
+}
+
+impl<E: Drop, P: Drop> Desk<E, P> {
+    /// Ends the desk and lets go of all places and all items that it has, as [`Desk::abandon_with`] does.
+    pub fn abandon(self) {
+        self.abandon_with(&|_item| {});
     }
 }

@@ -328,15 +328,17 @@ impl<E, P> Table<E, P> {
     }
 }
 
-impl<E: Drop, P: Drop> Table<E, P> {
+impl<E, P: Drop> Table<E, P> {
     /// Lets go of everything in the rows, and ends the table.
-    pub(crate) fn abandon(self) {
+    pub(crate) fn abandon<F: Fn(E)>(self, let_go: &F)
+        requires { F.IsAlwaysCallable let_go.now }
+    {
         let Table {
             rows,
             living: _,
             made: _,
             soonest: _,
         } = self;
-        abandon_rows(rows);
+        abandon_rows(rows, let_go);
     }
 }

@@ -1,0 +1,155 @@
+//! The calls of connections.
+ghost use Rattle.std.specs.Prelude.{◌≡◌, ◌≤◌, ◌<◌, [], false, length, IfOk, IfErr, IfSome};
+ghost use Rattle.member_window.specs.Contents.{held_of};
+ghost use Rattle.conn_engine.specs.Facts.Fact.{Park, ParkAsIs, Keep, Bury};
+ghost use Rattle.local_broker.specs.Broker.{is_open};
+ghost use Rattle.local_broker.specs.Calls.{Calls};
+
+use crate::groups;
+use crate::letting_go::dissolve;
+use crate::opening::SLOTS;
+use crate::place::LocalPlace;
+use crate::supply::LocalSupply;
+use conn_engine::{BindRefusal, NoMemory, OfferRefusal, Supply};
+use group_jobs::{Envelope, Fate, Message, Stamp};
+use mqtt_topic::{Share, Slots, TopicError, TopicName};
+use mqtt_wire::Text;
+use session_desk::{Attached, DeskError, Place, Session};
+
+/// How many ports a group has: one for each connection whose number is below this.
+const PORTS: u16 = 64;
+
+impl Supply<LocalPlace> for LocalSupply {
+    ghost call = { Calls };
+
+    fn is_open(&self) -> bool
+        ensures { result ≡ is_open self.now }
+    {
+        self.groups.iter().all(|group| !group.is_closed())
+    }
+
+    fn attach(
+        &mut self,
+        connection: u16,
+        client: &Text,
+        clean: bool,
+        now: u64,
+    ) -> Result<Attached<Envelope, LocalPlace>, DeskError> {
+        self.desk
+            .attach(connection, client.shared_bytes(), clean, now)
+    }
+
+    fn withdraw(&mut self, connection: u16) {
+        self.desk.withdraw(connection);
+    }
+
+    fn kicked(&mut self, connection: u16) -> bool {
+        self.desk.kicked(connection)
+    }
+
+    fn park(
+        &mut self,
+        session: Session<Envelope, LocalPlace>,
+        now: u64,
+    ) -> Option<Session<Envelope, LocalPlace>>
+        requires { session.window.retired ≡ false }
+        ensures same { IfSome result (λ back. back ≡ session) }
+        ensures called { Calls self.old (Park session now result) self.new }
+    {
+        self.desk.park(session, now)
+    }
+
+    fn park_as_is(&mut self, session: Session<Envelope, LocalPlace>)
+        requires { session.window.retired ≡ false }
+        ensures { Calls self.old (ParkAsIs session) self.new }
+    {
+        dissolve(self.desk.park_as_is(session));
+    }
+
+    fn keep(&mut self, session: Session<Envelope, LocalPlace>)
+        ensures { Calls self.old (Keep session) self.new }
+    {
+        dissolve(self.desk.keep(session));
+    }
+
+    fn bury(&mut self, session: Session<Envelope, LocalPlace>)
+        requires { held_of session.window ≡ [] }
+        ensures { Calls self.old (Bury session) self.new }
+    {
+        dissolve(self.desk.bury(session));
+    }
+
+    fn sweep(&mut self, now: u64) -> Option<Session<Envelope, LocalPlace>> {
+        self.desk.sweep(now)
+    }
+
+    fn lend_place(&mut self, slot: u8) -> Option<LocalPlace> {
+        self.desk.lend_place(slot)
+    }
+
+    fn take_place(&mut self, place: LocalPlace) {
+        let _back = self.desk.take_place(place);
+    }
+
+    fn bind(&mut self, share: Share) -> Result<u8, BindRefusal> {
+        match self.routes.bind(share) {
+            Ok(slot) => Ok(slot),
+            Err(TopicError::NoSlot) => Err(BindRefusal::NoSlot),
+            Err(TopicError::Memory) => Err(BindRefusal::Memory),
+            Err(_) => unreachable!(),
+        }
+    }
+
+    fn find(&mut self, share: &Share) -> Option<u8> {
+        self.routes.find(share)
+    }
+
+    fn matching(&mut self, topic: &TopicName) -> Slots {
+        self.routes.matching(topic)
+    }
+
+    fn offer(
+        &mut self,
+        slot: u8,
+        connection: u16,
+        message: Message,
+    ) -> Result<Stamp, OfferRefusal> {
+        if connection >= PORTS {
+            return Err(OfferRefusal::LifeSpent);
+        }
+        if slot >= SLOTS {
+            return Err(OfferRefusal::Shut);
+        }
+        groups::offer(
+            &mut self.groups[usize::from(slot)],
+            connection as u8,
+            message,
+        )
+    }
+
+    fn take(&mut self, place: &mut LocalPlace) -> Result<Option<Envelope>, NoMemory> {
+        groups::take(&mut self.groups[usize::from(place.slot())], place.number())
+    }
+
+    fn take_back(&mut self, place: &mut LocalPlace) -> Result<Option<Envelope>, NoMemory> {
+        groups::take_back(&mut self.groups[usize::from(place.slot())], place.number())
+    }
+
+    fn settle(&mut self, place: &mut LocalPlace, envelope: Envelope, fate: Fate) {
+        groups::settle(
+            &mut self.groups[usize::from(place.slot())],
+            place.number(),
+            envelope,
+            fate,
+        );
+    }
+
+    fn give_back(&mut self, place: &mut LocalPlace, envelope: Envelope) -> Result<(), Envelope> {
+        groups::give_back(
+            &mut self.groups[usize::from(place.slot())],
+            place.number(),
+            envelope,
+        );
+        Ok(())
+    }
+}

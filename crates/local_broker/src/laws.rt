@@ -1,0 +1,46 @@
+//! Laws of a broker on one thread: what holds whatever happens to it. Each is the contract of a function that does nothing, stated
+//! over the definitions that the contracts of [`LocalSupply`](crate::LocalSupply) cite.
+ghost use Rattle.std.specs.Prelude.{◌≡◌, ℕ, List, Some, Ok, slice_get};
+ghost use Rattle.group_jobs.specs.Stamps.{Held};
+ghost use Rattle.session_desk.specs.Hands.{DeskLaw};
+ghost use Rattle.local_group.specs.Groups.{Group};
+ghost use Rattle.local_broker.specs.Broker.{Broker, IsClosed, IsNewBroker};
+ghost use Rattle.local_broker.specs.Histories.{Happening, HappensAll, AreRunning, OnlyEnds, HasOut, NoneSpends};
+ghost use Rattle.conn_engine.specs.Facts.Fact.{Take, TakeBack};
+ghost use Rattle.local_broker.specs.Calls.{Calls};
+ghost use Rattle.local_broker.specs.Places.{GroupPlace};
+
+/// **The desk law holds always**, whatever calls are made of a new broker: at most 256 sessions, no two of one client that are lent
+/// or parked, each row's session its own, and none that is parked is ending.
+pub fn desk_law()
+    ensures { (capacity : ℕ) (happenings : List Happening) (first b : Broker) →
+        IsNewBroker capacity first → HappensAll first happenings b → DeskLaw b.desk.rows b.desk.made }
+{}
+
+/// **Each group's events are a run** to where its jobs are, whatever calls are made of a new broker; and it has the number of its
+/// slot. So every law of runs holds of each of the groups.
+pub fn running_law()
+    ensures { (capacity : ℕ) (happenings : List Happening) (first b : Broker) →
+        IsNewBroker capacity first → HappensAll first happenings b → AreRunning b }
+{}
+
+/// **Behind the close** nothing is accepted and handed out: a closed broker stays closed, and all that is added to the events of a
+/// group ends a hand-out.
+pub fn closing_law()
+    ensures closed { (happenings : List Happening) (old b : Broker) →
+        IsClosed old → HappensAll old happenings b → IsClosed b }
+    ensures only_ends { (happenings : List Happening) (old b : Broker) →
+        IsClosed old → HappensAll old happenings b →
+        (slot : ℕ) (group : Group) → slice_get b.groups slot ≡ Some group → OnlyEnds old slot group }
+{}
+
+/// **Who spends what it was handed can.** A message that a place was handed is out there, and stays so whatever else happens, until
+/// it is settled or given back: so it is never taken for a stranger's, and let go.
+pub fn holding_law()
+    ensures taken { (old b : Broker) (place after : GroupPlace) (envelope : Held) →
+        Calls old (Take place after (Ok (Some envelope))) b → HasOut b place envelope }
+    ensures taken_back { (old b : Broker) (place after : GroupPlace) (envelope : Held) →
+        Calls old (TakeBack place after (Ok (Some envelope))) b → HasOut b place envelope }
+    ensures stays { (happenings : List Happening) (old b : Broker) (place : GroupPlace) (envelope : Held) →
+        HasOut old place envelope → HappensAll old happenings b → NoneSpends envelope.stamp happenings → HasOut b place envelope }
+{}
