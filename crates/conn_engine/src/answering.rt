@@ -10,7 +10,7 @@ use crate::standing::Link;
 use crate::subscribing::{subscribe, unsubscribe};
 use crate::supply::{NoMemory, Supply};
 use mqtt_wire::{Disconnect, Packet, ReasonCode, Subscribe, Unsubscribe};
-use session_desk::{Place, Session};
+use session_desk::Place;
 use std::alloc::Global;
 
 /// Answers a packet of the connection with this number, whose client has its session.
@@ -50,10 +50,13 @@ pub(crate) fn answer<P: Place, S: Supply<P>>(
             let (link, reply) = disconnect(alloc, link, &packet);
             (link, Ok(reply))
         }
-        _ => (
-            link,
-            Ok(Reply::closing_with(alloc, ReasonCode::PROTOCOL_ERROR)),
-        ),
+        other => {
+            drop(other);
+            (
+                link,
+                Ok(Reply::closing_with(alloc, ReasonCode::PROTOCOL_ERROR)),
+            )
+        }
     }
 }
 
@@ -61,7 +64,7 @@ pub(crate) fn answer<P: Place, S: Supply<P>>(
 fn join<P: Place, S: Supply<P>>(
     supply: &mut S,
     alloc: Global,
-    link: Link<P>,
+    mut link: Link<P>,
     packet: Subscribe,
 ) -> (Link<P>, Result<Reply, NoMemory>)
     requires { link.session.window.retired ≡ false }
@@ -70,38 +73,17 @@ fn join<P: Place, S: Supply<P>>(
         (λ _. FailsToAnswer S.call P.slot_of supply.old 0 link (packets.Subscribe packet) result.0 supply.new) }
     ensures sound { result.0.session.window.retired ≡ false }
 {
-    let Link {
-        session: Session {
-            identity,
-            expiry,
-            window,
-            membership,
-        },
-        terms,
-        heard,
-    } = link;
-    let (membership, replied) = subscribe(supply, alloc, membership, &terms, packet);
-    let link = Link {
-        session: Session {
-            identity,
-            expiry,
-            window,
-            membership,
-        },
-        terms,
-        heard,
-    };
-    match replied {
-        Ok(reply) => (link, Ok(reply)),
-        Err(NoMemory) => (link, Err(NoMemory)),
-    }
+    let membership = link.take_membership();
+    let (membership, replied) = subscribe(supply, alloc, membership, &link.terms, packet);
+    link.put_membership(membership);
+    (link, replied)
 }
 
 /// Answers an UNSUBSCRIBE.
 fn leave<P: Place, S: Supply<P>>(
     supply: &mut S,
     alloc: Global,
-    link: Link<P>,
+    mut link: Link<P>,
     packet: Unsubscribe,
 ) -> (Link<P>, Result<Reply, NoMemory>)
     requires { link.session.window.retired ≡ false }
@@ -110,31 +92,10 @@ fn leave<P: Place, S: Supply<P>>(
         (λ _. FailsToAnswer S.call P.slot_of supply.old 0 link (packets.Unsubscribe packet) result.0 supply.new) }
     ensures sound { result.0.session.window.retired ≡ false }
 {
-    let Link {
-        session: Session {
-            identity,
-            expiry,
-            window,
-            membership,
-        },
-        terms,
-        heard,
-    } = link;
+    let membership = link.take_membership();
     let (membership, replied) = unsubscribe(supply, alloc, membership, packet);
-    let link = Link {
-        session: Session {
-            identity,
-            expiry,
-            window,
-            membership,
-        },
-        terms,
-        heard,
-    };
-    match replied {
-        Ok(reply) => (link, Ok(reply)),
-        Err(NoMemory) => (link, Err(NoMemory)),
-    }
+    link.put_membership(membership);
+    (link, replied)
 }
 
 /// Answers a DISCONNECT (section 3.14).

@@ -29,8 +29,12 @@ pub(crate) fn publish<P, S: Supply<P>>(
     ensures cut_short { OnErr result (IsCutShort S.call supply.old connection publish supply.new) }
 {
     match answer_to_publish(&publish) {
-        PublishAnswer::Close(code) => Ok(Reply::closing_with(alloc, code)),
+        PublishAnswer::Close(code) => {
+            drop(publish);
+            Ok(Reply::closing_with(alloc, code))
+        }
         PublishAnswer::Refuse(identifier, code) => {
+            drop(publish);
             Ok(Reply::acknowledging(alloc, identifier, code))
         }
         PublishAnswer::Offer(identifier) => {
