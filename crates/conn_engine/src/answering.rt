@@ -9,7 +9,7 @@ use crate::reply::Reply;
 use crate::standing::Link;
 use crate::subscribing::{subscribe, unsubscribe};
 use crate::supply::{NoMemory, Supply};
-use mqtt_wire::{Disconnect, Packet, ReasonCode, Subscribe, Unsubscribe};
+use mqtt_wire::{Packet, ReasonCode, Subscribe, Unsubscribe};
 use session_desk::Place;
 use std::alloc::Global;
 
@@ -34,20 +34,19 @@ pub(crate) fn answer<P: Place, S: Supply<P>>(
     match packet {
         Packet::Publish(packet) => (link, publish(supply, alloc, number, packet)),
         Packet::Puback(packet) => {
+            let (identifier, code) = (packet.packet_identifier, packet.reason_code);
+            drop(packet);
             let mut link = link;
-            acknowledge(
-                supply,
-                &mut link.session,
-                packet.packet_identifier,
-                packet.reason_code,
-            );
+            acknowledge(supply, &mut link.session, identifier, code);
             (link, Ok(Reply::Go(None)))
         }
         Packet::Subscribe(packet) => join(supply, alloc, link, packet),
         Packet::Unsubscribe(packet) => leave(supply, alloc, link, packet),
         Packet::Pingreq => (link, Ok(Reply::Go(Some(Packet::Pingresp)))),
         Packet::Disconnect(packet) => {
-            let (link, reply) = disconnect(alloc, link, &packet);
+            let expiry = packet.properties.session_expiry_interval;
+            drop(packet);
+            let (link, reply) = disconnect(alloc, link, expiry);
             (link, Ok(reply))
         }
         other => {
@@ -98,13 +97,13 @@ fn leave<P: Place, S: Supply<P>>(
     (link, replied)
 }
 
-/// Answers a DISCONNECT (section 3.14).
-fn disconnect<P>(alloc: Global, mut link: Link<P>, packet: &Disconnect) -> (Link<P>, Reply)
+/// Answers a DISCONNECT with this Session Expiry Interval (section 3.14).
+fn disconnect<P>(alloc: Global, mut link: Link<P>, expiry: Option<u32>) -> (Link<P>, Reply)
     requires { link.session.window.retired ≡ false }
-    ensures answered { Disconnects link packet.now.properties.session_expiry_interval result.0 result.1 }
+    ensures answered { Disconnects link expiry result.0 result.1 }
     ensures sound { result.0.session.window.retired ≡ false }
 {
-    let Some(seconds) = packet.properties.session_expiry_interval else {
+    let Some(seconds) = expiry else {
         return (link, Reply::Close(None));
     };
     if link.terms.is_given_expiry(seconds) {

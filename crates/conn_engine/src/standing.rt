@@ -10,7 +10,7 @@ use session_desk::{Membership, Session};
 use std::mem;
 
 /// What a client asked for when it connected, and when.
-#[derive(Debug, Drop)]
+#[derive(Drop)]
 pub(crate) struct ConnectRequest {
     /// The identifier of the client: empty where one is to be assigned (section 3.1.3.1). It has at most 128 bytes.
     pub client: Text,
