@@ -1,5 +1,5 @@
 -- One step of a connection: its reply, and what is handed out behind it.
-use Rattle.std.specs.Prelude.{◌≡◌, ◌⊎◌, ℕ, ◌-◌, Bool, true, false, List, [], ◌∷◌, ◌++◌, Option, Some, None, ⊤}
+use Rattle.std.specs.Prelude.{◌≡◌, ◌⊎◌, ℕ, ◌-◌, max, Bool, true, false, List, [], ◌∷◌, ◌++◌, Option, Some, None, ⊤}
 use Rattle.mqtt_wire.specs.declared.packet.Connect.{Connect}
 use Rattle.mqtt_wire.specs.declared.packet.ConnectRefusal.{ConnectRefusal}
 use Rattle.mqtt_wire.specs.declared.packet.Packet.{Packet}
@@ -52,9 +52,9 @@ then_of (Kicked packet) = thens.Kicked
 abbrev pub request_of : Connect → ℕ → ConnectRequest
 request_of connect now = record { client = connect.client_identifier; clean_start = connect.clean_start; terms = terms_of connect; came = now }
 
--- a packet came at this moment
+-- a packet came at this moment; where the clock went back, the later one stands
 abbrev pub hearing : {P : Type 0} → Link P → ℕ → Link P
-hearing link now = record { session = link.session; terms = link.terms; heard = now }
+hearing link now = record { session = link.session; terms = link.terms; heard = max link.heard now }
 
 -- the session of a connection has this membership and this window
 abbrev pub after_hand_out : {P : Type 0} → Link P → Membership P → Contents Held → Link P

@@ -9,8 +9,8 @@ use crate::reply::Reply;
 use crate::standing::Link;
 use crate::subscribing::{subscribe, unsubscribe};
 use crate::supply::{NoMemory, Supply};
-use mqtt_wire::{Disconnect, Packet, ReasonCode, Subscribe, Unsubscribe};
-use session_desk::{Place, Session};
+use mqtt_wire::{Packet, ReasonCode, Subscribe, Unsubscribe};
+use session_desk::Place;
 use std::alloc::Global;
 
 /// Answers a packet of the connection with this number, whose client has its session.
@@ -34,26 +34,28 @@ pub(crate) fn answer<P: Place, S: Supply<P>>(
     match packet {
         Packet::Publish(packet) => (link, publish(supply, alloc, number, packet)),
         Packet::Puback(packet) => {
+            let (identifier, code) = (packet.packet_identifier, packet.reason_code);
+            drop(packet);
             let mut link = link;
-            acknowledge(
-                supply,
-                &mut link.session,
-                packet.packet_identifier,
-                packet.reason_code,
-            );
+            acknowledge(supply, &mut link.session, identifier, code);
             (link, Ok(Reply::Go(None)))
         }
         Packet::Subscribe(packet) => join(supply, alloc, link, packet),
         Packet::Unsubscribe(packet) => leave(supply, alloc, link, packet),
         Packet::Pingreq => (link, Ok(Reply::Go(Some(Packet::Pingresp)))),
         Packet::Disconnect(packet) => {
-            let (link, reply) = disconnect(alloc, link, &packet);
+            let expiry = packet.properties.session_expiry_interval;
+            drop(packet);
+            let (link, reply) = disconnect(alloc, link, expiry);
             (link, Ok(reply))
         }
-        _ => (
-            link,
-            Ok(Reply::closing_with(alloc, ReasonCode::PROTOCOL_ERROR)),
-        ),
+        other => {
+            drop(other);
+            (
+                link,
+                Ok(Reply::closing_with(alloc, ReasonCode::PROTOCOL_ERROR)),
+            )
+        }
     }
 }
 
@@ -61,7 +63,7 @@ pub(crate) fn answer<P: Place, S: Supply<P>>(
 fn join<P: Place, S: Supply<P>>(
     supply: &mut S,
     alloc: Global,
-    link: Link<P>,
+    mut link: Link<P>,
     packet: Subscribe,
 ) -> (Link<P>, Result<Reply, NoMemory>)
     requires { link.session.window.retired ≡ false }
@@ -70,38 +72,17 @@ fn join<P: Place, S: Supply<P>>(
         (λ _. FailsToAnswer S.call P.slot_of supply.old 0 link (packets.Subscribe packet) result.0 supply.new) }
     ensures sound { result.0.session.window.retired ≡ false }
 {
-    let Link {
-        session: Session {
-            identity,
-            expiry,
-            window,
-            membership,
-        },
-        terms,
-        heard,
-    } = link;
-    let (membership, replied) = subscribe(supply, alloc, membership, &terms, packet);
-    let link = Link {
-        session: Session {
-            identity,
-            expiry,
-            window,
-            membership,
-        },
-        terms,
-        heard,
-    };
-    match replied {
-        Ok(reply) => (link, Ok(reply)),
-        Err(NoMemory) => (link, Err(NoMemory)),
-    }
+    let membership = link.take_membership();
+    let (membership, replied) = subscribe(supply, alloc, membership, &link.terms, packet);
+    link.put_membership(membership);
+    (link, replied)
 }
 
 /// Answers an UNSUBSCRIBE.
 fn leave<P: Place, S: Supply<P>>(
     supply: &mut S,
     alloc: Global,
-    link: Link<P>,
+    mut link: Link<P>,
     packet: Unsubscribe,
 ) -> (Link<P>, Result<Reply, NoMemory>)
     requires { link.session.window.retired ≡ false }
@@ -110,40 +91,19 @@ fn leave<P: Place, S: Supply<P>>(
         (λ _. FailsToAnswer S.call P.slot_of supply.old 0 link (packets.Unsubscribe packet) result.0 supply.new) }
     ensures sound { result.0.session.window.retired ≡ false }
 {
-    let Link {
-        session: Session {
-            identity,
-            expiry,
-            window,
-            membership,
-        },
-        terms,
-        heard,
-    } = link;
+    let membership = link.take_membership();
     let (membership, replied) = unsubscribe(supply, alloc, membership, packet);
-    let link = Link {
-        session: Session {
-            identity,
-            expiry,
-            window,
-            membership,
-        },
-        terms,
-        heard,
-    };
-    match replied {
-        Ok(reply) => (link, Ok(reply)),
-        Err(NoMemory) => (link, Err(NoMemory)),
-    }
+    link.put_membership(membership);
+    (link, replied)
 }
 
-/// Answers a DISCONNECT (section 3.14).
-fn disconnect<P>(alloc: Global, mut link: Link<P>, packet: &Disconnect) -> (Link<P>, Reply)
+/// Answers a DISCONNECT with this Session Expiry Interval (section 3.14).
+fn disconnect<P>(alloc: Global, mut link: Link<P>, expiry: Option<u32>) -> (Link<P>, Reply)
     requires { link.session.window.retired ≡ false }
-    ensures answered { Disconnects link packet.now.properties.session_expiry_interval result.0 result.1 }
+    ensures answered { Disconnects link expiry result.0 result.1 }
     ensures sound { result.0.session.window.retired ≡ false }
 {
-    let Some(seconds) = packet.properties.session_expiry_interval else {
+    let Some(seconds) = expiry else {
         return (link, Reply::Close(None));
     };
     if link.terms.is_given_expiry(seconds) {

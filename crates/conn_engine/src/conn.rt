@@ -14,7 +14,7 @@ use crate::reply::Reply;
 use crate::standing::{Link, Standing};
 use crate::supply::{NoMemory, Supply};
 use mqtt_wire::Packet;
-use session_desk::{Place, Session};
+use session_desk::Place;
 use std::alloc::Global;
 use std::marker::Model;
 use std::mem;
@@ -157,6 +157,7 @@ fn step<P: Place, S: Supply<P>>(
 {
     packets.clear();
     if let Err(_) = packets.reserve(1) {
+        drop(input);
         give_up(supply, number, standing, now);
         return (Standing::Ended, Err(NoMemory));
     }
@@ -239,7 +240,7 @@ fn hand<P: Place, S: Supply<P>>(
 fn hand_to<P: Place, S: Supply<P>>(
     supply: &mut S,
     alloc: Global,
-    link: Link<P>,
+    mut link: Link<P>,
     now: u64,
     packets: &mut Vec<Packet>,
 ) -> (Standing<P>, Result<(), NoMemory>)
@@ -249,34 +250,14 @@ fn hand_to<P: Place, S: Supply<P>>(
         (λ _. (result.0 ≡ standings.Ended) × HandsLess S.call P.slot_of supply.old (standings.Connected link) now supply.new) }
     ensures sound { IsSoundStanding result.0 }
 {
-    let Link {
-        session: Session {
-            identity,
-            expiry,
-            mut window,
-            membership,
-        },
-        terms,
-        heard,
-    } = link;
-    let (membership, handed) = hand_out(supply, alloc, membership, &mut window, packets);
-    let session = Session {
-        identity,
-        expiry,
-        window,
-        membership,
-    };
+    let membership = link.take_membership();
+    let window = &mut link.session.window;
+    let (membership, handed) = hand_out(supply, alloc, membership, window, packets);
+    link.put_membership(membership);
     match handed {
-        Ok(()) => {
-            let link = Link {
-                session,
-                terms,
-                heard,
-            };
-            (Standing::Connected(link), Ok(()))
-        }
+        Ok(()) => (Standing::Connected(link), Ok(())),
         Err(NoMemory) => {
-            part(supply, session, now);
+            part(supply, link.into_session(), now);
             (Standing::Ended, Err(NoMemory))
         }
     }

@@ -1,5 +1,5 @@
 //! The answer to a PUBLISH (section 3.3).
-ghost use Rattle.std.specs.Prelude.{◌≡◌, ◌≤◌, ◌+◌, Ok, length, All, IfOk, OnErr, vec_len};
+ghost use Rattle.std.specs.Prelude.{◌≡◌, ◌≤◌, ◌+◌, Ok, [], length, All, IfOk, OnOk, OnErr, vec_len};
 ghost use Rattle.mqtt_topic.specs.Names.{name_of};
 ghost use Rattle.conn_rules.specs.Publishing.{message_of, publish_answer};
 ghost use Rattle.conn_rules.specs.declared.publishing.PublishAnswer.TheVariants as answers;
@@ -29,8 +29,12 @@ pub(crate) fn publish<P, S: Supply<P>>(
     ensures cut_short { OnErr result (IsCutShort S.call supply.old connection publish supply.new) }
 {
     match answer_to_publish(&publish) {
-        PublishAnswer::Close(code) => Ok(Reply::closing_with(alloc, code)),
+        PublishAnswer::Close(code) => {
+            drop(publish);
+            Ok(Reply::closing_with(alloc, code))
+        }
         PublishAnswer::Refuse(identifier, code) => {
+            drop(publish);
             Ok(Reply::acknowledging(alloc, identifier, code))
         }
         PublishAnswer::Offer(identifier) => {
@@ -102,10 +106,31 @@ fn copies_of(alloc: Global, message: &Message, count: usize) -> Result<Vec<Messa
     ensures alike { IfOk result (λ copies. All (λ copy. copy ≡ message.now) copies.items) }
 {
     let mut copies = Vec::with_capacity(alloc, count)?;
+    match copy_into(alloc, message, count, &mut copies) {
+        Ok(()) => Ok(copies),
+        Err(NoMemory) => {
+            drop(copies);
+            Err(NoMemory)
+        }
+    }
+}
+
+/// Puts so many copies of a message into an empty list.
+fn copy_into(
+    alloc: Global,
+    message: &Message,
+    count: usize,
+    copies: &mut Vec<Message>,
+) -> Result<(), NoMemory>
+    requires items { copies.old.items ≡ [] }
+    requires none { vec_len copies.old ≡ 0 }
+    ensures count { OnOk result (vec_len copies.new ≡ count) }
+    ensures alike { OnOk result (All (λ copy. copy ≡ message.now) copies.new.items) }
+{
     for _ in 0..count {
         copies.push(message.try_copy(alloc)?)?;
     }
-    Ok(copies)
+    Ok(())
 }
 
 /// Offers a message to these groups, in their order: a copy to each but the last.

@@ -50,7 +50,10 @@ pub(crate) fn react<P: Place, S: Supply<P>>(
             react_waiting(supply, number, request, ticks, now, input)
         }
         Standing::Connected(link) => react_connected(supply, alloc, number, link, now, input),
-        Standing::Ended => close(),
+        Standing::Ended => {
+            drop(input);
+            close()
+        }
     }
 }
 
@@ -110,8 +113,14 @@ fn answer_first<P: Place, S: Supply<P>>(
     ensures sound { IsSoundStanding result.0 }
 {
     match answer_to_first(&packet) {
-        FirstAnswer::Close => close(),
-        FirstAnswer::Refuse(refusal) => refuse(refusal),
+        FirstAnswer::Close => {
+            drop(packet);
+            close()
+        }
+        FirstAnswer::Refuse(refusal) => {
+            drop(packet);
+            refuse(refusal)
+        }
         FirstAnswer::Attach => connect(supply, number, now, packet),
     }
 }
@@ -133,7 +142,7 @@ fn connect<P: Place, S: Supply<P>>(
 {
     match packet {
         Packet::Connect(connect) => attach(supply, number, now, request_of(connect, now), 0),
-        _ => unreachable!(),
+        _other => unreachable!(),
     }
 }
 
@@ -205,6 +214,7 @@ fn react_connected<P: Place, S: Supply<P>>(
     match input {
         Input::Packet(packet) => {
             if supply.kicked(number) {
+                drop(packet);
                 return take_over(supply, alloc, link, now);
             }
             answer_packet(supply, alloc, number, link, now, packet)
@@ -268,7 +278,7 @@ fn answer_packet<P: Place, S: Supply<P>>(
         (λ _. (result.0 ≡ standings.Ended) × FailsOnPacket S.call P.slot_of supply.old number link now packet supply.new) }
     ensures sound { IsSoundStanding result.0 }
 {
-    link.heard = now;
+    link.heard = link.heard.max(now);
     let (link, replied) = answer(supply, alloc, number, link, packet);
     match replied {
         Ok(reply) => conclude(supply, link, now, reply),

@@ -7,7 +7,7 @@ use mqtt_wire::{Packet, PacketIdentifier, ReasonCode};
 use std::alloc::Global;
 
 /// What a connection answers to an input, before anything is handed out.
-#[derive(Debug, Drop)]
+#[derive(Drop)]
 pub(crate) enum Reply {
     /// This packet is sent, if there is one, and the connection goes on.
     Go(Option<Packet>),

@@ -1,13 +1,16 @@
 //! How far a connection has come.
 ghost use Rattle.std.specs.Prelude.{◌≡◌};
+ghost use Rattle.session_desk.specs.declared.session.Membership.TheVariants.{NotMember};
+ghost use Rattle.conn_engine.specs.Answering.{joining};
 
 use conn_rules::Terms;
 use group_jobs::Envelope;
 use mqtt_wire::Text;
-use session_desk::Session;
+use session_desk::{Membership, Session};
+use std::mem;
 
 /// What a client asked for when it connected, and when.
-#[derive(Debug, Drop)]
+#[derive(Drop)]
 pub(crate) struct ConnectRequest {
     /// The identifier of the client: empty where one is to be assigned (section 3.1.3.1). It has at most 128 bytes.
     pub client: Text,
@@ -40,6 +43,25 @@ impl<P> Link<P> {
             heard: _,
         } = self;
         session
+    }
+
+    /// Takes the membership out of the session, to be put back by [`Link::put_membership`].
+    pub(crate) fn take_membership(&mut self) -> Membership<P>
+        ensures taken { result ≡ self.old.session.membership }
+        ensures out { self.new ≡ joining self.old NotMember }
+    {
+        mem::replace(&mut self.session.membership, Membership::NotMember)
+    }
+
+    /// Puts a membership where one was taken from.
+    pub(crate) fn put_membership(&mut self, membership: Membership<P>)
+        requires { self.old.session.membership ≡ NotMember }
+        ensures { self.new ≡ joining self.old membership }
+    {
+        match mem::replace(&mut self.session.membership, membership) {
+            Membership::NotMember => {}
+            _other => unreachable!(),
+        }
     }
 }
 

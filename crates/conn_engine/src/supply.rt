@@ -72,8 +72,9 @@ pub enum OfferRefusal {
 
 /// What connections share: the desk of all sessions, the routes, and the groups. `P` is a place in a group.
 ///
-/// Each call is one fact, which the relation `call` ties to the supply before and after it. So what is proved of a
-/// connection over every supply holds of the calls that were made, in their order, and of no others.
+/// Each call but [`Supply::is_open`], which only asks and which no step makes, is one fact, which the relation `call` ties to the
+/// supply before and after it. So what is proved of a connection over every supply holds of the calls that were made, in their
+/// order, and of no others.
 pub trait Supply<P> {
     /// What a call with these arguments and this answer makes of the supply.
     ghost call: { Self → Fact P → Self → Type 0 };

@@ -215,6 +215,7 @@ fn read_last_properties(
     if body.is_empty() {
         Ok(properties)
     } else {
+        drop(properties);
         Err(Fault::Stream(StreamFault::Malformed))
     }
 }

@@ -33,15 +33,28 @@ pub(crate) fn read_properties(
 }
 
 /// Reads properties up to the end of the bytes.
-fn gather(alloc: Global, section: Section, mut list: Bytes) -> Result<Properties, Fault>
+fn gather(alloc: Global, section: Section, list: Bytes) -> Result<Properties, Fault>
     ensures { Gives (λ all. all) result (gathered_at section nothing (length list) list) }
 {
     let mut properties = Properties::nothing(alloc);
+    match gather_into(section, &mut properties, list) {
+        Ok(()) => Ok(properties),
+        Err(fault) => {
+            drop(properties);
+            Err(fault)
+        }
+    }
+}
+
+/// Gathers properties up to the end of the bytes, behind those that are there.
+fn gather_into(section: Section, properties: &mut Properties, mut list: Bytes) -> Result<(), Fault>
+    ensures { Gives (λ _. properties.new) result (gathered_at section properties.old (length list) list) }
+{
     while !list.is_empty() {
-        let property = read_property(section, &properties, &mut list)?;
+        let property = read_property(section, properties, &mut list)?;
         properties.add(property)?;
     }
-    Ok(properties)
+    Ok(())
 }
 
 /// Takes one property, behind those that are there.

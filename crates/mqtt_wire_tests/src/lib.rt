@@ -16,7 +16,9 @@ use std::alloc::Global;
 /// The written form of a packet.
 #[cfg(test)]
 fn written(alloc: Global, packet: Packet) -> Result<Vec<u8>, Fault> {
-    encode(alloc, &packet)
+    let bytes = encode(alloc, &packet);
+    drop(packet);
+    bytes
 }
 
 /// The next packet in its written form; `None` where it is not whole yet.

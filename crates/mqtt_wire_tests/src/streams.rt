@@ -71,10 +71,8 @@ fn longest_publish(alloc: Global) -> Result<Vec<u8>, Fault> {
 #[test]
 fn longest_packet(rt: HostRuntime) -> Result<(), Fail> {
     let bytes = longest_publish(rt.alloc())?;
-    let mut splitter = Splitter::new(rt.alloc());
-    splitter.feed(&bytes)?;
-    let again = next_written(rt.alloc(), &mut splitter)?;
-    assert!(rt; again.is_some_and(|again| again.as_slice() == bytes.as_slice()));
+    let again = first_again(rt.alloc(), &mut Splitter::new(rt.alloc()), &bytes)?;
+    assert!(rt; again.as_slice() == bytes.as_slice());
     Ok(())
 }
 
@@ -199,11 +197,18 @@ E003000000 101
 
 // The first packet of these bytes, written again.
 fn rewritten(alloc: Global, digits: &str) -> Result<Vec<u8>, Fault> {
+    let bytes = bytes_of(alloc, digits)?;
     let mut splitter = Splitter::new(alloc);
-    splitter.feed(&bytes_of(alloc, digits)?)?;
-    match next_written(alloc, &mut splitter)? {
-        Some(bytes) => Ok(bytes),
-        None => Ok(Vec::new(alloc)),
+    first_again(alloc, &mut splitter, &bytes)
+}
+
+// Feeds a stream, and writes its first packet again.
+fn first_again(alloc: Global, splitter: &mut Splitter, stream: &[u8]) -> Result<Vec<u8>, Fault> {
+    splitter.feed(stream)?;
+    match next_written(alloc, splitter) {
+        Ok(Some(bytes)) => Ok(bytes),
+        Ok(None) => Ok(Vec::new(alloc)),
+        Err(fault) => Err(fault),
     }
 }
 
@@ -258,9 +263,7 @@ fn subscribe(alloc: Global) -> Result<Vec<u8>, Fault> {
 #[test]
 fn more_than_32_entries(rt: HostRuntime) -> Result<(), Fail> {
     let bytes = subscribe(rt.alloc())?;
-    let mut splitter = Splitter::new(rt.alloc());
-    splitter.feed(&bytes)?;
-    let again = next_written(rt.alloc(), &mut splitter)?;
-    assert!(rt; again.is_some_and(|again| again.as_slice() == bytes.as_slice()));
+    let again = first_again(rt.alloc(), &mut Splitter::new(rt.alloc()), &bytes)?;
+    assert!(rt; again.as_slice() == bytes.as_slice());
     Ok(())
 }

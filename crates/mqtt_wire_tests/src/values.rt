@@ -139,9 +139,10 @@ fn property() -> Result<UserProperty, Fault> {
 
 // A PUBLISH of that payload, with a User Property.
 fn publish(alloc: Global, payload: &'static [u8]) -> Result<Packet, Fault> {
-    let mut properties = PublishProperties::new(alloc);
-    properties.user_properties = one_property(alloc)?;
     let topic = text("job")?;
+    let user_properties = one_property(alloc)?;
+    let mut properties = PublishProperties::new(alloc);
+    properties.user_properties = user_properties;
     Ok(Packet::Publish(Publish {
         dup: false,
         retain: false,
@@ -163,7 +164,11 @@ fn text(word: &'static str) -> Result<Text, Fault> {
 // Whether a packet is the PUBLISH of a payload.
 fn is_publish(alloc: Global, packet: &Packet, payload: &'static [u8]) -> Result<bool, Fault> {
     match publish(alloc, payload) {
-        Ok(other) => Ok(*packet == other),
+        Ok(other) => {
+            let is_equal = *packet == other;
+            drop(other);
+            Ok(is_equal)
+        }
         Err(fault) => Err(fault),
     }
 }
@@ -171,7 +176,9 @@ fn is_publish(alloc: Global, packet: &Packet, payload: &'static [u8]) -> Result<
 // Whether the PUBLISH packets of two payloads are equal.
 fn are_equal(alloc: Global, payload: &'static [u8], other: &'static [u8]) -> Result<bool, Fault> {
     let packet = publish(alloc, payload)?;
-    is_publish(alloc, &packet, other)
+    let is_equal = is_publish(alloc, &packet, other);
+    drop(packet);
+    is_equal
 }
 
 // A packet behind what stands there already, and how long it is said to be.
@@ -184,7 +191,9 @@ fn put_behind(mut out: Vec<u8>, packet: &Packet) -> Result<(Vec<u8>, u64), Fault
 fn behind(alloc: Global, payload: &'static [u8]) -> Result<(Vec<u8>, u64), Fault> {
     let out = Vec::from_slice(alloc, b"first")?;
     let packet = publish(alloc, payload)?;
-    put_behind(out, &packet)
+    let written = put_behind(out, &packet);
+    drop(packet);
+    written
 }
 
 #[test]

@@ -1,6 +1,6 @@
 -- As many copies as were counted.
 use Rattle.std.proofs.Common.{◌≡◌, All, vec_len}
-use Rattle.conn_engine.proofs.publishing.copies_of.Given as goal
+use Rattle.conn_engine.proofs.publishing.copy_into.Given as goal
 
 abbrev pub invariant-loop : goal.invariant-loop
 invariant-loop l = record {

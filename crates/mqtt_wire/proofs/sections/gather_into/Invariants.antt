@@ -1,6 +1,6 @@
 use Rattle.std.proofs.Common.{◌≡◌, length}
 use Rattle.mqtt_wire.specs.Sections.{gathered_at}
-use Rattle.mqtt_wire.proofs.sections.gather.Given as goal
+use Rattle.mqtt_wire.proofs.sections.gather_into.Given as goal
 
 -- those so far and those that are still read are all of them
 abbrev pub invariant-loop-section : goal.invariant-loop-section
