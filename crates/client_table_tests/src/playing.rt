@@ -4,6 +4,7 @@ ghost use Rattle.std.specs.Prelude.{◌<◌};
 use client_table::{ClientTable, Said};
 use conn_engine::{NoMemory, Then};
 use local_broker::{LocalPlace, LocalSupply};
+use mqtt_topic::Routes;
 use mqtt_wire::encode_into;
 use std::alloc::Global;
 use std::process::Abort;
@@ -32,7 +33,7 @@ impl Stage {
     /// A broker without clients, in each of whose groups 1,024 messages may wait.
     pub fn open(rt: &impl Abort, alloc: Global) -> Stage {
         let clients = ClientTable::new(alloc).ok().expect(rt, "a table");
-        let supply = LocalSupply::open(alloc, 1_024).ok().expect(rt, "a broker");
+        let supply = LocalSupply::open(alloc, 1_024, Routes::new(alloc)).ok().expect(rt, "a broker");
         Stage { supply, clients }
     }
 

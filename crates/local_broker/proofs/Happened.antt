@@ -3,6 +3,7 @@ use Rattle.std.proofs.Common.{◌≡◌, ◌≢◌, ℕ, true, List, [], ◌∷�
 use Rattle.std.specs.List.{AllByRecursion}
 use Rattle.std.proofs.lemmas.Bool.{cases_eq}
 use Rattle.std.proofs.lemmas.Option.{slice_get_within, slice_get-get_or, same_Some}
+use Rattle.mqtt_topic.specs.Names.{Share}
 use Rattle.dispatch_core.specs.declared.event.Event.{Event}
 use Rattle.dispatch_core.proofs.Spots.{slice_get-set_same, slice_get-set_other}
 use Rattle.dispatch_core.specs.History.{IsRun}
@@ -152,8 +153,8 @@ pub running_all : (happenings : List Happening) (old new : Broker) → AreRunnin
 running_all [] old new running all = subst AreRunning (sym all) running
 running_all (happening ∷ others) old new running all = running_all others all.0 new (running_next old all.0 happening running all.1) all.2
 
-pub running_first : (capacity : ℕ) (b : Broker) → IsNewBroker capacity b → AreRunning b
-running_first capacity b new slot group there =
+pub running_first : (capacity : ℕ) (shares : List Share) (b : Broker) → IsNewBroker capacity shares b → AreRunning b
+running_first capacity shares b new slot group there =
     let is = new.groups slot group there in
     record { numbered = is.numbered; run = subst (λ events. IsRun events group.state) (sym is.fresh.events) (record { start = group.state; empty = is.fresh.state; steps = refl }) }
 
@@ -193,5 +194,5 @@ only_ends (happening ∷ others) old new shut all slot group there =
       ends = join_all first.0 later.added first.2 later.ends;
     }
 
-pub new_desk : (capacity : ℕ) (b : Broker) → IsNewBroker capacity b → DeskLaw b.desk.rows b.desk.made
-new_desk capacity b new = new_law b.desk new.desk
+pub new_desk : (capacity : ℕ) (shares : List Share) (b : Broker) → IsNewBroker capacity shares b → DeskLaw b.desk.rows b.desk.made
+new_desk capacity shares b new = new_law b.desk new.desk

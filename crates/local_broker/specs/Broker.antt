@@ -1,5 +1,5 @@
 -- What the connections of a broker on one thread share.
-use Rattle.std.specs.Prelude.{◌≡◌, ℕ, ◌<◌, Bool, true, not, List, [], Some, refl, slice_get, length}
+use Rattle.std.specs.Prelude.{◌≡◌, ℕ, ◌<◌, Bool, true, not, List, Some, refl, slice_get, length}
 use Rattle.std.specs.List.{list_all}
 use Rattle.std.specs.Coded.{Coded, code_by, coded×, coded_list}
 use Rattle.mqtt_topic.specs.Names.{Share}
@@ -45,10 +45,10 @@ pub record HasAllPlaces (desk : Books Held GroupPlace) : Type 0 where
   pub books : desk ≡ with_free new_books desk.free
   pub free : (cell : ℕ) → cell < 256 → IsFreeAt desk.free cell (place_at cell)
 
--- no session, all places free, no share bound, and no message in any group
-pub record IsNewBroker (capacity : ℕ) (b : Broker) : Type 0 where
+-- no session, all places free, these shares bound, and no message in any group
+pub record IsNewBroker (capacity : ℕ) (shares : List Share) (b : Broker) : Type 0 where
   pub desk : HasAllPlaces b.desk
-  pub routes : b.routes ≡ []
+  pub routes : b.routes ≡ shares
   pub eight : length b.groups ≡ 8
   pub groups : AreNewGroups capacity b.groups
 

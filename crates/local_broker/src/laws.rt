@@ -1,6 +1,7 @@
 //! Laws of a broker on one thread: what holds whatever happens to it. Each is the contract of a function that does nothing, stated
 //! over the definitions that the contracts of [`LocalSupply`](crate::LocalSupply) cite.
 ghost use Rattle.std.specs.Prelude.{◌≡◌, ℕ, List, Some, Ok, slice_get};
+ghost use Rattle.mqtt_topic.specs.Names.{Share};
 ghost use Rattle.group_jobs.specs.Stamps.{Held};
 ghost use Rattle.session_desk.specs.Hands.{DeskLaw};
 ghost use Rattle.local_group.specs.Groups.{Group};
@@ -13,15 +14,15 @@ ghost use Rattle.local_broker.specs.Places.{GroupPlace};
 /// **The desk law holds always**, whatever calls are made of a new broker: at most 256 sessions, no two of one client that are lent
 /// or parked, each row's session its own, and none that is parked is ending.
 pub fn desk_law()
-    ensures { (capacity : ℕ) (happenings : List Happening) (first b : Broker) →
-        IsNewBroker capacity first → HappensAll first happenings b → DeskLaw b.desk.rows b.desk.made }
+    ensures { (capacity : ℕ) (shares : List Share) (happenings : List Happening) (first b : Broker) →
+        IsNewBroker capacity shares first → HappensAll first happenings b → DeskLaw b.desk.rows b.desk.made }
 {}
 
 /// **Each group's events are a run** to where its jobs are, whatever calls are made of a new broker; and it has the number of its
 /// slot. So every law of runs holds of each of the groups.
 pub fn running_law()
-    ensures { (capacity : ℕ) (happenings : List Happening) (first b : Broker) →
-        IsNewBroker capacity first → HappensAll first happenings b → AreRunning b }
+    ensures { (capacity : ℕ) (shares : List Share) (happenings : List Happening) (first b : Broker) →
+        IsNewBroker capacity shares first → HappensAll first happenings b → AreRunning b }
 {}
 
 /// **Behind the close** nothing is accepted and handed out: a closed broker stays closed, and all that is added to the events of a

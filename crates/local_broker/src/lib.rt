@@ -4,7 +4,7 @@
 //! until [`LocalSupply::close`], and at the end it tells what became of each message.
 //!
 //! ```
-//! let mut supply = LocalSupply::open(alloc, 1_024)?; // in each group at most 1,024 messages wait
+//! let mut supply = LocalSupply::open(alloc, 1_024, Routes::new(alloc))?; // in each group at most 1,024 messages wait
 //! let next = conn.step(&mut supply, now, input, &mut packets)?; // as many connections as there are, one step after the other
 //! supply.close(); // nothing is accepted and handed out any more
 //! let line = supply.line(alloc, 0)?; // what became of the messages of the first share

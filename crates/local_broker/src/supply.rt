@@ -43,20 +43,20 @@ impl Model for LocalSupply {
 }
 
 impl LocalSupply {
-    /// A broker's in which nothing happened yet: no session, all places free, no share bound, and eight groups, in the queue of
-    /// each of which so many messages may wait.
+    /// A broker's in which nothing happened yet: no session, all places free, these shares bound, and eight groups, in the queue
+    /// of each of which so many messages may wait.
     ///
     /// # Errors
     ///
     /// Want of memory.
-    pub fn open(alloc: Global, capacity: usize) -> Result<LocalSupply, NoMemory>
-        ensures { IfOk result (IsNewBroker capacity) }
+    pub fn open(alloc: Global, capacity: usize, routes: Routes) -> Result<LocalSupply, NoMemory>
+        ensures { IfOk result (IsNewBroker capacity routes) }
     {
         let groups = open_groups(alloc, capacity)?;
         let desk = open_desk(alloc)?;
         Ok(LocalSupply {
             desk,
-            routes: Routes::new(alloc),
+            routes,
             groups,
         })
     }

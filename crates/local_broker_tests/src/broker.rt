@@ -1,6 +1,7 @@
 //! What comes to a connection, in hex, and what is written to it.
 use conn_engine::{Conn, Input, Then};
 use local_broker::{LocalPlace, LocalSupply};
+use mqtt_topic::Routes;
 use mqtt_wire::{Fault, Packet, Splitter, encode_into};
 use std::alloc::Global;
 use std::process::Abort;
@@ -96,7 +97,7 @@ pub fn finish(rt: &impl Abort, conn: Conn<LocalPlace>) {
 
 /// A broker, in each of whose groups 1,024 messages may wait.
 pub fn open(rt: &impl Abort, alloc: Global) -> LocalSupply {
-    LocalSupply::open(alloc, 1_024).ok().expect(rt, "a broker")
+    LocalSupply::open(alloc, 1_024, Routes::new(alloc)).ok().expect(rt, "a broker")
 }
 
 /// Ends a broker, and compares the line of its first group, which is empty where no share is bound.

@@ -5,9 +5,10 @@ ghost use Rattle.std.specs.Prelude.{◌≡◌, map, string_bytes};
 ghost use Rattle.std.specs.Process.{exit_status};
 ghost use Rattle.std.specs.Vec.Iter.{into_iter_items};
 ghost use Rattle.share_broker.specs.Words.{asks_solo};
-ghost use Rattle.solo_broker.specs.Status.{status_of};
+ghost use Rattle.line_io.specs.Status.{status_of};
 
-use solo_broker::{SoloError, solo};
+use line_io::RunError;
+use solo_broker::solo;
 use std::env::Args;
 use std::io::ErrorKind;
 use std::process::ExitCode;
@@ -19,7 +20,7 @@ const USAGE: u8 = 2;
 fn main(rt: HostRuntime) -> ExitCode {
     let is_solo = match env::args(&rt) {
         Ok(words) => asks_solo(words),
-        Err(e) if e.kind() == ErrorKind::OutOfMemory => return failure(&rt, SoloError::Memory),
+        Err(e) if e.kind() == ErrorKind::OutOfMemory => return failure(&rt, RunError::Memory),
         Err(_) => false,
     };
     if !is_solo {
@@ -43,7 +44,7 @@ fn asks_solo(mut words: Args) -> bool
 }
 
 /// Says the error, and gives its status.
-fn failure(rt: &impl Eprint, error: SoloError) -> ExitCode
+fn failure(rt: &impl Eprint, error: RunError) -> ExitCode
     ensures { exit_status result ≡ status_of error }
 {
     let _ = eprintln!(rt; "{error}");

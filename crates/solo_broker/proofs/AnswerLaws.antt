@@ -11,7 +11,7 @@ use Rattle.solo_broker.specs.declared.connection.Outs.{Outs}
 use Rattle.solo_broker.specs.declared.connection.Next.TheVariants.{Close}
 use Rattle.solo_broker.specs.declared.connection.Standing.{Standing}
 use Rattle.solo_broker.specs.declared.connection.Standing.TheVariants.{Unconnected, Connected, Closed}
-use Rattle.solo_broker.specs.Passing.{Passes, Begins}
+use Rattle.line_io.specs.Passing.{Passes, Begins}
 use Rattle.solo_broker.specs.Story.{Story, opening}
 use Rattle.solo_broker.specs.HandOuts.{Turn, deliver}
 use Rattle.solo_broker.specs.Reply.{Reply}
@@ -20,7 +20,7 @@ use Rattle.solo_broker.specs.Report.{report_of, report_lines}
 use Rattle.solo_broker.specs.Output.{lines_for, ending, output_from, IsStreamOutput}
 use Rattle.solo_broker.specs.Shows.{Shows, Takes as Turns, Ends, next_at}
 use Rattle.solo_broker.specs.UnderWay.{Goes, IsUnderWay, IsAnswered, IsWritten, IsBegun}
-use Rattle.solo_broker.proofs.PassingLaws.{Passes-nothing, Passes-then, Begins-then, Begins-stops, Begins-longer, Begins-passed, Appends-passed}
+use Rattle.line_io.proofs.PassingLaws.{Passes-nothing, Passes-then, Begins-then, Begins-stops, Begins-longer, Begins-passed, Appends-passed}
 use Rattle.solo_broker.proofs.HandOutLaws.{deliver-nothing}
 use Rattle.solo_broker.proofs.DeliveryLaws.{due-closed, Shows-opening}
 use Rattle.mqtt_wire.proofs.StreamLaws.{exists_reading}

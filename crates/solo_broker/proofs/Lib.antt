@@ -1,5 +1,3 @@
-pub mod LineLaws
-pub mod PassingLaws
 pub mod NameLaws
 pub mod WindowLaws
 pub mod HandOutLaws

@@ -7,7 +7,8 @@ use Rattle.mqtt_wire.specs.declared.fault.StreamFault.{StreamFault}
 use Rattle.mqtt_wire.specs.declared.packet.Packet.{Packet}
 use Rattle.mqtt_wire.specs.Stream.{AreBytes, Reads}
 use Rattle.mqtt_wire.proofs.StreamLaws.{exists_reading, one_reading}
-use Rattle.solo_broker.specs.Lines.{joined, stream_from, stream_of, lines_of}
+use Rattle.line_io.specs.Lines.{lines_of}
+use Rattle.solo_broker.specs.Lines.{joined, stream_from, stream_of}
 use Rattle.solo_broker.specs.Output.{IsSoloOutput, solo_output}
 
 AreBytes-append : (xs ys : List ℕ) → AreBytes xs → AreBytes ys → AreBytes (xs ++ ys)

@@ -4,10 +4,10 @@ use Rattle.std.proofs.lemmas.List.{take_more}
 use Rattle.std.proofs.lemmas.List.Concat.{flat_map-append}
 use Rattle.mqtt_wire.specs.declared.packet.Packet.{Packet}
 use Rattle.mqtt_wire.specs.Writing.{written}
-use Rattle.solo_broker.specs.Lines.{hex_line}
-use Rattle.solo_broker.specs.Passing.{Passes, Begins}
+use Rattle.line_io.specs.Lines.{hex_line}
+use Rattle.line_io.specs.Passing.{Passes, Begins}
 use Rattle.solo_broker.specs.Output.{lines_for}
-use Rattle.solo_broker.proofs.PassingLaws.{Passes-then, Begins-then, Begins-stops, Begins-longer}
+use Rattle.line_io.proofs.PassingLaws.{Passes-then, Begins-then, Begins-stops, Begins-longer}
 
 pub then_ok : {T E P Q : Type 0} → (r : Result T E) → OnOk r P → (P → Q) → OnOk r Q
 then_ok (Ok x) p f = f p

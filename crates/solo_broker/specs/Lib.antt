@@ -1,6 +1,4 @@
-pub mod Status
 pub mod Lines
-pub mod Passing
 pub mod Names
 pub mod Groups
 pub mod Story

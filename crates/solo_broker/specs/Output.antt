@@ -6,8 +6,9 @@ use Rattle.mqtt_wire.specs.declared.fault.StreamFault.{StreamFault}
 use Rattle.mqtt_wire.specs.declared.packet.Packet.{Packet}
 use Rattle.mqtt_wire.specs.Stream.{Reads}
 use Rattle.mqtt_wire.specs.Writing.{written}
-use Rattle.solo_broker.specs.Lines.{stream_of, hex_line}
-use Rattle.solo_broker.specs.Passing.{Begins}
+use Rattle.line_io.specs.Lines.{hex_line}
+use Rattle.solo_broker.specs.Lines.{stream_of}
+use Rattle.line_io.specs.Passing.{Begins}
 use Rattle.solo_broker.specs.Story.{Story, opening}
 use Rattle.solo_broker.specs.Replies.{turn, end_reply}
 use Rattle.solo_broker.specs.Report.{report_of, report_lines}

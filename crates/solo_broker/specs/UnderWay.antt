@@ -5,15 +5,15 @@ use Rattle.mqtt_wire.specs.declared.fault.StreamFault.{StreamFault}
 use Rattle.mqtt_wire.specs.Stream.{Unread, Takes, EndsAs, Reads, AreBytes}
 use Rattle.std.specs.Io.KnownBytes.{Appends}
 use Rattle.solo_broker.specs.declared.connection.Connection.{Connection}
-use Rattle.solo_broker.specs.declared.error.SoloError.{SoloError}
-use Rattle.solo_broker.specs.Passing.{Passes, Begins}
+use Rattle.line_io.specs.declared.error.RunError.{RunError}
+use Rattle.line_io.specs.Passing.{Passes, Begins}
 use Rattle.solo_broker.specs.Story.{Story}
 use Rattle.solo_broker.specs.Report.{report_of, report_lines}
 use Rattle.solo_broker.specs.Output.{output_from, IsStreamOutput}
 use Rattle.solo_broker.specs.Shows.{Shows}
 
 -- a packet was taken, or the stream ends here, open or at the fault that is told
-abbrev pub Goes : Unread → Result (Option Packet) SoloError → Unread → Option StreamFault → Type 0
+abbrev pub Goes : Unread → Result (Option Packet) RunError → Unread → Option StreamFault → Type 0
 Goes old (Ok (Some packet)) new fault = Takes old packet new
 Goes old (Ok None) new fault = EndsAs old.bytes fault
 Goes old (Err error) new fault = new.bytes ≡ old.bytes

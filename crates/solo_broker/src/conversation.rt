@@ -1,15 +1,15 @@
 //! One client's whole connection, from a reader of hex lines to a writer of hex lines.
 ghost use Rattle.std.specs.Prelude.{◌≡◌, ◌<◌, ◌++◌, List, ℕ, Option, None, Err, length, IsSome, OnOk, OnErr, IfOk, IfErr, IfSome};
 ghost use Rattle.std.specs.Io.KnownBytes.{Keeps};
-ghost use Rattle.solo_broker.specs.Lines.{stream_of, IsNoLine};
-ghost use Rattle.solo_broker.specs.Passing.{Passes, Begins};
+ghost use Rattle.line_io.specs.Lines.{IsNoLine};
+ghost use Rattle.solo_broker.specs.Lines.{stream_of};
+ghost use Rattle.line_io.specs.Passing.{Passes, Begins};
 ghost use Rattle.solo_broker.specs.Output.{lines_for, WritesSoloOutput, BeginsSoloOutput};
 ghost use Rattle.solo_broker.specs.UnderWay.{Goes, IsUnderWay, IsAnswered, IsWritten, IsBegun};
 
 use crate::connection::{Connection, Next};
-use crate::error::SoloError;
 use crate::input::read_stream;
-use crate::output::Output;
+use line_io::{Output, RunError};
 use mqtt_wire::{Fault, Packet, Splitter, StreamFault, encode};
 use std::alloc::Global;
 use std::io::{Read, Write};
@@ -22,12 +22,12 @@ pub fn solo<R: Read, W: Write>(
     alloc: Global,
     reader: &mut R,
     writer: &mut W,
-) -> Result<(), SoloError>
+) -> Result<(), RunError>
     // What was written is the defined output, and nothing else.
     ensures ended { OnOk result (IfSome (R.remaining reader.old)
         (λ input. WritesSoloOutput input (W.contents writer.old) (W.contents writer.new))) }
     // A line that is named is the first that is not hex, and nothing was written.
-    ensures bad_line { (line : ℕ) → result ≡ Err (SoloError.Line line) → IfSome (R.remaining reader.old)
+    ensures bad_line { (line : ℕ) → result ≡ Err (RunError.Line line) → IfSome (R.remaining reader.old)
         (λ input. (stream_of input ≡ Err line) × Keeps (W.contents writer.old) (W.contents writer.new)) }
     // At each other error what was written begins the defined output; it is nothing where there is none.
     ensures begun { OnErr result (IfSome (R.remaining reader.old)
@@ -38,7 +38,7 @@ pub fn solo<R: Read, W: Write>(
 }
 
 /// Answers a stream.
-fn answer<W: Write>(alloc: Global, stream: &[u8], writer: &mut W) -> Result<(), SoloError>
+fn answer<W: Write>(alloc: Global, stream: &[u8], writer: &mut W) -> Result<(), RunError>
     ensures ok { OnOk result (IsWritten stream.now (W.contents writer.old) (W.contents writer.new)) }
     ensures err { OnErr result (IsBegun stream.now (W.contents writer.old) (W.contents writer.new)) }
     ensures no_line { IfErr result IsNoLine }
@@ -60,7 +60,7 @@ fn converse<W: Write>(
     connection: &mut Connection,
     output: &mut Output,
     writer: &mut W,
-) -> Result<(), SoloError>
+) -> Result<(), RunError>
     ensures ok { OnOk result ((stream : List ℕ) (first : Option (List ℕ)) → IsUnderWay stream first (W.contents writer.old) output.old splitter.old connection.old
         → IsAnswered stream first (W.contents writer.new) output.new connection.new) }
     ensures err { OnErr result ((stream : List ℕ) (first : Option (List ℕ)) → IsUnderWay stream first (W.contents writer.old) output.old splitter.old connection.old
@@ -84,7 +84,7 @@ fn converse<W: Write>(
 fn next_packet(
     splitter: &mut Splitter,
     fault: &mut Option<StreamFault>,
-) -> Result<Option<Packet>, SoloError>
+) -> Result<Option<Packet>, RunError>
     ensures goes { splitter.old.fault ≡ None → Goes splitter.old result splitter.new fault.new }
     ensures fewer { IfOk result (λ found. IsSome found → length splitter.new.bytes < length splitter.old.bytes) }
     ensures no_line { IfErr result IsNoLine }
@@ -98,7 +98,7 @@ fn next_packet(
             *fault = Some(found);
             Ok(None)
         }
-        Err(Fault::Memory) => Err(SoloError::Memory),
+        Err(Fault::Memory) => Err(RunError::Memory),
     }
 }
 
@@ -108,7 +108,7 @@ fn send<W: Write>(
     packets: &[Packet],
     output: &mut Output,
     writer: &mut W,
-) -> Result<(), SoloError>
+) -> Result<(), RunError>
     ensures ok { OnOk result (Passes (W.contents writer.old) (W.contents writer.new)
         output.old (lines_for packets.now) output.new) }
     ensures err { OnErr result (Begins (W.contents writer.old) (W.contents writer.new)

@@ -9,13 +9,11 @@
 
 mod connection;
 mod conversation;
-pub mod error;
 mod group;
 mod hand_outs;
 mod input;
 pub mod laws;
 mod naming;
-mod output;
 mod packets;
 mod report;
 mod requests;
@@ -23,4 +21,3 @@ mod share;
 mod window;
 
 pub use conversation::solo;
-pub use error::SoloError;

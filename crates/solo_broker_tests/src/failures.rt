@@ -1,6 +1,7 @@
 //! Runs of `solo` whose lines are not hex, and runs whose reader or writer fails.
 use crate::runs::{CONNECT, JOB, RUNS, SUBSCRIBE, join};
-use solo_broker::{SoloError, solo};
+use line_io::RunError;
+use solo_broker::solo;
 use std::io;
 use std::io::{ErrorKind, Read, Write};
 use std::test::Fail;
@@ -17,17 +18,17 @@ fn bad_input(rt: HostRuntime) -> Result<(), Fail> {
     for (input, line) in bad.iter() {
         let mut writer = Vec::new(rt.alloc());
         let ended = solo(rt.alloc(), &mut &input[..], &mut writer);
-        assert_eq!(rt; ended, Err(SoloError::Line(*line)));
+        assert_eq!(rt; ended, Err(RunError::Line(*line)));
         assert_eq!(rt; writer.len(), 0);
-        assert_eq!(rt; SoloError::Line(*line).status(), 5);
+        assert_eq!(rt; RunError::Line(*line).status(), 5);
     }
     Ok(())
 }
 
 #[test]
 fn texts_of_errors(rt: HostRuntime) -> Result<(), Fail> {
-    let line = SoloError::Line(1);
-    let text = format!(in rt.alloc(); "{}, {}, {line}", SoloError::Device, SoloError::Memory)?;
+    let line = RunError::Line(1);
+    let text = format!(in rt.alloc(); "{}, {}, {line}", RunError::Device, RunError::Memory)?;
     assert_eq!(rt; text.as_str(), "device, memory, input line 1");
     Ok(())
 }
@@ -49,9 +50,9 @@ impl Read for FailingReader<'_> {
 fn reader_fails(rt: HostRuntime) {
     let mut writer = Vec::new(rt.alloc());
     let ended = solo(rt.alloc(), &mut FailingReader(CONNECT), &mut writer);
-    assert_eq!(rt; ended, Err(SoloError::Device));
+    assert_eq!(rt; ended, Err(RunError::Device));
     assert_eq!(rt; writer.len(), 0);
-    assert_eq!(rt; SoloError::Device.status(), 3);
+    assert_eq!(rt; RunError::Device.status(), 3);
 }
 
 /// A reader that gives an empty line a read, so many times.
@@ -76,7 +77,7 @@ fn most_reads(rt: HostRuntime) {
     let ended = solo(rt.alloc(), &mut EmptyLines((1 << 20) - 1), &mut writer);
     assert_eq!(rt; ended, Ok(()));
     let ended = solo(rt.alloc(), &mut EmptyLines(1 << 20), &mut writer);
-    assert_eq!(rt; ended, Err(SoloError::Device));
+    assert_eq!(rt; ended, Err(RunError::Device));
     assert_eq!(rt; writer.len(), 0);
 }
 
@@ -118,7 +119,7 @@ fn writer_fails(rt: HostRuntime) -> Result<(), Fail> {
         };
         assert_eq!(rt;
             solo(rt.alloc(), &mut input.as_slice(), &mut writer),
-            Err(SoloError::Device)
+            Err(RunError::Device)
         );
         assert_eq!(rt; writer.taken.as_slice(), &output[..room]);
     }

@@ -1,5 +1,6 @@
 //! Runs of `solo` whose bytes are known.
-use solo_broker::{SoloError, solo};
+use line_io::RunError;
+use solo_broker::solo;
 use std::alloc::AllocError;
 use std::test::Fail;
 
@@ -287,7 +288,7 @@ fn runs(rt: HostRuntime) -> Result<(), Fail> {
 }
 
 // What goes out for these digits, first or behind a CONNECT, without the CONNACK of that.
-fn reply_to(rt: &HostRuntime, place: &str, digits: &str) -> Result<Vec<u8>, SoloError> {
+fn reply_to(rt: &HostRuntime, place: &str, digits: &str) -> Result<Vec<u8>, RunError> {
     let before: &[u8] = if place == "connected" { CONNECT } else { b"" };
     let input = join(rt, &[before, digits.as_bytes()])?;
     let mut writer = Vec::new(rt.alloc());
@@ -318,7 +319,7 @@ fn replies(rt: HostRuntime) -> Result<(), Fail> {
 }
 
 /// What goes out for the digits in lines of that size, where `solo` ends.
-fn run_in_lines(rt: &HostRuntime, digits: &[u8], size: usize) -> Result<Vec<u8>, SoloError> {
+fn run_in_lines(rt: &HostRuntime, digits: &[u8], size: usize) -> Result<Vec<u8>, RunError> {
     let mut lines = Vec::new(rt.alloc());
     for line in digits.chunks(size.max(1)) {
         lines.extend_from_slice(line)?;
@@ -330,7 +331,7 @@ fn run_in_lines(rt: &HostRuntime, digits: &[u8], size: usize) -> Result<Vec<u8>,
 }
 
 /// What goes out for the digits in two lines, cut at that place, where `solo` ends.
-fn run_in_two(rt: &HostRuntime, digits: &[u8], place: usize) -> Result<Vec<u8>, SoloError> {
+fn run_in_two(rt: &HostRuntime, digits: &[u8], place: usize) -> Result<Vec<u8>, RunError> {
     let (front, back) = digits.split_at(place.min(digits.len()));
     let lines = join(rt, &[front, b"\n", back])?;
     let mut writer = Vec::new(rt.alloc());

@@ -1,5 +1,5 @@
 use Rattle.std.proofs.Common.{take}
-use Rattle.solo_broker.specs.Passing.{Passes}
+use Rattle.line_io.specs.Passing.{Passes}
 use Rattle.solo_broker.specs.Output.{lines_for}
 use Rattle.solo_broker.proofs.conversation.send.Given as goal
 

@@ -2,7 +2,7 @@ use Rattle.std.proofs.Common.{sym, ◌∙◌}
 use Rattle.std.proofs.lemmas.Result.{on_ok_weaker, on_err_weaker, err_from_is_err_and}
 use Rattle.solo_broker.proofs.SendLaws.{on_err}
 use Rattle.solo_broker.proofs.SoloLaws.{writes, begins, begins_nothing, no_line_at, bad_line_at, same_error}
-use Rattle.solo_broker.specs.declared.error.SoloError.TheVariants.{Line}
+use Rattle.line_io.specs.declared.error.RunError.TheVariants.{Line}
 use Rattle.solo_broker.proofs.conversation.solo.Goals as goal
 
 pub returns-in_err-stream-clause-bad_line : goal.returns-in_err-stream-clause-bad_line

@@ -1,5 +1,6 @@
 use Rattle.std.proofs.Common.{◌≡◌, ◌+◌, ◌≤◌, length, Ok}
-use Rattle.solo_broker.specs.Lines.{lines_of, stream_of, stream_from, joined}
+use Rattle.line_io.specs.Lines.{lines_of}
+use Rattle.solo_broker.specs.Lines.{stream_of, stream_from, joined}
 use Rattle.solo_broker.proofs.input.decode_lines.Given as goal
 
 -- what is decoded, with what the other lines spell, is the stream

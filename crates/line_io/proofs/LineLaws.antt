@@ -3,7 +3,7 @@ use Rattle.std.proofs.Common.{◌≡◌, ℕ, ◌+◌, ◌<◌, ◌≤◌, suc, 
 use Rattle.std.proofs.lemmas.List.Sums.{prefix_len_passes}
 use Rattle.std.proofs.lemmas.List.Quantifiers.{position-Some}
 use Rattle.std.specs.List.{position, position_or_len}
-use Rattle.solo_broker.specs.Lines.{lines_of, onto_first}
+use Rattle.line_io.specs.Lines.{lines_of, onto_first}
 
 abbrev ends : ℕ → Bool
 ends byte = eqb byte 10

@@ -1,7 +1,7 @@
 use Rattle.std.proofs.lemmas.List.{take_rest}
-use Rattle.solo_broker.proofs.PassingLaws.{Passes-write, Passes-keeps}
-use Rattle.solo_broker.proofs.output.write_out.Goals as goal
-use Rattle.solo_broker.proofs.output.write_out.Goals.{in-Ok, in-Err}
+use Rattle.line_io.proofs.PassingLaws.{Passes-write, Passes-keeps}
+use Rattle.line_io.proofs.output.write_out.Goals as goal
+use Rattle.line_io.proofs.output.write_out.Goals.{in-Ok, in-Err}
 
 pub loop-preserved : goal.loop-preserved
 loop-preserved g c = elim c.match-write.branch [

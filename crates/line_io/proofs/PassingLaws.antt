@@ -1,7 +1,7 @@
 -- Writes one after another.
 use Rattle.std.proofs.Common.{◌≡◌, ℕ, List, [], ◌++◌, take, drop, take-append-drop, subst, refl, ap, sym, ◌∙◌, Option, Some, None, append_assoc, append-nil, IfSome}
 use Rattle.std.specs.Io.KnownBytes.{Appends, Keeps, Consumes, IsAtEnd}
-use Rattle.solo_broker.specs.Passing.{Passes, Begins}
+use Rattle.line_io.specs.Passing.{Passes, Begins}
 
 pub Appends-then : (old mid new : Option (List ℕ)) (a b : List ℕ) → Appends old mid a → Appends mid new b → Appends old new (a ++ b)
 Appends-then None mid new a b first second = tt

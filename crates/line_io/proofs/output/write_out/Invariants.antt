@@ -1,6 +1,6 @@
 use Rattle.std.proofs.Common.{[]}
-use Rattle.solo_broker.specs.Passing.{Passes}
-use Rattle.solo_broker.proofs.output.write_out.Given as goal
+use Rattle.line_io.specs.Passing.{Passes}
+use Rattle.line_io.proofs.output.write_out.Given as goal
 
 -- the writer got the bytes in front of the rest
 abbrev pub invariant-loop : goal.invariant-loop

@@ -1,6 +1,6 @@
 use Rattle.std.proofs.Common.{◌<◌, vec_len}
 use Rattle.std.specs.Io.KnownBytes.{Consumes}
-use Rattle.solo_broker.proofs.input.read_all.Given as goal
+use Rattle.line_io.proofs.input.read_all.Given as goal
 
 -- what was read is what the reader had in front
 abbrev pub invariant-loop : goal.invariant-loop

@@ -1,7 +1,7 @@
 use Rattle.std.proofs.Common.{sym, ◌∙◌}
 use Rattle.std.proofs.lemmas.List.{take_rest}
-use Rattle.solo_broker.proofs.LineLaws.{lines_first, lines_none}
-use Rattle.solo_broker.proofs.input.split_line.Goals as goal
+use Rattle.line_io.proofs.LineLaws.{lines_first, lines_none}
+use Rattle.line_io.proofs.input.split_line.Goals as goal
 
 pub returns-in-Some-clause-lines : goal.returns-in-Some-clause-lines
 returns-in-Some-clause-lines c = rw take_rest (lines_first _ _ (sym c.end_of_line.ensures ∙ c.in-Some.is))

@@ -1,11 +1,11 @@
-//! The output of `solo`: lines that pass to a writer in pieces of about 64 KiB.
+//! The output of a run: text that passes to a writer in pieces of about 64 KiB.
 ghost use Rattle.std.specs.Prelude.{◌≡◌, [], ◌++◌, OnOk, OnErr, IfErr};
 ghost use Rattle.std.specs.Io.KnownBytes.{Appends};
-ghost use Rattle.solo_broker.specs.Passing.{Passes, Begins};
-ghost use Rattle.solo_broker.specs.Lines.{hex_line, IsNoLine};
-ghost use Rattle.solo_broker.specs.declared.error.SoloError.TheVariants.{Device};
+ghost use Rattle.line_io.specs.Passing.{Passes, Begins};
+ghost use Rattle.line_io.specs.Lines.{hex_line, IsNoLine};
+ghost use Rattle.line_io.specs.declared.error.RunError.TheVariants.{Device};
 
-use crate::error::SoloError;
+use crate::error::RunError;
 use std::alloc::Global;
 use std::io::{ErrorKind, Write};
 use std::marker::Model;
@@ -28,7 +28,7 @@ impl Model for Output {
 }
 
 /// Writes all of the bytes. At a failure, which is that of the device, the writer has a beginning of them.
-fn write_out<W: Write>(writer: &mut W, bytes: &[u8]) -> Result<(), SoloError>
+fn write_out<W: Write>(writer: &mut W, bytes: &[u8]) -> Result<(), RunError>
     ensures ok { OnOk result (Appends (W.contents writer.old) (W.contents writer.new) bytes.now) }
     ensures err { OnErr result (Begins (W.contents writer.old) (W.contents writer.new) bytes.now) }
     ensures device { IfErr result (λ e. e ≡ Device) }
@@ -39,13 +39,13 @@ fn write_out<W: Write>(writer: &mut W, bytes: &[u8]) -> Result<(), SoloError>
             return Ok(());
         }
         match writer.write(rest) {
-            Ok(0) => return Err(SoloError::Device),
+            Ok(0) => return Err(RunError::Device),
             Ok(count) => rest = &rest[count..],
             Err(e) if e.kind() == ErrorKind::Interrupted => {}
             Err(e) => return Err(e.into()),
         }
     }
-    Err(SoloError::Device)
+    Err(RunError::Device)
 }
 
 impl Output {
@@ -59,7 +59,7 @@ impl Output {
     }
 
     /// Takes a text. Once 64 KiB wait, they are written.
-    pub fn put<W: Write>(&mut self, writer: &mut W, text: &[u8]) -> Result<(), SoloError>
+    pub fn put<W: Write>(&mut self, writer: &mut W, text: &[u8]) -> Result<(), RunError>
         ensures ok { OnOk result (Passes (W.contents writer.old) (W.contents writer.new)
             self.old text.now self.new) }
         ensures err { OnErr result (Begins (W.contents writer.old) (W.contents writer.new)
@@ -80,7 +80,7 @@ impl Output {
         alloc: Global,
         writer: &mut W,
         bytes: &[u8],
-    ) -> Result<(), SoloError>
+    ) -> Result<(), RunError>
         ensures ok { OnOk result (Passes (W.contents writer.old) (W.contents writer.new)
             self.old (hex_line bytes.now) self.new) }
         ensures err { OnErr result (Begins (W.contents writer.old) (W.contents writer.new)
@@ -93,7 +93,7 @@ impl Output {
     }
 
     /// Writes all that waits.
-    pub fn finish<W: Write>(self, writer: &mut W) -> Result<(), SoloError>
+    pub fn finish<W: Write>(self, writer: &mut W) -> Result<(), RunError>
         ensures ok { OnOk result (Appends (W.contents writer.old) (W.contents writer.new) self) }
         ensures err { OnErr result (Begins (W.contents writer.old) (W.contents writer.new) self) }
         ensures device { IfErr result (λ e. e ≡ Device) }

@@ -1,0 +1,69 @@
+//! Why a run stops before its end.
+ghost use Rattle.std.specs.Prelude.{◌≡◌};
+ghost use Rattle.line_io.specs.Status.{status_of};
+ghost use Rattle.line_io.specs.declared.error.RunError.TheVariants.{Device, Memory};
+
+use mqtt_wire::Fault;
+use std::alloc::{AllocError, AllocFailed};
+use std::io;
+use thiserror::Error;
+
+/// Why a run did not end. The text is what the program writes to standard error, and the number the status that it ends with.
+#[derive(Clone, Copy, Debug, PartialEq, Eq, Drop, Error)]
+pub enum RunError {
+    /// 3: the reader or the writer failed, or 2^20 reads did not reach the input's end.
+    #[error("device")]
+    Device,
+    /// 4: an allocation was refused.
+    #[error("memory")]
+    Memory,
+    /// 5: this line of the input, counted from 1, is none that the program takes.
+    #[error("input line {0}")]
+    Line(u64),
+}
+
+impl RunError {
+    /// The status that the program ends with: 3, 4 or 5.
+    pub fn status(&self) -> u8
+        ensures { result ≡ status_of self.now }
+    {
+        match self {
+            RunError::Device => 3,
+            RunError::Memory => 4,
+            RunError::Line(_) => 5,
+        }
+    }
+}
+
+impl From<io::Error> for RunError {
+    ghost from_gives = { λ _ e. e ≡ Device };
+
+    fn from(_: io::Error) -> RunError {
+        RunError::Device
+    }
+}
+
+impl From<AllocError> for RunError {
+    ghost from_gives = { λ _ e. e ≡ Memory };
+
+    fn from(_: AllocError) -> RunError {
+        RunError::Memory
+    }
+}
+
+impl<T: Drop> From<AllocFailed<T>> for RunError {
+    ghost from_gives = { λ _ e. e ≡ Memory };
+
+    fn from(_: AllocFailed<T>) -> RunError {
+        RunError::Memory
+    }
+}
+
+impl From<Fault> for RunError {
+    ghost from_gives = { λ _ e. e ≡ Memory };
+
+    /// A packet that was read has at most 65,536 bytes, so what is sent is never too large.
+    fn from(_: Fault) -> RunError {
+        RunError::Memory
+    }
+}

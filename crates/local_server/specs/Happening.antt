@@ -1,0 +1,74 @@
+-- What an event makes of a server on one thread, and what is said in it.
+use Rattle.std.specs.Prelude.{◌≡◌, ℕ, zero, suc, max, Bool, true, false, List, [], ◌++◌, Result, Ok, Err}
+use Rattle.conn_engine.specs.declared.input.Input.TheVariants as inputs
+use Rattle.conn_engine.specs.declared.supply.NoMemory.{NoMemory}
+use Rattle.client_table.specs.Clients.{Said}
+use Rattle.client_table.specs.Cells.{InCell, Opens, Receives, TicksFor, EndsFor}
+use Rattle.local_broker.specs.Places.{GroupPlace}
+use Rattle.local_broker.specs.Broker.{Broker, is_open}
+use Rattle.local_broker.specs.Calls.{Calls, Closes}
+use Rattle.local_server.specs.declared.event.Event.{Event}
+use Rattle.local_server.specs.declared.event.Event.TheVariants as events
+use Rattle.local_server.specs.declared.error.EventError.{EventError}
+use Rattle.local_server.specs.declared.error.EventError.TheVariants as errors
+use Rattle.local_server.specs.Events.{IsKnown}
+use Rattle.local_server.specs.Servers.{Clients, ServerState}
+
+-- the group of a place
+abbrev pub slot_of : GroupPlace → ℕ
+slot_of place = place.slot
+
+-- the connection of this number is told that the server closes, where it is open, and ends
+abbrev pub EndsAt : ℕ → Broker → Clients → ℕ → List Said → Result (Unit {0}) NoMemory → Clients → Broker → Type 0
+EndsAt number old clients now said result clients' new =
+    InCell clients number (λ before after. EndsFor Calls slot_of old before now inputs.Closing said result after new) clients'
+
+-- so many connections end one after the other, that of the least number first
+abbrev pub EndsFirst : ℕ → Broker → Clients → ℕ → List Said → Clients → Broker → Type 0
+EndsFirst zero old clients now said clients' new = (said ≡ []) × (clients' ≡ clients) × (new ≡ old)
+EndsFirst (suc number) old clients now said clients' new =
+    (mid : Broker) × (between : Clients) × (earlier last : List Said)
+    × EndsFirst number old clients now earlier between mid × EndsAt number mid between now last (Ok tt) clients' new × (said ≡ earlier ++ last)
+
+-- memory was wanted where the connection of this number was to end
+abbrev pub FailsToEnd : ℕ → Broker → Clients → ℕ → List Said → NoMemory → Clients → Broker → Type 0
+FailsToEnd number old clients now said refusal clients' new =
+    (mid : Broker) × (between : Clients) × (earlier last : List Said)
+    × EndsFirst number old clients now earlier between mid × EndsAt number mid between now last (Err refusal) clients' new × (said ≡ earlier ++ last)
+
+-- the close: the groups first, and then each of the 64 connections
+abbrev pub ClosesAll : Broker → Clients → ℕ → List Said → Result (Unit {0}) NoMemory → Clients → Broker → Type 0
+ClosesAll old clients now said (Ok done) clients' new =
+    (closed : Broker) × Closes old closed × (many : ℕ) × (many ≡ 64) × EndsFirst many closed clients now said clients' new
+ClosesAll old clients now said (Err refusal) clients' new =
+    (closed : Broker) × Closes old closed × (number : ℕ) × FailsToEnd number closed clients now said refusal clients' new
+
+-- an event, at this moment, of a server that is open: what is said, and what becomes of the server; or memory was wanted
+abbrev pub Does : Event → Broker → Clients → ℕ → List Said → Result (Unit {0}) NoMemory → Clients → Broker → Type 0
+Does (events.Open number) old clients now said result clients' new =
+    InCell clients number (Opens number now) clients' × (new ≡ old) × (said ≡ []) × (result ≡ Ok tt)
+Does (events.Bytes number piece) old clients now said result clients' new =
+    InCell clients number (λ before after. Receives Calls slot_of old before now piece said result after new) clients'
+Does (events.Tick number) old clients now said result clients' new =
+    InCell clients number (λ before after. TicksFor Calls slot_of old before now said result after new) clients'
+Does (events.End number) old clients now said result clients' new =
+    InCell clients number (λ before after. EndsFor Calls slot_of old before now inputs.EndOfInput said result after new) clients'
+Does events.Close old clients now said result clients' new = ClosesAll old clients now said result clients' new
+
+-- behind the close events are passed over
+abbrev pub DoesIf : Bool → Event → Broker → Clients → ℕ → List Said → Result (Unit {0}) NoMemory → Clients → Broker → Type 0
+DoesIf true event old clients now said result clients' new = Does event old clients now said result clients' new
+DoesIf false event old clients now said result clients' new = (said ≡ []) × (result ≡ Ok tt) × (clients' ≡ clients) × (new ≡ old)
+
+-- an event of a number that the server has
+pub record Meets (old : ServerState) (moment : ℕ) (event : Event) (said : List Said) (result : Result (Unit {0}) NoMemory) (new : ServerState) : Type 0 where
+  pub known : IsKnown event
+  -- where the clock went back, the later moment stands
+  pub clock : new.clock ≡ max old.clock moment
+  pub does : DoesIf (is_open old.broker) event old.broker old.clients new.clock said result new.clients new.broker
+
+-- an event at a moment; what it says may be refused: 802 for a number from 64 on, where nothing changes, 803 for want of memory
+abbrev pub Happens : ServerState → ℕ → Event → List Said → Result (Unit {0}) EventError → ServerState → Type 0
+Happens old moment event said (Ok done) new = Meets old moment event said (Ok done) new
+Happens old moment event said (Err errors.Range) new = ¬ IsKnown event × (said ≡ []) × (new ≡ old)
+Happens old moment event said (Err errors.Memory) new = (refusal : NoMemory) × Meets old moment event said (Err refusal) new

@@ -1,0 +1,4 @@
+pub mod Refusals
+pub mod Events
+pub mod Servers
+pub mod Happening

@@ -1,0 +1,27 @@
+-- A server on one thread: what its connections share, its clients, and its clock.
+use Rattle.std.specs.Prelude.{◌≡◌, ℕ, List, Option, None, replicate, refl}
+use Rattle.std.specs.Coded.{Coded, code_by, coded×}
+use Rattle.mqtt_topic.specs.Names.{Share}
+use Rattle.client_table.specs.Clients.{ClientState}
+use Rattle.local_broker.specs.Places.{GroupPlace}
+use Rattle.local_broker.specs.Broker.{Broker, IsNewBroker}
+
+-- for each number the client of that connection, where one is open
+abbrev pub Clients : Type 0
+Clients = List (Option (ClientState GroupPlace))
+
+pub record ServerState : Type 0 where
+  pub broker : Broker
+  pub clients : Clients
+  -- the latest moment at which something happened
+  pub clock : ℕ
+
+-- no connection, no session, these shares bound, and no message in any group
+pub record IsNewServer (capacity : ℕ) (shares : List Share) (server : ServerState) : Type 0 where
+  pub broker : IsNewBroker capacity shares server.broker
+  pub clients : server.clients ≡ replicate 64 None
+  pub clock : server.clock ≡ 0
+
+abbrev pub server_code : Coded Broker → Coded (Clients × ℕ) → Coded ServerState
+server_code broker others =
+    code_by (Broker × (Clients × ℕ)) (coded× broker others) (λ s. (s.broker, (s.clients, s.clock))) (λ p. record { broker = p.0; clients = p.1.0; clock = p.1.1 }) (λ _. refl)

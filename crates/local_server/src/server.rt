@@ -1,0 +1,163 @@
+//! A server on one thread.
+ghost use Rattle.std.specs.Prelude.{◌≡◌, ◌≤◌, ◌++◌, length, List, MatchOption, IfOk, None, slice_get};
+ghost use Rattle.client_table.specs.Clients.{Said as Words};
+ghost use Rattle.local_broker.specs.Reporting.{TellsLine};
+ghost use Rattle.local_server.specs.Events.{IsKnown};
+ghost use Rattle.local_server.specs.Servers.{IsNewServer};
+ghost use Rattle.local_server.specs.Happening.{ClosesAll, Does, Happens};
+
+use crate::error::EventError;
+use crate::event::Event;
+use client_table::{CLIENTS, ClientTable, Said};
+use conn_engine::{NoMemory, Supply};
+use local_broker::{LocalPlace, LocalSupply};
+use mqtt_topic::{Routes, Share};
+use std::alloc::Global;
+use std::marker::Model;
+
+/// A server on one thread: up to [`CLIENTS`] connections, and what they share.
+pub struct Server {
+    supply: LocalSupply,
+    clients: ClientTable<LocalPlace>,
+    clock: u64,
+}
+
+impl Model for Server {
+    ghost use Rattle.std.specs.Coded.{codes};
+    ghost use Rattle.session_desk.specs.Layout.{books_code};
+    ghost use Rattle.local_broker.specs.Broker.{broker_code};
+    ghost use Rattle.local_server.specs.Servers.{ServerState, server_code};
+
+    ghost Value = { ServerState };
+
+    ghost coded = { server_code (broker_code (books_code (Prim.hlevel codes) (Prim.hlevel codes)) (Prim.hlevel codes) (Prim.hlevel codes)) (Prim.hlevel codes) };
+
+    ghost view = { λ s. record { broker = s.supply; clients = s.clients; clock = s.clock } };
+}
+
+impl Server {
+    /// A server without connections: these shares are bound, and in the queue of each group so many messages may wait.
+    ///
+    /// # Errors
+    ///
+    /// Want of memory.
+    pub fn open(alloc: Global, capacity: usize, routes: Routes) -> Result<Server, NoMemory>
+        ensures { IfOk result (IsNewServer capacity routes) }
+    {
+        let supply = LocalSupply::open(alloc, capacity, routes)?;
+        match ClientTable::new(alloc) {
+            Ok(clients) => Ok(Server {
+                supply,
+                clients,
+                clock: 0,
+            }),
+            Err(refused) => {
+                supply.end();
+                Err(refused)
+            }
+        }
+    }
+
+    /// An event, at this moment in milliseconds; where that is less than an earlier one, the earlier one stands. What each step
+    /// of a connection wrote goes behind what was said before.
+    ///
+    /// What happens to a connection that is not open is passed over, and so is the opening of one that is, and all that happens
+    /// behind [`Event::Close`].
+    ///
+    /// # Errors
+    ///
+    /// 802 [`EventError::Range`], where nothing changes, and 803 [`EventError::Memory`].
+    pub fn happen(
+        &mut self,
+        moment: u64,
+        event: &Event,
+        said: &mut Vec<Said>,
+    ) -> Result<(), EventError>
+        ensures { (more : List Words) × (said.new.items ≡ said.old.items ++ more) × Happens self.old moment event.now more result self.new }
+    {
+        if !event.is_known() {
+            return Err(EventError::Range);
+        }
+        self.clock = self.clock.max(moment);
+        if !self.supply.is_open() {
+            return Ok(());
+        }
+        serve(&mut self.supply, &mut self.clients, self.clock, event, said)?;
+        Ok(())
+    }
+
+    /// The shares that are bound, the one of slot n at place n.
+    pub fn shares(&self) -> &[Share]
+        ensures value { result.now ≡ self.now.broker.routes }
+        ensures few { length result.now ≤ 8 }
+    {
+        self.supply.shares()
+    }
+
+    /// The line of the report of the share that is bound to this slot; `None` where none is.
+    ///
+    /// # Errors
+    ///
+    /// Want of memory.
+    pub fn line(&self, alloc: Global, slot: u8) -> Result<Option<Vec<u8>>, NoMemory>
+        ensures { IfOk result (λ told. MatchOption told (slice_get self.now.broker.routes slot ≡ None) (λ line. TellsLine self.now.broker slot line.items)) }
+    {
+        self.supply.line(alloc, slot)
+    }
+
+    /// Lets go of the server: connections that are open end, and nothing is written of that.
+    pub fn end(self) {
+        let Server {
+            mut supply,
+            clients,
+            clock,
+        } = self;
+        clients.abandon(&mut supply, clock);
+        supply.end();
+    }
+}
+
+/// An event at this moment, where the server is open.
+fn serve(
+    supply: &mut LocalSupply,
+    clients: &mut ClientTable<LocalPlace>,
+    now: u64,
+    event: &Event,
+    said: &mut Vec<Said>,
+) -> Result<(), NoMemory>
+    requires { IsKnown event.now }
+    ensures { (more : List Words) × (said.new.items ≡ said.old.items ++ more)
+        × Does event.now supply.old clients.old now more result clients.new supply.new }
+{
+    match event {
+        Event::Open(number) => {
+            clients.open(*number, now);
+            Ok(())
+        }
+        Event::Bytes(number, piece) => clients.receive(supply, *number, now, piece, said),
+        Event::Tick(number) => clients.tick(supply, *number, now, said),
+        Event::End(number) => clients.end_of_input(supply, *number, now, said),
+        Event::Close => close(supply, clients, now, said),
+    }
+}
+
+/// The server closes: the groups first, and then each connection ends, that of the least number first.
+#[tactic(auto, using(crate::proofs::Closing::none_ended))]
+fn close(
+    supply: &mut LocalSupply,
+    clients: &mut ClientTable<LocalPlace>,
+    now: u64,
+    said: &mut Vec<Said>,
+) -> Result<(), NoMemory>
+    ensures { (more : List Words) × (said.new.items ≡ said.old.items ++ more)
+        × ClosesAll supply.old clients.old now more result clients.new supply.new }
+{
+    supply.close();
+    'numbers: for number in 0..CLIENTS as u8 {
+        match clients.closing(supply, number, now, said) {
+            Ok(()) => {}
+            Err(refused) => return Err(refused),
+        }
+    }
+    Ok(())
+}
