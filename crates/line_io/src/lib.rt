@@ -15,4 +15,4 @@ mod output;
 
 pub use error::RunError;
 pub use input::{read_all, split_line};
-pub use output::Output;
+pub use output::{Output, write_all};

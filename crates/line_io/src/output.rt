@@ -48,6 +48,21 @@ fn write_out<W: Write>(writer: &mut W, bytes: &[u8]) -> Result<(), RunError>
     Err(RunError::Device)
 }
 
+/// Writes all of a text. At a failure the writer has a beginning of it.
+///
+/// # Errors
+///
+/// [`RunError::Device`].
+pub fn write_all<W: Write>(writer: &mut W, text: &[u8]) -> Result<(), RunError>
+    ensures ok { OnOk result (Appends (W.contents writer.old) (W.contents writer.new) text.now) }
+    ensures err { OnErr result (Begins (W.contents writer.old) (W.contents writer.new) text.now) }
+    ensures device { IfErr result (λ e. e ≡ Device) }
+{
+    write_out(writer, text)?;
+    writer.flush()?;
+    Ok(())
+}
+
 impl Output {
     /// Nothing waits.
     pub fn new(alloc: Global) -> Output
@@ -98,8 +113,6 @@ impl Output {
         ensures err { OnErr result (Begins (W.contents writer.old) (W.contents writer.new) self) }
         ensures device { IfErr result (λ e. e ≡ Device) }
     {
-        write_out(writer, &self.waiting)?;
-        writer.flush()?;
-        Ok(())
+        write_all(writer, &self.waiting)
     }
 }

@@ -1,5 +1,5 @@
 -- What an event makes of a server on one thread, and what is said in it.
-use Rattle.std.specs.Prelude.{◌≡◌, ℕ, zero, suc, max, Bool, true, false, List, [], ◌++◌, Result, Ok, Err}
+use Rattle.std.specs.Prelude.{◌≡◌, ℕ, zero, suc, max, Bool, true, false, List, [], ◌∷◌, ◌++◌, Result, Ok, Err}
 use Rattle.conn_engine.specs.declared.input.Input.TheVariants as inputs
 use Rattle.conn_engine.specs.declared.supply.NoMemory.{NoMemory}
 use Rattle.client_table.specs.Clients.{Said}
@@ -9,9 +9,7 @@ use Rattle.local_broker.specs.Broker.{Broker, is_open}
 use Rattle.local_broker.specs.Calls.{Calls, Closes}
 use Rattle.local_server.specs.declared.event.Event.{Event}
 use Rattle.local_server.specs.declared.event.Event.TheVariants as events
-use Rattle.local_server.specs.declared.error.EventError.{EventError}
-use Rattle.local_server.specs.declared.error.EventError.TheVariants as errors
-use Rattle.local_server.specs.Events.{IsKnown}
+use Rattle.local_server.specs.declared.event.TimedEvent.{TimedEvent}
 use Rattle.local_server.specs.Servers.{Clients, ServerState}
 
 -- the group of a place
@@ -60,15 +58,15 @@ abbrev pub DoesIf : Bool → Event → Broker → Clients → ℕ → List Said 
 DoesIf true event old clients now said result clients' new = Does event old clients now said result clients' new
 DoesIf false event old clients now said result clients' new = (said ≡ []) × (result ≡ Ok tt) × (clients' ≡ clients) × (new ≡ old)
 
--- an event of a number that the server has
-pub record Meets (old : ServerState) (moment : ℕ) (event : Event) (said : List Said) (result : Result (Unit {0}) NoMemory) (new : ServerState) : Type 0 where
-  pub known : IsKnown event
+-- an event at a moment
+pub record Happens (old : ServerState) (moment : ℕ) (event : Event) (said : List Said) (result : Result (Unit {0}) NoMemory) (new : ServerState) : Type 0 where
   -- where the clock went back, the later moment stands
   pub clock : new.clock ≡ max old.clock moment
   pub does : DoesIf (is_open old.broker) event old.broker old.clients new.clock said result new.clients new.broker
 
--- an event at a moment; what it says may be refused: 802 for a number from 64 on, where nothing changes, 803 for want of memory
-abbrev pub Happens : ServerState → ℕ → Event → List Said → Result (Unit {0}) EventError → ServerState → Type 0
-Happens old moment event said (Ok done) new = Meets old moment event said (Ok done) new
-Happens old moment event said (Err errors.Range) new = ¬ IsKnown event × (said ≡ []) × (new ≡ old)
-Happens old moment event said (Err errors.Memory) new = (refusal : NoMemory) × Meets old moment event said (Err refusal) new
+-- one event after another, and what is said in them
+abbrev pub HappensAll : ServerState → List TimedEvent → List Said → ServerState → Type 0
+HappensAll old [] said new = (said ≡ []) × (new ≡ old)
+HappensAll old (first ∷ others) said new =
+    (mid : ServerState) × (now later : List Said)
+    × Happens old first.moment first.event now (Ok tt) mid × HappensAll mid others later new × (said ≡ now ++ later)

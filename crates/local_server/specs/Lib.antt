@@ -1,4 +1,2 @@
-pub mod Refusals
-pub mod Events
 pub mod Servers
 pub mod Happening

@@ -1,10 +1,10 @@
 -- A server on one thread: what its connections share, its clients, and its clock.
 use Rattle.std.specs.Prelude.{◌≡◌, ℕ, List, Option, None, replicate, refl}
 use Rattle.std.specs.Coded.{Coded, code_by, coded×}
-use Rattle.mqtt_topic.specs.Names.{Share}
 use Rattle.client_table.specs.Clients.{ClientState}
 use Rattle.local_broker.specs.Places.{GroupPlace}
 use Rattle.local_broker.specs.Broker.{Broker, IsNewBroker}
+use Rattle.local_server.specs.declared.setup.Setup.{Setup}
 
 -- for each number the client of that connection, where one is open
 abbrev pub Clients : Type 0
@@ -16,9 +16,9 @@ pub record ServerState : Type 0 where
   -- the latest moment at which something happened
   pub clock : ℕ
 
--- no connection, no session, these shares bound, and no message in any group
-pub record IsNewServer (capacity : ℕ) (shares : List Share) (server : ServerState) : Type 0 where
-  pub broker : IsNewBroker capacity shares server.broker
+-- no connection, no session, the shares of the setup bound, and no message in any group
+pub record IsNewServer (setup : Setup) (server : ServerState) : Type 0 where
+  pub broker : IsNewBroker setup.capacity setup.groups server.broker
   pub clients : server.clients ≡ replicate 64 None
   pub clock : server.clock ≡ 0
 

@@ -1,19 +1,23 @@
 //! A server on one thread: events happen to it, one after another, and it says what is written to whom.
 //!
 //! ```
-//! let mut server = Server::open(alloc, 1_024, Routes::new(alloc))?; // in each group at most 1,024 messages wait
-//! server.happen(0, &Event::Open(0), &mut said)?; // a client connects, at the moment 0
-//! server.happen(3, &Event::Bytes(0, piece), &mut said)?; // what it sent: `said` has the answers
+//! let groups = Routes::new(alloc); // clients bind the shares that they subscribe to
+//! let mut server = Server::open(alloc, Setup { capacity: 1_024, groups })?; // in each group at most 1,024 messages wait
+//! let number = ConnectionNumber::new(0)?;
+//! server.happen(0, &Event::Open(number), &mut said)?; // a client connects, at the moment 0
+//! server.happen(3, &Event::Bytes(number, piece), &mut said)?; // what it sent: `said` has the answers
 //! server.happen(9, &Event::Close, &mut said)?; // every client is told
 //! let line = server.line(alloc, 0)?; // what became of the messages of the first share
 //! server.end();
 //! ```
 #![tactic(auto)]
 
-mod error;
 mod event;
+mod number;
 mod server;
+mod setup;
 
-pub use error::EventError;
-pub use event::Event;
+pub use event::{Event, TimedEvent};
+pub use number::{ConnectionNumber, OutOfRange};
 pub use server::Server;
+pub use setup::Setup;

@@ -2,16 +2,15 @@
 ghost use Rattle.std.specs.Prelude.{◌≡◌, ◌≤◌, ◌++◌, length, List, MatchOption, IfOk, None, slice_get};
 ghost use Rattle.client_table.specs.Clients.{Said as Words};
 ghost use Rattle.local_broker.specs.Reporting.{TellsLine};
-ghost use Rattle.local_server.specs.Events.{IsKnown};
 ghost use Rattle.local_server.specs.Servers.{IsNewServer};
 ghost use Rattle.local_server.specs.Happening.{ClosesAll, Does, Happens};
 
-use crate::error::EventError;
 use crate::event::Event;
+use crate::setup::Setup;
 use client_table::{CLIENTS, ClientTable, Said};
 use conn_engine::{NoMemory, Supply};
 use local_broker::{LocalPlace, LocalSupply};
-use mqtt_topic::{Routes, Share};
+use mqtt_topic::Share;
 use std::alloc::Global;
 use std::marker::Model;
 
@@ -36,15 +35,15 @@ impl Model for Server {
 }
 
 impl Server {
-    /// A server without connections: these shares are bound, and in the queue of each group so many messages may wait.
+    /// A server without connections.
     ///
     /// # Errors
     ///
     /// Want of memory.
-    pub fn open(alloc: Global, capacity: usize, routes: Routes) -> Result<Server, NoMemory>
-        ensures { IfOk result (IsNewServer capacity routes) }
+    pub fn open(alloc: Global, setup: Setup) -> Result<Server, NoMemory>
+        ensures { IfOk result (IsNewServer setup) }
     {
-        let supply = LocalSupply::open(alloc, capacity, routes)?;
+        let supply = LocalSupply::open(alloc, setup.capacity, setup.groups)?;
         match ClientTable::new(alloc) {
             Ok(clients) => Ok(Server {
                 supply,
@@ -66,24 +65,21 @@ impl Server {
     ///
     /// # Errors
     ///
-    /// 802 [`EventError::Range`], where nothing changes, and 803 [`EventError::Memory`].
+    /// 803 [`NoMemory`]: the connection has ended, and its session is parked or ending, with all that it holds; what was said
+    /// before stays.
     pub fn happen(
         &mut self,
         moment: u64,
         event: &Event,
         said: &mut Vec<Said>,
-    ) -> Result<(), EventError>
+    ) -> Result<(), NoMemory>
         ensures { (more : List Words) × (said.new.items ≡ said.old.items ++ more) × Happens self.old moment event.now more result self.new }
     {
-        if !event.is_known() {
-            return Err(EventError::Range);
-        }
         self.clock = self.clock.max(moment);
         if !self.supply.is_open() {
             return Ok(());
         }
-        serve(&mut self.supply, &mut self.clients, self.clock, event, said)?;
-        Ok(())
+        serve(&mut self.supply, &mut self.clients, self.clock, event, said)
     }
 
     /// The shares that are bound, the one of slot n at place n.
@@ -125,18 +121,17 @@ fn serve(
     event: &Event,
     said: &mut Vec<Said>,
 ) -> Result<(), NoMemory>
-    requires { IsKnown event.now }
     ensures { (more : List Words) × (said.new.items ≡ said.old.items ++ more)
         × Does event.now supply.old clients.old now more result clients.new supply.new }
 {
     match event {
         Event::Open(number) => {
-            clients.open(*number, now);
+            clients.open(number.get(), now);
             Ok(())
         }
-        Event::Bytes(number, piece) => clients.receive(supply, *number, now, piece, said),
-        Event::Tick(number) => clients.tick(supply, *number, now, said),
-        Event::End(number) => clients.end_of_input(supply, *number, now, said),
+        Event::Bytes(number, piece) => clients.receive(supply, number.get(), now, piece, said),
+        Event::Tick(number) => clients.tick(supply, number.get(), now, said),
+        Event::End(number) => clients.end_of_input(supply, number.get(), now, said),
         Event::Close => close(supply, clients, now, said),
     }
 }
