@@ -1,0 +1,4 @@
+pub mod Texts
+pub mod Cut
+pub mod Lines
+pub mod Playing

@@ -1,0 +1,68 @@
+-- What is written of a run: what each step of a connection wrote, and the reports (profile).
+use Rattle.std.specs.Prelude.{◌≡◌, ◌⊎◌, ℕ, zero, suc, codes, List, [], ◌∷◌, ◌++◌, length, Option, Ok}
+use Rattle.std.specs.List.{flat_map}
+use Rattle.std.specs.Fmt.{decimal}
+use Rattle.std.specs.Io.KnownBytes.{Appends, Keeps}
+use Rattle.mqtt_wire.specs.declared.packet.Packet.{Packet}
+use Rattle.mqtt_wire.specs.Writing.{written}
+use Rattle.conn_engine.specs.declared.input.Then.{Then}
+use Rattle.conn_engine.specs.declared.input.Then.TheVariants as thens
+use Rattle.client_table.specs.Clients.{Said}
+use Rattle.local_broker.specs.Broker.{Broker}
+use Rattle.local_broker.specs.Reporting.{TellsLine}
+use Rattle.local_server.specs.declared.event.TimedEvent.{TimedEvent}
+use Rattle.local_server.specs.declared.setup.Setup.{Setup}
+use Rattle.local_server.specs.Servers.{ServerState, IsNewServer}
+use Rattle.local_server.specs.Happening.{HappensAll}
+use Rattle.line_io.specs.Lines.{hex_line}
+use Rattle.line_io.specs.Passing.{Begins}
+use Rattle.drive.specs.Scripts.{script_of}
+
+-- a packet: the number of its connection, and its bytes in lower case hex
+abbrev pub packet_line : ℕ → Packet → List ℕ
+packet_line connection packet = decimal connection ++ 32 ∷ hex_line (written packet)
+
+-- where a connection ends, the number and a word
+abbrev pub next_line : ℕ → Then → List ℕ
+next_line connection thens.Go = []
+next_line connection thens.Close = decimal connection ++ codes " close\n"
+next_line connection thens.Kicked = decimal connection ++ codes " kicked\n"
+
+-- what one step of a connection wrote
+abbrev pub lines_said : Said → List ℕ
+lines_said said = flat_map (packet_line said.connection) said.packets ++ next_line said.connection said.next
+
+abbrev pub told : List Said → List ℕ
+told said = flat_map lines_said said
+
+-- the lines of the reports of the first so many shares, in the order of their slots
+abbrev pub ReportsFirst : ℕ → Broker → List ℕ → Type 0
+ReportsFirst zero b text = text ≡ []
+ReportsFirst (suc slot) b text = (earlier line : List ℕ) × ReportsFirst slot b earlier × TellsLine b slot line × (text ≡ earlier ++ line)
+
+-- A run of a server over these events: what is said in them, and then the reports.
+pub record IsTranscript (setup : Setup) (events : List TimedEvent) (text : List ℕ) : Type 0 where
+  pub first : ServerState
+  pub new : IsNewServer setup first
+  pub said : List Said
+  pub last : ServerState
+  pub happens : HappensAll first events said last
+  pub reports : List ℕ
+  pub reported : ReportsFirst (length last.broker.routes) last.broker reports
+  pub whole : text ≡ told said ++ reports
+
+-- the transcript of the events that an input spells
+pub record IsDriveOutput (setup : Setup) (input output : List ℕ) : Type 0 where
+  pub events : List TimedEvent
+  pub spelled : script_of input ≡ Ok events
+  pub transcript : IsTranscript setup events output
+
+-- the writer got the output for an input, and nothing else
+pub record WritesDriveOutput (setup : Setup) (input : List ℕ) (old new : Option (List ℕ)) : Type 0 where
+  pub output : List ℕ
+  pub defined_by : IsDriveOutput setup input output
+  pub written : Appends old new output
+
+-- the writer got nothing, or a beginning of the output for an input
+abbrev pub BeginsDriveOutput : Setup → List ℕ → Option (List ℕ) → Option (List ℕ) → Type 0
+BeginsDriveOutput setup input old new = Keeps old new ⊎ ((output : List ℕ) × IsDriveOutput setup input output × Begins old new output)

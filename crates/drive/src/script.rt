@@ -1,0 +1,127 @@
+//! The events that the lines of an input spell.
+ghost use Rattle.std.specs.Prelude.{◌≡◌, Ok, IfOk, IfErr};
+ghost use Rattle.hex.specs.Hex.{decode_of};
+ghost use Rattle.line_io.specs.declared.error.RunError.TheVariants.{Memory};
+ghost use Rattle.drive.specs.Words.{words_of, connection_of};
+ghost use Rattle.drive.specs.Scripts.{of_server, of_connection, of_piece, event_of, timed_event_of, is_passed_over, script_of, NamesBadLine};
+
+use crate::numbers::{connection, number};
+use crate::words::Words;
+use bytes::Bytes;
+use line_io::{RunError, split_line};
+use local_server::{Event, TimedEvent};
+use std::alloc::Global;
+
+/// The events that an input spells.
+///
+/// # Errors
+///
+/// [`RunError::Line`] for the first line that spells none, and [`RunError::Memory`].
+pub(crate) fn read_script(alloc: Global, input: &[u8]) -> Result<Vec<TimedEvent>, RunError>
+    ensures ok { IfOk result (λ events. script_of input.now ≡ Ok events.items) }
+    ensures err { IfErr result (NamesBadLine input.now) }
+{
+    let mut events = Vec::new(alloc);
+    let mut rest = input;
+    let mut number = 0;
+    while !rest.is_empty() {
+        let (line, others) = split_line(rest);
+        number += 1;
+        if !is_passed_over(line) {
+            match timed_event(alloc, line)? {
+                Some(event) => events.push(event)?,
+                None => return Err(RunError::Line(number)),
+            }
+        }
+        rest = others;
+    }
+    Ok(events)
+}
+
+/// Whether a line is empty or begins with `#`.
+fn is_passed_over(line: &[u8]) -> bool
+    ensures { result ≡ is_passed_over line.now }
+{
+    match line.first() {
+        None => true,
+        Some(byte) => *byte == b'#',
+    }
+}
+
+/// The event that a line spells.
+fn timed_event(alloc: Global, line: &[u8]) -> Result<Option<TimedEvent>, RunError>
+    ensures ok { IfOk result (λ found. found ≡ timed_event_of (words_of line.now)) }
+    ensures err { IfErr result (λ error. error ≡ Memory) }
+{
+    let mut words = Words::of(line);
+    let Some(moment) = words.next() else {
+        return Ok(None);
+    };
+    let Some(moment) = number(moment) else {
+        return Ok(None);
+    };
+    match event(alloc, &mut words)? {
+        Some(event) => Ok(Some(TimedEvent { moment, event })),
+        None => Ok(None),
+    }
+}
+
+/// The event that the words behind a moment spell.
+fn event(alloc: Global, words: &mut Words) -> Result<Option<Event>, RunError>
+    ensures ok { IfOk result (λ found. found ≡ event_of words.old) }
+    ensures err { IfErr result (λ error. error ≡ Memory) }
+{
+    match (words.next(), words.next(), words.next(), words.next()) {
+        (Some(word), None, None, None) => Ok(of_server(word)),
+        (Some(word), Some(number), None, None) => Ok(of_connection(word, number)),
+        (Some(word), Some(number), Some(digits), None) => of_piece(alloc, word, number, digits),
+        _ => Ok(None),
+    }
+}
+
+/// `close`.
+fn of_server(word: &[u8]) -> Option<Event>
+    ensures { result ≡ of_server word.now }
+{
+    match word {
+        b"close" => Some(Event::Close),
+        _ => None,
+    }
+}
+
+/// `open`, `tick` and `end`, each with the number of a connection.
+fn of_connection(word: &[u8], number: &[u8]) -> Option<Event>
+    ensures { result ≡ of_connection word.now (connection_of number.now) }
+{
+    let number = connection(number)?;
+    match word {
+        b"open" => Some(Event::Open(number)),
+        b"tick" => Some(Event::Tick(number)),
+        b"end" => Some(Event::End(number)),
+        _ => None,
+    }
+}
+
+/// `bytes`, with the number of a connection and the piece that the digits spell.
+fn of_piece(
+    alloc: Global,
+    word: &[u8],
+    number: &[u8],
+    digits: &[u8],
+) -> Result<Option<Event>, RunError>
+    ensures ok { IfOk result (λ found. found ≡ of_piece word.now (connection_of number.now) (decode_of digits.now)) }
+    ensures err { IfErr result (λ error. error ≡ Memory) }
+{
+    let Some(number) = connection(number) else {
+        return Ok(None);
+    };
+    match hex::decode(alloc, digits) {
+        Ok(piece) if word == b"bytes".as_slice() => Ok(Some(Event::Bytes(
+            number,
+            Bytes::from_vec(piece)?,
+        ))),
+        Ok(_) => Ok(None),
+        Err(hex::FromHexError::OutOfMemory) => Err(RunError::Memory),
+        Err(_) => Ok(None),
+    }
+}
