@@ -1,16 +1,15 @@
 //! A dispatcher for MQTT 5.0 shared subscriptions: the program `share_broker`.
 #![tactic(auto)]
 
-ghost use Rattle.std.specs.Prelude.{◌≡◌, map, string_bytes};
+ghost use Rattle.std.specs.Prelude.{◌≡◌};
 ghost use Rattle.std.specs.Process.{exit_status};
-ghost use Rattle.std.specs.Vec.Iter.{into_iter_items};
-ghost use Rattle.share_broker.specs.Words.{asks_solo};
 ghost use Rattle.line_io.specs.Status.{status_of};
 
+use arguments::{Request, arguments};
+use clap::error::ErrorKind;
+use drive::drive;
 use line_io::RunError;
 use solo_broker::solo;
-use std::env::Args;
-use std::io::ErrorKind;
 use std::process::ExitCode;
 use std::{env, io};
 
@@ -18,28 +17,42 @@ use std::{env, io};
 const USAGE: u8 = 2;
 
 fn main(rt: HostRuntime) -> ExitCode {
-    let is_solo = match env::args(&rt) {
-        Ok(words) => asks_solo(words),
-        Err(e) if e.kind() == ErrorKind::OutOfMemory => return failure(&rt, RunError::Memory),
-        Err(_) => false,
+    let words = match words(&rt) {
+        Ok(Some(words)) => words,
+        Ok(None) => {
+            let _ = eprintln!(rt; "error: a word is no UTF-8 text");
+            return ExitCode::from(USAGE);
+        }
+        Err(error) => return failure(&rt, error),
     };
-    if !is_solo {
-        let _ = eprintln!(rt; "usage: share_broker solo < FILE");
-        return ExitCode::from(USAGE);
-    }
-    match solo(rt.alloc(), &mut rt.reader(), &mut io::writer(&rt)) {
+    let ended = match arguments(rt.alloc(), &words) {
+        Ok(request) => run(&rt, request),
+        Err(error) if error.kind() == ErrorKind::OutOfMemory => Err(RunError::Memory),
+        Err(error) => {
+            let _ = error.print(&rt);
+            return ExitCode::from(error.exit_code() as u8);
+        }
+    };
+    match ended {
         Ok(()) => ExitCode::SUCCESS,
         Err(error) => failure(&rt, error),
     }
 }
 
-/// Whether the words behind the program's name are `solo` alone.
-fn asks_solo(mut words: Args) -> bool
-    ensures { result ≡ asks_solo (map string_bytes (into_iter_items words)) }
-{
-    match (words.next(), words.next(), words.next()) {
-        (Some(_name), Some(word), None) => word.as_str() == "solo",
-        _ => false,
+/// The words of the command line; `None` where one is no UTF-8 text.
+fn words(rt: &HostRuntime) -> Result<Option<Vec<String>>, RunError> {
+    match env::args(rt) {
+        Ok(words) => Ok(Some(words.collect(rt.alloc())?)),
+        Err(error) if error.kind() == io::ErrorKind::OutOfMemory => Err(RunError::Memory),
+        Err(_) => Ok(None),
+    }
+}
+
+/// Does what the words ask for.
+fn run(rt: &HostRuntime, request: Request) -> Result<(), RunError> {
+    match request {
+        Request::Solo => solo(rt.alloc(), &mut rt.reader(), &mut io::writer(rt)),
+        Request::Drive(setup) => drive(rt.alloc(), setup, &mut rt.reader(), &mut io::writer(rt)),
     }
 }
 

@@ -1,0 +1,58 @@
+//! The groups that are there from the start.
+use bytes::Bytes;
+use mqtt_topic::{Routes, Share, TopicError};
+use mqtt_wire::Text;
+use std::alloc::{AllocError, Global};
+
+/// Why a group is refused.
+#[derive(Clone, Copy, Debug, PartialEq, Eq)]
+pub(crate) enum Refusal {
+    /// There is no colon, or what stands around it names no share.
+    NoShare,
+    /// It was given before.
+    Twice,
+    /// There are eight.
+    Ninth,
+}
+
+impl Refusal {
+    /// What is said of it.
+    pub(crate) fn text(self) -> &'static str {
+        match self {
+            Refusal::NoShare => "a group is NAME:FILTER, where $share/NAME/FILTER is a share",
+            Refusal::Twice => "a group is given twice",
+            Refusal::Ninth => "there are at most eight groups",
+        }
+    }
+}
+
+/// Adds the group `NAME:FILTER`.
+pub(crate) fn add_group(
+    alloc: Global,
+    groups: &mut Routes,
+    pair: &str,
+) -> Result<Result<(), Refusal>, AllocError> {
+    let Some(share) = share_of(alloc, pair)? else {
+        return Ok(Err(Refusal::NoShare));
+    };
+    if groups.find(&share).is_some() {
+        return Ok(Err(Refusal::Twice));
+    }
+    match groups.bind(share) {
+        Ok(_slot) => Ok(Ok(())),
+        Err(TopicError::Memory) => Err(AllocError),
+        Err(_) => Ok(Err(Refusal::Ninth)),
+    }
+}
+
+/// The share that a pair names: it is cut at the first colon.
+fn share_of(alloc: Global, pair: &str) -> Result<Option<Share>, AllocError> {
+    let Some((name, filter)) = pair.split_once(':') else {
+        return Ok(None);
+    };
+    let text = format!(in alloc; "$share/{name}/{filter}")?;
+    match Text::parse(Bytes::from_vec(text.into_bytes())?) {
+        Some(text) => Ok(Share::parse(text).ok()),
+        None => Ok(None),
+    }
+}
