@@ -4,7 +4,7 @@ use Rattle.conn_engine.specs.declared.input.Input.{Input}
 use Rattle.conn_engine.specs.declared.input.Input.TheVariants as inputs
 use Rattle.conn_engine.specs.declared.supply.NoMemory.{NoMemory}
 use Rattle.conn_engine.specs.Facts.{Fact}
-use Rattle.conn_engine.specs.Laws.{CallsLead}
+use Rattle.conn_engine.specs.Calls.{CallsLead}
 use Rattle.conn_engine.proofs.Calling.{joins}
 use Rattle.conn_engine.proofs.Stepping.{stepped}
 use Rattle.conn_engine.proofs.Failing.{failed}

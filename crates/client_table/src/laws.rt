@@ -4,7 +4,7 @@
 ghost use Rattle.std.specs.Prelude.{◌≡◌, ℕ, List, Option, Result};
 ghost use Rattle.conn_engine.specs.declared.input.Input.{Input};
 ghost use Rattle.conn_engine.specs.declared.supply.NoMemory.{NoMemory};
-ghost use Rattle.conn_engine.specs.Laws.{CallsLead};
+ghost use Rattle.conn_engine.specs.Calls.{CallsLead};
 ghost use Rattle.client_table.specs.Cells.{Receives, TicksFor, EndsFor, AbandonsEach};
 ghost use Rattle.client_table.specs.Clients.{ClientState, Said, Moves, IsGivenUp};
 ghost use Rattle.client_table.specs.Streams.{Reads, FailsToRead, Ticks, FailsToTick};

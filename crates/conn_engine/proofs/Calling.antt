@@ -28,7 +28,7 @@ use Rattle.conn_engine.specs.Facts.{Fact}
 use Rattle.conn_engine.specs.Connecting.{opened, has_place, RetiresEarlier, ResumesAs, AttachedAs, Attaches, FailsWith, FailsToAttach, Withdraws, TriesAgain, FailsAgain}
 use Rattle.conn_engine.specs.Ending.{down, GivesBack, Ends, RetiresAs, Retires, PartsAs, Parts, Sweeps}
 use Rattle.conn_engine.specs.HandOuts.{AsksFor, IsRefused, SendsNone, SendsFresh, LeavesWith, HandsFresh, HandsOut, TakesSome, HandsSome}
-use Rattle.conn_engine.specs.Laws.{offer_of, match_of, settlement_of, offered, matched, settled, MakesAll}
+use Rattle.conn_engine.specs.Calls.{offer_of, match_of, settlement_of, offered, matched, settled, MakesAll}
 use Rattle.conn_engine.specs.Subscribing.{IsLent, EntersAs, Joins, AnswersEntry, AnswersEntries, AnswersFirst, AnswersSome, LeavesBy, LeavesByAll}
 
 module _ {S P : Type 0} (call : S → Fact P → S → Type 0) where

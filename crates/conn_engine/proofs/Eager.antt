@@ -9,7 +9,7 @@ use Rattle.conn_engine.specs.declared.standing.Standing.{Standing}
 use Rattle.conn_engine.specs.declared.standing.Standing.TheVariants.{Unconnected, Waiting, Connected, Ended}
 use Rattle.conn_engine.specs.Facts.{Fact}
 use Rattle.conn_engine.specs.HandOuts.{SendsAgain, AsksFor, SendsNone, SendsFresh, LeavesWith, HandsFresh}
-use Rattle.conn_engine.specs.Laws.{IsServed, IsAllHandedOut}
+use Rattle.conn_engine.specs.Behind.{IsServed, IsAllHandedOut}
 use Rattle.conn_engine.specs.Step.{Hands}
 
 -- what waits still waits for the quota

@@ -23,7 +23,7 @@ use Rattle.conn_engine.specs.declared.standing.Standing.{Standing}
 use Rattle.conn_engine.specs.declared.standing.Standing.TheVariants.{Unconnected, Waiting, Connected, Ended}
 use Rattle.conn_engine.specs.Facts.{Fact}
 use Rattle.conn_engine.specs.Connecting.{has_place, most_ticks, IsRefused, Accepts, WaitsAs, ResumesAs, AttachedAs}
-use Rattle.conn_engine.specs.Laws.{IsLast}
+use Rattle.conn_engine.specs.Behind.{IsLast}
 use Rattle.conn_engine.specs.Step.{IsClosed, IsRefusedIf, WaitsForConnect, AnswersFirst, Concludes, AnswersPacket, AnswersTick, AnswersUnlessKicked, IsHeard, Reacts, Hands, Steps}
 
 -- a connection has ended, or not

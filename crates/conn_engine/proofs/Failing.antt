@@ -16,8 +16,8 @@ use Rattle.conn_engine.specs.declared.supply.OfferRefusal.{OfferRefusal}
 use Rattle.conn_engine.specs.Facts.{Fact}
 use Rattle.conn_engine.specs.Facts.Fact.{Match, Offer}
 use Rattle.conn_engine.specs.Answering.{FailsToAnswer}
-use Rattle.conn_engine.specs.Laws.{offer_of, match_of, settlement_of, offered, matched, settled, MakesAll, OffersEach, OffersNone, SettlesOne, SettlesNone, OffersSome, StepCalls, FailedCalls}
-use Rattle.conn_engine.specs.Publishing.{OffersFirst, OffersSome as IsOfferedToSome, IsCutShort}
+use Rattle.conn_engine.specs.Calls.{offer_of, match_of, settlement_of, offered, matched, settled, MakesAll, OffersToEach, OffersNone, SettlesOne, SettlesNone, OffersToSome, StepCalls, FailedCalls}
+use Rattle.conn_engine.specs.Publishing.{OffersFirst, OffersSome, IsCutShort}
 use Rattle.conn_engine.specs.Step.{hearing, after_hand_out, GivesUp, FailsToReact, HandsLess, FailsToHand, FailsToStep}
 use Rattle.conn_engine.proofs.Calling.{Plain, still, one, behind, joins, parted, swept, failed_to_attach, failed_again, handed_some, some_answered}
 use Rattle.conn_engine.proofs.Stepping.{none_behind, none_before, further, reacted}
@@ -26,7 +26,7 @@ module _ {S P : Type 0} (call : S → Fact P → S → Type 0) where
   plain : (old new : S) (number : ℕ) (standing : Standing P) (input : Input) → Plain call old new → FailedCalls call old number standing input new
   plain old new number standing input calls = record { facts = calls.facts; made = calls.made; offers = inr calls.offers; settles = inr calls.settles }
 
-  some_of : (number : ℕ) (input : Input) (facts : List (Fact P)) → OffersEach number input facts → OffersSome number input facts
+  some_of : (number : ℕ) (input : Input) (facts : List (Fact P)) → OffersToEach number input facts → OffersToSome number input facts
   some_of number input facts each =
       record {
         publish = each.publish;
@@ -45,7 +45,7 @@ module _ {S P : Type 0} (call : S → Fact P → S → Type 0) where
         made = calls.made;
         offers =
             ⊎_elim
-            (λ (each : OffersEach number input calls.facts). inl (some_of number input calls.facts each))
+            (λ (each : OffersToEach number input calls.facts). inl (some_of number input calls.facts each))
             (λ (none : OffersNone standing input calls.facts next). inr none.offers)
             calls.offers;
         settles = ⊎_elim (λ (only : SettlesOne standing input calls.facts). inl only) (λ (none : SettlesNone standing input calls.facts next). inr none.settles) calls.settles;
@@ -89,7 +89,7 @@ module _ {S P : Type 0} (call : S → Fact P → S → Type 0) where
       (λ (more : OffersFirst call offers.1 number message slots new). first_of slots offers.1 new number message more)
       offers.3)
 
-  part_of : (slots : List ℕ) (old new : S) (number : ℕ) (message : Message) → IsOfferedToSome call old number message slots new → OffersPart old number message slots new
+  part_of : (slots : List ℕ) (old new : S) (number : ℕ) (message : Message) → OffersSome call old number message slots new → OffersPart old number message slots new
   part_of slots old new number message (inl none) = none_of slots old new number message none
   part_of slots old new number message (inr offers) = first_of slots old new number message offers
 

@@ -38,7 +38,7 @@ use Rattle.conn_engine.specs.Facts.Fact.{Match, Offer, Settle}
 use Rattle.conn_engine.specs.Acknowledging.{Settles, AcknowledgesFor}
 use Rattle.conn_engine.specs.Answering.{Answers}
 use Rattle.conn_engine.specs.Connecting.{has_place}
-use Rattle.conn_engine.specs.Laws.{offer_of, match_of, settlement_of, offered, matched, settled, IsToBeOffered, Brings, Acknowledges, OffersEach, OffersNone, SettlesOne, SettlesNone, MakesAll, StepCalls}
+use Rattle.conn_engine.specs.Calls.{offer_of, match_of, settlement_of, offered, matched, settled, IsToBeOffered, Brings, Confirms, OffersToEach, OffersNone, SettlesOne, SettlesNone, MakesAll, StepCalls}
 use Rattle.conn_engine.specs.Publishing.{Offers, AnswersPublish}
 use Rattle.conn_engine.specs.Step.{hearing, AnswersFirst, Concludes, AnswersPacket, AnswersTick, IsHeard, IsKicked, AnswersUnlessKicked, Reacts, Hands, Steps}
 use Rattle.conn_engine.specs.Subscribing.{SubscribesAs, UnsubscribesAs}
@@ -54,7 +54,7 @@ none_before find facts others xs none those = filter_map-append find facts other
 module _ {S P : Type 0} (call : S → Fact P → S → Type 0) where
   -- a step that brings and acknowledges nothing
   plain : (old new : S) (number : ℕ) (standing : Standing P) (input : Input) (next : Then) → Plain call old new
-      → ((publish : Publish) → Brings standing input publish → next ≡ Kicked) → ((envelope : Held) (fate : Fate) → Acknowledges standing input envelope fate → next ≡ Kicked)
+      → ((publish : Publish) → Brings standing input publish → next ≡ Kicked) → ((envelope : Held) (fate : Fate) → Confirms standing input envelope fate → next ≡ Kicked)
       → StepCalls call old number standing input next new
   plain old new number standing input next calls none_brought none_acknowledged =
       record {
@@ -64,78 +64,52 @@ module _ {S P : Type 0} (call : S → Fact P → S → Type 0) where
         settles = inr (record { settles = calls.settles; unless = none_acknowledged });
       }
 
-  -- calls behind those of a step, by which nothing is offered or settled
-  offers_behind : (number : ℕ) (standing : Standing P) (input : Input) (next : Then) (facts others : List (Fact P)) → matched others ≡ [] → offered others ≡ []
-      → OffersEach number input facts ⊎ OffersNone standing input facts next → OffersEach number input (facts ++ others) ⊎ OffersNone standing input (facts ++ others) next
-  offers_behind number standing input next facts others no_match no_offer (inl each) =
+  -- calls that offer and settle the same
+  offers_alike : (number : ℕ) (standing : Standing P) (input : Input) (next : Then) (facts all : List (Fact P)) → matched all ≡ matched facts → offered all ≡ offered facts
+      → OffersToEach number input facts ⊎ OffersNone standing input facts next → OffersToEach number input all ⊎ OffersNone standing input all next
+  offers_alike number standing input next facts all same_matches same_offers (inl each) =
       inl (record {
         publish = each.publish;
         came = each.came;
         accepted = each.accepted;
         slots = each.slots;
-        match = none_behind match_of facts others _ each.match no_match;
-        offers = none_behind offer_of facts others _ each.offers no_offer;
+        match = same_matches ∙ each.match;
+        offers = same_offers ∙ each.offers;
       })
-  offers_behind number standing input next facts others no_match no_offer (inr none) =
-      inr (record { match = none_behind match_of facts others _ none.match no_match; offers = none_behind offer_of facts others _ none.offers no_offer; unless = none.unless })
+  offers_alike number standing input next facts all same_matches same_offers (inr none) =
+      inr (record { match = same_matches ∙ none.match; offers = same_offers ∙ none.offers; unless = none.unless })
 
-  settles_behind : (standing : Standing P) (input : Input) (next : Then) (facts others : List (Fact P)) → settled others ≡ []
-      → SettlesOne standing input facts ⊎ SettlesNone standing input facts next → SettlesOne standing input (facts ++ others) ⊎ SettlesNone standing input (facts ++ others) next
-  settles_behind standing input next facts others no_settlement (inl only) =
-      inl (record {
-        envelope = only.envelope;
-        fate = only.fate;
-        acknowledged = only.acknowledged;
-        settles = none_behind settlement_of facts others _ only.settles no_settlement;
-      })
-  settles_behind standing input next facts others no_settlement (inr none) =
-      inr (record { settles = none_behind settlement_of facts others _ none.settles no_settlement; unless = none.unless })
+  settles_alike : (standing : Standing P) (input : Input) (next : Then) (facts all : List (Fact P)) → settled all ≡ settled facts
+      → SettlesOne standing input facts ⊎ SettlesNone standing input facts next → SettlesOne standing input all ⊎ SettlesNone standing input all next
+  settles_alike standing input next facts all same (inl only) =
+      inl (record { envelope = only.envelope; fate = only.fate; confirmed = only.confirmed; settles = same ∙ only.settles })
+  settles_alike standing input next facts all same (inr none) = inr (record { settles = same ∙ none.settles; unless = none.unless })
 
+  -- calls behind those of a step, or before them, by which nothing is offered or settled
   pub further : (old mid new : S) (number : ℕ) (standing : Standing P) (input : Input) (next : Then) → StepCalls call old number standing input next mid → Plain call mid new
       → StepCalls call old number standing input next new
   further old mid new number standing input next calls others =
+      let all = calls.facts ++ others.facts in
       record {
-        facts = calls.facts ++ others.facts;
+        facts = all;
         made = joins call calls.facts others.facts old mid new calls.made others.made;
-        offers = offers_behind number standing input next calls.facts others.facts others.match others.offers calls.offers;
-        settles = settles_behind standing input next calls.facts others.facts others.settles calls.settles;
+        offers =
+            offers_alike number standing input next calls.facts all (none_behind match_of calls.facts others.facts _ refl others.match)
+            (none_behind offer_of calls.facts others.facts _ refl others.offers) calls.offers;
+        settles = settles_alike standing input next calls.facts all (none_behind settlement_of calls.facts others.facts _ refl others.settles) calls.settles;
       }
-
-  -- and before them
-  offers_before : (number : ℕ) (standing : Standing P) (input : Input) (next : Then) (facts others : List (Fact P)) → matched facts ≡ [] → offered facts ≡ []
-      → OffersEach number input others ⊎ OffersNone standing input others next → OffersEach number input (facts ++ others) ⊎ OffersNone standing input (facts ++ others) next
-  offers_before number standing input next facts others no_match no_offer (inl each) =
-      inl (record {
-        publish = each.publish;
-        came = each.came;
-        accepted = each.accepted;
-        slots = each.slots;
-        match = none_before match_of facts others _ no_match each.match;
-        offers = none_before offer_of facts others _ no_offer each.offers;
-      })
-  offers_before number standing input next facts others no_match no_offer (inr none) =
-      inr (record { match = none_before match_of facts others _ no_match none.match; offers = none_before offer_of facts others _ no_offer none.offers; unless = none.unless })
-
-  settles_before : (standing : Standing P) (input : Input) (next : Then) (facts others : List (Fact P)) → settled facts ≡ []
-      → SettlesOne standing input others ⊎ SettlesNone standing input others next → SettlesOne standing input (facts ++ others) ⊎ SettlesNone standing input (facts ++ others) next
-  settles_before standing input next facts others no_settlement (inl only) =
-      inl (record {
-        envelope = only.envelope;
-        fate = only.fate;
-        acknowledged = only.acknowledged;
-        settles = none_before settlement_of facts others _ no_settlement only.settles;
-      })
-  settles_before standing input next facts others no_settlement (inr none) =
-      inr (record { settles = none_before settlement_of facts others _ no_settlement none.settles; unless = none.unless })
 
   earlier : (old mid new : S) (number : ℕ) (standing : Standing P) (input : Input) (next : Then) → Plain call old mid → StepCalls call mid number standing input next new
       → StepCalls call old number standing input next new
   earlier old mid new number standing input next others calls =
+      let all = others.facts ++ calls.facts in
       record {
-        facts = others.facts ++ calls.facts;
+        facts = all;
         made = joins call others.facts calls.facts old mid new others.made calls.made;
-        offers = offers_before number standing input next others.facts calls.facts others.match others.offers calls.offers;
-        settles = settles_before standing input next others.facts calls.facts others.settles calls.settles;
+        offers =
+            offers_alike number standing input next calls.facts all (none_before match_of others.facts calls.facts _ others.match refl)
+            (none_before offer_of others.facts calls.facts _ others.offers refl) calls.offers;
+        settles = settles_alike standing input next calls.facts all (none_before settlement_of others.facts calls.facts _ others.settles refl) calls.settles;
       }
 
   -- a message is offered once to each of these groups
@@ -189,7 +163,7 @@ module _ {S P : Type 0} (call : S → Fact P → S → Type 0) where
         facts = Settle place place' envelope (fate_of puback.reason_code) ∷ [];
         made = (new, settled, refl);
         offers = inr (record { match = refl; offers = refl; unless = λ publish brings. absurd brings });
-        settles = inl (record { envelope = envelope; fate = fate_of puback.reason_code; acknowledged = (has, acked.0, refl); settles = refl });
+        settles = inl (record { envelope = envelope; fate = fate_of puback.reason_code; confirmed = (has, acked.0, refl); settles = refl });
       }
   settled_as None old new number link puback place place' window' next has acked settled =
       plain old new number (Connected link) _ next (still call old new settled.1) (λ publish brings. absurd brings)

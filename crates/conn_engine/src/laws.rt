@@ -8,7 +8,8 @@ ghost use Rattle.conn_engine.specs.declared.input.Then.TheVariants.{Go};
 ghost use Rattle.conn_engine.specs.declared.standing.Link.{Link};
 ghost use Rattle.conn_engine.specs.declared.standing.Standing.{Standing};
 ghost use Rattle.conn_engine.specs.declared.standing.Standing.TheVariants as standings;
-ghost use Rattle.conn_engine.specs.Laws.{IsLast, IsAllHandedOut, StepCalls, FailedCalls};
+ghost use Rattle.conn_engine.specs.Calls.{StepCalls, FailedCalls};
+ghost use Rattle.conn_engine.specs.Behind.{IsLast, IsAllHandedOut};
 ghost use Rattle.conn_engine.specs.Step.{Steps, FailsToStep};
 
 use crate::supply::Supply;

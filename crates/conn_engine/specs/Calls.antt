@@ -1,13 +1,11 @@
--- What every step comes to: the calls that it makes, what they offer and settle, and what is left to hand out behind it.
-use Rattle.std.specs.Prelude.{◌≡◌, ◌⊎◌, ℕ, true, List, [], ◌∷◌, ◌++◌, map, filter_map, Option, Some, None, Ok, Contains, ⊤}
+-- The calls that a step makes, one after the other: what they offer, and what they settle.
+use Rattle.std.specs.Prelude.{◌≡◌, ◌⊎◌, ℕ, true, List, [], ◌∷◌, ◌++◌, map, filter_map, Option, Some, None, Contains, ⊤}
 use Rattle.mqtt_wire.specs.declared.packet.Packet.TheVariants as packets
 use Rattle.mqtt_wire.specs.declared.packet.Publish.{Publish}
 use Rattle.group_jobs.specs.declared.fate.Fate.{Fate}
 use Rattle.group_jobs.specs.declared.message.Message.{Message}
 use Rattle.group_jobs.specs.Stamps.{Held}
-use Rattle.member_window.specs.Contents.{Contents, held_of, HasRoom, IsNextResend}
-use Rattle.session_desk.specs.declared.session.Membership.{Membership}
-use Rattle.session_desk.specs.declared.session.Membership.TheVariants.{NotMember, Member, Leaving}
+use Rattle.member_window.specs.Contents.{held_of}
 use Rattle.conn_rules.specs.declared.publishing.PublishAnswer.{PublishAnswer}
 use Rattle.conn_rules.specs.declared.publishing.PublishAnswer.TheVariants as answers
 use Rattle.conn_rules.specs.Publishing.{publish_answer, message_of}
@@ -16,20 +14,11 @@ use Rattle.conn_engine.specs.declared.input.Input.{Input}
 use Rattle.conn_engine.specs.declared.input.Input.TheVariants as inputs
 use Rattle.conn_engine.specs.declared.input.Then.{Then}
 use Rattle.conn_engine.specs.declared.input.Then.TheVariants as thens
-use Rattle.conn_engine.specs.declared.standing.Link.{Link}
 use Rattle.conn_engine.specs.declared.standing.Standing.{Standing}
 use Rattle.conn_engine.specs.declared.standing.Standing.TheVariants.{Connected}
 use Rattle.conn_engine.specs.Connecting.{has_place}
 use Rattle.conn_engine.specs.Facts.{Fact}
-use Rattle.conn_engine.specs.Facts.Fact.{Match, Offer, Take, TakeBack, Settle}
-
--- a fault, the end of the input, or the broker's closing: none comes behind it
-abbrev pub IsLast : Input → Type 0
-IsLast (inputs.Packet packet) = ⊥
-IsLast (inputs.Fault fault) = ⊤
-IsLast inputs.Tick = ⊥
-IsLast inputs.EndOfInput = ⊤
-IsLast inputs.Closing = ⊤
+use Rattle.conn_engine.specs.Facts.Fact.{Match, Offer, Settle}
 
 -- what a call offers: to the group of which slot, from which connection, and which message
 abbrev pub offer_of : {P : Type 0} → Fact P → Option (ℕ × ℕ × Message)
@@ -67,14 +56,14 @@ Brings (Connected link) (inputs.Packet (packets.Publish publish)) brought = (bro
 Brings standing input brought = ⊥
 
 -- a connection is given a PUBACK for this message, which its session holds, and which has this fate then
-abbrev pub Acknowledges : {P : Type 0} → Standing P → Input → Held → Fate → Type 0
-Acknowledges (Connected link) (inputs.Packet (packets.Puback puback)) envelope fate =
+abbrev pub Confirms : {P : Type 0} → Standing P → Input → Held → Fate → Type 0
+Confirms (Connected link) (inputs.Packet (packets.Puback puback)) envelope fate =
     (has_place link.session.membership ≡ true)
     × Contains (held_of link.session.window) (puback.packet_identifier, envelope) × (fate ≡ fate_of puback.reason_code)
-Acknowledges standing input envelope fate = ⊥
+Confirms standing input envelope fate = ⊥
 
 -- the calls of a step in which a message was brought: it is offered once to each group that the one match answers, in their order
-pub record OffersEach {P : Type 0} (number : ℕ) (input : Input) (facts : List (Fact P)) : Type 0 where
+pub record OffersToEach {P : Type 0} (number : ℕ) (input : Input) (facts : List (Fact P)) : Type 0 where
   pub publish : Publish
   pub came : input ≡ inputs.Packet (packets.Publish publish)
   pub accepted : IsToBeOffered (publish_answer publish)
@@ -92,16 +81,16 @@ pub record OffersNone {P : Type 0} (standing : Standing P) (input : Input) (fact
 pub record SettlesOne {P : Type 0} (standing : Standing P) (input : Input) (facts : List (Fact P)) : Type 0 where
   pub envelope : Held
   pub fate : Fate
-  pub acknowledged : Acknowledges standing input envelope fate
+  pub confirmed : Confirms standing input envelope fate
   pub settles : settled facts ≡ (envelope, fate) ∷ []
 
 -- the calls of any other step: nothing is settled
 pub record SettlesNone {P : Type 0} (standing : Standing P) (input : Input) (facts : List (Fact P)) (next : Then) : Type 0 where
   pub settles : settled facts ≡ []
-  pub unless : (envelope : Held) (fate : Fate) → Acknowledges standing input envelope fate → next ≡ thens.Kicked
+  pub unless : (envelope : Held) (fate : Fate) → Confirms standing input envelope fate → next ≡ thens.Kicked
 
 -- the calls of a step that wanted memory for a PUBLISH: its message was offered once to some of the groups, from the first on
-pub record OffersSome {P : Type 0} (number : ℕ) (input : Input) (facts : List (Fact P)) : Type 0 where
+pub record OffersToSome {P : Type 0} (number : ℕ) (input : Input) (facts : List (Fact P)) : Type 0 where
   pub publish : Publish
   pub came : input ≡ inputs.Packet (packets.Publish publish)
   pub slots : List ℕ
@@ -123,25 +112,12 @@ module _ {S P : Type 0} (call : S → Fact P → S → Type 0) where
   pub record StepCalls (old : S) (number : ℕ) (standing : Standing P) (input : Input) (next : Then) (new : S) : Type 0 where
     pub facts : List (Fact P)
     pub made : MakesAll old facts new
-    pub offers : OffersEach number input facts ⊎ OffersNone standing input facts next
+    pub offers : OffersToEach number input facts ⊎ OffersNone standing input facts next
     pub settles : SettlesOne standing input facts ⊎ SettlesNone standing input facts next
 
   -- the calls of a step that wanted memory
   pub record FailedCalls (old : S) (number : ℕ) (standing : Standing P) (input : Input) (new : S) : Type 0 where
     pub facts : List (Fact P)
     pub made : MakesAll old facts new
-    pub offers : OffersSome number input facts ⊎ (offered facts ≡ [])
+    pub offers : OffersToSome number input facts ⊎ (offered facts ≡ [])
     pub settles : SettlesOne standing input facts ⊎ (settled facts ≡ [])
-
-  -- the place has no room for a message; or it was asked last whether one was given back, and then whether one is queued, and there was none
-  abbrev pub IsServed : S → Membership P → Contents Held → Type 0
-  IsServed new NotMember window = ⊤
-  IsServed new (Member place) window =
-      ¬ HasRoom window
-      ⊎ ((earlier mid : S) × (before between : P) × call earlier (TakeBack before between (Ok None)) mid × call mid (Take between place (Ok None)) new)
-  IsServed new (Leaving place) window = ⊤
-
-  -- nothing is left to hand out to a connection: what waits to be sent again waits for the quota
-  pub record IsAllHandedOut (link : Link P) (new : S) : Type 0 where
-    pub again : IsNextResend link.session.window None
-    pub fresh : IsServed new link.session.membership link.session.window
