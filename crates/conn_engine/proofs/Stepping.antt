@@ -64,6 +64,13 @@ module _ {S P : Type 0} (call : S → Fact P → S → Type 0) where
         settles = inr (record { settles = calls.settles; unless = none_acknowledged });
       }
 
+  -- a step of an input by which nothing could be brought or acknowledged
+  idle : (old new : S) (number : ℕ) (standing : Standing P) (input : Input) (next : Then) → Plain call old new
+      → ((publish : Publish) → Brings standing input publish → ⊥) × ((envelope : Held) (fate : Fate) → Confirms standing input envelope fate → ⊥)
+      → StepCalls call old number standing input next new
+  idle old new number standing input next calls never =
+      plain old new number standing input next calls (λ publish brings. absurd (never.0 publish brings)) (λ envelope fate confirms. absurd (never.1 envelope fate confirms))
+
   -- calls that offer and settle the same
   offers_alike : (number : ℕ) (standing : Standing P) (input : Input) (next : Then) (facts all : List (Fact P)) → matched all ≡ matched facts → offered all ≡ offered facts
       → OffersToEach number input facts ⊎ OffersNone standing input facts next → OffersToEach number input all ⊎ OffersNone standing input all next
@@ -135,9 +142,9 @@ module _ {S P : Type 0} (call : S → Fact P → S → Type 0) where
   published : (answer : PublishAnswer) (old new : S) (number : ℕ) (link : Link P) (publish : Publish) (reply : Reply) → publish_answer publish ≡ answer
       → AnswersPublish call old number publish answer reply new → StepCalls call old number (Connected link) (inputs.Packet (packets.Publish publish)) reply.next new
   published (answers.Close code) old new number link publish reply is answers =
-      plain old new number (Connected link) _ reply.next (still call old new answers.1) (λ brought brings. absurd (subst IsToBeOffered is brings.1)) (λ envelope fate acknowledged. absurd acknowledged)
+      plain old new number (Connected link) _ reply.next (still call old new answers.1) (λ brought brings. absurd (subst IsToBeOffered is brings.1)) (λ envelope fate confirms. absurd confirms)
   published (answers.Refuse identifier code) old new number link publish reply is answers =
-      plain old new number (Connected link) _ reply.next (still call old new answers.1) (λ brought brings. absurd (subst IsToBeOffered is brings.1)) (λ envelope fate acknowledged. absurd acknowledged)
+      plain old new number (Connected link) _ reply.next (still call old new answers.1) (λ brought brings. absurd (subst IsToBeOffered is brings.1)) (λ envelope fate confirms. absurd confirms)
   published (answers.Offer identifier) old new number link publish reply is offers =
       let to = offers_to offers.slots offers.mid new number (message_of publish) offers.taken offers.offered in
       record {
@@ -151,7 +158,7 @@ module _ {S P : Type 0} (call : S → Fact P → S → Type 0) where
           match = ap (λ others. (publish.topic, offers.slots) ∷ others) to.match;
           offers = to.offers;
         });
-        settles = inr (record { settles = to.settles; unless = λ envelope fate acknowledged. absurd acknowledged });
+        settles = inr (record { settles = to.settles; unless = λ envelope fate confirms. absurd confirms });
       }
 
   -- a PUBACK for what the session holds, and any other
@@ -167,14 +174,14 @@ module _ {S P : Type 0} (call : S → Fact P → S → Type 0) where
       }
   settled_as None old new number link puback place place' window' next has acked settled =
       plain old new number (Connected link) _ next (still call old new settled.1) (λ publish brings. absurd brings)
-      (λ envelope fate acknowledged. absurd (acked.0 (contains_identifier (held_of link.session.window) puback.packet_identifier envelope acknowledged.1)))
+      (λ envelope fate confirms. absurd (acked.0 (contains_identifier (held_of link.session.window) puback.packet_identifier envelope confirms.1)))
 
   acknowledged_as : (membership : Membership P) (old new : S) (number : ℕ) (link : Link P) (puback : Puback) (membership' : Membership P) (window' : Contents Held) (next : Then)
       → link.session.membership ≡ membership → AcknowledgesFor call old membership link.session.window puback.packet_identifier puback.reason_code membership' window' new
       → StepCalls call old number (Connected link) (inputs.Packet (packets.Puback puback)) next new
   acknowledged_as NotMember old new number link puback membership' window' next is does =
       plain old new number (Connected link) _ next (still call old new does.2) (λ publish brings. absurd brings)
-      (λ envelope fate acknowledged. let no : true ≡ false = sym acknowledged.0 ∙ ap has_place is in cc)
+      (λ envelope fate confirms. let no : true ≡ false = sym confirms.0 ∙ ap has_place is in cc)
   acknowledged_as (Member place) old new number link puback membership' window' next is does =
       settled_as does.1.found old new number link puback place does.0 window' next (ap has_place is) does.1.acked does.1.settled
   acknowledged_as (Leaving place) old new number link puback membership' window' next is does =
@@ -199,28 +206,28 @@ module _ {S P : Type 0} (call : S → Fact P → S → Type 0) where
     answered (packets.Puback puback) old new number now link after reply answers =
         acknowledged_as link.session.membership old new number link puback _ _ reply.next refl answers.1.settles
     answered (packets.Subscribe subscribe) old new number now link after reply answers =
-        plain old new number (Connected link) _ reply.next (subscribed_as (subscribe_refusal subscribe) old new link.terms link.session.membership subscribe reply answers.0 answers.1)
-        (λ publish brings. absurd brings) (λ envelope fate acknowledged. absurd acknowledged)
+        idle old new number (Connected link) _ reply.next (subscribed_as (subscribe_refusal subscribe) old new link.terms link.session.membership subscribe reply answers.0 answers.1)
+        (λ p b. b, λ e f c. c)
     answered (packets.Unsubscribe unsubscribe) old new number now link after reply answers =
-        plain old new number (Connected link) _ reply.next (unsubscribed_as (unsubscribe_refusal unsubscribe) old new link.session.membership unsubscribe reply answers.0 answers.1)
-        (λ publish brings. absurd brings) (λ envelope fate acknowledged. absurd acknowledged)
-    answered packets.Pingreq old new number now link after reply answers = plain old new number (Connected link) _ reply.next (still call old new answers.2) (λ publish brings. absurd brings) (λ envelope fate acknowledged. absurd acknowledged)
-    answered (packets.Disconnect disconnect) old new number now link after reply answers = plain old new number (Connected link) _ reply.next (still call old new answers.1) (λ publish brings. absurd brings) (λ envelope fate acknowledged. absurd acknowledged)
-    answered (packets.Connect connect) old new number now link after reply answers = plain old new number (Connected link) _ reply.next (still call old new answers.2) (λ publish brings. absurd brings) (λ envelope fate acknowledged. absurd acknowledged)
-    answered (packets.Connack connack) old new number now link after reply answers = plain old new number (Connected link) _ reply.next (still call old new answers.2) (λ publish brings. absurd brings) (λ envelope fate acknowledged. absurd acknowledged)
-    answered (packets.Suback suback) old new number now link after reply answers = plain old new number (Connected link) _ reply.next (still call old new answers.2) (λ publish brings. absurd brings) (λ envelope fate acknowledged. absurd acknowledged)
-    answered (packets.Unsuback unsuback) old new number now link after reply answers = plain old new number (Connected link) _ reply.next (still call old new answers.2) (λ publish brings. absurd brings) (λ envelope fate acknowledged. absurd acknowledged)
-    answered packets.Pingresp old new number now link after reply answers = plain old new number (Connected link) _ reply.next (still call old new answers.2) (λ publish brings. absurd brings) (λ envelope fate acknowledged. absurd acknowledged)
-    answered (packets.Foreign kind) old new number now link after reply answers = plain old new number (Connected link) _ reply.next (still call old new answers.2) (λ publish brings. absurd brings) (λ envelope fate acknowledged. absurd acknowledged)
-    answered (packets.OtherVersion version) old new number now link after reply answers = plain old new number (Connected link) _ reply.next (still call old new answers.2) (λ publish brings. absurd brings) (λ envelope fate acknowledged. absurd acknowledged)
-    answered packets.WithWill old new number now link after reply answers = plain old new number (Connected link) _ reply.next (still call old new answers.2) (λ publish brings. absurd brings) (λ envelope fate acknowledged. absurd acknowledged)
+        idle old new number (Connected link) _ reply.next (unsubscribed_as (unsubscribe_refusal unsubscribe) old new link.session.membership unsubscribe reply answers.0 answers.1)
+        (λ p b. b, λ e f c. c)
+    answered packets.Pingreq old new number now link after reply answers = idle old new number (Connected link) _ reply.next (still call old new answers.2) (λ p b. b, λ e f c. c)
+    answered (packets.Disconnect disconnect) old new number now link after reply answers = idle old new number (Connected link) _ reply.next (still call old new answers.1) (λ p b. b, λ e f c. c)
+    answered (packets.Connect connect) old new number now link after reply answers = idle old new number (Connected link) _ reply.next (still call old new answers.2) (λ p b. b, λ e f c. c)
+    answered (packets.Connack connack) old new number now link after reply answers = idle old new number (Connected link) _ reply.next (still call old new answers.2) (λ p b. b, λ e f c. c)
+    answered (packets.Suback suback) old new number now link after reply answers = idle old new number (Connected link) _ reply.next (still call old new answers.2) (λ p b. b, λ e f c. c)
+    answered (packets.Unsuback unsuback) old new number now link after reply answers = idle old new number (Connected link) _ reply.next (still call old new answers.2) (λ p b. b, λ e f c. c)
+    answered packets.Pingresp old new number now link after reply answers = idle old new number (Connected link) _ reply.next (still call old new answers.2) (λ p b. b, λ e f c. c)
+    answered (packets.Foreign kind) old new number now link after reply answers = idle old new number (Connected link) _ reply.next (still call old new answers.2) (λ p b. b, λ e f c. c)
+    answered (packets.OtherVersion version) old new number now link after reply answers = idle old new number (Connected link) _ reply.next (still call old new answers.2) (λ p b. b, λ e f c. c)
+    answered packets.WithWill old new number now link after reply answers = idle old new number (Connected link) _ reply.next (still call old new answers.2) (λ p b. b, λ e f c. c)
 
     -- a taken over connection brings nothing
     kicked : (old new : S) (number : ℕ) (link : Link P) (now : ℕ) (input : Input) (standing : Standing P) (reply : Reply) → IsKicked call slot_of old link now standing reply new
         → StepCalls call old number (Connected link) input reply.next new
     kicked old new number link now input standing reply is =
         let told : reply.next ≡ Kicked = ap (λ r. r.next) is.0 in
-        plain old new number (Connected link) input reply.next (parted call old new link.session now is.1.0) (λ publish brings. told) (λ envelope fate acknowledged. told)
+        plain old new number (Connected link) input reply.next (parted call old new link.session now is.1.0) (λ publish brings. told) (λ envelope fate confirms. told)
 
     concluded : (next : Then) (old new : S) (link : Link P) (now : ℕ) (standing : Standing P) → Concludes call slot_of old link now next standing new → Plain call old new
     concluded Go old new link now standing concludes = still call old new concludes.1
@@ -254,25 +261,25 @@ module _ {S P : Type 0} (call : S → Fact P → S → Type 0) where
     -- an input of a connection
     pub reacted : (standing : Standing P) (input : Input) (old new : S) (number now : ℕ) (between : Standing P) (reply : Reply)
         → Reacts call slot_of old number standing now input between reply new → StepCalls call old number standing input reply.next new
-    reacted (Unconnected opened) (inputs.Packet packet) old new number now between reply is = plain old new number _ _ reply.next (first_answered (first_answer packet) old new number now packet between reply is) (λ publish brings. absurd brings) (λ envelope fate acknowledged. absurd acknowledged)
-    reacted (Unconnected opened) (inputs.Fault fault) old new number now between reply is = plain old new number _ _ reply.next (still call old new is.1) (λ publish brings. absurd brings) (λ envelope fate acknowledged. absurd acknowledged)
-    reacted (Unconnected opened) inputs.Tick old new number now between reply is = plain old new number _ _ reply.next (swept call 256 old new now is.0) (λ publish brings. absurd brings) (λ envelope fate acknowledged. absurd acknowledged)
-    reacted (Unconnected opened) inputs.EndOfInput old new number now between reply is = plain old new number _ _ reply.next (still call old new is.1) (λ publish brings. absurd brings) (λ envelope fate acknowledged. absurd acknowledged)
-    reacted (Unconnected opened) inputs.Closing old new number now between reply is = plain old new number _ _ reply.next (still call old new is.1) (λ publish brings. absurd brings) (λ envelope fate acknowledged. absurd acknowledged)
+    reacted (Unconnected opened) (inputs.Packet packet) old new number now between reply is = idle old new number _ _ reply.next (first_answered (first_answer packet) old new number now packet between reply is) (λ p b. b, λ e f c. c)
+    reacted (Unconnected opened) (inputs.Fault fault) old new number now between reply is = idle old new number _ _ reply.next (still call old new is.1) (λ p b. b, λ e f c. c)
+    reacted (Unconnected opened) inputs.Tick old new number now between reply is = idle old new number _ _ reply.next (swept call 256 old new now is.0) (λ p b. b, λ e f c. c)
+    reacted (Unconnected opened) inputs.EndOfInput old new number now between reply is = idle old new number _ _ reply.next (still call old new is.1) (λ p b. b, λ e f c. c)
+    reacted (Unconnected opened) inputs.Closing old new number now between reply is = idle old new number _ _ reply.next (still call old new is.1) (λ p b. b, λ e f c. c)
     reacted (Waiting request ticks) (inputs.Packet packet) old new number now between reply is = absurd is
     reacted (Waiting request ticks) (inputs.Fault fault) old new number now between reply is = absurd is
     reacted (Waiting request ticks) inputs.Tick old new number now between reply is =
-        plain old new number _ _ reply.next (behind call old is.0 new (swept call 256 old is.0 now is.1) (tried_again call is.0 new number now request ticks between reply is.2)) (λ publish brings. absurd brings) (λ envelope fate acknowledged. absurd acknowledged)
-    reacted (Waiting request ticks) inputs.EndOfInput old new number now between reply is = plain old new number _ _ reply.next (one call old new _ is.0 refl refl refl) (λ publish brings. absurd brings) (λ envelope fate acknowledged. absurd acknowledged)
-    reacted (Waiting request ticks) inputs.Closing old new number now between reply is = plain old new number _ _ reply.next (one call old new _ is.0 refl refl refl) (λ publish brings. absurd brings) (λ envelope fate acknowledged. absurd acknowledged)
+        idle old new number _ _ reply.next (behind call old is.0 new (swept call 256 old is.0 now is.1) (tried_again call is.0 new number now request ticks between reply is.2)) (λ p b. b, λ e f c. c)
+    reacted (Waiting request ticks) inputs.EndOfInput old new number now between reply is = idle old new number _ _ reply.next (one call old new _ is.0 refl refl refl) (λ p b. b, λ e f c. c)
+    reacted (Waiting request ticks) inputs.Closing old new number now between reply is = idle old new number _ _ reply.next (one call old new _ is.0 refl refl refl) (λ p b. b, λ e f c. c)
     reacted (Connected link) (inputs.Packet packet) old new number now between reply is =
         earlier old is.1 new number (Connected link) (inputs.Packet packet) reply.next (one call old is.1 _ is.2 refl refl refl) (packet_answered is.0 is.1 new number now link packet between reply is.3)
-    reacted (Connected link) (inputs.Fault fault) old new number now between reply is = plain old new number _ _ reply.next (parted call old new link.session now is.1.0) (λ publish brings. absurd brings) (λ envelope fate acknowledged. absurd acknowledged)
+    reacted (Connected link) (inputs.Fault fault) old new number now between reply is = idle old new number _ _ reply.next (parted call old new link.session now is.1.0) (λ p b. b, λ e f c. c)
     reacted (Connected link) inputs.Tick old new number now between reply is =
-        plain old new number _ _ reply.next (behind call old is.1 new (one call old is.1 _ is.2 refl refl refl) (tick_answered is.0 is.1 new link now between reply is.3)) (λ publish brings. absurd brings) (λ envelope fate acknowledged. absurd acknowledged)
-    reacted (Connected link) inputs.EndOfInput old new number now between reply is = plain old new number _ _ reply.next (parted call old new link.session now is.1.0) (λ publish brings. absurd brings) (λ envelope fate acknowledged. absurd acknowledged)
-    reacted (Connected link) inputs.Closing old new number now between reply is = plain old new number _ _ reply.next (one call old new _ is.1 refl refl refl) (λ publish brings. absurd brings) (λ envelope fate acknowledged. absurd acknowledged)
-    reacted Ended input old new number now between reply is = plain old new number _ _ reply.next (still call old new is.1) (λ publish brings. absurd brings) (λ envelope fate acknowledged. absurd acknowledged)
+        idle old new number _ _ reply.next (behind call old is.1 new (one call old is.1 _ is.2 refl refl refl) (tick_answered is.0 is.1 new link now between reply is.3)) (λ p b. b, λ e f c. c)
+    reacted (Connected link) inputs.EndOfInput old new number now between reply is = idle old new number _ _ reply.next (parted call old new link.session now is.1.0) (λ p b. b, λ e f c. c)
+    reacted (Connected link) inputs.Closing old new number now between reply is = idle old new number _ _ reply.next (one call old new _ is.1 refl refl refl) (λ p b. b, λ e f c. c)
+    reacted Ended input old new number now between reply is = idle old new number _ _ reply.next (still call old new is.1) (λ p b. b, λ e f c. c)
 
     -- what is handed out behind it
     handed : (between : Standing P) (old new : S) (sent : List Packet) (standing : Standing P) → Hands call slot_of old between sent standing new → Plain call old new
