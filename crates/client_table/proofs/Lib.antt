@@ -5,3 +5,4 @@ pub mod InCells
 pub mod Given
 pub mod Over
 pub mod Leaving
+pub mod Calling

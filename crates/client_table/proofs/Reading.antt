@@ -32,30 +32,39 @@ module _ {S P : Type 0} (call : S → Fact P → S → Type 0) (slot_of : P → 
       → Moves call slot_of old client now (inputs.Fault fault) said client' new → ReadsLast call slot_of old client now said client' new
   closed_by_fault old new client client' now said fault met moved = record { input = inputs.Fault fault; front = met; moved = moved; closes = tt }
 
-  pub nothing_said : (old new : S) (client client' : ClientState P) (now : ℕ) (before after : List Said) → after ≡ before → IsRead client → client' ≡ client → new ≡ old
-      → (more : List Said) × (after ≡ before ++ more) × Reads call slot_of old client now more client' new
-  nothing_said old new client client' now before after same read client_is new_is = ([], none before after same, (read, client_is, new_is))
+  -- what is read so far: whatever reading on comes to, behind what was said meanwhile, is what reading from the start comes to
+  pub record IsReadOnFrom (first : S) (start : ClientState P) (now : ℕ) (before : List Said) (old : S) (client : ClientState P) (kept : List Said) : Type 0 where
+    pub reads : (rest after : List Said) (client' : ClientState P) (new : S) → after ≡ kept ++ rest → Reads call slot_of old client now rest client' new
+        → (more : List Said) × (after ≡ before ++ more) × Reads call slot_of first start now more client' new
+    pub fails : (rest after : List Said) (client' : ClientState P) (new : S) → after ≡ kept ++ rest → FailsToRead call slot_of old client now rest client' new
+        → (more : List Said) × (after ≡ before ++ more) × FailsToRead call slot_of first start now more client' new
 
-  pub last_said : (old new : S) (client client' : ClientState P) (now : ℕ) (said : Said) (before after : List Said) → after ≡ before ++ said ∷ []
-      → ReadsLast call slot_of old client now said client' new
-      → (more : List Said) × (after ≡ before ++ more) × Reads call slot_of old client now more client' new
-  last_said old new client client' now said before after one reads = (said ∷ [], one, inl (reads, refl))
+  pub from_the_start : (first : S) (start : ClientState P) (now : ℕ) (before : List Said) → IsReadOnFrom first start now before first start before
+  from_the_start first start now before =
+      record { reads = λ rest after client' new is reads. (rest, is, reads); fails = λ rest after client' new is fails. (rest, is, fails) }
 
-  pub more_said : (old mid new : S) (client between client' : ClientState P) (now : ℕ) (said : Said) (before after after' rest : List Said)
-      → after ≡ before ++ said ∷ [] → ReadsOne call slot_of old client now said between mid
-      → after' ≡ after ++ rest → Reads call slot_of mid between now rest client' new
-      → (more : List Said) × (after' ≡ before ++ more) × Reads call slot_of old client now more client' new
-  more_said old mid new client between client' now said before after after' rest one reads more others =
-      (said ∷ rest, joined before after after' rest said one more, inr (between, mid, reads, others))
+  pub one_more : (first old mid : S) (start client between : ClientState P) (now : ℕ) (before kept after : List Said) (said : Said)
+      → IsReadOnFrom first start now before old client kept → after ≡ kept ++ said ∷ [] → ReadsOne call slot_of old client now said between mid
+      → IsReadOnFrom first start now before mid between after
+  one_more first old mid start client between now before kept after said on one reads =
+      record {
+        reads = λ rest after' client' new is others. on.reads (said ∷ rest) after' client' new (joined kept after after' rest said one is) (inr (between, mid, reads, others));
+        fails = λ rest after' client' new is others. on.fails (said ∷ rest) after' client' new (joined kept after after' rest said one is) (between, mid, reads, others);
+      }
 
-  pub fails_at_once : (old new : S) (client client' : ClientState P) (now : ℕ) (before after : List Said) → after ≡ before
-      → FailsToReadOne call slot_of old client now client' new
-      → (more : List Said) × (after ≡ before ++ more) × FailsToRead call slot_of old client now more client' new
-  fails_at_once old new client client' now before after same fails = ([], none before after same, fails)
+  pub nothing_more : (first old new : S) (start client client' : ClientState P) (now : ℕ) (before kept after : List Said)
+      → IsReadOnFrom first start now before old client kept → after ≡ kept → IsRead client → client' ≡ client → new ≡ old
+      → (more : List Said) × (after ≡ before ++ more) × Reads call slot_of first start now more client' new
+  nothing_more first old new start client client' now before kept after on same read client_is new_is =
+      on.reads [] after client' new (none kept after same) (read, client_is, new_is)
 
-  pub fails_later : (old mid new : S) (client between client' : ClientState P) (now : ℕ) (said : Said) (before after after' rest : List Said)
-      → after ≡ before ++ said ∷ [] → ReadsOne call slot_of old client now said between mid
-      → after' ≡ after ++ rest → FailsToRead call slot_of mid between now rest client' new
-      → (more : List Said) × (after' ≡ before ++ more) × FailsToRead call slot_of old client now more client' new
-  fails_later old mid new client between client' now said before after after' rest one reads more fails =
-      (said ∷ rest, joined before after after' rest said one more, (between, mid, reads, fails))
+  pub closed_at_last : (first old new : S) (start client client' : ClientState P) (now : ℕ) (before kept after : List Said) (said : Said)
+      → IsReadOnFrom first start now before old client kept → after ≡ kept ++ said ∷ [] → ReadsLast call slot_of old client now said client' new
+      → (more : List Said) × (after ≡ before ++ more) × Reads call slot_of first start now more client' new
+  closed_at_last first old new start client client' now before kept after said on one reads =
+      on.reads (said ∷ []) after client' new one (inl (reads, refl))
+
+  pub failed_at_last : (first old new : S) (start client client' : ClientState P) (now : ℕ) (before kept after : List Said)
+      → IsReadOnFrom first start now before old client kept → after ≡ kept → FailsToReadOne call slot_of old client now client' new
+      → (more : List Said) × (after ≡ before ++ more) × FailsToRead call slot_of first start now more client' new
+  failed_at_last first old new start client client' now before kept after on same fails = on.fails [] after client' new (none kept after same) fails

@@ -123,7 +123,7 @@ impl<P: Place> Client<P> {
     /// # Errors
     ///
     /// As [`Client::receive`].
-    #[tactic(auto, using(crate::proofs::Reading::nothing_said, crate::proofs::Reading::last_said, crate::proofs::Reading::more_said, crate::proofs::Reading::fails_at_once, crate::proofs::Reading::fails_later))]
+    #[tactic(auto, using(crate::proofs::Reading::from_the_start, crate::proofs::Reading::one_more))]
     pub fn read<S: Supply<P>>(
         &mut self,
         supply: &mut S,
@@ -135,11 +135,13 @@ impl<P: Place> Client<P> {
             (λ _. Reads S.call P.slot_of supply.old self.old now more self.new supply.new)
             (λ _. FailsToRead S.call P.slot_of supply.old self.old now more self.new supply.new) }
     {
-        match self.read_one(supply, now, said) {
-            Ok(Reading::GoesOn) => self.read(supply, now, said),
-            Ok(Reading::Nothing) => Ok(()),
-            Ok(Reading::Closed) => Ok(()),
-            Err(NoMemory) => Err(NoMemory),
+        'packets: loop {
+            match self.read_one(supply, now, said) {
+                Ok(Reading::GoesOn) => {}
+                Ok(Reading::Nothing) => return Ok(()),
+                Ok(Reading::Closed) => return Ok(()),
+                Err(NoMemory) => return Err(NoMemory),
+            }
         }
     }
 

@@ -14,9 +14,11 @@
 
 mod cell;
 mod client;
+mod laws;
 mod said;
 mod table;
 
 pub use client::Client;
+pub use laws::{calls_law, table_calls_law};
 pub use said::Said;
 pub use table::{CLIENTS, ClientTable};

@@ -5,3 +5,8 @@ pub mod Fresh
 pub mod Sweeping
 pub mod Resuming
 pub mod First
+pub mod Ended
+pub mod Eager
+pub mod Calling
+pub mod Stepping
+pub mod Failing

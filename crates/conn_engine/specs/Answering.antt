@@ -7,11 +7,10 @@ use Rattle.session_desk.specs.declared.session.Session.{Session}
 use Rattle.session_desk.specs.declared.session.Membership.{Membership}
 use Rattle.conn_rules.specs.Connecting.{is_given_expiry}
 use Rattle.conn_engine.specs.declared.reply.Reply.{Reply}
-use Rattle.conn_engine.specs.declared.reply.Reply.TheVariants.{Go, Close}
 use Rattle.conn_engine.specs.declared.standing.Link.{Link}
 use Rattle.conn_engine.specs.Facts.{Fact}
 use Rattle.conn_engine.specs.Memberships.{with_membership}
-use Rattle.conn_engine.specs.Replies.{closing_with}
+use Rattle.conn_engine.specs.Replies.{going_on, closed, closing_with}
 use Rattle.conn_engine.specs.Publishing.{Publishes, IsCutShort}
 use Rattle.conn_engine.specs.Acknowledging.{Acknowledges}
 use Rattle.conn_engine.specs.Subscribing.{Subscribes, Unsubscribes, AnswersSome}
@@ -35,10 +34,10 @@ expiring link seconds = with_session link (record {
 -- 3.14.2.2.2: an expiry at the end takes the place of the session's, but a session that ends with its connection may not be given one
 abbrev pub DisconnectsIf : {P : Type 0} → Bool → Link P → ℕ → Link P → Reply → Type 0
 DisconnectsIf true link seconds link' reply = (link' ≡ link) × (reply ≡ closing_with 0x82)
-DisconnectsIf false link seconds link' reply = (link' ≡ expiring link seconds) × (reply ≡ Close None)
+DisconnectsIf false link seconds link' reply = (link' ≡ expiring link seconds) × (reply ≡ closed None)
 
 abbrev pub Disconnects : {P : Type 0} → Link P → Option ℕ → Link P → Reply → Type 0
-Disconnects link None link' reply = (link' ≡ link) × (reply ≡ Close None)
+Disconnects link None link' reply = (link' ≡ link) × (reply ≡ closed None)
 Disconnects link (Some seconds) link' reply = DisconnectsIf (is_given_expiry seconds link.terms) link seconds link' reply
 
 module _ {S P : Type 0} (call : S → Fact P → S → Type 0) (slot_of : P → ℕ) where
@@ -47,14 +46,14 @@ module _ {S P : Type 0} (call : S → Fact P → S → Type 0) (slot_of : P → 
   Answers old number link (packets.Publish publish) link' reply new = Publishes call old number publish reply new × (link' ≡ link)
   Answers old number link (packets.Puback puback) link' reply new =
       (session : Session Held P) × Acknowledges call old link.session puback.packet_identifier puback.reason_code session new
-      × (link' ≡ with_session link session) × (reply ≡ Go None)
+      × (link' ≡ with_session link session) × (reply ≡ going_on None)
   Answers old number link (packets.Subscribe subscribe) link' reply new =
       (membership : Membership P) × Subscribes call slot_of link.terms old link.session.membership subscribe reply membership new
       × (link' ≡ joining link membership)
   Answers old number link (packets.Unsubscribe unsubscribe) link' reply new =
       (membership : Membership P) × Unsubscribes call slot_of old link.session.membership unsubscribe reply membership new
       × (link' ≡ joining link membership)
-  Answers old number link packets.Pingreq link' reply new = (link' ≡ link) × (reply ≡ Go (Some packets.Pingresp)) × (new ≡ old)
+  Answers old number link packets.Pingreq link' reply new = (link' ≡ link) × (reply ≡ going_on (Some packets.Pingresp)) × (new ≡ old)
   Answers old number link (packets.Disconnect disconnect) link' reply new = Disconnects link disconnect.properties.session_expiry_interval link' reply × (new ≡ old)
   Answers old number link other link' reply new = (link' ≡ link) × (reply ≡ closing_with 0x82) × (new ≡ old)
 

@@ -17,12 +17,12 @@ use Rattle.session_desk.specs.declared.session.Membership.TheVariants.{NotMember
 use Rattle.conn_rules.specs.Packets.{accepting, refusing}
 use Rattle.conn_rules.specs.declared.terms.Terms.{Terms}
 use Rattle.conn_engine.specs.declared.reply.Reply.{Reply}
-use Rattle.conn_engine.specs.declared.reply.Reply.TheVariants.{Go, Close}
 use Rattle.conn_engine.specs.declared.standing.ConnectRequest.{ConnectRequest}
 use Rattle.conn_engine.specs.declared.standing.Standing.{Standing}
 use Rattle.conn_engine.specs.declared.standing.Standing.TheVariants.{Unconnected, Waiting, Connected, Ended}
 use Rattle.conn_engine.specs.Facts.{Fact}
 use Rattle.conn_engine.specs.Facts.Fact.{Attach, ParkAsIs, Withdraw}
+use Rattle.conn_engine.specs.Replies.{going_on, closed}
 use Rattle.conn_engine.specs.Ending.{down, Retires, Parts}
 
 -- how many Ticks a connection waits for a session (profile)
@@ -57,16 +57,16 @@ has_place (Leaving place) = true
 -- the connection is refused, and closed (3.2.2.2)
 pub record IsRefused {P : Type 0} (refusal : ConnectRefusal) (standing : Standing P) (reply : Reply) : Type 0 where
   pub over : standing ≡ Ended
-  pub told : reply ≡ Close (Some (refusing refusal))
+  pub told : reply ≡ closed (Some (refusing refusal))
 
 -- the connection begins, with this session
 pub record Accepts {P : Type 0} (request : ConnectRequest) (present : Bool) (session : Session Held P) (standing : Standing P) (reply : Reply) : Type 0 where
   pub begun : standing ≡ Connected (record { session = opened session request.terms; terms = request.terms; heard = request.came })
-  pub told : reply ≡ Go (Some (accepting present (assigned request.client session.identity)))
+  pub told : reply ≡ going_on (Some (accepting present (assigned request.client session.identity)))
 
 -- the connection waits while it has found its session lent at fewer Ticks than that, and is refused then
 abbrev pub WaitsAs : {P : Type 0} → Bool → ConnectRequest → ℕ → Standing P → Reply → Type 0
-WaitsAs true request ticks standing reply = (standing ≡ Waiting request ticks) × (reply ≡ Go None)
+WaitsAs true request ticks standing reply = (standing ≡ Waiting request ticks) × (reply ≡ going_on None)
 WaitsAs false request ticks standing reply = IsRefused refusals.ServerBusy standing reply
 
 module _ {S P : Type 0} (call : S → Fact P → S → Type 0) where

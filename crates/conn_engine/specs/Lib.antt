@@ -11,3 +11,5 @@ pub mod Standings
 pub mod Connecting
 pub mod Answering
 pub mod Step
+pub mod Calls
+pub mod Behind

@@ -1,5 +1,6 @@
 -- One step of a connection: its reply, and what is handed out behind it.
-use Rattle.std.specs.Prelude.{◌≡◌, ◌⊎◌, ℕ, ◌-◌, max, Bool, true, false, List, [], ◌∷◌, ◌++◌, Option, Some, None, ⊤}
+use Rattle.std.specs.Prelude.{◌≡◌, ◌⊎◌, ℕ, ◌-◌, max, Bool, true, false, List, [], ◌++◌, Option, Some, None, ⊤}
+use Rattle.std.specs.Option.{option_to_list}
 use Rattle.mqtt_wire.specs.declared.packet.Connect.{Connect}
 use Rattle.mqtt_wire.specs.declared.packet.ConnectRefusal.{ConnectRefusal}
 use Rattle.mqtt_wire.specs.declared.packet.Packet.{Packet}
@@ -15,9 +16,8 @@ use Rattle.conn_rules.specs.Packets.{disconnect}
 use Rattle.conn_engine.specs.declared.input.Input.{Input}
 use Rattle.conn_engine.specs.declared.input.Input.TheVariants as inputs
 use Rattle.conn_engine.specs.declared.input.Then.{Then}
-use Rattle.conn_engine.specs.declared.input.Then.TheVariants as thens
+use Rattle.conn_engine.specs.declared.input.Then.TheVariants.{Go, Close, Kicked}
 use Rattle.conn_engine.specs.declared.reply.Reply.{Reply}
-use Rattle.conn_engine.specs.declared.reply.Reply.TheVariants.{Go, Close, Kicked}
 use Rattle.conn_engine.specs.declared.standing.ConnectRequest.{ConnectRequest}
 use Rattle.conn_engine.specs.declared.standing.Link.{Link}
 use Rattle.conn_engine.specs.declared.standing.Standing.{Standing}
@@ -26,27 +26,11 @@ use Rattle.conn_engine.specs.Facts.{Fact}
 use Rattle.conn_engine.specs.Facts.Fact.{Withdraw, ParkAsIs, Kicked as WasKicked}
 use Rattle.conn_engine.specs.Standings.{IsWaiting}
 use Rattle.conn_engine.specs.Memberships.{with_window, with_membership}
-use Rattle.conn_engine.specs.Replies.{closing_with}
+use Rattle.conn_engine.specs.Replies.{going_on, closed, taken_over, closing_with}
 use Rattle.conn_engine.specs.Ending.{down, Parts, Sweeps}
 use Rattle.conn_engine.specs.Connecting.{IsRefused, Attaches, FailsToAttach, TriesAgain, FailsAgain}
 use Rattle.conn_engine.specs.Answering.{Answers, FailsToAnswer, with_session}
 use Rattle.conn_engine.specs.HandOuts.{HandsOut, HandsSome}
-
--- the packets of a reply
-abbrev pub packet_if : Option Packet → List Packet
-packet_if None = []
-packet_if (Some packet) = packet ∷ []
-
-abbrev pub packets_of : Reply → List Packet
-packets_of (Go packet) = packet_if packet
-packets_of (Close packet) = packet_if packet
-packets_of (Kicked packet) = packet ∷ []
-
--- what becomes of the connection
-abbrev pub then_of : Reply → Then
-then_of (Go packet) = thens.Go
-then_of (Close packet) = thens.Close
-then_of (Kicked packet) = thens.Kicked
 
 -- what a CONNECT asks for that comes at this moment
 abbrev pub request_of : Connect → ℕ → ConnectRequest
@@ -63,7 +47,7 @@ after_hand_out link membership window = with_session link (with_membership (with
 -- the connection is closed with no answer
 pub record IsClosed {P : Type 0} (standing : Standing P) (reply : Reply) : Type 0 where
   pub over : standing ≡ Ended
-  pub told : reply ≡ Close None
+  pub told : reply ≡ closed None
 
 -- it is refused, or closed with no answer
 abbrev pub IsRefusedIf : {P : Type 0} → Option ConnectRefusal → Standing P → Reply → Type 0
@@ -73,7 +57,7 @@ IsRefusedIf None standing reply = IsClosed standing reply
 -- it is closed where the CONNECT has not come in time, and waits for it else
 abbrev pub WaitsForConnect : {P : Type 0} → Bool → ℕ → Standing P → Reply → Type 0
 WaitsForConnect true opened standing reply = IsClosed standing reply
-WaitsForConnect false opened standing reply = (standing ≡ Unconnected opened) × (reply ≡ Go None)
+WaitsForConnect false opened standing reply = (standing ≡ Unconnected opened) × (reply ≡ going_on None)
 
 -- no packet came, and no fault
 abbrev pub IsNoPacket : Input → Type 0
@@ -99,21 +83,21 @@ module _ {S P : Type 0} (call : S → Fact P → S → Type 0) (slot_of : P → 
   AnswersFirst first.Attach old number now packet standing reply new =
       (connect : Connect) × (packet ≡ packets.Connect connect) × Attaches call old number now (request_of connect now) 0 standing reply new
 
-  -- a reply closes the connection, or the connection goes on
-  abbrev pub Concludes : S → Link P → ℕ → Reply → Standing P → S → Type 0
-  Concludes old link now (Go packet) standing new = (standing ≡ Connected link) × (new ≡ old)
-  Concludes old link now (Close packet) standing new = IsParted old link now standing new
-  Concludes old link now (Kicked packet) standing new = IsParted old link now standing new
+  -- the connection goes on, or its session is parked
+  abbrev pub Concludes : S → Link P → ℕ → Then → Standing P → S → Type 0
+  Concludes old link now Go standing new = (standing ≡ Connected link) × (new ≡ old)
+  Concludes old link now Close standing new = IsParted old link now standing new
+  Concludes old link now Kicked standing new = IsParted old link now standing new
 
   -- a packet of a connection whose session nobody else asked for
   abbrev pub AnswersPacket : S → ℕ → Link P → ℕ → Packet → Standing P → Reply → S → Type 0
   AnswersPacket old number link now packet standing reply new =
-      (after : Link P) × (mid : S) × Answers call slot_of old number (hearing link now) packet after reply mid × Concludes mid after now reply standing new
+      (after : Link P) × (mid : S) × Answers call slot_of old number (hearing link now) packet after reply mid × Concludes mid after now reply.next standing new
 
   -- the client has been silent for too long, or not (3.1.2.10)
   abbrev pub IsHeard : Bool → S → Link P → ℕ → Standing P → Reply → S → Type 0
   IsHeard true old link now standing reply new = (reply ≡ closing_with 0x8D) × IsParted old link now standing new
-  IsHeard false old link now standing reply new = (reply ≡ Go None) × (standing ≡ Connected link) × (new ≡ old)
+  IsHeard false old link now standing reply new = (reply ≡ going_on None) × (standing ≡ Connected link) × (new ≡ old)
 
   -- a Tick: what is due is swept first
   abbrev pub AnswersTick : S → Link P → ℕ → Standing P → Reply → S → Type 0
@@ -122,7 +106,7 @@ module _ {S P : Type 0} (call : S → Fact P → S → Type 0) (slot_of : P → 
 
   -- another connection has asked for the session: it is taken over (3.1.4); the input is not looked at
   abbrev pub IsKicked : S → Link P → ℕ → Standing P → Reply → S → Type 0
-  IsKicked old link now standing reply new = (reply ≡ Kicked (disconnect 0x8E)) × IsParted old link now standing new
+  IsKicked old link now standing reply new = (reply ≡ taken_over (disconnect 0x8E)) × IsParted old link now standing new
 
   -- what a connection does at a packet or a Tick, where its session is its own, and else
   abbrev pub AnswersUnlessKicked : Bool → S → Link P → ℕ → (Standing P → Reply → S → Type 0) → Standing P → Reply → S → Type 0
@@ -149,7 +133,7 @@ module _ {S P : Type 0} (call : S → Fact P → S → Type 0) (slot_of : P → 
   Reacts old number (Connected link) now inputs.Tick standing reply new =
       (kicked : Bool) × (mid : S) × call old (WasKicked number kicked) mid
       × AnswersUnlessKicked kicked mid link now (AnswersTick mid link now) standing reply new
-  Reacts old number (Connected link) now inputs.EndOfInput standing reply new = (reply ≡ Close None) × IsParted old link now standing new
+  Reacts old number (Connected link) now inputs.EndOfInput standing reply new = (reply ≡ closed None) × IsParted old link now standing new
   Reacts old number (Connected link) now inputs.Closing standing reply new =
       (reply ≡ closing_with 0x8B) × call old (ParkAsIs (down link.session)) new × (standing ≡ Ended)
   Reacts old number Ended now input standing reply new = IsClosed standing reply × (new ≡ old)
@@ -172,8 +156,8 @@ module _ {S P : Type 0} (call : S → Fact P → S → Type 0) (slot_of : P → 
     pub sent : List Packet
     pub reacts : Reacts old number standing now input between reply mid
     pub hands : Hands mid between sent standing' new
-    pub written : packets ≡ packets_of reply ++ sent
-    pub followed : next ≡ then_of reply
+    pub written : packets ≡ option_to_list reply.packet ++ sent
+    pub followed : next ≡ reply.next
 
   -- a connection that is given up: its session is parked, and it waits for none
   abbrev pub GivesUp : S → ℕ → Standing P → ℕ → S → Type 0

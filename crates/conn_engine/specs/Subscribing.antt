@@ -13,12 +13,11 @@ use Rattle.conn_rules.specs.Packets.{suback, unsuback}
 use Rattle.session_desk.specs.declared.session.Membership.{Membership}
 use Rattle.session_desk.specs.declared.session.Membership.TheVariants.{NotMember, Member, Leaving}
 use Rattle.conn_engine.specs.declared.reply.Reply.{Reply}
-use Rattle.conn_engine.specs.declared.reply.Reply.TheVariants.{Go}
 use Rattle.conn_engine.specs.declared.supply.BindRefusal.{BindRefusal}
 use Rattle.conn_engine.specs.declared.supply.BindRefusal.TheVariants as refusal
 use Rattle.conn_engine.specs.Facts.{Fact}
 use Rattle.conn_engine.specs.Facts.Fact.{Bind, Find, LendPlace}
-use Rattle.conn_engine.specs.Replies.{closing_with}
+use Rattle.conn_engine.specs.Replies.{going_on, closing_with}
 
 module _ {S P : Type 0} (call : S → Fact P → S → Type 0) (slot_of : P → ℕ) where
   -- a place in the group of this slot is asked for: 97 where none is free
@@ -79,7 +78,7 @@ module _ {S P : Type 0} (call : S → Fact P → S → Type 0) (slot_of : P → 
   abbrev pub SubscribesAs : Option ℕ → Terms → S → Membership P → Subscribe → Reply → Membership P → S → Type 0
   SubscribesAs (Some code) terms old membership subscribe reply membership' new = (reply ≡ closing_with code) × (membership' ≡ membership) × (new ≡ old)
   SubscribesAs None terms old membership subscribe reply membership' new =
-      (codes : List ℕ) × (reply ≡ Go (Some (suback subscribe.packet_identifier codes)))
+      (codes : List ℕ) × (reply ≡ going_on (Some (suback subscribe.packet_identifier codes)))
       × AnswersEntries (is_some subscribe.properties.subscription_identifier) terms old membership subscribe.subscriptions codes membership' new
 
   abbrev pub Subscribes : Terms → S → Membership P → Subscribe → Reply → Membership P → S → Type 0
@@ -109,7 +108,7 @@ module _ {S P : Type 0} (call : S → Fact P → S → Type 0) (slot_of : P → 
   abbrev pub UnsubscribesAs : Option ℕ → S → Membership P → Unsubscribe → Reply → Membership P → S → Type 0
   UnsubscribesAs (Some code) old membership unsubscribe reply membership' new = (reply ≡ closing_with code) × (membership' ≡ membership) × (new ≡ old)
   UnsubscribesAs None old membership unsubscribe reply membership' new =
-      (codes : List ℕ) × (reply ≡ Go (Some (unsuback unsubscribe.packet_identifier codes)))
+      (codes : List ℕ) × (reply ≡ going_on (Some (unsuback unsubscribe.packet_identifier codes)))
       × LeavesByAll old membership unsubscribe.filters codes membership' new
 
   abbrev pub Unsubscribes : S → Membership P → Unsubscribe → Reply → Membership P → S → Type 0

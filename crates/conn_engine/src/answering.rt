@@ -38,11 +38,11 @@ pub(crate) fn answer<P: Place, S: Supply<P>>(
             drop(packet);
             let mut link = link;
             acknowledge(supply, &mut link.session, identifier, code);
-            (link, Ok(Reply::Go(None)))
+            (link, Ok(Reply::going_on(None)))
         }
         Packet::Subscribe(packet) => join(supply, alloc, link, packet),
         Packet::Unsubscribe(packet) => leave(supply, alloc, link, packet),
-        Packet::Pingreq => (link, Ok(Reply::Go(Some(Packet::Pingresp)))),
+        Packet::Pingreq => (link, Ok(Reply::going_on(Some(Packet::Pingresp)))),
         Packet::Disconnect(packet) => {
             let expiry = packet.properties.session_expiry_interval;
             drop(packet);
@@ -104,11 +104,11 @@ fn disconnect<P>(alloc: Global, mut link: Link<P>, expiry: Option<u32>) -> (Link
     ensures sound { result.0.session.window.retired ≡ false }
 {
     let Some(seconds) = expiry else {
-        return (link, Reply::Close(None));
+        return (link, Reply::closed(None));
     };
     if link.terms.is_given_expiry(seconds) {
         return (link, Reply::closing_with(alloc, ReasonCode::PROTOCOL_ERROR));
     }
     link.session.expiry.seconds = seconds;
-    (link, Reply::Close(None))
+    (link, Reply::closed(None))
 }

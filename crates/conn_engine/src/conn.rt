@@ -3,7 +3,8 @@ ghost use Rattle.std.specs.Prelude.{◌≡◌, ◌<◌, ◌↔◌, ◌++◌, [],
 ghost use Rattle.mqtt_wire.specs.declared.packet.Packet.{Packet};
 ghost use Rattle.conn_engine.specs.declared.standing.Standing.TheVariants as standings;
 ghost use Rattle.conn_engine.specs.Standings.{IsSoundStanding, IsWaiting};
-ghost use Rattle.conn_engine.specs.Step.{packets_of, then_of, IsWanted, Hands, HandsLess, GivesUp, Steps, FailsToStep};
+ghost use Rattle.std.specs.Option.{option_to_list};
+ghost use Rattle.conn_engine.specs.Step.{IsWanted, Hands, HandsLess, GivesUp, Steps, FailsToStep};
 
 use crate::connecting::is_waiting;
 use crate::ending::part;
@@ -195,25 +196,14 @@ fn give_up<P: Place, S: Supply<P>>(supply: &mut S, number: u16, standing: Standi
 /// Writes the packet of a reply into the list, which has room for it, and says what becomes of the connection.
 fn write(reply: Reply, packets: &mut Vec<Packet>) -> Then
     requires { vec_len packets.old < vec_capacity packets.old }
-    ensures written { packets.new.items ≡ packets.old.items ++ packets_of reply }
-    ensures followed { result ≡ then_of reply }
+    ensures written { packets.new.items ≡ packets.old.items ++ option_to_list reply.packet }
+    ensures followed { result ≡ reply.next }
 {
-    match reply {
-        Reply::Go(None) => Then::Go,
-        Reply::Go(Some(packet)) => {
-            packets.push_reserved(packet);
-            Then::Go
-        }
-        Reply::Close(None) => Then::Close,
-        Reply::Close(Some(packet)) => {
-            packets.push_reserved(packet);
-            Then::Close
-        }
-        Reply::Kicked(packet) => {
-            packets.push_reserved(packet);
-            Then::Kicked
-        }
+    let Reply { packet, next } = reply;
+    if let Some(packet) = packet {
+        packets.push_reserved(packet);
     }
+    next
 }
 
 /// Hands out what is due to a connection with this standing.

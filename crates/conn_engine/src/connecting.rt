@@ -92,7 +92,10 @@ fn wait<P>(request: ConnectRequest, ticks: u8) -> (Standing<P>, Result<Reply, No
     ensures sound { IsSoundStanding result.0 }
 {
     if ticks < MOST_TICKS {
-        (Standing::Waiting { request, ticks }, Ok(Reply::Go(None)))
+        (
+            Standing::Waiting { request, ticks },
+            Ok(Reply::going_on(None)),
+        )
     } else {
         refuse(ConnectRefusal::ServerBusy)
     }
@@ -104,7 +107,7 @@ pub(crate) fn refuse<P>(refusal: ConnectRefusal) -> (Standing<P>, Result<Reply, 
     ensures told { IfOk result.1 (IsRefused refusal result.0) }
     ensures fine { IsOk result.1 }
 {
-    (Standing::Ended, Ok(Reply::Close(Some(refusing(refusal)))))
+    (Standing::Ended, Ok(Reply::closed(Some(refusing(refusal)))))
 }
 
 /// Retires the session that a client had, where it had one.
@@ -173,7 +176,7 @@ fn accept<P, S: Supply<P>>(
             };
             (
                 Standing::Connected(link),
-                Ok(Reply::Go(Some(accepting(present, name)))),
+                Ok(Reply::going_on(Some(accepting(present, name)))),
             )
         }
         Err(NoMemory) => {

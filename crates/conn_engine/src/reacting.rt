@@ -9,7 +9,7 @@ ghost use Rattle.conn_engine.specs.Step.{request_of, IsNoPacket, IsWanted, IsClo
 use crate::answering::answer;
 use crate::connecting::{attach, refuse, try_again};
 use crate::ending::{part, part_as_is, sweep};
-use crate::input::Input;
+use crate::input::{Input, Then};
 use crate::reply::Reply;
 use crate::standing::{ConnectRequest, Link, Standing};
 use crate::supply::{NoMemory, Supply};
@@ -63,7 +63,7 @@ fn close<P>() -> (Standing<P>, Result<Reply, NoMemory>)
     ensures told { IfOk result.1 (IsClosed result.0) }
     ensures fine { IsOk result.1 }
 {
-    (Standing::Ended, Ok(Reply::Close(None)))
+    (Standing::Ended, Ok(Reply::closed(None)))
 }
 
 /// Before the first packet.
@@ -91,7 +91,7 @@ fn react_unconnected<P: Place, S: Supply<P>>(
             if is_late(now.saturating_sub(opened)) {
                 close()
             } else {
-                (Standing::Unconnected { opened }, Ok(Reply::Go(None)))
+                (Standing::Unconnected { opened }, Ok(Reply::going_on(None)))
             }
         }
         Input::EndOfInput => close(),
@@ -234,7 +234,7 @@ fn react_connected<P: Place, S: Supply<P>>(
         }
         Input::EndOfInput => {
             part(supply, link.into_session(), now);
-            (Standing::Ended, Ok(Reply::Close(None)))
+            (Standing::Ended, Ok(Reply::closed(None)))
         }
         Input::Closing => {
             part_as_is(supply, link.into_session());
@@ -259,8 +259,11 @@ fn take_over<P: Place, S: Supply<P>>(
     ensures sound { IsSoundStanding result.0 }
 {
     part(supply, link.into_session(), now);
-    let packet = disconnect(alloc, ReasonCode::SESSION_TAKEN_OVER);
-    (Standing::Ended, Ok(Reply::Kicked(packet)))
+    let reply = Reply {
+        packet: Some(disconnect(alloc, ReasonCode::SESSION_TAKEN_OVER)),
+        next: Then::Kicked,
+    };
+    (Standing::Ended, Ok(reply))
 }
 
 /// Answers a packet.
@@ -297,15 +300,17 @@ fn conclude<P: Place, S: Supply<P>>(
     reply: Reply,
 ) -> (Standing<P>, Result<Reply, NoMemory>)
     requires { link.session.window.retired ≡ false }
-    ensures concluded { Concludes S.call P.slot_of supply.old link now reply result.0 supply.new }
+    ensures concluded { Concludes S.call P.slot_of supply.old link now reply.next result.0 supply.new }
     ensures same { result.1 ≡ Ok reply }
     ensures sound { IsSoundStanding result.0 }
 {
-    if let Reply::Go(_) = &reply {
-        return (Standing::Connected(link), Ok(reply));
+    match reply.next {
+        Then::Go => (Standing::Connected(link), Ok(reply)),
+        Then::Close | Then::Kicked => {
+            part(supply, link.into_session(), now);
+            (Standing::Ended, Ok(reply))
+        }
     }
-    part(supply, link.into_session(), now);
-    (Standing::Ended, Ok(reply))
 }
 
 /// Time has gone on: what is due is swept, and a client that was silent for too long is closed (section 3.1.2.10).
@@ -328,5 +333,5 @@ fn tick<P: Place, S: Supply<P>>(
             Ok(Reply::closing_with(alloc, ReasonCode::KEEP_ALIVE_TIMEOUT)),
         );
     }
-    (Standing::Connected(link), Ok(Reply::Go(None)))
+    (Standing::Connected(link), Ok(Reply::going_on(None)))
 }

@@ -1,28 +1,47 @@
 //! Replies.
 ghost use Rattle.std.specs.Prelude.{◌≡◌};
-ghost use Rattle.conn_engine.specs.Replies.{closing_with, acknowledging};
+ghost use Rattle.conn_engine.specs.Replies.{going_on, closed, closing_with, acknowledging};
 
+use crate::input::Then;
 use conn_rules::{disconnect, puback};
 use mqtt_wire::{Packet, PacketIdentifier, ReasonCode};
 use std::alloc::Global;
 
 /// What a connection answers to an input, before anything is handed out.
 #[derive(Drop)]
-pub(crate) enum Reply {
-    /// This packet is sent, if there is one, and the connection goes on.
-    Go(Option<Packet>),
-    /// This packet is sent, if there is one, and the connection is closed.
-    Close(Option<Packet>),
-    /// This packet is sent, and the connection is closed: another one has its session.
-    Kicked(Packet),
+pub(crate) struct Reply {
+    /// The packet that is sent, if there is one.
+    pub packet: Option<Packet>,
+    /// What becomes of the connection.
+    pub next: Then,
 }
 
 impl Reply {
+    /// This packet is sent, if there is one, and the connection goes on.
+    pub(crate) fn going_on(packet: Option<Packet>) -> Reply
+        ensures { result ≡ going_on packet }
+    {
+        Reply {
+            packet,
+            next: Then::Go,
+        }
+    }
+
+    /// This packet is sent, if there is one, and the connection is closed.
+    pub(crate) fn closed(packet: Option<Packet>) -> Reply
+        ensures { result ≡ closed packet }
+    {
+        Reply {
+            packet,
+            next: Then::Close,
+        }
+    }
+
     /// A DISCONNECT of this Reason Code, and the connection is closed (section 4.13).
     pub(crate) fn closing_with(alloc: Global, code: ReasonCode) -> Reply
         ensures { result ≡ closing_with code }
     {
-        Reply::Close(Some(disconnect(alloc, code)))
+        Reply::closed(Some(disconnect(alloc, code)))
     }
 
     /// A PUBACK of this Reason Code (section 3.4).
@@ -33,6 +52,6 @@ impl Reply {
     ) -> Reply
         ensures { result ≡ acknowledging identifier code }
     {
-        Reply::Go(Some(puback(alloc, identifier, code)))
+        Reply::going_on(Some(puback(alloc, identifier, code)))
     }
 }

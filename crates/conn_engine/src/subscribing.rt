@@ -5,7 +5,7 @@ ghost use Rattle.conn_engine.specs.Facts.Fact.{Find};
 ghost use Rattle.conn_engine.specs.Subscribing.{IsLent, EntersAs, Joins, AnswersEntry, AnswersEntries, AnswersFirst, AnswersSome, IsUnbound, Subscribes, LeavesBy, LeavesByAll, Unsubscribes};
 ghost use Rattle.session_desk.specs.declared.session.Membership.TheVariants.{NotMember};
 ghost use Rattle.conn_rules.specs.Packets.{suback, unsuback};
-ghost use Rattle.conn_engine.specs.declared.reply.Reply.TheVariants.{Go};
+ghost use Rattle.conn_engine.specs.Replies.{going_on};
 ghost use Rattle.std.specs.Vec.Iter.{into_iter_items, into_iter_len};
 
 use crate::reply::Reply;
@@ -62,10 +62,10 @@ pub(crate) fn subscribe<P: Place, S: Supply<P>>(
 /// The SUBACK with these codes.
 fn granted(identifier: PacketIdentifier, codes: Vec<ReasonCode>) -> Reply
     requires { 0 < length codes.items }
-    ensures { result ≡ Go (Some (suback identifier codes.items)) }
+    ensures { result ≡ going_on (Some (suback identifier codes.items)) }
 {
     match NonEmpty::from_vec(codes) {
-        Some(codes) => Reply::Go(Some(suback(identifier, codes))),
+        Some(codes) => Reply::going_on(Some(suback(identifier, codes))),
         None => unreachable!(),
     }
 }
@@ -197,10 +197,10 @@ pub(crate) fn unsubscribe<P: Place, S: Supply<P>>(
 /// The UNSUBACK with these codes.
 fn left(identifier: PacketIdentifier, codes: Vec<ReasonCode>) -> Reply
     requires { 0 < length codes.items }
-    ensures { result ≡ Go (Some (unsuback identifier codes.items)) }
+    ensures { result ≡ going_on (Some (unsuback identifier codes.items)) }
 {
     match NonEmpty::from_vec(codes) {
-        Some(codes) => Reply::Go(Some(unsuback(identifier, codes))),
+        Some(codes) => Reply::going_on(Some(unsuback(identifier, codes))),
         None => unreachable!(),
     }
 }

@@ -1,0 +1,101 @@
+-- What is done to a client is a list of calls.
+use Rattle.std.proofs.Common.{◌≡◌, ℕ, List, [], ◌∷◌, ◌++◌, reverse, Option, Some, None, Result, Ok, Err, ⊎_elim, inl, inr}
+use Rattle.conn_engine.specs.declared.input.Input.{Input}
+use Rattle.conn_engine.specs.declared.input.Input.TheVariants as inputs
+use Rattle.conn_engine.specs.declared.supply.NoMemory.{NoMemory}
+use Rattle.conn_engine.specs.Facts.{Fact}
+use Rattle.conn_engine.specs.Calls.{CallsLead}
+use Rattle.conn_engine.proofs.Calling.{joins}
+use Rattle.conn_engine.proofs.Stepping.{stepped}
+use Rattle.conn_engine.proofs.Failing.{failed}
+use Rattle.client_table.specs.Cells.{Receives, TicksFor, EndsFor, Abandons, AbandonsAll, AbandonsEach}
+use Rattle.client_table.specs.Clients.{ClientState, Said, Moves, FailsToMove, IsGivenUp}
+use Rattle.client_table.specs.Streams.{fed, Reads, FailsToReadOne, FailsToRead, Ticks, FailsToTick}
+
+module _ {S P : Type 0} (call : S → Fact P → S → Type 0) (slot_of : P → ℕ) where
+  none : (old new : S) → new ≡ old → CallsLead call old new
+  none old new same = ([], same)
+
+  behind : (old mid new : S) → CallsLead call old mid → CallsLead call mid new → CallsLead call old new
+  behind old mid new these those = (these.0 ++ those.0, joins call these.0 those.0 old mid new these.1 those.1)
+
+  pub moves : (old new : S) (client after : ClientState P) (now : ℕ) (input : Input) (said : Said) → Moves call slot_of old client now input said after new → CallsLead call old new
+  moves old new client after now input said moved =
+      let calls = stepped call slot_of old new client.conn.number now client.conn.standing after.conn.standing input said.packets said.next moved.stepped in
+      (calls.facts, calls.made)
+
+  fails_to_move : (old new : S) (client after : ClientState P) (now : ℕ) (input : Input) → FailsToMove call slot_of old client now input after new → CallsLead call old new
+  fails_to_move old new client after now input fails =
+      let calls = failed call slot_of old new client.conn.number now client.conn.standing input fails.failed in
+      (calls.facts, calls.made)
+
+  pub given_up : (old new : S) (client after : ClientState P) (now : ℕ) (input : Input) → IsGivenUp call slot_of old client now input after new → CallsLead call old new
+  given_up old new client after now input (inl moved) = moves old new client after now input moved.0 moved.1
+  given_up old new client after now input (inr fails) = fails_to_move old new client after now input fails
+
+  pub reads : (said : List Said) (old new : S) (client after : ClientState P) (now : ℕ) → Reads call slot_of old client now said after new → CallsLead call old new
+  reads [] old new client after now read = none old new read.2
+  reads (said ∷ rest) old new client after now (inl last) = moves old new client after now last.0.input said last.0.moved
+  reads (said ∷ rest) old new client after now (inr more) =
+      behind old more.1 new (moves old more.1 client more.0 now _ said more.2.moved) (reads rest more.1 new more.0 after now more.3)
+
+  fails_to_read_one : (old new : S) (client after : ClientState P) (now : ℕ) → FailsToReadOne call slot_of old client now after new → CallsLead call old new
+  fails_to_read_one old new client after now (inl given) = given_up old new client after now inputs.EndOfInput given
+  fails_to_read_one old new client after now (inr fails) = fails_to_move old new client after now fails.0 fails.2
+
+  pub fails_to_read : (said : List Said) (old new : S) (client after : ClientState P) (now : ℕ) → FailsToRead call slot_of old client now said after new → CallsLead call old new
+  fails_to_read [] old new client after now fails = fails_to_read_one old new client after now fails
+  fails_to_read (said ∷ rest) old new client after now fails =
+      behind old fails.1 new (moves old fails.1 client fails.0 now _ said fails.2.moved) (fails_to_read rest fails.1 new fails.0 after now fails.3)
+
+  pub ticks : (said : List Said) (old new : S) (client after : ClientState P) (now : ℕ) → Ticks call slot_of old client now said after new → CallsLead call old new
+  ticks [] old new client after now ticked = absurd ticked
+  ticks (said ∷ rest) old new client after now (inl last) = moves old new client after now inputs.Tick said last.0
+  ticks (said ∷ rest) old new client after now (inr more) =
+      behind old more.1 new (moves old more.1 client more.0 now inputs.Tick said more.2) (reads rest more.1 new more.0 after now more.4)
+
+  fails_at_tick : (old new : S) (client after : ClientState P) (now : ℕ) → FailsToTick call slot_of old client now [] after new → CallsLead call old new
+  fails_at_tick old new client after now (inl given) = given_up old new client after now inputs.EndOfInput given
+  fails_at_tick old new client after now (inr fails) = fails_to_move old new client after now inputs.Tick fails
+
+  pub fails_to_tick : (said : List Said) (old new : S) (client after : ClientState P) (now : ℕ) → FailsToTick call slot_of old client now said after new → CallsLead call old new
+  fails_to_tick [] old new client after now fails = fails_at_tick old new client after now fails
+  fails_to_tick (said ∷ rest) old new client after now fails =
+      behind old fails.1 new (moves old fails.1 client fails.0 now inputs.Tick said fails.2) (fails_to_read rest fails.1 new fails.0 after now fails.4)
+
+  -- what happens to the client in a cell
+  pub receives : (result : Result (Unit {0}) NoMemory) (before : Option (ClientState P)) (old new : S) (now : ℕ) (piece : List ℕ) (more : List Said) (after : Option (ClientState P))
+      → Receives call slot_of old before now piece more result after new → CallsLead call old new
+  receives (Ok done) None old new now piece more after does = none old new does.2
+  receives (Ok done) (Some client) old new now piece more after does = reads more old new (fed client piece) does.0 now does.1
+  receives (Err error) None old new now piece more after does = absurd does
+  receives (Err error) (Some client) old new now piece more after does =
+      ⊎_elim
+      (λ (given : IsGivenUp call slot_of old client now inputs.EndOfInput does.0 new × (more ≡ [])). given_up old new client does.0 now inputs.EndOfInput given.0)
+      (λ (fails : FailsToRead call slot_of old (fed client piece) now more does.0 new). fails_to_read more old new (fed client piece) does.0 now fails)
+      does.1
+
+  pub ticks_for : (result : Result (Unit {0}) NoMemory) (before : Option (ClientState P)) (old new : S) (now : ℕ) (more : List Said) (after : Option (ClientState P))
+      → TicksFor call slot_of old before now more result after new → CallsLead call old new
+  ticks_for (Ok done) None old new now more after does = none old new does.2
+  ticks_for (Ok done) (Some client) old new now more after does = ticks more old new client does.0 now does.1
+  ticks_for (Err error) None old new now more after does = absurd does
+  ticks_for (Err error) (Some client) old new now more after does = fails_to_tick more old new client does.0 now does.1
+
+  pub ends_for : (result : Result (Unit {0}) NoMemory) (before : Option (ClientState P)) (old new : S) (now : ℕ) (input : Input) (more : List Said) (after : Option (ClientState P))
+      → EndsFor call slot_of old before now input more result after new → CallsLead call old new
+  ends_for (Ok done) None old new now input more after does = none old new does.2
+  ends_for (Ok done) (Some client) old new now input more after does = moves old new client does.0 now input does.1.0 does.1.2
+  ends_for (Err error) None old new now input more after does = absurd does
+  ends_for (Err error) (Some client) old new now input more after does = given_up old new client does.0 now input does.1.1
+
+  abandons : (cell : Option (ClientState P)) (old new : S) (now : ℕ) → Abandons call slot_of old cell now new → CallsLead call old new
+  abandons None old new now does = none old new does
+  abandons (Some client) old new now does = given_up old new client does.0 now inputs.Closing does.1
+
+  abandons_all : (cells : List (Option (ClientState P))) (old new : S) (now : ℕ) → AbandonsAll call slot_of old cells now new → CallsLead call old new
+  abandons_all [] old new now does = none old new does
+  abandons_all (cell ∷ cells) old new now does = behind old does.0 new (abandons cell old does.0 now does.1) (abandons_all cells does.0 new now does.2)
+
+  pub abandons_each : (cells : List (Option (ClientState P))) (old new : S) (now : ℕ) → AbandonsEach call slot_of old cells now new → CallsLead call old new
+  abandons_each cells old new now does = abandons_all (reverse cells) old new now does

@@ -1,0 +1,11 @@
+-- What is read so far, and what is unread.
+use Rattle.std.proofs.Common.{length}
+use Rattle.client_table.proofs.Reading.{IsReadOnFrom}
+use Rattle.client_table.proofs.client.Client.read.Given as goal
+
+abbrev pub invariant-packets : goal.invariant-packets
+invariant-packets g l =
+    IsReadOnFrom g.S.Supply.call g.P.Place.slot_of l.fn.supply l.fn.self l.now l.fn.said.items l.supply l.self l.said.items
+
+abbrev pub decreases-packets : goal.decreases-packets
+decreases-packets g l = length l.self.unread.bytes

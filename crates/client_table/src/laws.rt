@@ -1,0 +1,41 @@
+//! Laws: what is done to a client is a list of calls of the supply, whatever comes of it. Each is the contract of a function that does
+//! nothing, stated over the definitions that the contracts of [`Client`](crate::Client) and [`ClientTable`](crate::ClientTable) cite, and
+//! over every [`Supply`]. So what holds of a supply whatever calls are made of it holds behind each of their calls.
+ghost use Rattle.std.specs.Prelude.{◌≡◌, ℕ, List, Option, Result};
+ghost use Rattle.conn_engine.specs.declared.input.Input.{Input};
+ghost use Rattle.conn_engine.specs.declared.supply.NoMemory.{NoMemory};
+ghost use Rattle.conn_engine.specs.Calls.{CallsLead};
+ghost use Rattle.client_table.specs.Cells.{Receives, TicksFor, EndsFor, AbandonsEach};
+ghost use Rattle.client_table.specs.Clients.{ClientState, Said, Moves, IsGivenUp};
+ghost use Rattle.client_table.specs.Streams.{Reads, FailsToRead, Ticks, FailsToTick};
+
+use conn_engine::Supply;
+use session_desk::Place;
+
+/// **What a client does is a list of calls**: reading its stream, a Tick, a last step, and giving it up, with memory and without.
+pub fn calls_law<P: Place, S: Supply<P>>()
+    ensures reads { (now : ℕ) (said : List Said) (client after : ClientState P) (old new : S) →
+        Reads S.call P.slot_of old client now said after new → CallsLead S.call old new }
+    ensures fails_to_read { (now : ℕ) (said : List Said) (client after : ClientState P) (old new : S) →
+        FailsToRead S.call P.slot_of old client now said after new → CallsLead S.call old new }
+    ensures ticks { (now : ℕ) (said : List Said) (client after : ClientState P) (old new : S) →
+        Ticks S.call P.slot_of old client now said after new → CallsLead S.call old new }
+    ensures fails_to_tick { (now : ℕ) (said : List Said) (client after : ClientState P) (old new : S) →
+        FailsToTick S.call P.slot_of old client now said after new → CallsLead S.call old new }
+    ensures moves { (now : ℕ) (input : Input) (said : Said) (client after : ClientState P) (old new : S) →
+        Moves S.call P.slot_of old client now input said after new → CallsLead S.call old new }
+    ensures given_up { (now : ℕ) (input : Input) (client after : ClientState P) (old new : S) →
+        IsGivenUp S.call P.slot_of old client now input after new → CallsLead S.call old new }
+{}
+
+/// **What a table does is a list of calls**: whatever happens to the client in a cell, and where all are let go.
+pub fn table_calls_law<P: Place, S: Supply<P>>()
+    ensures receives { (now : ℕ) (piece : List ℕ) (more : List Said) (result : Result (Unit {0}) NoMemory) (before after : Option (ClientState P)) (old new : S) →
+        Receives S.call P.slot_of old before now piece more result after new → CallsLead S.call old new }
+    ensures ticks { (now : ℕ) (more : List Said) (result : Result (Unit {0}) NoMemory) (before after : Option (ClientState P)) (old new : S) →
+        TicksFor S.call P.slot_of old before now more result after new → CallsLead S.call old new }
+    ensures ends { (now : ℕ) (input : Input) (more : List Said) (result : Result (Unit {0}) NoMemory) (before after : Option (ClientState P)) (old new : S) →
+        EndsFor S.call P.slot_of old before now input more result after new → CallsLead S.call old new }
+    ensures abandons { (now : ℕ) (cells : List (Option (ClientState P))) (old new : S) →
+        AbandonsEach S.call P.slot_of old cells now new → CallsLead S.call old new }
+{}
