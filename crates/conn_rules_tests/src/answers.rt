@@ -202,9 +202,13 @@ fn entry(
         keep_alive: 0,
         takes_all_packets,
     };
-    match packet(alloc, digits)? {
-        Some(Packet::Subscribe(subscribe)) => Ok(code_of_last(subscribe, &terms)),
-        _ => Err(Fault::Stream(StreamFault::Malformed)),
+    match packet(alloc, digits) {
+        Ok(Some(Packet::Subscribe(subscribe))) => Ok(code_of_last(subscribe, &terms)),
+        Ok(other) => {
+            drop(other);
+            Err(Fault::Stream(StreamFault::Malformed))
+        }
+        Err(fault) => Err(fault),
     }
 }
 

@@ -48,9 +48,14 @@ fn answers_to(packet: &Packet) -> Told {
 
 /// What the rules say of the first packet of these bytes; `None` where there is none.
 pub fn answers(alloc: Global, bytes: &[u8]) -> Result<Option<Told>, Fault> {
-    match read(alloc, bytes)? {
-        Some(packet) => Ok(Some(answers_to(&packet))),
-        None => Ok(None),
+    match read(alloc, bytes) {
+        Ok(Some(packet)) => {
+            let told = answers_to(&packet);
+            drop(packet);
+            Ok(Some(told))
+        }
+        Ok(None) => Ok(None),
+        Err(fault) => Err(fault),
     }
 }
 
@@ -72,9 +77,14 @@ fn answer_to(packet: &Packet) -> Option<PublishAnswer> {
 
 /// What becomes of the PUBLISH that hex digits say; `None` where they say none.
 pub fn published(alloc: Global, digits: &str) -> Result<Option<PublishAnswer>, Fault> {
-    match packet(alloc, digits)? {
-        Some(packet) => Ok(answer_to(&packet)),
-        None => Ok(None),
+    match packet(alloc, digits) {
+        Ok(Some(packet)) => {
+            let answer = answer_to(&packet);
+            drop(packet);
+            Ok(answer)
+        }
+        Ok(None) => Ok(None),
+        Err(fault) => Err(fault),
     }
 }
 
@@ -89,8 +99,13 @@ fn refusal_of(packet: &Packet) -> Option<ReasonCode> {
 
 /// That of the first packet of these bytes; success where there is none.
 pub fn refusal(alloc: Global, bytes: &[u8]) -> Result<Option<ReasonCode>, Fault> {
-    match read(alloc, bytes)? {
-        Some(packet) => Ok(refusal_of(&packet)),
-        None => Ok(Some(ReasonCode::SUCCESS)),
+    match read(alloc, bytes) {
+        Ok(Some(packet)) => {
+            let code = refusal_of(&packet);
+            drop(packet);
+            Ok(code)
+        }
+        Ok(None) => Ok(Some(ReasonCode::SUCCESS)),
+        Err(fault) => Err(fault),
     }
 }

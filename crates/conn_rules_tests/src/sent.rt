@@ -10,7 +10,9 @@ use std::test::Fail;
 
 // The bytes of a packet.
 fn written(alloc: Global, packet: Packet) -> Result<Vec<u8>, Fault> {
-    encode(alloc, &packet)
+    let bytes = encode(alloc, &packet);
+    drop(packet);
+    bytes
 }
 
 // The bytes of a packet, in hex digits.
@@ -78,9 +80,13 @@ fn passed_on(alloc: Global, digits: &str, dup: bool) -> Result<Vec<u8>, Fault> {
     let Some(one) = PacketIdentifier::new(1) else {
         return Ok(Vec::new(alloc));
     };
-    match packet(alloc, digits)? {
-        Some(Packet::Publish(publish)) => written(alloc, job(dup, message_of(publish), one)),
-        _ => Ok(Vec::new(alloc)),
+    match packet(alloc, digits) {
+        Ok(Some(Packet::Publish(publish))) => written(alloc, job(dup, message_of(publish), one)),
+        Ok(other) => {
+            drop(other);
+            Ok(Vec::new(alloc))
+        }
+        Err(fault) => Err(fault),
     }
 }
 

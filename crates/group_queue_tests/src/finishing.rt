@@ -3,7 +3,8 @@ ghost use Rattle.std.specs.Prelude.{◌≡◌, All, IfSome};
 ghost use Rattle.group_queue.specs.Ports.{IsPortOf};
 ghost use Rattle.group_queue.specs.Places.{IsPlaceOf};
 
-use crate::group_ledger::{acknowledge, offer, return_one, take_seat};
+use crate::group_ledger::{acknowledge, return_one, take_seat};
+use crate::row::{end, held_list, offer_four, take_again, take_place};
 use crate::values::message;
 use dispatch_core::Job;
 use gate_word::{Gate, GateSeat, Turn};
@@ -18,32 +19,24 @@ fn work<R: Wait>(
     rt: &R,
     alloc: Global,
     group: &SharedGroup<'_>,
-    port: &mut Port,
-    near: &mut Place,
-    far: &mut Place,
+    ports: &mut Vec<Port>,
+    places: &mut Vec<Place>,
     turn: &Turn,
 ) -> Option<Envelope>
-    requires port { IsPortOf group.now port.old }
-    requires near { IsPlaceOf group.now near.old }
-    requires far { IsPlaceOf group.now far.old }
+    requires ports { All (IsPortOf group.now) ports.old.items }
+    requires places { All (IsPlaceOf group.now) places.old.items }
     requires turn { turn.now.gate ≡ group.now.gate }
-    ensures port { IsPortOf group.now port.new }
-    ensures near { IsPlaceOf group.now near.new }
-    ensures far { IsPlaceOf group.now far.new }
+    ensures ports { All (IsPortOf group.now) ports.new.items }
+    ensures places { All (IsPlaceOf group.now) places.new.items }
 {
-    for _ in 0..4 {
-        let _offered = offer(rt, alloc, group, port, turn);
-    }
-    let _settled = acknowledge(rt, group, near, turn);
-    let _returned = return_one(rt, group, near, turn);
-    match group.take(rt, far, turn) {
-        Ok(taken) => taken,
-        Err(_) => None,
-    }
+    offer_four(rt, alloc, group, ports.first_mut()?, turn);
+    acknowledge(rt, group, places.first_mut()?, turn);
+    return_one(rt, group, places.first_mut()?, turn);
+    take_again(rt, group, places.last_mut()?, turn)
 }
 
 /// What the calls that end a group answered: without a place, with a stranger, and with all that there is.
-#[derive(Drop, PartialEq, Debug)]
+#[derive(Drop)]
 struct Ends {
     without: Option<FinishError>,
     beside: Option<FinishError>,
@@ -159,70 +152,37 @@ fn end_worked<R: Wait>(
     requires ports { All (IsPortOf opened.0) opened.1.items }
     requires places { All (IsPlaceOf opened.0) opened.2.items }
 {
-    let (group, ports, places) = opened;
-    let Ok(turn) = gate.enter(seat) else {
-        group.abandon();
-        return None;
+    let (group, mut ports, mut places) = opened;
+    let taken = match gate.enter(seat) {
+        Ok(turn) => {
+            let taken = work(rt, alloc, &group, &mut ports, &mut places, &turn);
+            gate.leave(turn);
+            taken
+        }
+        Err(_refused) => None,
     };
-    let Some((mut port, mut near, mut far)) = last_of(&group, ports, places) else {
-        gate.leave(turn);
-        group.abandon();
-        return None;
-    };
-    let taken = work(rt, alloc, &group, &mut port, &mut near, &mut far, &turn);
-    gate.leave(turn);
-    let Some((ports, places)) = lists_of(alloc, &group, port, near) else {
-        spend(taken);
-        group.abandon();
-        return None;
-    };
-    end_with(rt, alloc, group, ports, places, taken, far)
-}
-
-/// The last port and the last two places.
-fn last_of(
-    group: &SharedGroup<'_>,
-    mut ports: Vec<Port>,
-    mut places: Vec<Place>,
-) -> Option<(Port, Place, Place)>
-    requires ports { All (IsPortOf group.now) ports.items }
-    requires places { All (IsPlaceOf group.now) places.items }
-    ensures port { IfSome result (λ last. IsPortOf group.now last.0) }
-    ensures near { IfSome result (λ last. IsPlaceOf group.now last.1) }
-    ensures far { IfSome result (λ last. IsPlaceOf group.now last.2) }
-{
-    let _ = group;
-    let port = ports.pop()?;
-    let far = places.pop()?;
-    let near = places.pop()?;
-    Some((port, near, far))
-}
-
-/// Lists of one port and of one place.
-fn lists_of(
-    alloc: Global,
-    group: &SharedGroup<'_>,
-    port: Port,
-    near: Place,
-) -> Option<(Vec<Port>, Vec<Place>)>
-    requires port { IsPortOf group.now port }
-    requires near { IsPlaceOf group.now near }
-    ensures ports { IfSome result (λ lists. All (IsPortOf group.now) lists.0.items) }
-    ensures places { IfSome result (λ lists. All (IsPlaceOf group.now) lists.1.items) }
-{
-    let _ = group;
-    let ports = Vec::from_array(alloc, [port]).ok()?;
-    let places = Vec::from_array(alloc, [near]).ok()?;
-    Some((ports, places))
-}
-
-fn spend(envelope: Option<Envelope>) {
-    if let Some(envelope) = envelope {
-        let (_stamp, _message) = envelope.open();
+    match take_place(&group, &mut places) {
+        Some(far) => end_with(rt, alloc, group, ports, places, taken, far),
+        None => {
+            let held = held_list(alloc, taken);
+            end(rt, alloc, group, ports, places, held);
+            None
+        }
     }
 }
 
-/// The same with the envelope that is out.
+/// An envelope of the fourth message, which the group never handed out.
+fn stranger(alloc: Global) -> Option<Envelope> {
+    let message = message(alloc, b"A")?;
+    let stamp = Stamp {
+        group: 0,
+        port: 0,
+        number: 3,
+    };
+    Some(Envelope::new(stamp, 1, message))
+}
+
+/// The same with the far place and the envelope that is out.
 fn end_with<R: Wait>(
     rt: &R,
     alloc: Global,
@@ -236,29 +196,20 @@ fn end_with<R: Wait>(
     requires places { All (IsPlaceOf group) places.items }
     requires far { IsPlaceOf group far }
 {
-    let mut held = Vec::new(alloc);
-    if let Some(envelope) = taken {
-        if let Err(refused) = held.push(envelope) {
-            let (_stamp, _message) = refused.value.open();
-        }
-    }
     let whole = Unfinished {
         error: FinishError::Memory,
         group,
         ports,
         places,
-        held,
+        held: held_list(alloc, taken),
     };
-    let Some(message) = message(alloc, b"A") else {
-        whole.abandon();
-        return None;
-    };
-    let stamp = Stamp {
-        group: 0,
-        port: 0,
-        number: 3,
-    };
-    end_thrice(rt, alloc, whole, far, Envelope::new(stamp, 1, message))
+    match stranger(alloc) {
+        Some(stranger) => end_thrice(rt, alloc, whole, far, stranger),
+        None => {
+            whole.abandon();
+            None
+        }
+    }
 }
 
 #[test]

@@ -92,58 +92,38 @@ struct Told {
     is_empty: bool,
 }
 
-/// Offers three messages to a group with room for two, of which one is acknowledged, and one is given back and then refused.
+/// Offers three messages to a group with room for two, of which the near place acknowledges one, and gives back one that the
+/// far place then refuses.
 fn tell<R: Wait>(
     rt: &R,
     alloc: Global,
     group: &SharedGroup<'_>,
-    port: &mut Port,
-    near: &mut Place,
-    far: &mut Place,
+    ports: &mut Vec<Port>,
+    places: &mut Vec<Place>,
     turn: &Turn,
-) -> Told
-    requires port { IsPortOf group.now port.old }
-    requires near { IsPlaceOf group.now near.old }
-    requires far { IsPlaceOf group.now far.old }
+) -> Option<Told>
+    requires ports { All (IsPortOf group.now) ports.old.items }
+    requires places { All (IsPlaceOf group.now) places.old.items }
     requires turn { turn.now.gate ≡ group.now.gate }
 {
+    let port = ports.first_mut()?;
     let first = offer(rt, alloc, group, port, turn);
     let second = offer(rt, alloc, group, port, turn);
     let third = offer(rt, alloc, group, port, turn);
-    let acknowledged = acknowledge(rt, group, near, turn);
-    let is_returned = return_one(rt, group, near, turn);
-    let refused = refuse(rt, group, far, turn);
-    let is_empty = acknowledge(rt, group, far, turn).is_none()
-        && refuse(rt, group, near, turn).is_none();
-    Told {
+    let acknowledged = acknowledge(rt, group, places.first_mut()?, turn);
+    let is_returned = return_one(rt, group, places.first_mut()?, turn);
+    let refused = refuse(rt, group, places.last_mut()?, turn);
+    let far_is_empty = acknowledge(rt, group, places.last_mut()?, turn).is_none();
+    let near_is_empty = refuse(rt, group, places.first_mut()?, turn).is_none();
+    Some(Told {
         first,
         second,
         third,
         acknowledged,
         is_returned,
         refused,
-        is_empty,
-    }
-}
-
-/// The same with the last ports and places of the lists.
-fn tell_last<R: Wait>(
-    rt: &R,
-    alloc: Global,
-    group: &SharedGroup<'_>,
-    mut ports: Vec<Port>,
-    mut places: Vec<Place>,
-    turn: &Turn,
-) -> Option<Told>
-    requires ports { All (IsPortOf group.now) ports.items }
-    requires places { All (IsPlaceOf group.now) places.items }
-    requires turn { turn.now.gate ≡ group.now.gate }
-{
-    let mut port = ports.pop()?;
-    let mut far = places.pop()?;
-    let mut near = places.pop()?;
-    let told = tell(rt, alloc, group, &mut port, &mut near, &mut far, turn);
-    Some(told)
+        is_empty: far_is_empty && near_is_empty,
+    })
 }
 
 /// The same behind a gate that it enters and leaves. The group is given up.
@@ -159,10 +139,10 @@ fn visit<R: Wait>(
     requires ports { All (IsPortOf opened.0) opened.1.items }
     requires places { All (IsPlaceOf opened.0) opened.2.items }
 {
-    let (group, ports, places) = opened;
+    let (group, mut ports, mut places) = opened;
     let told = match gate.enter(seat) {
         Ok(turn) => {
-            let told = tell_last(rt, alloc, &group, ports, places, &turn);
+            let told = tell(rt, alloc, &group, &mut ports, &mut places, &turn);
             gate.leave(turn);
             told
         }

@@ -16,7 +16,7 @@ use std::sync::Wait;
 use std::test::Fail;
 
 /// Ends a group; where that was refused, once more.
-fn end<R: Wait>(
+pub fn end<R: Wait>(
     rt: &R,
     alloc: Global,
     group: SharedGroup<'_>,
@@ -54,26 +54,8 @@ fn end_again<R: Wait>(rt: &R, alloc: Global, unfinished: Unfinished<'_>) -> Opti
     }
 }
 
-/// Offers a message; where there was no memory for it, once more.
-fn offer_again<R: Wait>(
-    rt: &R,
-    alloc: Global,
-    group: &SharedGroup<'_>,
-    port: &mut Port,
-    turn: &Turn,
-) -> bool
-    requires port { IsPortOf group.now port.old }
-    requires turn { turn.now.gate ≡ group.now.gate }
-    ensures { IsPortOf group.now port.new }
-{
-    if offer(rt, alloc, group, port, turn).is_ok() {
-        return true;
-    }
-    offer(rt, alloc, group, port, turn).is_ok()
-}
-
 /// Takes a message; where that was refused, once more.
-fn take_again<R: Wait>(
+pub fn take_again<R: Wait>(
     rt: &R,
     group: &SharedGroup<'_>,
     place: &mut Place,
@@ -130,7 +112,7 @@ fn near_works<R: Wait>(
 }
 
 /// A list of what is out. Room for it is asked for twice at most.
-fn held_list(alloc: Global, taken: Option<Envelope>) -> Vec<Envelope> {
+pub fn held_list(alloc: Global, taken: Option<Envelope>) -> Vec<Envelope> {
     let mut held = match Vec::with_capacity(alloc, 1) {
         Ok(held) => held,
         Err(_) => Vec::new(alloc),
@@ -163,30 +145,21 @@ pub fn take_place(group: &SharedGroup<'_>, places: &mut Vec<Place>) -> Option<Pl
     places.pop()
 }
 
-/// Puts a port back to the others, for which there is room.
-fn put_port(group: &SharedGroup<'_>, ports: &mut Vec<Port>, port: Port) -> bool
-    requires others { All (IsPortOf group.now) ports.old.items }
-    requires port { IsPortOf group.now port }
-    ensures { All (IsPortOf group.now) ports.new.items }
+/// Offers four messages.
+pub fn offer_four<R: Wait>(
+    rt: &R,
+    alloc: Global,
+    group: &SharedGroup<'_>,
+    port: &mut Port,
+    turn: &Turn,
+)
+    requires port { IsPortOf group.now port.old }
+    requires turn { turn.now.gate ≡ group.now.gate }
+    ensures { IsPortOf group.now port.new }
 {
-    let _ = group;
-    match ports.push(port) {
-        Ok(()) => true,
-        Err(_) => false,
+    for _ in 0..4 {
+        let _offered = offer(rt, alloc, group, port, turn);
     }
-}
-
-/// Puts a place back to the others, for which there is room.
-fn put_place(group: &SharedGroup<'_>, places: &mut Vec<Place>, place: Place) -> bool
-    requires others { All (IsPlaceOf group.now) places.old.items }
-    requires place { IsPlaceOf group.now place }
-    ensures { All (IsPlaceOf group.now) places.new.items }
-{
-    let _ = group;
-    let Ok(()) = places.push(place) else {
-        return false;
-    };
-    true
 }
 
 /// The calls of the row with a turn. What the far place holds then.
@@ -204,18 +177,9 @@ fn play<R: Wait>(
     ensures ports { All (IsPortOf group.now) ports.new.items }
     ensures places { All (IsPlaceOf group.now) places.new.items }
 {
-    let mut port = take_port(group, ports)?;
-    let mut far = take_place(group, places)?;
-    let mut near = take_place(group, places)?;
-    for _ in 0..4 {
-        let _offered = offer_again(rt, alloc, group, &mut port, turn);
-    }
-    near_works(rt, alloc, group, &mut near, turn);
-    let taken = take_again(rt, group, &mut far, turn);
-    let _port = put_port(group, ports, port);
-    let _near = put_place(group, places, near);
-    let _far = put_place(group, places, far);
-    taken
+    offer_four(rt, alloc, group, ports.first_mut()?, turn);
+    near_works(rt, alloc, group, places.first_mut()?, turn);
+    take_again(rt, group, places.last_mut()?, turn)
 }
 
 /// The row.
@@ -232,14 +196,16 @@ fn row<R: Wait>(
     requires places { All (IsPlaceOf opened.0) opened.2.items }
 {
     let (group, mut ports, mut places) = opened;
-    let Ok(turn) = gate.enter(seat) else {
-        group.abandon();
-        return None;
+    let taken = match gate.enter(seat) {
+        Ok(turn) => {
+            let taken = play(rt, alloc, &group, &mut ports, &mut places, &turn);
+            let mut seat = gate.leave(turn);
+            gate.shut(&mut seat);
+            let _drained = gate.drained(&mut seat);
+            taken
+        }
+        Err(_refused) => None,
     };
-    let taken = play(rt, alloc, &group, &mut ports, &mut places, &turn);
-    let mut seat = gate.leave(turn);
-    gate.shut(&mut seat);
-    let _drained = gate.drained(&mut seat);
     end(rt, alloc, group, ports, places, held_list(alloc, taken))
 }
 

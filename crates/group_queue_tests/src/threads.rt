@@ -34,19 +34,20 @@ struct Taker {
     place: Place,
 }
 
-/// Offers messages, and says how many were accepted.
+/// Offers messages, and says how many were accepted: none where nobody publishes.
 fn publish<R: Wait>(
     rt: &R,
     alloc: Global,
     group: &SharedGroup<'_>,
     gate: &Gate,
-    publisher: Publisher,
+    publisher: Option<Publisher>,
 ) -> u64
-    requires seat { publisher.seat.gate ≡ gate.now }
     requires gate { group.now.gate ≡ gate.now }
-    requires port { IsPortOf group.now publisher.port }
+    requires seated { IfSome publisher (λ p. (p.seat.gate ≡ gate.now) × IsPortOf group.now p.port) }
 {
-    let Publisher { seat, mut port } = publisher;
+    let Some(Publisher { seat, mut port }) = publisher else {
+        return 0;
+    };
     let Ok(turn) = gate.enter(seat) else {
         return 0;
     };
@@ -57,13 +58,21 @@ fn publish<R: Wait>(
     port.accepted()
 }
 
-/// Takes messages, acknowledges them, and now and then gathers what was settled. How many it acknowledged.
-fn work<R: Wait>(rt: &R, alloc: Global, group: &SharedGroup<'_>, gate: &Gate, taker: Taker) -> u64
-    requires seat { taker.seat.gate ≡ gate.now }
+/// Takes messages, acknowledges them, and now and then gathers what was settled. How many it acknowledged: none where nobody
+/// takes.
+fn work<R: Wait>(
+    rt: &R,
+    alloc: Global,
+    group: &SharedGroup<'_>,
+    gate: &Gate,
+    taker: Option<Taker>,
+) -> u64
     requires gate { group.now.gate ≡ gate.now }
-    requires place { IsPlaceOf group.now taker.place }
+    requires seated { IfSome taker (λ t. (t.seat.gate ≡ gate.now) × IsPlaceOf group.now t.place) }
 {
-    let Taker { seat, mut place } = taker;
+    let Some(Taker { seat, mut place }) = taker else {
+        return 0;
+    };
     let Ok(turn) = gate.enter(seat) else {
         return 0;
     };
@@ -86,20 +95,20 @@ fn publish_both<R: Threads + Wait + Sync>(
     alloc: Global,
     group: &SharedGroup<'_>,
     gate: &Gate,
-    first: Publisher,
-    second: Publisher,
+    first: Option<Publisher>,
+    second: Option<Publisher>,
 ) -> (u64, u64)
-    requires seats { (first.seat.gate ≡ gate.now) × (second.seat.gate ≡ gate.now) }
     requires gate { group.now.gate ≡ gate.now }
-    requires ports { IsPortOf group.now first.port × IsPortOf group.now second.port }
+    requires first { IfSome first (λ p. (p.seat.gate ≡ gate.now) × IsPortOf group.now p.port) }
+    requires second { IfSome second (λ p. (p.seat.gate ≡ gate.now) × IsPortOf group.now p.port) }
 {
     thread::join(
         rt,
         || -> u64
-            requires { (first.seat.gate ≡ gate.now) × (group.now.gate ≡ gate.now) × IsPortOf group.now first.port }
+            requires { (group.now.gate ≡ gate.now) × IfSome first (λ p. (p.seat.gate ≡ gate.now) × IsPortOf group.now p.port) }
         { publish(rt, alloc, group, gate, first) },
         || -> u64
-            requires { (second.seat.gate ≡ gate.now) × (group.now.gate ≡ gate.now) × IsPortOf group.now second.port }
+            requires { (group.now.gate ≡ gate.now) × IfSome second (λ p. (p.seat.gate ≡ gate.now) × IsPortOf group.now p.port) }
         { publish(rt, alloc, group, gate, second) },
     )
 }
@@ -110,20 +119,20 @@ fn work_both<R: Threads + Wait + Sync>(
     alloc: Global,
     group: &SharedGroup<'_>,
     gate: &Gate,
-    near: Taker,
-    far: Taker,
+    near: Option<Taker>,
+    far: Option<Taker>,
 ) -> (u64, u64)
-    requires seats { (near.seat.gate ≡ gate.now) × (far.seat.gate ≡ gate.now) }
     requires gate { group.now.gate ≡ gate.now }
-    requires places { IsPlaceOf group.now near.place × IsPlaceOf group.now far.place }
+    requires near { IfSome near (λ t. (t.seat.gate ≡ gate.now) × IsPlaceOf group.now t.place) }
+    requires far { IfSome far (λ t. (t.seat.gate ≡ gate.now) × IsPlaceOf group.now t.place) }
 {
     thread::join(
         rt,
         || -> u64
-            requires { (near.seat.gate ≡ gate.now) × (group.now.gate ≡ gate.now) × IsPlaceOf group.now near.place }
+            requires { (group.now.gate ≡ gate.now) × IfSome near (λ t. (t.seat.gate ≡ gate.now) × IsPlaceOf group.now t.place) }
         { work(rt, alloc, group, gate, near) },
         || -> u64
-            requires { (far.seat.gate ≡ gate.now) × (group.now.gate ≡ gate.now) × IsPlaceOf group.now far.place }
+            requires { (group.now.gate ≡ gate.now) × IfSome far (λ t. (t.seat.gate ≡ gate.now) × IsPlaceOf group.now t.place) }
         { work(rt, alloc, group, gate, far) },
     )
 }
@@ -137,8 +146,7 @@ fn seated_publisher(
 ) -> Option<Publisher>
     requires seats { AreSeatsOf gate.now seats.old.items }
     requires ports { All (IsPortOf group.now) ports.old.items }
-    ensures seat { IfSome result (λ p. p.seat.gate ≡ gate.now) }
-    ensures port { IfSome result (λ p. IsPortOf group.now p.port) }
+    ensures seated { IfSome result (λ p. (p.seat.gate ≡ gate.now) × IsPortOf group.now p.port) }
     ensures seats { AreSeatsOf gate.now seats.new.items }
     ensures ports { All (IsPortOf group.now) ports.new.items }
 {
@@ -156,8 +164,7 @@ fn seated_taker(
 ) -> Option<Taker>
     requires seats { AreSeatsOf gate.now seats.old.items }
     requires places { All (IsPlaceOf group.now) places.old.items }
-    ensures seat { IfSome result (λ t. t.seat.gate ≡ gate.now) }
-    ensures place { IfSome result (λ t. IsPlaceOf group.now t.place) }
+    ensures seated { IfSome result (λ t. (t.seat.gate ≡ gate.now) × IsPlaceOf group.now t.place) }
     ensures seats { AreSeatsOf gate.now seats.new.items }
     ensures places { All (IsPlaceOf group.now) places.new.items }
 {
@@ -173,48 +180,48 @@ fn all_at_once<R: Threads + Wait + Sync>(
     gate: &Gate,
     seats: &mut Vec<GateSeat>,
     group: &SharedGroup<'_>,
-    mut ports: Vec<Port>,
-    mut places: Vec<Place>,
-) -> Option<(u64, u64)>
+    ports: &mut Vec<Port>,
+    places: &mut Vec<Place>,
+) -> (u64, u64)
     requires seats { AreSeatsOf gate.now seats.old.items }
     requires gate { group.now.gate ≡ gate.now }
-    requires ports { All (IsPortOf group.now) ports.items }
-    requires places { All (IsPlaceOf group.now) places.items }
+    requires ports { All (IsPortOf group.now) ports.old.items }
+    requires places { All (IsPlaceOf group.now) places.old.items }
 {
-    let first = seated_publisher(gate, seats, group, &mut ports)?;
-    let second = seated_publisher(gate, seats, group, &mut ports)?;
-    let near = seated_taker(gate, seats, group, &mut places)?;
-    let far = seated_taker(gate, seats, group, &mut places)?;
-    let last = seated_taker(gate, seats, group, &mut places)?;
-    let (sent, taken) = run(rt, alloc, gate, group, (first, second), (near, far));
+    let first = seated_publisher(gate, seats, group, ports);
+    let second = seated_publisher(gate, seats, group, ports);
+    let near = seated_taker(gate, seats, group, places);
+    let far = seated_taker(gate, seats, group, places);
+    let (sent, taken) = run(rt, alloc, group, gate, first, second, near, far);
+    let last = seated_taker(gate, seats, group, places);
     let left = work(rt, alloc, group, gate, last);
-    Some((sent, taken.saturating_add(left)))
+    (sent, taken.saturating_add(left))
 }
 
 /// Four threads at once. How many messages were accepted, and how many acknowledged.
 fn run<R: Threads + Wait + Sync>(
     rt: &R,
     alloc: Global,
-    gate: &Gate,
     group: &SharedGroup<'_>,
-    publishers: (Publisher, Publisher),
-    takers: (Taker, Taker),
+    gate: &Gate,
+    first: Option<Publisher>,
+    second: Option<Publisher>,
+    near: Option<Taker>,
+    far: Option<Taker>,
 ) -> (u64, u64)
     requires gate { group.now.gate ≡ gate.now }
-    requires first { (publishers.0.seat.gate ≡ gate.now) × IsPortOf group.now publishers.0.port }
-    requires second { (publishers.1.seat.gate ≡ gate.now) × IsPortOf group.now publishers.1.port }
-    requires near { (takers.0.seat.gate ≡ gate.now) × IsPlaceOf group.now takers.0.place }
-    requires far { (takers.1.seat.gate ≡ gate.now) × IsPlaceOf group.now takers.1.place }
+    requires first { IfSome first (λ p. (p.seat.gate ≡ gate.now) × IsPortOf group.now p.port) }
+    requires second { IfSome second (λ p. (p.seat.gate ≡ gate.now) × IsPortOf group.now p.port) }
+    requires near { IfSome near (λ t. (t.seat.gate ≡ gate.now) × IsPlaceOf group.now t.place) }
+    requires far { IfSome far (λ t. (t.seat.gate ≡ gate.now) × IsPlaceOf group.now t.place) }
 {
-    let (first, second) = publishers;
-    let (near, far) = takers;
     let (sent, taken) = thread::join(
         rt,
         || -> (u64, u64)
-            requires { (first.seat.gate ≡ gate.now) × (second.seat.gate ≡ gate.now) × (group.now.gate ≡ gate.now) × IsPortOf group.now first.port × IsPortOf group.now second.port }
+            requires { (group.now.gate ≡ gate.now) × IfSome first (λ p. (p.seat.gate ≡ gate.now) × IsPortOf group.now p.port) × IfSome second (λ p. (p.seat.gate ≡ gate.now) × IsPortOf group.now p.port) }
         { publish_both(rt, alloc, group, gate, first, second) },
         || -> (u64, u64)
-            requires { (near.seat.gate ≡ gate.now) × (far.seat.gate ≡ gate.now) × (group.now.gate ≡ gate.now) × IsPlaceOf group.now near.place × IsPlaceOf group.now far.place }
+            requires { (group.now.gate ≡ gate.now) × IfSome near (λ t. (t.seat.gate ≡ gate.now) × IsPlaceOf group.now t.place) × IfSome far (λ t. (t.seat.gate ≡ gate.now) × IsPlaceOf group.now t.place) }
         { work_both(rt, alloc, group, gate, near, far) },
     );
     (
@@ -226,9 +233,17 @@ fn run<R: Threads + Wait + Sync>(
 #[test]
 fn four_threads_at_once(rt: HostRuntime) -> Result<(), Fail> {
     let (gate, mut seats) = Gate::open(rt.alloc(), 5)?;
-    let (group, ports, places) = SharedGroup::open(rt.alloc(), &gate, 0, 2, 3, 2_048)?;
-    let told = all_at_once(&rt, rt.alloc(), &gate, &mut seats, &group, ports, places);
+    let (group, mut ports, mut places) = SharedGroup::open(rt.alloc(), &gate, 0, 2, 3, 2_048)?;
+    let told = all_at_once(
+        &rt,
+        rt.alloc(),
+        &gate,
+        &mut seats,
+        &group,
+        &mut ports,
+        &mut places,
+    );
     group.abandon();
-    assert_eq!(rt; told, Some((2_000, 2_000)));
+    assert_eq!(rt; told, (2_000, 2_000));
     Ok(())
 }

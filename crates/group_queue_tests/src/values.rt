@@ -4,12 +4,12 @@ use group_jobs::{JobError, Message, MessageProperties};
 use group_queue::{NotTaken, OfferError, Place, Port, SharedGroup};
 use mqtt_wire::{Text, UserProperties};
 use std::alloc::Global;
+use std::fmt::Display;
 use std::test::Fail;
 
 /// A message on the topic `job` with this payload.
-pub fn message(alloc: Global, payload: &[u8]) -> Option<Message> {
-    let topic = Text::parse(Bytes::copy_from_slice(alloc, b"job").ok()?)?;
-    let payload = Bytes::copy_from_slice(alloc, payload).ok()?;
+pub fn message(alloc: Global, payload: &'static [u8]) -> Option<Message> {
+    let topic = Text::parse(Bytes::from_static(b"job"))?;
     Some(Message {
         topic,
         properties: MessageProperties {
@@ -19,15 +19,26 @@ pub fn message(alloc: Global, payload: &[u8]) -> Option<Message> {
             correlation_data: None,
             user_properties: UserProperties::new(alloc),
         },
-        payload,
+        payload: Bytes::from_static(payload),
     })
 }
 
+/// Whether the copy of a message is equal to it.
+fn is_copied(alloc: Global) -> Option<bool> {
+    let first = message(alloc, b"A")?;
+    let copy = first.try_copy(alloc);
+    let is_equal = match &copy {
+        Ok(copy) => *copy == first,
+        Err(_) => false,
+    };
+    drop(copy);
+    drop(first);
+    Some(is_equal)
+}
+
 #[test]
-fn a_copy_is_equal(rt: HostRuntime) -> Result<(), Fail> {
-    let first = message(rt.alloc(), b"A").ok_or("a message")?;
-    assert!(rt; first.try_copy(rt.alloc())? == first);
-    Ok(())
+fn a_copy_is_equal(rt: HostRuntime) {
+    assert_eq!(rt; is_copied(rt.alloc()), Some(true));
 }
 
 fn crosses_threads<T: Send>() {}
@@ -43,27 +54,30 @@ fn what_threads_may_do_with_it() {
     crosses_threads::<Message>();
 }
 
-#[test]
-fn errors_have_texts(rt: HostRuntime) -> Result<(), Fail> {
-    assert_eq!(rt;
-        format!(in rt.alloc(); "{}", OfferError::Full)?.as_str(),
-        "the queue is full"
-    );
-    assert_eq!(rt;
-        format!(in rt.alloc(); "{}", OfferError::LifeSpent)?.as_str(),
-        "the numbers of the port are used up"
-    );
-    assert_eq!(rt;
-        format!(in rt.alloc(); "{}", JobError::Memory)?.as_str(),
-        "out of memory"
-    );
+/// The text of an error.
+fn told<E: Display>(alloc: Global, error: &E) -> Result<String, Fail> {
+    Ok(format!(in alloc; "{error}")?)
+}
+
+/// The text of a refusal that hands a message back.
+fn told_with_message(alloc: Global) -> Result<String, Fail> {
     let refused = NotTaken {
-        message: message(rt.alloc(), b"A").ok_or("a message")?,
+        message: message(alloc, b"A").ok_or("a message")?,
         error: OfferError::Full,
     };
-    assert_eq!(rt;
-        format!(in rt.alloc(); "{refused}")?.as_str(),
-        "the queue is full"
-    );
+    let text = told(alloc, &refused);
+    drop(refused);
+    text
+}
+
+#[test]
+fn errors_have_texts(rt: HostRuntime) -> Result<(), Fail> {
+    let full = "the queue is full";
+    assert_eq!(rt; told(rt.alloc(), &OfferError::Full)?.as_str(), full);
+    assert_eq!(rt; told_with_message(rt.alloc())?.as_str(), full);
+    let spent = told(rt.alloc(), &OfferError::LifeSpent)?;
+    assert_eq!(rt; spent.as_str(), "the numbers of the port are used up");
+    let memory = told(rt.alloc(), &JobError::Memory)?;
+    assert_eq!(rt; memory.as_str(), "out of memory");
     Ok(())
 }
