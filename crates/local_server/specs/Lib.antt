@@ -1,2 +1,3 @@
 pub mod Servers
 pub mod Happening
+pub mod Runs

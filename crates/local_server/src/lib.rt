@@ -13,6 +13,7 @@
 #![tactic(auto)]
 
 mod event;
+pub mod laws;
 mod number;
 mod server;
 mod setup;

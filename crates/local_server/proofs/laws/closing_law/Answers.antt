@@ -1,0 +1,9 @@
+-- Behind the close.
+use Rattle.local_server.proofs.Happened.{all_passed}
+use Rattle.local_server.proofs.laws.closing_law.Goals as goal
+
+pub returns-clause-silent : goal.returns-clause-silent
+returns-clause-silent c events said old new shut all = (all_passed events said old new shut all).0
+
+pub returns-clause-still : goal.returns-clause-still
+returns-clause-still c events said old new shut all = (all_passed events said old new shut all).1

@@ -1,0 +1,6 @@
+-- The desk, all along.
+use Rattle.local_server.proofs.Happened.{desk}
+use Rattle.local_server.proofs.laws.desk_law.Goals as goal
+
+pub returns : goal.returns
+returns c setup events said first last new all = desk setup events said first last new all

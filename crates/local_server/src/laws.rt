@@ -1,0 +1,45 @@
+//! Laws of a server: what holds whatever events happen to it. Each is the contract of a function that does nothing, stated over the
+//! definitions that the contract of [`Server::happen`](crate::Server::happen) cites.
+ghost use Rattle.std.specs.Prelude.{◌≡◌, ℕ, false, List, [], Result};
+ghost use Rattle.session_desk.specs.Hands.{DeskLaw};
+ghost use Rattle.conn_engine.specs.declared.supply.NoMemory.{NoMemory};
+ghost use Rattle.client_table.specs.Clients.{Said};
+ghost use Rattle.local_broker.specs.Broker.{is_open};
+ghost use Rattle.local_server.specs.declared.event.Event.{Event};
+ghost use Rattle.local_server.specs.declared.event.TimedEvent.{TimedEvent};
+ghost use Rattle.local_server.specs.declared.setup.Setup.{Setup};
+ghost use Rattle.local_server.specs.Servers.{ServerState, IsNewServer};
+ghost use Rattle.local_server.specs.Happening.{Happens, HappensAll};
+ghost use Rattle.local_server.specs.Runs.{HaveLed, AllRunLawfully};
+
+/// **An event is a list of calls** of what the connections share, and perhaps its close, whether memory was wanted or not; and so
+/// are many. So each law of `local_broker` holds behind every event.
+pub fn happenings_law()
+    ensures one { (moment : ℕ) (event : Event) (said : List Said) (result : Result (Unit {0}) NoMemory) (old new : ServerState) →
+        Happens old moment event said result new → HaveLed old.broker new.broker }
+    ensures all { (events : List TimedEvent) (said : List Said) (old new : ServerState) →
+        HappensAll old events said new → HaveLed old.broker new.broker }
+{}
+
+/// **Each group runs lawfully, whatever happens to its server**: its events are a run to where its jobs are. So each accepted
+/// message was first handed to one member at most, each member's first hand-outs keep the order of each connection's messages, and
+/// every accepted message is in one place. One that was refused goes to nobody else, and nothing is handed out behind the close, as
+/// `dispatch_core` has it of every run.
+pub fn running_law()
+    ensures { (setup : Setup) (events : List TimedEvent) (said : List Said) (first last : ServerState) →
+        IsNewServer setup first → HappensAll first events said last → AllRunLawfully last.broker }
+{}
+
+/// **A session is in one pair of hands, whatever happens to the server.**
+pub fn desk_law()
+    ensures { (setup : Setup) (events : List TimedEvent) (said : List Said) (first last : ServerState) →
+        IsNewServer setup first → HappensAll first events said last → DeskLaw last.broker.desk.rows last.broker.desk.made }
+{}
+
+/// **Behind the close** nothing happens any more, and nothing is said.
+pub fn closing_law()
+    ensures silent { (events : List TimedEvent) (said : List Said) (old new : ServerState) →
+        is_open old.broker ≡ false → HappensAll old events said new → said ≡ [] }
+    ensures still { (events : List TimedEvent) (said : List Said) (old new : ServerState) →
+        is_open old.broker ≡ false → HappensAll old events said new → new.broker ≡ old.broker }
+{}
