@@ -1,0 +1,67 @@
+//! Words, and what they ask for.
+use arguments::{Request, arguments};
+use std::alloc::{AllocError, Global};
+use std::test::Fail;
+
+/// The words of a line, cut at each blank.
+fn words_of(alloc: Global, line: &str) -> Result<Vec<String>, AllocError> {
+    let mut words = Vec::new(alloc);
+    for word in line.split(' ') {
+        words.push(String::from_str(alloc, word)?)?;
+    }
+    Ok(words)
+}
+
+/// What a line asks for: `solo`; the capacity and the number of groups of `drive`; or the status of its fault.
+fn asked(alloc: Global, line: &str) -> Result<String, AllocError> {
+    let words = words_of(alloc, line)?;
+    match arguments(alloc, &words) {
+        Ok(Request::Solo) => String::from_str(alloc, "solo"),
+        Ok(Request::Drive(setup)) => {
+            let groups = setup.groups.shares().len();
+            format!(in alloc; "drive {} {groups}", setup.capacity)
+        }
+        Err(error) => format!(in alloc; "{}", error.exit_code()),
+    }
+}
+
+#[test]
+fn what_words_ask_for(rt: HostRuntime) -> Result<(), Fail> {
+    let rows = [
+        ("share_broker solo", "solo"),
+        ("share_broker drive", "drive 1024 0"),
+        ("share_broker drive --capacity 1", "drive 1 0"),
+        ("share_broker drive --capacity 65536 --group g:job", "drive 65536 1"),
+        ("share_broker drive --group g:job --group g:a:b --group h:#", "drive 1024 3"),
+        (
+            "share_broker drive --group a:1 --group a:2 --group a:3 --group a:4 --group a:5 --group a:6 --group a:7 --group a:8",
+            "drive 1024 8",
+        ),
+        // faults
+        (
+            "share_broker drive --group a:1 --group a:2 --group a:3 --group a:4 --group a:5 --group a:6 --group a:7 --group a:8 --group a:9",
+            "2",
+        ),
+        ("share_broker", "2"),
+        ("share_broker serve", "2"),
+        ("share_broker solo drive", "2"),
+        ("share_broker solo --capacity 1", "2"),
+        ("share_broker drive --capacity 0", "2"),
+        ("share_broker drive --capacity 65537", "2"),
+        ("share_broker drive --capacity one", "2"),
+        ("share_broker drive --capacity 1 --capacity 1", "2"),
+        ("share_broker drive --group job", "2"),
+        ("share_broker drive --group :job", "2"),
+        ("share_broker drive --group g:", "2"),
+        ("share_broker drive --group g:a#", "2"),
+        ("share_broker drive --group g:job --group g:job", "2"),
+        ("share_broker --help", "0"),
+        ("share_broker drive --help", "0"),
+        ("share_broker --version", "0"),
+    ];
+    for (line, expected) in rows.iter() {
+        let asked = asked(rt.alloc(), line)?;
+        assert_eq!(rt; asked.as_str(), *expected);
+    }
+    Ok(())
+}

@@ -1,0 +1,74 @@
+//! Plays: lines of events, and behind `> ` what is written then.
+use bytes::Bytes;
+use drive::drive;
+use line_io::RunError;
+use local_server::Setup;
+use mqtt_topic::{Routes, Share};
+use mqtt_wire::Text;
+use std::alloc::Global;
+use std::process::Abort;
+
+/// A server in each of whose groups so many messages may wait, and on which these shares are bound.
+fn setup(rt: &impl Abort, alloc: Global, capacity: usize, shares: &[&'static str]) -> Setup {
+    let mut groups = Routes::new(alloc);
+    for share in shares {
+        let bytes = Vec::from_slice(alloc, share.as_bytes()).ok().expect(rt, "memory");
+        let bytes = Bytes::from_vec(bytes).ok().expect(rt, "memory");
+        let text = Text::parse(bytes).expect(rt, "a text");
+        let share = Share::parse(text).ok().expect(rt, "a share");
+        let _slot = groups.bind(share).ok().expect(rt, "a slot");
+    }
+    Setup { capacity, groups }
+}
+
+/// What is written of a script.
+pub fn written(alloc: Global, setup: Setup, script: &str) -> Result<Vec<u8>, RunError> {
+    let mut output = Vec::new(alloc);
+    drive(alloc, setup, &mut script.as_bytes(), &mut output)?;
+    Ok(output)
+}
+
+/// Plays a play: up to each of its events, and whole. What is written behind an event is all that is new in the output, but for
+/// the reports.
+pub fn play(rt: &impl Abort, alloc: Global, capacity: usize, shares: &[&'static str], play: &str) {
+    let mut events = String::new(alloc);
+    let mut said = String::new(alloc);
+    for line in play.lines() {
+        match line.trim().strip_prefix("> ") {
+            Some(told) if told.starts_with("$share") => {}
+            Some(told) => add(rt, &mut said, told),
+            None => {
+                compare(rt, alloc, setup(rt, alloc, capacity, shares), &events, &said);
+                add(rt, &mut events, line.trim_start());
+            }
+        }
+    }
+    compare(rt, alloc, setup(rt, alloc, capacity, shares), &events, &said);
+    conclude(rt, alloc, setup(rt, alloc, capacity, shares), &events, play);
+}
+
+/// Adds a line.
+fn add(rt: &impl Abort, text: &mut String, line: &str) {
+    text.push_str(line).ok().expect(rt, "memory");
+    text.push('\n').ok().expect(rt, "memory");
+}
+
+/// Compares what is said in these events.
+fn compare(rt: &impl Abort, alloc: Global, setup: Setup, events: &str, said: &str) {
+    let output = written(alloc, setup, events).ok().expect(rt, "a run");
+    assert!(rt; output.as_slice().starts_with(said.as_bytes()));
+    let rest = &output.as_slice()[said.len()..];
+    assert!(rt; rest.is_empty() || rest.starts_with(b"$share"));
+}
+
+/// Compares all that is written of these events.
+fn conclude(rt: &impl Abort, alloc: Global, setup: Setup, events: &str, play: &str) {
+    let mut all = String::new(alloc);
+    for line in play.lines() {
+        if let Some(told) = line.trim().strip_prefix("> ") {
+            add(rt, &mut all, told);
+        }
+    }
+    let output = written(alloc, setup, events).ok().expect(rt, "a run");
+    assert_eq!(rt; output.as_slice(), all.as_bytes());
+}

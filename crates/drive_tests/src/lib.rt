@@ -1,0 +1,14 @@
+//! Tests of `drive`, and over it of the connections and the groups of a server: rows of events and of what is written behind each,
+//! worked out by hand from the standard. They stand apart, so that no library is proved twice.
+#![tactic(auto)]
+
+#[cfg(test)]
+mod acting;
+#[cfg(test)]
+mod answers;
+#[cfg(test)]
+mod jobs;
+#[cfg(test)]
+mod scripts;
+#[cfg(test)]
+mod sessions;

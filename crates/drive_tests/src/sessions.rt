@@ -1,0 +1,130 @@
+//! Sessions: resumed, taken over, and given up.
+use crate::acting::play;
+use std::test::Fail;
+
+#[test]
+fn resume(rt: HostRuntime) -> Result<(), Fail> {
+    play(
+        &rt,
+        rt.alloc(),
+        1_024,
+        &[],
+        "0 open 0
+        0 bytes 0 101700044D5154540502003C081100000E1021000A00027731
+        > 0 200e00000b2401250027000100002900
+        0 bytes 0 8212000100000C2473686172652F672F6A6F6201
+        > 0 900400010001
+        0 bytes 0 320900036A6F6200010041
+        > 0 40020001
+        > 0 320900036a6f6200010041
+        0 bytes 0 320900036A6F6200020042
+        > 0 40020002
+        > 0 320900036a6f6200020042
+        0 bytes 0 320900036A6F6200030043
+        > 0 40020003
+        > 0 320900036a6f6200030043
+        0 bytes 0 320900036A6F6200040044
+        > 0 40020004
+        > 0 320900036a6f6200040044
+        0 bytes 0 320900036A6F6200050045
+        > 0 40020005
+        > 0 320900036a6f6200050045
+        0 end 0
+        > 0 close
+        5 open 1
+        5 bytes 1 101700044D5154540500003C081100000E1021000200027731
+        > 1 200e01000b2401250027000100002900
+        > 1 3a0900036a6f6200010041
+        > 1 3a0900036a6f6200020042
+        5 bytes 1 40020005
+        5 bytes 1 40020001
+        > 1 3a0900036a6f6200030043
+        5 bytes 1 40020002
+        > 1 3a0900036a6f6200040044
+        5 bytes 1 40020003
+        6 close
+        > 1 e0018b
+        > 1 close
+        > $share/g/job accepted 5 acknowledged 4 refused 0 held 1 queued 0 returned 0",
+    );
+    Ok(())
+}
+
+#[test]
+fn takeover(rt: HostRuntime) -> Result<(), Fail> {
+    play(
+        &rt,
+        rt.alloc(),
+        1_024,
+        &[],
+        "0 open 0
+        0 bytes 0 100F00044D5154540502003C0000027731
+        > 0 200e00000b2401250027000100002900
+        0 open 1
+        5 bytes 1 100F00044D5154540502003C0000027731
+        6 tick 1
+        7 tick 0
+        > 0 e0018e
+        > 0 kicked
+        8 tick 1
+        > 1 200e00000b2401250027000100002900
+        9 bytes 1 E000
+        > 1 close",
+    );
+    Ok(())
+}
+
+// What comes while a connection waits for its session is read behind the Tick that gives it.
+#[test]
+fn what_comes_during_a_takeover(rt: HostRuntime) -> Result<(), Fail> {
+    play(
+        &rt,
+        rt.alloc(),
+        1_024,
+        &[],
+        "0 open 0
+        0 open 63
+        0 bytes 0 100F00044D5154540502003C0000027731
+        > 0 200e00000b2401250027000100002900
+        0 bytes 0 8212000100000C2473686172652F672F6A6F6201
+        > 0 900400010001
+        5 bytes 63 100F00044D5154540502003C0000027731
+        5 bytes 63 8212000100000C2473686172652F672F6A6F6201
+        5 bytes 63 320900036A6F6200070041
+        6 tick 63
+        6 tick 0
+        > 0 e0018e
+        > 0 kicked
+        7 tick 63
+        > 63 200e00000b2401250027000100002900
+        > 63 900400010001
+        > 63 40020007
+        > 63 320900036a6f6200010041
+        9 tick 0
+        9 close
+        > 63 e0018b
+        > 63 close
+        > $share/g/job accepted 1 acknowledged 0 refused 0 held 1 queued 0 returned 0",
+    );
+    Ok(())
+}
+
+// A moment that is less than an earlier one is that one: no time goes on.
+#[test]
+fn clock_that_goes_back(rt: HostRuntime) -> Result<(), Fail> {
+    play(
+        &rt,
+        rt.alloc(),
+        1_024,
+        &[],
+        "100000 open 0
+        0 bytes 0 100F00044D5154540502003C0000027731
+        > 0 200e00000b2401250027000100002900
+        50000 tick 0
+        189999 tick 0
+        190000 tick 0
+        > 0 e0018d
+        > 0 close",
+    );
+    Ok(())
+}
