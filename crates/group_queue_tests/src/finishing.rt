@@ -4,7 +4,7 @@ ghost use Rattle.group_queue.specs.Ports.{IsPortOf};
 ghost use Rattle.group_queue.specs.Places.{IsPlaceOf};
 
 use crate::group_ledger::{acknowledge, return_one, take_seat};
-use crate::row::{end, held_list, offer_four, take_again, take_place};
+use crate::row::{end, held_list, offer_four, spend, take_again, take_place};
 use crate::values::message;
 use dispatch_core::Job;
 use gate_word::{Gate, GateSeat, Turn};
@@ -56,7 +56,7 @@ fn end_at_last<R: Wait>(rt: &R, alloc: Global, whole: Unfinished<'_>) -> Option<
         mut held,
     } = whole;
     if let Some(stranger) = held.pop() {
-        let (_stamp, _message) = stranger.open();
+        spend(stranger);
     }
     match group.finish(rt, alloc, ports, places, held) {
         Ok(report) => Some(report),
@@ -85,7 +85,7 @@ fn end_with_stranger<R: Wait>(
         mut held,
     } = whole;
     if let Err(refused) = held.push(stranger) {
-        let (_stamp, _message) = refused.value.open();
+        spend(refused.value);
     }
     match group.finish(rt, alloc, ports, places, held) {
         Ok(report) => Ends {
@@ -124,14 +124,16 @@ fn end_thrice<R: Wait>(
         held,
     } = whole;
     match group.finish(rt, alloc, ports, places, held) {
-        Ok(_report) => {
-            let (_stamp, _message) = stranger.open();
+        Ok(report) => {
+            drop(report);
+            spend(stranger);
             None
         }
         Err(mut unfinished) => match unfinished.places.push(far) {
             Ok(()) => Some(end_with_stranger(rt, alloc, unfinished, stranger)),
-            Err(_far) => {
-                let (_stamp, _message) = stranger.open();
+            Err(refused) => {
+                drop(refused);
+                spend(stranger);
                 unfinished.abandon();
                 None
             }
@@ -165,7 +167,7 @@ fn end_worked<R: Wait>(
         Some(far) => end_with(rt, alloc, group, ports, places, taken, far),
         None => {
             let held = held_list(alloc, taken);
-            end(rt, alloc, group, ports, places, held);
+            drop(end(rt, alloc, group, ports, places, held));
             None
         }
     }
@@ -235,5 +237,6 @@ fn a_group_ends_with_a_report(rt: HostRuntime) -> Result<(), Fail> {
         report.returned.as_slice(),
         &[Job { port: 0, number: 1 }][..]
     );
+    drop(report);
     Ok(())
 }

@@ -29,7 +29,11 @@ pub fn offer<R: Wait>(
     };
     match group.offer(rt, port, turn, message) {
         Ok(stamp) => Ok(stamp.number),
-        Err(refused) => Err(refused.error.number()),
+        Err(refused) => {
+            let number = refused.error.number();
+            drop(refused);
+            Err(number)
+        }
     }
 }
 
@@ -148,6 +152,8 @@ fn visit<R: Wait>(
         }
         Err(_refused) => None,
     };
+    drop(ports);
+    drop(places);
     group.abandon();
     told
 }

@@ -111,6 +111,12 @@ fn near_works<R: Wait>(
     }
 }
 
+/// Lets an envelope go.
+pub fn spend(envelope: Envelope) {
+    let (_stamp, message) = envelope.open();
+    drop(message);
+}
+
 /// A list of what is out. Room for it is asked for twice at most.
 pub fn held_list(alloc: Global, taken: Option<Envelope>) -> Vec<Envelope> {
     let mut held = match Vec::with_capacity(alloc, 1) {
@@ -119,7 +125,7 @@ pub fn held_list(alloc: Global, taken: Option<Envelope>) -> Vec<Envelope> {
     };
     if let Some(envelope) = taken {
         if let Err(refused) = held.push(envelope) {
-            let (_stamp, _message) = refused.value.open();
+            spend(refused.value);
         }
     }
     held
@@ -253,5 +259,6 @@ fn refused_calls_made_again(rt: HostRuntime) -> Result<(), Fail> {
         report.returned.as_slice(),
         &[Job { port: 0, number: 1 }][..]
     );
+    drop(report);
     Ok(())
 }

@@ -55,7 +55,9 @@ fn publish<R: Wait>(
         let _offered = offer(rt, alloc, group, &mut port, &turn);
     }
     gate.leave(turn);
-    port.accepted()
+    let accepted = port.accepted();
+    drop(port);
+    accepted
 }
 
 /// Takes messages, acknowledges them, and now and then gathers what was settled. How many it acknowledged: none where nobody
@@ -86,6 +88,7 @@ fn work<R: Wait>(
         }
     }
     gate.leave(turn);
+    drop(place);
     acknowledged
 }
 

@@ -9,7 +9,8 @@ use std::alloc::Global;
 use std::test::Fail;
 
 // A message of this payload.
-fn message(alloc: Global, payload: &'static [u8]) -> Result<Message, Fail> {
+fn message(alloc: Global, payload: &'static [u8]) -> Option<Message> {
+    let topic = Text::parse(Bytes::from_static(b"job"))?;
     let properties = MessageProperties {
         payload_format_indicator: None,
         content_type: None,
@@ -17,27 +18,24 @@ fn message(alloc: Global, payload: &'static [u8]) -> Result<Message, Fail> {
         correlation_data: None,
         user_properties: UserProperties::new(alloc),
     };
-    Ok(Message {
-        topic: Text::parse(Bytes::from_static(b"job")).ok_or("a topic")?,
+    Some(Message {
+        topic,
         properties,
         payload: Bytes::from_static(payload),
     })
 }
 
 // Offers a message through a port, and tells its number or the number of the refusal.
-fn offer(
-    alloc: Global,
-    group: &mut LocalGroup,
-    port: u8,
-    payload: &'static [u8],
-) -> Result<u64, Fail> {
+fn offer(alloc: Global, group: &mut LocalGroup, port: u8, payload: &'static [u8]) -> Option<u64> {
     let message = message(alloc, payload)?;
     match group.offer(port % 64, message) {
-        Ok(stamp) => Ok(stamp.number),
-        Err(refused) if refused.message.payload.as_slice() == payload => Ok(u64::from(
-            refused.why.number(),
-        )),
-        Err(_) => Ok(0),
+        Ok(stamp) => Some(stamp.number),
+        Err(refused) => {
+            let is_handed_back = refused.message.payload.as_slice() == payload;
+            let number = u64::from(refused.why.number());
+            drop(refused);
+            is_handed_back.then_some(number)
+        }
     }
 }
 
@@ -110,16 +108,16 @@ fn line(alloc: Global, group: &LocalGroup) -> Result<Vec<u8>, Fail> {
 fn group_ledger(rt: HostRuntime) -> Result<(), Fail> {
     let mut group = LocalGroup::open(rt.alloc(), 0, 8)?;
     for number in 0..4u64 {
-        assert_eq!(rt; offer(rt.alloc(), &mut group, 0, b"A")?, number);
+        assert_eq!(rt; offer(rt.alloc(), &mut group, 0, b"A"), Some(number));
     }
     let acknowledged = Does::Settle(Fate::Acknowledged);
-    assert_eq!(rt; take(&mut group, 0, acknowledged)?, Some((0, b'A')));
-    assert_eq!(rt; take(&mut group, 0, Does::GiveBack)?, Some((1, b'A')));
-    assert_eq!(rt; take(&mut group, 1, Does::Keep)?, Some((2, b'A')));
+    assert_eq!(rt; take(&mut group, 0, acknowledged), Ok(Some((0, b'A'))));
+    assert_eq!(rt; take(&mut group, 0, Does::GiveBack), Ok(Some((1, b'A'))));
+    assert_eq!(rt; take(&mut group, 1, Does::Keep), Ok(Some((2, b'A'))));
     group.close();
     group.close();
     assert_eq!(rt; group.events().len(), 10);
-    assert_eq!(rt; offer(rt.alloc(), &mut group, 0, b"B")?, 401);
+    assert_eq!(rt; offer(rt.alloc(), &mut group, 0, b"B"), Some(401));
     assert_eq!(rt; take(&mut group, 0, Does::Keep), Err(TakeError::Shut));
     assert_eq!(rt; take_back(&mut group, 0, Does::Keep), Err(TakeError::Shut));
     let report = line(rt.alloc(), &group)?;
@@ -131,14 +129,14 @@ fn group_ledger(rt: HostRuntime) -> Result<(), Fail> {
 #[test]
 fn full_queue(rt: HostRuntime) -> Result<(), Fail> {
     let mut group = LocalGroup::open(rt.alloc(), 0, 1)?;
-    assert_eq!(rt; offer(rt.alloc(), &mut group, 0, b"A")?, 0);
-    assert_eq!(rt; offer(rt.alloc(), &mut group, 1, b"B")?, 501);
+    assert_eq!(rt; offer(rt.alloc(), &mut group, 0, b"A"), Some(0));
+    assert_eq!(rt; offer(rt.alloc(), &mut group, 1, b"B"), Some(501));
     assert_eq!(rt;
-        take(&mut group, 31, Does::Settle(Fate::Refused))?,
-        Some((0, b'A'))
+        take(&mut group, 31, Does::Settle(Fate::Refused)),
+        Ok(Some((0, b'A')))
     );
-    assert_eq!(rt; take(&mut group, 31, Does::Keep)?, None);
-    assert_eq!(rt; offer(rt.alloc(), &mut group, 1, b"B")?, 0);
+    assert_eq!(rt; take(&mut group, 31, Does::Keep), Ok(None));
+    assert_eq!(rt; offer(rt.alloc(), &mut group, 1, b"B"), Some(0));
     let report = line(rt.alloc(), &group)?;
     let wanted = b"$share/g/job accepted 2 acknowledged 0 refused 1 held 0 queued 1 returned 0\n";
     assert_eq!(rt; report.as_slice(), wanted.as_slice());
@@ -149,26 +147,27 @@ fn full_queue(rt: HostRuntime) -> Result<(), Fail> {
 #[test]
 fn returned_out_of_order(rt: HostRuntime) -> Result<(), Fail> {
     let mut group = LocalGroup::open(rt.alloc(), 3, 8)?;
-    assert_eq!(rt; take_back(&mut group, 0, Does::Keep)?, None);
-    assert_eq!(rt; offer(rt.alloc(), &mut group, 2, b"A")?, 0);
-    assert_eq!(rt; offer(rt.alloc(), &mut group, 2, b"B")?, 1);
-    assert_eq!(rt; take(&mut group, 0, Does::GiveBack)?, Some((0, b'A')));
-    assert_eq!(rt; take(&mut group, 1, Does::GiveBack)?, Some((1, b'B')));
+    assert_eq!(rt; take_back(&mut group, 0, Does::Keep), Ok(None));
+    assert_eq!(rt; offer(rt.alloc(), &mut group, 2, b"A"), Some(0));
+    assert_eq!(rt; offer(rt.alloc(), &mut group, 2, b"B"), Some(1));
+    assert_eq!(rt; take(&mut group, 0, Does::GiveBack), Ok(Some((0, b'A'))));
+    assert_eq!(rt; take(&mut group, 1, Does::GiveBack), Ok(Some((1, b'B'))));
     let acknowledged = Does::Settle(Fate::Acknowledged);
-    assert_eq!(rt; take_back(&mut group, 1, acknowledged)?, Some((0, b'A')));
-    assert_eq!(rt; take_back(&mut group, 0, Does::Keep)?, Some((1, b'B')));
+    assert_eq!(rt; take_back(&mut group, 1, acknowledged), Ok(Some((0, b'A'))));
+    assert_eq!(rt; take_back(&mut group, 0, Does::Keep), Ok(Some((1, b'B'))));
     Ok(())
 }
 
 #[test]
 fn strangers_are_not_held(rt: HostRuntime) -> Result<(), Fail> {
-    let mut group = LocalGroup::open(rt.alloc(), 0, 8)?;
     let stamp = Stamp {
         group: 0,
         port: 0,
         number: 0,
     };
-    let stranger = Envelope::new(stamp, 0, message(rt.alloc(), b"A")?);
+    let message = message(rt.alloc(), b"A").ok_or("a message")?;
+    let mut group = LocalGroup::open(rt.alloc(), 0, 8)?;
+    let stranger = Envelope::new(stamp, 0, message);
     assert!(rt; end(&mut group, stranger, Does::Keep).is_none());
     Ok(())
 }

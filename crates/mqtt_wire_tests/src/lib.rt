@@ -24,8 +24,9 @@ fn written(alloc: Global, packet: Packet) -> Result<Vec<u8>, Fault> {
 /// The next packet in its written form; `None` where it is not whole yet.
 #[cfg(test)]
 fn next_written(alloc: Global, splitter: &mut Splitter) -> Result<Option<Vec<u8>>, Fault> {
-    match splitter.next()? {
-        Some(packet) => Ok(Some(written(alloc, packet)?)),
-        None => Ok(None),
+    match splitter.next() {
+        Ok(Some(packet)) => written(alloc, packet).map(Some),
+        Ok(None) => Ok(None),
+        Err(fault) => Err(fault),
     }
 }

@@ -175,30 +175,33 @@ fn is_publish(alloc: Global, packet: &Packet, payload: &'static [u8]) -> Result<
 
 // Whether the PUBLISH packets of two payloads are equal.
 fn are_equal(alloc: Global, payload: &'static [u8], other: &'static [u8]) -> Result<bool, Fault> {
-    let packet = publish(alloc, payload)?;
-    let is_equal = is_publish(alloc, &packet, other);
-    drop(packet);
-    is_equal
+    match publish(alloc, payload) {
+        Ok(packet) => {
+            let is_equal = is_publish(alloc, &packet, other);
+            drop(packet);
+            is_equal
+        }
+        Err(fault) => Err(fault),
+    }
 }
 
-// A packet behind what stands there already, and how long it is said to be.
-fn put_behind(mut out: Vec<u8>, packet: &Packet) -> Result<(Vec<u8>, u64), Fault> {
-    encode_into(&mut out, packet)?;
-    Ok((out, encoded_size(packet)))
-}
-
-// The PUBLISH of a payload behind a word.
-fn behind(alloc: Global, payload: &'static [u8]) -> Result<(Vec<u8>, u64), Fault> {
-    let out = Vec::from_slice(alloc, b"first")?;
-    let packet = publish(alloc, payload)?;
-    let written = put_behind(out, &packet);
-    drop(packet);
-    written
+// The PUBLISH of a payload behind what stands there already, and how long it is said to be.
+fn put_behind(alloc: Global, out: &mut Vec<u8>, payload: &'static [u8]) -> Result<u64, Fault> {
+    match publish(alloc, payload) {
+        Ok(packet) => {
+            let written = encode_into(out, &packet);
+            let size = encoded_size(&packet);
+            drop(packet);
+            written.map(|()| size)
+        }
+        Err(fault) => Err(fault),
+    }
 }
 
 #[test]
 fn packets_behind_a_buffer(rt: HostRuntime) -> Result<(), Fail> {
-    let (out, size) = behind(rt.alloc(), b"A")?;
+    let mut out = Vec::from_slice(rt.alloc(), b"first")?;
+    let size = put_behind(rt.alloc(), &mut out, b"A")?;
     let wanted = b"first\x30\x0E\x00\x03job\x07\x26\x00\x01k\x00\x01vA";
     assert_eq!(rt; out.as_slice(), wanted.as_slice());
     assert_eq!(rt; size, 16);
