@@ -31,8 +31,14 @@ fn what_words_ask_for(rt: HostRuntime) -> Result<(), Fail> {
         ("share_broker solo", "solo"),
         ("share_broker drive", "drive 1024 0"),
         ("share_broker drive --capacity 1", "drive 1 0"),
-        ("share_broker drive --capacity 65536 --group g:job", "drive 65536 1"),
-        ("share_broker drive --group g:job --group g:a:b --group h:#", "drive 1024 3"),
+        (
+            "share_broker drive --capacity 65536 --group g:job",
+            "drive 65536 1",
+        ),
+        (
+            "share_broker drive --group g:job --group g:a:b --group h:#",
+            "drive 1024 3",
+        ),
         (
             "share_broker drive --group a:1 --group a:2 --group a:3 --group a:4 --group a:5 --group a:6 --group a:7 --group a:8",
             "drive 1024 8",

@@ -12,7 +12,9 @@ use std::process::Abort;
 fn setup(rt: &impl Abort, alloc: Global, capacity: usize, shares: &[&'static str]) -> Setup {
     let mut groups = Routes::new(alloc);
     for share in shares {
-        let bytes = Vec::from_slice(alloc, share.as_bytes()).ok().expect(rt, "memory");
+        let bytes = Vec::from_slice(alloc, share.as_bytes())
+            .ok()
+            .expect(rt, "memory");
         let bytes = Bytes::from_vec(bytes).ok().expect(rt, "memory");
         let text = Text::parse(bytes).expect(rt, "a text");
         let share = Share::parse(text).ok().expect(rt, "a share");
@@ -38,12 +40,24 @@ pub fn play(rt: &impl Abort, alloc: Global, capacity: usize, shares: &[&'static 
             Some(told) if told.starts_with("$share") => {}
             Some(told) => add(rt, &mut said, told),
             None => {
-                compare(rt, alloc, setup(rt, alloc, capacity, shares), &events, &said);
+                compare(
+                    rt,
+                    alloc,
+                    setup(rt, alloc, capacity, shares),
+                    &events,
+                    &said,
+                );
                 add(rt, &mut events, line.trim_start());
             }
         }
     }
-    compare(rt, alloc, setup(rt, alloc, capacity, shares), &events, &said);
+    compare(
+        rt,
+        alloc,
+        setup(rt, alloc, capacity, shares),
+        &events,
+        &said,
+    );
     conclude(rt, alloc, setup(rt, alloc, capacity, shares), &events, play);
 }
 

@@ -50,7 +50,15 @@ fn good_lines(rt: HostRuntime) -> Result<(), Fail> {
     ];
     for script in good.iter() {
         let mut output = Vec::new(rt.alloc());
-        assert_eq!(rt; drive(rt.alloc(), empty(rt.alloc()), &mut script.as_bytes(), &mut output), Ok(()));
+        assert_eq!(rt;
+            drive(
+                rt.alloc(),
+                empty(rt.alloc()),
+                &mut script.as_bytes(),
+                &mut output
+            ),
+            Ok(())
+        );
     }
     Ok(())
 }
