@@ -6,3 +6,4 @@ pub mod Given
 pub mod Over
 pub mod Leaving
 pub mod Calling
+pub mod Quotas

@@ -1,3 +1,4 @@
 pub mod Clients
 pub mod Streams
 pub mod Cells
+pub mod Quotas

@@ -5,8 +5,9 @@ ghost use Rattle.std.specs.Prelude.{◌≡◌, ℕ, List, Option, Result};
 ghost use Rattle.conn_engine.specs.declared.input.Input.{Input};
 ghost use Rattle.conn_engine.specs.declared.supply.NoMemory.{NoMemory};
 ghost use Rattle.conn_engine.specs.Calls.{CallsLead};
-ghost use Rattle.client_table.specs.Cells.{Receives, TicksFor, EndsFor, AbandonsEach};
+ghost use Rattle.client_table.specs.Cells.{Opens, Receives, TicksFor, EndsFor, AbandonsEach};
 ghost use Rattle.client_table.specs.Clients.{ClientState, Said, Moves, IsGivenUp};
+ghost use Rattle.client_table.specs.Quotas.{IsCellWithinQuota};
 ghost use Rattle.client_table.specs.Streams.{Reads, FailsToRead, Ticks, FailsToTick};
 
 use conn_engine::Supply;
@@ -38,4 +39,17 @@ pub fn table_calls_law<P: Place, S: Supply<P>>()
         EndsFor S.call P.slot_of old before now input more result after new → CallsLead S.call old new }
     ensures abandons { (now : ℕ) (cells : List (Option (ClientState P))) (old new : S) →
         AbandonsEach S.call P.slot_of old cells now new → CallsLead S.call old new }
+{}
+
+/// **The quota is kept** (section 4.9), whatever happens to the client in a cell, with memory and without: of the PUBLISH packets that it was
+/// sent on its connection, those that wait for their PUBACK are never more than the Receive Maximum of its CONNECT, and never more than 256.
+pub fn quota_law<P: Place, S: Supply<P>>()
+    ensures opens { (number now : ℕ) (before after : Option (ClientState P)) →
+        Opens number now before after → IsCellWithinQuota before → IsCellWithinQuota after }
+    ensures receives { (now : ℕ) (piece : List ℕ) (more : List Said) (result : Result (Unit {0}) NoMemory) (before after : Option (ClientState P)) (old new : S) →
+        Receives S.call P.slot_of old before now piece more result after new → IsCellWithinQuota before → IsCellWithinQuota after }
+    ensures ticks { (now : ℕ) (more : List Said) (result : Result (Unit {0}) NoMemory) (before after : Option (ClientState P)) (old new : S) →
+        TicksFor S.call P.slot_of old before now more result after new → IsCellWithinQuota before → IsCellWithinQuota after }
+    ensures ends { (now : ℕ) (input : Input) (more : List Said) (result : Result (Unit {0}) NoMemory) (before after : Option (ClientState P)) (old new : S) →
+        EndsFor S.call P.slot_of old before now input more result after new → IsCellWithinQuota before → IsCellWithinQuota after }
 {}

@@ -6,6 +6,7 @@ pub mod Sweeping
 pub mod Resuming
 pub mod First
 pub mod Ended
+pub mod Quotas
 pub mod Eager
 pub mod Calling
 pub mod Stepping

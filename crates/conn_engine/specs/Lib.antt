@@ -13,3 +13,4 @@ pub mod Answering
 pub mod Step
 pub mod Calls
 pub mod Behind
+pub mod Quotas

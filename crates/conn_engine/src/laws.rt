@@ -10,6 +10,7 @@ ghost use Rattle.conn_engine.specs.declared.standing.Standing.{Standing};
 ghost use Rattle.conn_engine.specs.declared.standing.Standing.TheVariants as standings;
 ghost use Rattle.conn_engine.specs.Calls.{StepCalls, FailedCalls};
 ghost use Rattle.conn_engine.specs.Behind.{IsLast, IsAllHandedOut};
+ghost use Rattle.conn_engine.specs.Quotas.{IsWithinQuota};
 ghost use Rattle.conn_engine.specs.Step.{Steps, FailsToStep};
 
 use crate::supply::Supply;
@@ -33,6 +34,14 @@ pub fn eager_law<P: Place, S: Supply<P>>()
     ensures { (number now : ℕ) (standing : Standing P) (link : Link P) (input : Input) (packets : List Packet) (next : Then) (old new : S) →
         Steps S.call P.slot_of old number standing now input packets next (standings.Connected link) new →
         IsAllHandedOut S.call link new }
+{}
+
+/// **The quota is kept** (section 4.9): of the PUBLISH packets that a connection sent, those that wait for their PUBACK are never more than the
+/// Receive Maximum of its CONNECT, and never more than 256.
+pub fn quota_law<P: Place, S: Supply<P>>()
+    ensures { (number now : ℕ) (standing standing' : Standing P) (input : Input) (packets : List Packet) (next : Then) (old new : S) →
+        Steps S.call P.slot_of old number standing now input packets next standing' new →
+        IsWithinQuota standing → IsWithinQuota standing' }
 {}
 
 /// **A step is a list of calls**, and so is one that wants memory (`failed`): what holds of every list of calls holds behind every

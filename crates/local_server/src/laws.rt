@@ -10,6 +10,7 @@ ghost use Rattle.local_server.specs.declared.event.TimedEvent.{TimedEvent};
 ghost use Rattle.local_server.specs.declared.setup.Setup.{Setup};
 ghost use Rattle.local_server.specs.Servers.{ServerState, IsNewServer};
 ghost use Rattle.local_server.specs.Happening.{Happens, HappensAll};
+ghost use Rattle.local_server.specs.Quotas.{AllWithinQuota};
 ghost use Rattle.local_server.specs.Runs.{HaveLed, AllRunLawfully};
 
 /// **An event is a list of calls** of what the connections share, and perhaps its close, whether memory was wanted or not; and so
@@ -34,6 +35,16 @@ pub fn running_law()
 pub fn desk_law()
     ensures { (setup : Setup) (events : List TimedEvent) (said : List Said) (first last : ServerState) →
         IsNewServer setup first → HappensAll first events said last → DeskLaw last.broker.desk.rows last.broker.desk.made }
+{}
+
+/// **The quota is kept on every connection** (section 4.9), whatever happens to the server, also where memory is wanted (`one`): of the PUBLISH
+/// packets that were sent on it, those that wait for their PUBACK are never more than the Receive Maximum of its CONNECT, and never more
+/// than 256.
+pub fn quota_law()
+    ensures one { (moment : ℕ) (event : Event) (said : List Said) (result : Result (Unit {0}) NoMemory) (old new : ServerState) →
+        Happens old moment event said result new → AllWithinQuota old.clients → AllWithinQuota new.clients }
+    ensures all { (setup : Setup) (events : List TimedEvent) (said : List Said) (first last : ServerState) →
+        IsNewServer setup first → HappensAll first events said last → AllWithinQuota last.clients }
 {}
 
 /// **Behind the close** nothing happens any more, and nothing is said.

@@ -1,0 +1,23 @@
+-- How many PUBLISH packets of a connection may be unacknowledged (section 4.9).
+use Rattle.std.specs.Prelude.{◌≡◌, ◌≤◌, ℕ, min, length, Some, ⊤}
+use Rattle.group_jobs.specs.Stamps.{Held}
+use Rattle.member_window.specs.Contents.{Contents}
+use Rattle.conn_rules.specs.declared.terms.Terms.{Terms}
+use Rattle.conn_engine.specs.declared.standing.Standing.{Standing}
+use Rattle.conn_engine.specs.declared.standing.Standing.TheVariants.{Unconnected, Waiting, Connected, Ended}
+
+-- the Receive Maximum of its CONNECT, and 256 at most (3.1.2.11.3, profile)
+abbrev pub quota_of : Terms → ℕ
+quota_of terms = min terms.receive_maximum 256
+
+-- a window lets so many packets be unacknowledged that were sent on this connection, and no more are
+pub record KeepsQuota (quota : ℕ) (window : Contents Held) : Type 0 where
+  pub is : window.quota ≡ Some quota
+  pub kept : length window.owed ≤ quota
+
+-- of the PUBLISH packets that were sent on a connection, no more are unacknowledged than its quota
+abbrev pub IsWithinQuota : {P : Type 0} → Standing P → Type 0
+IsWithinQuota (Unconnected opened) = ⊤
+IsWithinQuota (Waiting request ticks) = ⊤
+IsWithinQuota (Connected link) = KeepsQuota (quota_of link.terms) link.session.window
+IsWithinQuota Ended = ⊤

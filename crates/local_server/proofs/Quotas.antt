@@ -1,0 +1,90 @@
+-- The quota of every connection, whatever happens.
+use Rattle.std.proofs.Common.{◌≡◌, ◌≢◌, ℕ, zero, suc, Bool, true, false, List, [], ◌∷◌, Option, Some, None, Ok, Err, Result, refl, sym, ap, subst, ◌∙◌, slice_get, slice_set, replicate}
+use Rattle.std.proofs.lemmas.Option.{same_Some}
+use Rattle.std.specs.List.{AllByRecursion}
+use Rattle.conn_engine.specs.declared.input.Input.TheVariants as inputs
+use Rattle.conn_engine.specs.declared.supply.NoMemory.{NoMemory}
+use Rattle.client_table.specs.Cells.{InCell}
+use Rattle.client_table.specs.Clients.{ClientState, Said}
+use Rattle.client_table.specs.Quotas.{IsCellWithinQuota}
+use Rattle.client_table.proofs.Quotas.{opens, receives, ticks_for, ends_for}
+use Rattle.local_broker.specs.Places.{GroupPlace}
+use Rattle.local_broker.specs.Broker.{Broker, is_open}
+use Rattle.local_broker.specs.Calls.{Calls}
+use Rattle.local_server.specs.declared.event.Event.{Event}
+use Rattle.local_server.specs.declared.event.Event.TheVariants as events
+use Rattle.local_server.specs.declared.event.TimedEvent.{TimedEvent}
+use Rattle.local_server.specs.declared.setup.Setup.{Setup}
+use Rattle.local_server.specs.Servers.{Clients, ServerState, IsNewServer}
+use Rattle.local_server.specs.Happening.{slot_of, EndsAt, EndsFirst, ClosesAll, Does, DoesIf, Happens, HappensAll}
+use Rattle.local_server.specs.Quotas.{AllWithinQuota}
+
+-- one cell of a row
+cell_of : {X : Type 0} (IsSo : X → Type 0) (cells : List X) (number : ℕ) (cell : X) → slice_get cells number ≡ Some cell → AllByRecursion IsSo cells → IsSo cell
+cell_of IsSo [] number cell there all = absurd (cc)
+cell_of IsSo (first ∷ others) zero cell there all = subst IsSo (same_Some first cell there) all.0
+cell_of IsSo (first ∷ others) (suc number) cell there all = cell_of IsSo others number cell there all.1
+
+set_of : {X : Type 0} (IsSo : X → Type 0) (cells : List X) (number : ℕ) (cell : X) → IsSo cell → AllByRecursion IsSo cells → AllByRecursion IsSo (slice_set cells number cell)
+set_of IsSo [] number cell is_so all = all
+set_of IsSo (first ∷ others) zero cell is_so all = (is_so, all.1)
+set_of IsSo (first ∷ others) (suc number) cell is_so all = (all.0, set_of IsSo others number cell is_so all.1)
+
+all_of : {X : Type 0} (IsSo : X → Type 0) (many : ℕ) (cell : X) → IsSo cell → AllByRecursion IsSo (replicate many cell)
+all_of IsSo zero cell is_so = tt
+all_of IsSo (suc many) cell is_so = (is_so, all_of IsSo many cell is_so)
+
+-- one cell becomes another that is within its quota
+in_cell : (old new : Clients) (number : ℕ) (Becomes : Option (ClientState GroupPlace) → Option (ClientState GroupPlace) → Type 0)
+    → ((before after : Option (ClientState GroupPlace)) → Becomes before after → IsCellWithinQuota before → IsCellWithinQuota after)
+    → InCell old number Becomes new → AllWithinQuota old → AllWithinQuota new
+in_cell old new number Becomes keeps cell all =
+    let before = cell_of IsCellWithinQuota old number cell.before cell.has all in
+    subst AllWithinQuota (sym cell.is) (set_of IsCellWithinQuota old number cell.after (keeps cell.before cell.after cell.becomes before) all)
+
+ended : (number : ℕ) (old new : Broker) (clients clients' : Clients) (now : ℕ) (said : List Said) (result : Result (Unit {0}) NoMemory)
+    → EndsAt number old clients now said result clients' new → AllWithinQuota clients → AllWithinQuota clients'
+ended number old new clients clients' now said result ends all =
+    in_cell clients clients' number _ (λ before after is within. ends_for Calls slot_of result before old new now inputs.Closing said after is within) ends all
+
+first_ended : (number : ℕ) (old new : Broker) (clients clients' : Clients) (now : ℕ) (said : List Said) → EndsFirst number old clients now said clients' new
+    → AllWithinQuota clients → AllWithinQuota clients'
+first_ended zero old new clients clients' now said ends all = subst AllWithinQuota (sym ends.1) all
+first_ended (suc number) old new clients clients' now said ends all =
+    ended number ends.0 new ends.1 clients' now ends.3 (Ok tt) ends.5 (first_ended number old ends.0 clients ends.1 now ends.2 ends.4 all)
+
+closed : (old new : Broker) (clients clients' : Clients) (now : ℕ) (said : List Said) (result : Result (Unit {0}) NoMemory) → ClosesAll old clients now said result clients' new
+    → AllWithinQuota clients → AllWithinQuota clients'
+closed old new clients clients' now said (Ok done) closes all = first_ended closes.2 closes.0 new clients clients' now said closes.4 all
+closed old new clients clients' now said (Err refusal) closes all =
+    let fails = closes.3 in
+    ended closes.2 fails.0 new fails.1 clients' now fails.3 (Err refusal) fails.5 (first_ended closes.2 closes.0 fails.0 clients fails.1 now fails.2 fails.4 all)
+
+does : (event : Event) (old new : Broker) (clients clients' : Clients) (now : ℕ) (said : List Said) (result : Result (Unit {0}) NoMemory)
+    → Does event old clients now said result clients' new → AllWithinQuota clients → AllWithinQuota clients'
+does (events.Open number) old new clients clients' now said result done all =
+    in_cell clients clients' number _ (λ before after is within. opens number now before after is within) done.0 all
+does (events.Bytes number piece) old new clients clients' now said result done all =
+    in_cell clients clients' number _ (λ before after is within. receives Calls slot_of result before old new now piece said after is within) done all
+does (events.Tick number) old new clients clients' now said result done all =
+    in_cell clients clients' number _ (λ before after is within. ticks_for Calls slot_of result before old new now said after is within) done all
+does (events.End number) old new clients clients' now said result done all =
+    in_cell clients clients' number _ (λ before after is within. ends_for Calls slot_of result before old new now inputs.EndOfInput said after is within) done all
+does events.Close old new clients clients' now said result done all = closed old new clients clients' now said result done all
+
+does_if : (going : Bool) (event : Event) (old new : Broker) (clients clients' : Clients) (now : ℕ) (said : List Said) (result : Result (Unit {0}) NoMemory)
+    → DoesIf going event old clients now said result clients' new → AllWithinQuota clients → AllWithinQuota clients'
+does_if true event old new clients clients' now said result done all = does event old new clients clients' now said result done all
+does_if false event old new clients clients' now said result done all = subst AllWithinQuota (sym done.2) all
+
+pub happened : (moment : ℕ) (event : Event) (said : List Said) (result : Result (Unit {0}) NoMemory) (old new : ServerState) → Happens old moment event said result new
+    → AllWithinQuota old.clients → AllWithinQuota new.clients
+happened moment event said result old new happens all = does_if (is_open old.broker) event old.broker new.broker old.clients new.clients new.clock said result happens.does all
+
+all_happened : (events : List TimedEvent) (said : List Said) (old new : ServerState) → HappensAll old events said new → AllWithinQuota old.clients → AllWithinQuota new.clients
+all_happened [] said old new run all = subst AllWithinQuota (sym (ap (λ s. s.clients) run.1)) all
+all_happened (first ∷ others) said old new run all = all_happened others run.2 run.0 new run.4 (happened first.moment first.event run.1 (Ok tt) old run.0 run.3 all)
+
+pub within : (setup : Setup) (events : List TimedEvent) (said : List Said) (first last : ServerState) → IsNewServer setup first → HappensAll first events said last → AllWithinQuota last.clients
+within setup events said first last new run =
+    all_happened events said first last run (subst AllWithinQuota (sym new.clients) (all_of (IsCellWithinQuota {P = GroupPlace}) 64 None tt))

@@ -1,0 +1,9 @@
+-- The quota of every connection.
+use Rattle.local_server.proofs.Quotas.{happened, within}
+use Rattle.local_server.proofs.laws.quota_law.Goals as goal
+
+pub returns-clause-one : goal.returns-clause-one
+returns-clause-one c moment event said result old new happens all = happened moment event said result old new happens all
+
+pub returns-clause-all : goal.returns-clause-all
+returns-clause-all c setup events said first last new run = within setup events said first last new run
