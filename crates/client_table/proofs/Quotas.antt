@@ -11,7 +11,7 @@ use Rattle.conn_engine.proofs.Quotas as steps
 use Rattle.client_table.specs.Cells.{kept, kept_as, Opens, Receives, TicksFor, EndsFor}
 use Rattle.client_table.specs.Clients.{ClientState, Said, Moves, FailsToMove, IsGivenUp}
 use Rattle.client_table.specs.Quotas.{IsCellWithinQuota}
-use Rattle.client_table.specs.Streams.{fed, Reads, FailsToReadOne, FailsToRead, Ticks, FailsToTick}
+use Rattle.client_table.specs.Streams.{fed, Reads, FailsToRead, Ticks, FailsToTick}
 
 abbrev IsWithin : {P : Type 0} → ClientState P → Type 0
 IsWithin client = IsWithinQuota client.conn.standing

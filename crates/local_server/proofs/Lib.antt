@@ -2,3 +2,4 @@ pub mod Closing
 pub mod Runs
 pub mod Happened
 pub mod Quotas
+pub mod Headline

@@ -2,3 +2,4 @@ pub mod Servers
 pub mod Happening
 pub mod Runs
 pub mod Quotas
+pub mod Headline

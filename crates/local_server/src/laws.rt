@@ -10,8 +10,18 @@ ghost use Rattle.local_server.specs.declared.event.TimedEvent.{TimedEvent};
 ghost use Rattle.local_server.specs.declared.setup.Setup.{Setup};
 ghost use Rattle.local_server.specs.Servers.{ServerState, IsNewServer};
 ghost use Rattle.local_server.specs.Happening.{Happens, HappensAll};
+ghost use Rattle.local_server.specs.Headline.{HoldsTheHeadline};
 ghost use Rattle.local_server.specs.Quotas.{AllWithinQuota};
 ghost use Rattle.local_server.specs.Runs.{HaveLed, AllRunLawfully};
+
+/// **The headline on one thread**, whatever events happen to a server, over however many connections and in whatever order: each accepted
+/// message is first handed to at most one member, once; each member's first hand-outs from a publisher keep that publisher's order; no
+/// connection has more unacknowledged PUBLISH packets than its Receive Maximum; a refused message goes to nobody else; nothing is handed
+/// out after close; and a report gives each accepted message exactly one fate.
+pub fn headline_law()
+    ensures { (setup : Setup) (events : List TimedEvent) (said : List Said) (first last : ServerState) →
+        IsNewServer setup first → HappensAll first events said last → HoldsTheHeadline last }
+{}
 
 /// **An event is a list of calls** of what the connections share, and perhaps its close, whether memory was wanted or not; and so
 /// are many. So each law of `local_broker` holds behind every event.

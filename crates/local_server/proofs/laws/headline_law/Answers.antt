@@ -1,0 +1,6 @@
+-- The headline on one thread.
+use Rattle.local_server.proofs.Headline.{headline}
+use Rattle.local_server.proofs.laws.headline_law.Goals as goal
+
+pub returns : goal.returns
+returns c setup events said first last new all = headline setup events said first last new all
