@@ -1,3 +1,4 @@
 pub mod Closing
 pub mod Runs
 pub mod Happened
+pub mod Addressed

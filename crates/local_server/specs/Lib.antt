@@ -1,3 +1,4 @@
 pub mod Servers
 pub mod Happening
 pub mod Runs
+pub mod Addressed

@@ -11,6 +11,7 @@ ghost use Rattle.local_server.specs.declared.setup.Setup.{Setup};
 ghost use Rattle.local_server.specs.Servers.{ServerState, IsNewServer};
 ghost use Rattle.local_server.specs.Happening.{Happens, HappensAll};
 ghost use Rattle.local_server.specs.Runs.{HaveLed, AllRunLawfully};
+ghost use Rattle.local_server.specs.Addressed.{Answers};
 
 /// **An event is a list of calls** of what the connections share, and perhaps its close, whether memory was wanted or not; and so
 /// are many. So each law of `local_broker` holds behind every event.
@@ -34,6 +35,13 @@ pub fn running_law()
 pub fn desk_law()
     ensures { (setup : Setup) (events : List TimedEvent) (said : List Said) (first last : ServerState) →
         IsNewServer setup first → HappensAll first events said last → DeskLaw last.broker.desk.rows last.broker.desk.made }
+{}
+
+/// **What is said in an event of a connection is said to that one**, behind whatever events, and whether memory was wanted or not.
+pub fn addressing_law()
+    ensures { (setup : Setup) (events : List TimedEvent) (earlier said : List Said) (moment : ℕ) (event : Event) (result : Result (Unit {0}) NoMemory)
+        (first old new : ServerState) →
+        IsNewServer setup first → HappensAll first events earlier old → Happens old moment event said result new → Answers event said }
 {}
 
 /// **Behind the close** nothing happens any more, and nothing is said.
