@@ -49,5 +49,5 @@ pub fn closing_law()
     ensures silent { (events : List TimedEvent) (said : List Said) (old new : ServerState) →
         is_open old.broker ≡ false → HappensAll old events said new → said ≡ [] }
     ensures still { (events : List TimedEvent) (said : List Said) (old new : ServerState) →
-        is_open old.broker ≡ false → HappensAll old events said new → new.broker ≡ old.broker }
+        is_open old.broker ≡ false → HappensAll old events said new → (new.broker ≡ old.broker) × (new.clients ≡ old.clients) }
 {}
