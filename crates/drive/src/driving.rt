@@ -22,7 +22,8 @@ use std::io::{Read, Write};
 ///
 /// # Errors
 ///
-/// [`RunError::Device`], [`RunError::Memory`], and [`RunError::Line`].
+/// [`RunError::Line`] for the first line that spells no event; nothing is written then. [`RunError::Device`] where the reader or the
+/// writer fails, or 2^20 reads did not reach the input's end, and [`RunError::Memory`]: what was written begins the transcript.
 pub fn drive<R: Read, W: Write>(
     alloc: Global,
     setup: Setup,

@@ -94,16 +94,16 @@ desk setup events said first last new all =
 
 -- behind the close
 passed : (moment : ℕ) (event : Event) (said : List Said) (old new : ServerState) → is_open old.broker ≡ false → Happens old moment event said (Ok tt) new
-    → (said ≡ []) × (new.broker ≡ old.broker)
+    → (said ≡ []) × (new.broker ≡ old.broker) × (new.clients ≡ old.clients)
 passed moment event said old new shut happens =
     let done : DoesIf false event old.broker old.clients new.clock said (Ok tt) new.clients new.broker =
     subst (λ b. DoesIf b event old.broker old.clients new.clock said (Ok tt) new.clients new.broker) shut happens.does in
-    (done.0, done.3)
+    (done.0, done.3, done.2)
 
 pub all_passed : (events : List TimedEvent) (said : List Said) (old new : ServerState) → is_open old.broker ≡ false → HappensAll old events said new
-    → (said ≡ []) × (new.broker ≡ old.broker)
-all_passed [] said old new shut all = (all.0, ap (λ s. s.broker) all.1)
+    → (said ≡ []) × (new.broker ≡ old.broker) × (new.clients ≡ old.clients)
+all_passed [] said old new shut all = (all.0, ap (λ s. s.broker) all.1, ap (λ s. s.clients) all.1)
 all_passed (first ∷ others) said old new shut all =
     let one = passed first.moment first.event all.1 old all.0 shut all.3 in
     let rest = all_passed others all.2 all.0 new (ap is_open one.1 ∙ shut) all.4 in
-    (all.5 ∙ ap (λ xs. xs ++ all.2) one.0 ∙ rest.0, rest.1 ∙ one.1)
+    (all.5 ∙ ap (λ xs. xs ++ all.2) one.0 ∙ rest.0, rest.1 ∙ one.1, rest.2 ∙ one.2)

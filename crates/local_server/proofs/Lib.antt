@@ -3,3 +3,4 @@ pub mod Runs
 pub mod Happened
 pub mod Quotas
 pub mod Headline
+pub mod Addressed

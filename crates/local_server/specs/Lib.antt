@@ -3,3 +3,4 @@ pub mod Happening
 pub mod Runs
 pub mod Quotas
 pub mod Headline
+pub mod Addressed

@@ -13,6 +13,7 @@ ghost use Rattle.local_server.specs.Happening.{Happens, HappensAll};
 ghost use Rattle.local_server.specs.Headline.{HoldsTheHeadline};
 ghost use Rattle.local_server.specs.Quotas.{AllWithinQuota};
 ghost use Rattle.local_server.specs.Runs.{HaveLed, AllRunLawfully};
+ghost use Rattle.local_server.specs.Addressed.{Answers};
 
 /// **The headline on one thread**, whatever events happen to a server, over however many connections and in whatever order: each accepted
 /// message is first handed to at most one member, once; each member's first hand-outs from a publisher keep that publisher's order; no
@@ -57,10 +58,17 @@ pub fn quota_law()
         IsNewServer setup first → HappensAll first events said last → AllWithinQuota last.clients }
 {}
 
+/// **What is said in an event of a connection is said to that one**, behind whatever events, and whether memory was wanted or not.
+pub fn addressing_law()
+    ensures { (setup : Setup) (events : List TimedEvent) (earlier said : List Said) (moment : ℕ) (event : Event) (result : Result (Unit {0}) NoMemory)
+        (first old new : ServerState) →
+        IsNewServer setup first → HappensAll first events earlier old → Happens old moment event said result new → Answers event said }
+{}
+
 /// **Behind the close** nothing happens any more, and nothing is said.
 pub fn closing_law()
     ensures silent { (events : List TimedEvent) (said : List Said) (old new : ServerState) →
         is_open old.broker ≡ false → HappensAll old events said new → said ≡ [] }
     ensures still { (events : List TimedEvent) (said : List Said) (old new : ServerState) →
-        is_open old.broker ≡ false → HappensAll old events said new → new.broker ≡ old.broker }
+        is_open old.broker ≡ false → HappensAll old events said new → (new.broker ≡ old.broker) × (new.clients ≡ old.clients) }
 {}

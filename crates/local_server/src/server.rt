@@ -66,7 +66,8 @@ impl Server {
     /// # Errors
     ///
     /// 803 [`NoMemory`]: the connection has ended, and its session is parked or ending, with all that it holds; what was said
-    /// before stays.
+    /// before stays. In [`Event::Close`] it is the connection whose turn it was; those of greater numbers are told nothing any
+    /// more, and end with the server.
     pub fn happen(
         &mut self,
         moment: u64,

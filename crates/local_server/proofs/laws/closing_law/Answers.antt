@@ -6,4 +6,5 @@ pub returns-clause-silent : goal.returns-clause-silent
 returns-clause-silent c events said old new shut all = (all_passed events said old new shut all).0
 
 pub returns-clause-still : goal.returns-clause-still
-returns-clause-still c events said old new shut all = (all_passed events said old new shut all).1
+returns-clause-still c events said old new shut all =
+    let passed = all_passed events said old new shut all in (passed.1, passed.2)
