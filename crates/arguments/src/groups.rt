@@ -1,4 +1,7 @@
 //! The groups that are there from the start.
+ghost use Rattle.std.specs.Prelude.{◌≡◌, IfOk};
+ghost use Rattle.arguments.specs.Groups.{share_named, Adds};
+
 use bytes::Bytes;
 use mqtt_topic::{Routes, Share, TopicError};
 use mqtt_wire::Text;
@@ -31,7 +34,9 @@ pub(crate) fn add_group(
     alloc: Global,
     groups: &mut Routes,
     pair: &str,
-) -> Result<Result<(), Refusal>, AllocError> {
+) -> Result<Result<(), Refusal>, AllocError>
+    ensures { IfOk result (λ answer. Adds groups.old (share_named pair.now) answer groups.new) }
+{
     let Some(share) = share_of(alloc, pair)? else {
         return Ok(Err(Refusal::NoShare));
     };
@@ -46,7 +51,9 @@ pub(crate) fn add_group(
 }
 
 /// The share that a pair names: it is cut at the first colon.
-fn share_of(alloc: Global, pair: &str) -> Result<Option<Share>, AllocError> {
+fn share_of(alloc: Global, pair: &str) -> Result<Option<Share>, AllocError>
+    ensures { IfOk result (λ found. found ≡ share_named pair.now) }
+{
     let Some((name, filter)) = pair.split_once(':') else {
         return Ok(None);
     };
