@@ -32,7 +32,7 @@ as_long (job ∷ jobs) others same =
     omega arith
 
 listed : (one other : GroupState) (times : Option Spot → ℕ) (jobs others : List Job) → AreSame one other → Lists times one jobs → Lists times other others → length jobs ≡ length others
-listed one other times jobs others same lists listed = as_long jobs others (λ job. lists job ∙ ap times (sym (same.spots job)) ∙ sym (listed job))
+listed one other times jobs others same lists those = as_long jobs others (λ job. lists job ∙ ap times (sym (same.spots job)) ∙ sym (those job))
 
 accepted : (one other : GroupState) → AreSame one other → (port : ℕ) → accepted_of one port ≡ accepted_of other port
 accepted one other same port = ap (λ (job : Job). job.number) (same_next one other port same.spots)
