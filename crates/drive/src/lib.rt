@@ -22,6 +22,7 @@
 #![tactic(auto)]
 
 mod driving;
+pub mod laws;
 mod numbers;
 mod script;
 mod transcript;

@@ -9,3 +9,4 @@ pub mod OneGroup
 pub mod OneAnswer
 pub mod OneReport
 pub mod OneBeginning
+pub mod OneOpen

@@ -43,7 +43,7 @@ begins desk is =
     subst (λ (b : Books Held GroupPlace). IsFurnished b 0) (sym is)
     (record {
       books = refl;
-      cells = length-replicate 256 None;
+      cells = length-replicate {A = Option GroupPlace} 256 None;
       filled = λ cell less. absurd (omega arith);
       empty = λ cell from less. none_at 256 cell None less;
     })
