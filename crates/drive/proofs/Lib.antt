@@ -2,3 +2,4 @@ pub mod Texts
 pub mod Cut
 pub mod Lines
 pub mod Playing
+pub mod Streams

@@ -22,9 +22,11 @@
 #![tactic(auto)]
 
 mod driving;
+mod form;
 mod numbers;
 mod script;
+mod stream;
 mod transcript;
 mod words;
 
-pub use driving::drive;
+pub use driving::{drive, solo};
