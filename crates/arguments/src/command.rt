@@ -9,8 +9,8 @@ use std::alloc::{AllocError, Global};
 /// What the words ask for.
 #[derive(Drop)]
 pub enum Request {
-    /// One client against a broker.
-    Solo,
+    /// One client against a server.
+    Solo(Setup),
     /// A server that is driven by events.
     Drive(Setup),
 }
@@ -23,19 +23,18 @@ pub enum Request {
 pub fn arguments(alloc: Global, words: &[String]) -> Result<Request, Error> {
     let matches = command(alloc)?.try_get_matches_from(words)?;
     match matches.subcommand() {
-        Some(("drive", options)) => match setup(alloc, options)? {
-            Ok(setup) => Ok(Request::Drive(setup)),
-            Err(refusal) => Err(command(alloc)?.error(ErrorKind::ValueValidation, refusal.text())?),
-        },
-        _ => Ok(Request::Solo),
+        Some(("drive", options)) => Ok(Request::Drive(setup(alloc, options)?)),
+        Some((_, options)) => Ok(Request::Solo(setup(alloc, options)?)),
+        None => Err(command(alloc)?.error(ErrorKind::MissingSubcommand, "a command is wanted")?),
     }
 }
 
 /// The commands and their options.
 fn command<'a>(alloc: Global) -> Result<Command<'a>, AllocError> {
-    let solo = Command::new(alloc, "solo").about(
-        "Runs one MQTT client, whose bytes stand on standard input as lines of hex digits",
-    );
+    let solo = Command::new(alloc, "solo")
+        .about("Runs one MQTT client, whose bytes stand on standard input as lines of hex digits")
+        .arg(capacity(alloc))?
+        .arg(group(alloc))?;
     let drive = Command::new(alloc, "drive")
         .about("Runs the events on standard input, one a line, over up to 64 connections")
         .arg(capacity(alloc))?
@@ -68,18 +67,18 @@ fn group<'a>(alloc: Global) -> Arg<'a> {
 }
 
 /// What a server begins with, by the options of a command.
-fn setup(alloc: Global, options: &ArgMatches) -> Result<Result<Setup, Refusal>, AllocError> {
+fn setup(alloc: Global, options: &ArgMatches) -> Result<Setup, Error> {
     let capacity = options.get_one::<u32>("capacity").unwrap_or(1_024);
     let mut groups = Routes::new(alloc);
     if let Some(pairs) = options.get_strs("group") {
         for pair in pairs {
             if let Err(refusal) = add_group(alloc, &mut groups, pair)? {
-                return Ok(Err(refusal));
+                return Err(command(alloc)?.error(ErrorKind::ValueValidation, refusal.text())?);
             }
         }
     }
-    Ok(Ok(Setup {
+    Ok(Setup {
         capacity: capacity as usize,
         groups,
-    }))
+    })
 }

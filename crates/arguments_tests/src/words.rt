@@ -1,5 +1,6 @@
 //! Words, and what they ask for.
 use arguments::{Request, arguments};
+use local_server::Setup;
 use std::alloc::{AllocError, Global};
 use std::test::Fail;
 
@@ -12,23 +13,30 @@ fn words_of(alloc: Global, line: &str) -> Result<Vec<String>, AllocError> {
     Ok(words)
 }
 
-/// What a line asks for: `solo`; the capacity and the number of groups of `drive`; or the status of its fault.
+/// What a line asks for: the command, its capacity and its number of groups; or the status of its fault.
 fn asked(alloc: Global, line: &str) -> Result<String, AllocError> {
     let words = words_of(alloc, line)?;
     match arguments(alloc, &words) {
-        Ok(Request::Solo) => String::from_str(alloc, "solo"),
-        Ok(Request::Drive(setup)) => {
-            let groups = setup.groups.shares().len();
-            format!(in alloc; "drive {} {groups}", setup.capacity)
-        }
+        Ok(Request::Solo(setup)) => told(alloc, "solo", &setup),
+        Ok(Request::Drive(setup)) => told(alloc, "drive", &setup),
         Err(error) => format!(in alloc; "{}", error.exit_code()),
     }
+}
+
+/// A command, and what its server begins with.
+fn told(alloc: Global, command: &str, setup: &Setup) -> Result<String, AllocError> {
+    let groups = setup.groups.shares().len();
+    format!(in alloc; "{command} {} {groups}", setup.capacity)
 }
 
 #[test]
 fn what_words_ask_for(rt: HostRuntime) -> Result<(), Fail> {
     let rows = [
-        ("share_broker solo", "solo"),
+        ("share_broker solo", "solo 1024 0"),
+        (
+            "share_broker solo --capacity 2 --group g:job",
+            "solo 2 1",
+        ),
         ("share_broker drive", "drive 1024 0"),
         ("share_broker drive --capacity 1", "drive 1 0"),
         (
@@ -51,7 +59,8 @@ fn what_words_ask_for(rt: HostRuntime) -> Result<(), Fail> {
         ("share_broker", "2"),
         ("share_broker serve", "2"),
         ("share_broker solo drive", "2"),
-        ("share_broker solo --capacity 1", "2"),
+        ("share_broker solo --capacity 0", "2"),
+        ("share_broker solo --group job", "2"),
         ("share_broker drive --capacity 0", "2"),
         ("share_broker drive --capacity 65537", "2"),
         ("share_broker drive --capacity one", "2"),

@@ -33,7 +33,7 @@ passed_over input events number rest line others spells cut passed =
     let found = followed_by (timed_event_of (words_of line)) (number + 1) behind in
     spells ∙ ap (ahead events) (next_line number rest line others cut ∙ ap (λ b. cond b behind found) passed)
 
-event_ahead : (events : List TimedEvent) (event : TimedEvent) (number : ℕ) (later : Result (List TimedEvent) ℕ) → ahead events (followed_by (Some event) number later) ≡ ahead (events ++ event ∷ []) later
+pub event_ahead : (events : List TimedEvent) (event : TimedEvent) (number : ℕ) (later : Result (List TimedEvent) ℕ) → ahead events (followed_by (Some event) number later) ≡ ahead (events ++ event ∷ []) later
 event_ahead events event number (Ok more) = ap Ok (sym (append_assoc events (event ∷ []) more))
 event_ahead events event number (Err line) = refl
 

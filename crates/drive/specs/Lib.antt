@@ -1,3 +1,5 @@
 pub mod Words
 pub mod Scripts
+pub mod Streams
 pub mod Transcripts
+pub mod Forms

@@ -68,7 +68,7 @@ abbrev pub script_of : List ℕ → Result (List TimedEvent) ℕ
 script_of input = script_from 1 (lines_of input)
 
 -- an error that names a line names the first that spells no event
-abbrev pub NamesBadLine : List ℕ → RunError → Type 0
-NamesBadLine input Device = Unit {0}
-NamesBadLine input Memory = Unit {0}
-NamesBadLine input (Line number) = script_of input ≡ Err number
+abbrev pub NamesBadLine : Result (List TimedEvent) ℕ → RunError → Type 0
+NamesBadLine script Device = Unit {0}
+NamesBadLine script Memory = Unit {0}
+NamesBadLine script (Line number) = script ≡ Err number

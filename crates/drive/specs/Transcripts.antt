@@ -1,5 +1,5 @@
 -- What is written of a run: what each step of a connection wrote, and the reports (profile).
-use Rattle.std.specs.Prelude.{◌≡◌, ◌⊎◌, ℕ, zero, suc, codes, List, [], ◌∷◌, ◌++◌, length, Option, Ok}
+use Rattle.std.specs.Prelude.{◌≡◌, ◌⊎◌, ℕ, zero, suc, codes, List, [], ◌∷◌, ◌++◌, length, Option, Result, Ok}
 use Rattle.std.specs.List.{flat_map}
 use Rattle.std.specs.Fmt.{decimal}
 use Rattle.std.specs.Io.KnownBytes.{Appends, Keeps}
@@ -17,8 +17,9 @@ use Rattle.local_server.specs.Happening.{HappensAll}
 use Rattle.line_io.specs.Lines.{hex_line}
 use Rattle.line_io.specs.Passing.{Begins}
 use Rattle.drive.specs.Scripts.{script_of}
+use Rattle.drive.specs.Streams.{client_script_of}
 
--- a packet: the number of its connection, and its bytes in lower case hex
+-- a packet in a run of many connections: the number of its own, and its bytes in lower case hex
 abbrev pub packet_line : ℕ → Packet → List ℕ
 packet_line connection packet = decimal connection ++ 32 ∷ hex_line (written packet)
 
@@ -28,20 +29,25 @@ next_line connection thens.Go = []
 next_line connection thens.Close = decimal connection ++ codes " close\n"
 next_line connection thens.Kicked = decimal connection ++ codes " kicked\n"
 
--- what one step of a connection wrote
+-- what one step of a connection wrote, and where the connection ends, that
 abbrev pub lines_said : Said → List ℕ
 lines_said said = flat_map (packet_line said.connection) said.packets ++ next_line said.connection said.next
 
-abbrev pub told : List Said → List ℕ
-told said = flat_map lines_said said
+-- a packet in a run of one connection: its bytes alone
+abbrev pub client_line : Packet → List ℕ
+client_line packet = hex_line (written packet)
+
+-- what one step of the only connection wrote
+abbrev pub client_lines : Said → List ℕ
+client_lines said = flat_map client_line said.packets
 
 -- the lines of the reports of the first so many shares, in the order of their slots
 abbrev pub ReportsFirst : ℕ → Broker → List ℕ → Type 0
 ReportsFirst zero b text = text ≡ []
 ReportsFirst (suc slot) b text = (earlier line : List ℕ) × ReportsFirst slot b earlier × TellsLine b slot line × (text ≡ earlier ++ line)
 
--- A run of a server over these events: what is said in them, and then the reports.
-pub record IsTranscript (setup : Setup) (events : List TimedEvent) (text : List ℕ) : Type 0 where
+-- A run of a server over these events: the lines of what is said in them, and then the reports.
+pub record IsTranscript (lines : Said → List ℕ) (setup : Setup) (events : List TimedEvent) (text : List ℕ) : Type 0 where
   pub first : ServerState
   pub new : IsNewServer setup first
   pub said : List Said
@@ -49,20 +55,28 @@ pub record IsTranscript (setup : Setup) (events : List TimedEvent) (text : List 
   pub happens : HappensAll first events said last
   pub reports : List ℕ
   pub reported : ReportsFirst (length last.broker.routes) last.broker reports
-  pub whole : text ≡ told said ++ reports
+  pub whole : text ≡ flat_map lines said ++ reports
 
 -- the transcript of the events that an input spells
-pub record IsDriveOutput (setup : Setup) (input output : List ℕ) : Type 0 where
+pub record IsOutput (script : Result (List TimedEvent) ℕ) (lines : Said → List ℕ) (setup : Setup) (output : List ℕ) : Type 0 where
   pub events : List TimedEvent
-  pub spelled : script_of input ≡ Ok events
-  pub transcript : IsTranscript setup events output
+  pub spelled : script ≡ Ok events
+  pub transcript : IsTranscript lines setup events output
 
--- the writer got the output for an input, and nothing else
-pub record WritesDriveOutput (setup : Setup) (input : List ℕ) (old new : Option (List ℕ)) : Type 0 where
+-- the output of `drive` for an input
+abbrev pub IsDriveOutput : Setup → List ℕ → List ℕ → Type 0
+IsDriveOutput setup input output = IsOutput (script_of input) lines_said setup output
+
+-- the output of `solo` for an input
+abbrev pub IsSoloOutput : Setup → List ℕ → List ℕ → Type 0
+IsSoloOutput setup input output = IsOutput (client_script_of input) client_lines setup output
+
+-- the writer got an output that is so, and nothing else
+pub record Writes (IsSo : List ℕ → Type 0) (old new : Option (List ℕ)) : Type 0 where
   pub output : List ℕ
-  pub defined_by : IsDriveOutput setup input output
+  pub defined_by : IsSo output
   pub written : Appends old new output
 
--- the writer got nothing, or a beginning of the output for an input
-abbrev pub BeginsDriveOutput : Setup → List ℕ → Option (List ℕ) → Option (List ℕ) → Type 0
-BeginsDriveOutput setup input old new = Keeps old new ⊎ ((output : List ℕ) × IsDriveOutput setup input output × Begins old new output)
+-- the writer got nothing, or a beginning of an output that is so
+abbrev pub BeginsTo : (List ℕ → Type 0) → Option (List ℕ) → Option (List ℕ) → Type 0
+BeginsTo IsSo old new = Keeps old new ⊎ ((output : List ℕ) × IsSo output × Begins old new output)

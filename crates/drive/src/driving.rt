@@ -1,14 +1,19 @@
-//! A run: from a reader of events to a writer of what is said in them.
+//! A run: from a reader of what happens to a writer of what is said.
 ghost use Rattle.std.specs.Prelude.{◌≡◌, ◌++◌, List, ℕ, length, Err, OnOk, OnErr, IfOk, IfErr, IfSome, Ok};
+ghost use Rattle.std.specs.List.{flat_map};
 ghost use Rattle.std.specs.Io.KnownBytes.{Keeps};
 ghost use Rattle.line_io.specs.declared.error.RunError.TheVariants.{Memory};
 ghost use Rattle.client_table.specs.Clients.{Said as Words};
 ghost use Rattle.local_server.specs.Servers.{ServerState};
 ghost use Rattle.local_server.specs.Happening.{Happens, HappensAll};
-ghost use Rattle.drive.specs.Scripts.{script_of};
-ghost use Rattle.drive.specs.Transcripts.{told, ReportsFirst, IsTranscript, WritesDriveOutput, BeginsDriveOutput};
+ghost use Rattle.drive.specs.Scripts.{script_of, NamesBadLine};
+ghost use Rattle.drive.specs.Streams.{client_script_of};
+ghost use Rattle.drive.specs.Transcripts.{ReportsFirst, IsTranscript, IsOutput, IsDriveOutput, IsSoloOutput, Writes, BeginsTo};
+ghost use Rattle.drive.specs.Forms.{script_as, lines_as};
 
+use crate::form::Form;
 use crate::script::read_script;
+use crate::stream::read_stream;
 use crate::transcript::{report, tell};
 use line_io::{RunError, read_all, write_all};
 use local_server::{Server, Setup, TimedEvent};
@@ -32,28 +37,90 @@ pub fn drive<R: Read, W: Write>(
 ) -> Result<(), RunError>
     // What was written is the transcript of the events that the input spells, and nothing else.
     ensures ended { OnOk result (IfSome (R.remaining reader.old)
-        (λ input. WritesDriveOutput setup input (W.contents writer.old) (W.contents writer.new))) }
+        (λ input. Writes (IsDriveOutput setup input) (W.contents writer.old) (W.contents writer.new))) }
     // A line that is named is the first that spells no event, and nothing was written.
     ensures bad_line { (line : ℕ) → result ≡ Err (RunError.Line line) → IfSome (R.remaining reader.old)
         (λ input. (script_of input ≡ Err line) × Keeps (W.contents writer.old) (W.contents writer.new)) }
     // At each other error what was written begins the transcript; it is nothing where there is none.
     ensures begun { OnErr result (IfSome (R.remaining reader.old)
-        (λ input. BeginsDriveOutput setup input (W.contents writer.old) (W.contents writer.new))) }
+        (λ input. BeginsTo (IsDriveOutput setup input) (W.contents writer.old) (W.contents writer.new))) }
+{
+    run(alloc, Form::Events, setup, reader, writer)
+}
+
+/// Runs one client against a server: reads its stream as lines of hex digits, a piece a line, and writes a line for each packet
+/// that it is sent; at the end the line of the report of each share that is bound. All happens at the moment 0.
+///
+/// It reads at most 2^20 times. Nothing is run where a line is not hex.
+///
+/// # Errors
+///
+/// [`RunError::Line`] for the first line that is not an even number of hex digits; nothing is written then. [`RunError::Device`] and
+/// [`RunError::Memory`] as in [`drive`].
+pub fn solo<R: Read, W: Write>(
+    alloc: Global,
+    setup: Setup,
+    reader: &mut R,
+    writer: &mut W,
+) -> Result<(), RunError>
+    // What was written is what the client is sent and the reports, and nothing else.
+    ensures ended { OnOk result (IfSome (R.remaining reader.old)
+        (λ input. Writes (IsSoloOutput setup input) (W.contents writer.old) (W.contents writer.new))) }
+    // A line that is named is the first that is not hex, and nothing was written.
+    ensures bad_line { (line : ℕ) → result ≡ Err (RunError.Line line) → IfSome (R.remaining reader.old)
+        (λ input. (client_script_of input ≡ Err line) × Keeps (W.contents writer.old) (W.contents writer.new)) }
+    // At each other error what was written begins that; it is nothing where there is none.
+    ensures begun { OnErr result (IfSome (R.remaining reader.old)
+        (λ input. BeginsTo (IsSoloOutput setup input) (W.contents writer.old) (W.contents writer.new))) }
+{
+    run(alloc, Form::Client, setup, reader, writer)
+}
+
+/// A run of either form.
+fn run<R: Read, W: Write>(
+    alloc: Global,
+    form: Form,
+    setup: Setup,
+    reader: &mut R,
+    writer: &mut W,
+) -> Result<(), RunError>
+    ensures ended { OnOk result (IfSome (R.remaining reader.old)
+        (λ input. Writes (IsOutput (script_as form input) (lines_as form) setup) (W.contents writer.old) (W.contents writer.new))) }
+    ensures bad_line { (line : ℕ) → result ≡ Err (RunError.Line line) → IfSome (R.remaining reader.old)
+        (λ input. (script_as form input ≡ Err line) × Keeps (W.contents writer.old) (W.contents writer.new)) }
+    ensures begun { OnErr result (IfSome (R.remaining reader.old)
+        (λ input. BeginsTo (IsOutput (script_as form input) (lines_as form) setup) (W.contents writer.old) (W.contents writer.new))) }
 {
     let input = read_all(alloc, reader)?;
-    let events = read_script(alloc, &input)?;
-    let text = transcript(alloc, setup, &events)?;
+    let events = read_events(alloc, form, &input)?;
+    let text = transcript(alloc, form, setup, &events)?;
     write_all(writer, &text)
 }
 
+/// The events that an input spells.
+fn read_events(alloc: Global, form: Form, input: &[u8]) -> Result<Vec<TimedEvent>, RunError>
+    ensures ok { IfOk result (λ events. script_as form input.now ≡ Ok events.items) }
+    ensures err { IfErr result (NamesBadLine (script_as form input.now)) }
+{
+    match form {
+        Form::Events => read_script(alloc, input),
+        Form::Client => read_stream(alloc, input),
+    }
+}
+
 /// What is written of a run over these events.
-fn transcript(alloc: Global, setup: Setup, events: &[TimedEvent]) -> Result<Vec<u8>, RunError>
-    ensures ok { IfOk result (λ text. IsTranscript setup events.now text.items) }
+fn transcript(
+    alloc: Global,
+    form: Form,
+    setup: Setup,
+    events: &[TimedEvent],
+) -> Result<Vec<u8>, RunError>
+    ensures ok { IfOk result (λ text. IsTranscript (lines_as form) setup events.now text.items) }
     ensures err { IfErr result (λ error. error ≡ Memory) }
 {
     match Server::open(alloc, setup) {
         Ok(mut server) => {
-            let text = play(alloc, &mut server, events);
+            let text = play(alloc, form, &mut server, events);
             server.end();
             text
         }
@@ -62,14 +129,19 @@ fn transcript(alloc: Global, setup: Setup, events: &[TimedEvent]) -> Result<Vec<
 }
 
 /// What is written of these events, and of the reports behind them.
-fn play(alloc: Global, server: &mut Server, events: &[TimedEvent]) -> Result<Vec<u8>, RunError>
+fn play(
+    alloc: Global,
+    form: Form,
+    server: &mut Server,
+    events: &[TimedEvent],
+) -> Result<Vec<u8>, RunError>
     ensures ok { IfOk result (λ text. (said : List Words) × (reports : List ℕ) × HappensAll server.old events.now said server.new
-        × (text.items ≡ told said ++ reports) × ReportsFirst (length server.new.broker.routes) server.new.broker reports) }
+        × (text.items ≡ flat_map (lines_as form) said ++ reports) × ReportsFirst (length server.new.broker.routes) server.new.broker reports) }
     ensures err { IfErr result (λ error. error ≡ Memory) }
 {
     let mut text = Vec::new(alloc);
     for event in events {
-        happen(alloc, server, event, &mut text)?;
+        happen(alloc, form, server, event, &mut text)?;
     }
     report(alloc, &mut text, server)?;
     Ok(text)
@@ -78,17 +150,18 @@ fn play(alloc: Global, server: &mut Server, events: &[TimedEvent]) -> Result<Vec
 /// An event, and what is said in it.
 fn happen(
     alloc: Global,
+    form: Form,
     server: &mut Server,
     event: &TimedEvent,
     text: &mut Vec<u8>,
 ) -> Result<(), RunError>
     ensures ok { OnOk result ((said : List Words) × Happens server.old event.now.moment event.now.event said (Ok tt) server.new
-        × (text.new.items ≡ text.old.items ++ told said)) }
+        × (text.new.items ≡ text.old.items ++ flat_map (lines_as form) said)) }
     ensures err { IfErr result (λ error. error ≡ Memory) }
 {
     let mut said = Vec::new(alloc);
     match server.happen(event.moment, &event.event, &mut said) {
-        Ok(()) => tell(alloc, text, &said),
+        Ok(()) => tell(alloc, form, text, &said),
         Err(_) => Err(RunError::Memory),
     }
 }

@@ -22,10 +22,12 @@
 #![tactic(auto)]
 
 mod driving;
+mod form;
 pub mod laws;
 mod numbers;
 mod script;
+mod stream;
 mod transcript;
 mod words;
 
-pub use driving::drive;
+pub use driving::{drive, solo};

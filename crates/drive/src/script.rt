@@ -19,7 +19,7 @@ use std::alloc::Global;
 /// [`RunError::Line`] for the first line that spells none, and [`RunError::Memory`].
 pub(crate) fn read_script(alloc: Global, input: &[u8]) -> Result<Vec<TimedEvent>, RunError>
     ensures ok { IfOk result (λ events. script_of input.now ≡ Ok events.items) }
-    ensures err { IfErr result (NamesBadLine input.now) }
+    ensures err { IfErr result (NamesBadLine (script_of input.now)) }
 {
     let mut events = Vec::new(alloc);
     let mut rest = input;

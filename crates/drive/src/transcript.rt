@@ -2,8 +2,11 @@
 ghost use Rattle.std.specs.Prelude.{◌≡◌, ◌<◌, ◌++◌, List, ℕ, length, IfErr, OnOk};
 ghost use Rattle.local_broker.specs.Reporting.{TellsLine};
 ghost use Rattle.line_io.specs.declared.error.RunError.TheVariants.{Memory};
-ghost use Rattle.drive.specs.Transcripts.{packet_line, next_line, lines_said, told, ReportsFirst};
+ghost use Rattle.std.specs.List.{flat_map};
+ghost use Rattle.drive.specs.Transcripts.{packet_line, next_line, lines_said, client_line, client_lines, ReportsFirst};
+ghost use Rattle.drive.specs.Forms.{lines_as};
 
+use crate::form::Form;
 use client_table::Said;
 use conn_engine::Then;
 use line_io::RunError;
@@ -13,12 +16,20 @@ use std::alloc::Global;
 
 /// Adds what was said to a text.
 #[tactic(auto, using(crate::proofs::Texts::one_more))]
-pub(crate) fn tell(alloc: Global, text: &mut Vec<u8>, said: &[Said]) -> Result<(), RunError>
-    ensures ok { OnOk result (text.new.items ≡ text.old.items ++ told said.now) }
+pub(crate) fn tell(
+    alloc: Global,
+    form: Form,
+    text: &mut Vec<u8>,
+    said: &[Said],
+) -> Result<(), RunError>
+    ensures ok { OnOk result (text.new.items ≡ text.old.items ++ flat_map (lines_as form) said.now) }
     ensures err { IfErr result (λ error. error ≡ Memory) }
 {
     for words in said {
-        tell_step(alloc, text, words)?;
+        match form {
+            Form::Events => tell_step(alloc, text, words)?,
+            Form::Client => tell_client(alloc, text, words.packets())?,
+        }
     }
     Ok(())
 }
@@ -35,6 +46,18 @@ fn tell_step(alloc: Global, text: &mut Vec<u8>, said: &Said) -> Result<(), RunEr
     tell_next(alloc, text, connection, said.next())
 }
 
+/// Adds what the one client is sent.
+#[tactic(auto, using(crate::proofs::Texts::one_more))]
+fn tell_client(alloc: Global, text: &mut Vec<u8>, packets: &[Packet]) -> Result<(), RunError>
+    ensures ok { OnOk result (text.new.items ≡ text.old.items ++ flat_map client_line packets.now) }
+    ensures err { IfErr result (λ error. error ≡ Memory) }
+{
+    for packet in packets {
+        tell_bytes(alloc, text, packet)?;
+    }
+    Ok(())
+}
+
 /// Adds the line of a packet.
 fn tell_packet(
     alloc: Global,
@@ -45,11 +68,19 @@ fn tell_packet(
     ensures ok { OnOk result (text.new.items ≡ text.old.items ++ packet_line connection packet.now) }
     ensures err { IfErr result (λ error. error ≡ Memory) }
 {
-    let bytes = encode(alloc, packet)?;
-    let digits = hex::encode(alloc, &bytes)?;
     let number = connection.to_string(alloc)?;
     text.extend_from_slice(number.as_bytes())?;
     text.push(b' ')?;
+    tell_bytes(alloc, text, packet)
+}
+
+/// Adds the bytes of a packet.
+fn tell_bytes(alloc: Global, text: &mut Vec<u8>, packet: &Packet) -> Result<(), RunError>
+    ensures ok { OnOk result (text.new.items ≡ text.old.items ++ client_line packet.now) }
+    ensures err { IfErr result (λ error. error ≡ Memory) }
+{
+    let bytes = encode(alloc, packet)?;
+    let digits = hex::encode(alloc, &bytes)?;
     text.extend_from_slice(digits.as_bytes())?;
     text.push(b'\n')?;
     Ok(())

@@ -1,6 +1,6 @@
 //! Plays: lines of events, and behind `> ` what is written then.
 use bytes::Bytes;
-use drive::drive;
+use drive::{drive, solo};
 use line_io::RunError;
 use local_server::Setup;
 use mqtt_topic::{Routes, Share};
@@ -9,7 +9,7 @@ use std::alloc::Global;
 use std::process::Abort;
 
 /// A server in each of whose groups so many messages may wait, and on which these shares are bound.
-fn setup(rt: &impl Abort, alloc: Global, capacity: usize, shares: &[&'static str]) -> Setup {
+pub fn setup(rt: &impl Abort, alloc: Global, capacity: usize, shares: &[&'static str]) -> Setup {
     let mut groups = Routes::new(alloc);
     for share in shares {
         let bytes = Vec::from_slice(alloc, share.as_bytes())
@@ -21,6 +21,22 @@ fn setup(rt: &impl Abort, alloc: Global, capacity: usize, shares: &[&'static str
         let _slot = groups.bind(share).ok().expect(rt, "a slot");
     }
     Setup { capacity, groups }
+}
+
+/// A server in each of whose groups 1,024 messages may wait, and on which no share is bound.
+pub fn plain(alloc: Global) -> Setup {
+    Setup {
+        capacity: 1_024,
+        groups: Routes::new(alloc),
+    }
+}
+
+/// What one client is sent for its lines, and the reports.
+pub fn answered(alloc: Global, setup: Setup, lines: &[u8]) -> Result<Vec<u8>, RunError> {
+    let mut input = lines;
+    let mut output = Vec::new(alloc);
+    solo(alloc, setup, &mut input, &mut output)?;
+    Ok(output)
 }
 
 /// What is written of a script.

@@ -7,6 +7,10 @@ mod acting;
 #[cfg(test)]
 mod answers;
 #[cfg(test)]
+mod clients;
+#[cfg(test)]
+mod failures;
+#[cfg(test)]
 mod jobs;
 #[cfg(test)]
 mod scripts;

@@ -1,19 +1,8 @@
 //! Scripts: lines that spell no event, and lines that are passed over.
-use crate::acting::written;
+use crate::acting::{plain, written};
 use drive::drive;
 use line_io::RunError;
-use local_server::Setup;
-use mqtt_topic::Routes;
-use std::alloc::Global;
 use std::test::Fail;
-
-// A server on which no share is bound.
-fn empty(alloc: Global) -> Setup {
-    Setup {
-        capacity: 1,
-        groups: Routes::new(alloc),
-    }
-}
 
 #[test]
 fn bad_lines(rt: HostRuntime) -> Result<(), Fail> {
@@ -34,7 +23,7 @@ fn bad_lines(rt: HostRuntime) -> Result<(), Fail> {
         ("0 close 0", 1),
     ];
     for (script, line) in bad.iter() {
-        let ended = written(rt.alloc(), empty(rt.alloc()), script);
+        let ended = written(rt.alloc(), plain(rt.alloc()), script);
         assert_eq!(rt; ended, Err(RunError::Line(*line)));
     }
     Ok(())
@@ -53,7 +42,7 @@ fn good_lines(rt: HostRuntime) -> Result<(), Fail> {
         assert_eq!(rt;
             drive(
                 rt.alloc(),
-                empty(rt.alloc()),
+                plain(rt.alloc()),
                 &mut script.as_bytes(),
                 &mut output
             ),

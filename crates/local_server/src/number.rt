@@ -29,6 +29,9 @@ impl Model for ConnectionNumber {
 }
 
 impl ConnectionNumber {
+    /// The least number, 0.
+    pub const FIRST: ConnectionNumber = ConnectionNumber { number: 0 };
+
     /// A number of a connection.
     ///
     /// # Errors

@@ -48,7 +48,7 @@ pub(crate) fn read_body(alloc: Global, kind: Kind, body: Bytes) -> Result<Packet
 {
     match kind {
         Kind::Connect => read_connect(alloc, body),
-        Kind::Publish(flags) => Ok(Packet::Publish(read_publish(alloc, flags, body)?)),
+        Kind::Publish(flags) => read_publish(alloc, flags, body),
         Kind::Puback => Ok(Packet::Puback(read_puback(alloc, body)?)),
         Kind::Subscribe => Ok(Packet::Subscribe(read_subscribe(alloc, body)?)),
         Kind::Unsubscribe => Ok(Packet::Unsubscribe(read_unsubscribe(alloc, body)?)),
@@ -155,21 +155,21 @@ fn read_delivery(qos: QoS, body: &mut Bytes) -> Result<Delivery, StreamFault>
 }
 
 /// Reads a PUBLISH (section 3.3): what is left behind its properties is the payload.
-#[tactic(auto, unfolding(crate::specs::Bodies::publish_body_at))]
-fn read_publish(alloc: Global, flags: PublishFlags, mut body: Bytes) -> Result<Publish, Fault>
-    ensures { Gives (λ packet. packet) result (publish_body_at flags body) }
+#[tactic(auto, unfolding(crate::specs::Bodies::publish_body_at, crate::specs::Bodies::body_at))]
+fn read_publish(alloc: Global, flags: PublishFlags, mut body: Bytes) -> Result<Packet, Fault>
+    ensures { Gives (λ packet. packet) result (body_at (Kind.Publish flags) body) }
 {
     let topic = read_text(&mut body)?;
     let delivery = read_delivery(flags.qos, &mut body)?;
     let properties = read_publish_properties(alloc, &mut body)?;
-    Ok(Publish {
+    Ok(Packet::Publish(Publish {
         dup: flags.dup,
         retain: flags.retain,
         topic,
         delivery,
         properties,
         payload: body,
-    })
+    }))
 }
 
 /// Takes the properties of a PUBLISH. Most have none, and a length of 0 says so.

@@ -10,7 +10,7 @@ use crate::header::FixedHeader;
 use crate::packet::Packet;
 use crate::short::take_short;
 use bytes::BytesMut;
-use std::alloc::Global;
+use std::alloc::{AllocError, Global};
 use std::io::Read;
 use std::marker::Model;
 
@@ -79,8 +79,9 @@ impl Splitter {
         if let Some(fault) = self.fault {
             return Err(Fault::Stream(fault));
         }
-        self.stream.extend_from_slice(piece)?;
+        make_room(&mut self.stream, piece.len())?;
         self.block = self.block.max(self.stream.capacity());
+        self.stream.extend_from_slice(piece)?;
         Ok(())
     }
 
@@ -107,6 +108,7 @@ impl Splitter {
     /// What it answers fits its types, so what [`encode_into`](crate::encode_into) writes of it is read again. A fault of the
     /// stream stands for good: every later call answers it again. [`Fault::Memory`] comes only where a whole packet is in
     /// front; nothing has changed then, and the call may be made again.
+    #[inline(always)]
     pub fn next(&mut self) -> Result<Option<Packet>, Fault>
         ensures { NextAnswers self.old result self.new }
     {
@@ -117,6 +119,16 @@ impl Splitter {
         self.fault = stream_fault(&answer);
         answer
     }
+}
+
+/// Makes room for a piece of so many bytes, and for 4,096 at least, where there is less.
+fn make_room(stream: &mut BytesMut, size: usize) -> Result<(), AllocError>
+    ensures { stream.new.items ≡ stream.old.items }
+{
+    if stream.capacity() - stream.len() < size {
+        stream.reserve(size.max(LEAST_ROOM))?;
+    }
+    Ok(())
 }
 
 /// How many bytes these are: the contract tells that they are bytes, too.

@@ -7,9 +7,8 @@ ghost use Rattle.line_io.specs.Status.{status_of};
 
 use arguments::{Request, arguments};
 use clap::error::ErrorKind;
-use drive::drive;
+use drive::{drive, solo};
 use line_io::RunError;
-use solo_broker::solo;
 use std::process::ExitCode;
 use std::{env, io};
 
@@ -51,7 +50,7 @@ fn words(rt: &HostRuntime) -> Result<Option<Vec<String>>, RunError> {
 /// Does what the words ask for.
 fn run(rt: &HostRuntime, request: Request) -> Result<(), RunError> {
     match request {
-        Request::Solo => solo(rt.alloc(), &mut rt.reader(), &mut io::writer(rt)),
+        Request::Solo(setup) => solo(rt.alloc(), setup, &mut rt.reader(), &mut io::writer(rt)),
         Request::Drive(setup) => drive(rt.alloc(), setup, &mut rt.reader(), &mut io::writer(rt)),
     }
 }

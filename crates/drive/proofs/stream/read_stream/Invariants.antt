@@ -1,0 +1,13 @@
+-- The pieces of the lines so far are those in front.
+use Rattle.std.proofs.Common.{◌+◌, ◌≤◌, length}
+use Rattle.drive.proofs.Streams.{Spells}
+use Rattle.drive.proofs.stream.read_stream.Given as goal
+
+abbrev pub invariant-loop-rest : goal.invariant-loop-rest
+invariant-loop-rest l = record {
+  spells : Spells l.input l.events.items l.number l.rest;
+  few : l.number + length l.rest ≤ length l.input;
+}
+
+abbrev pub decreases-loop-rest : goal.decreases-loop-rest
+decreases-loop-rest l = length l.rest
