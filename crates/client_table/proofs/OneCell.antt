@@ -1,8 +1,7 @@
 -- What happens to the client in a cell comes out in one way, where each call has one answer.
-use Rattle.std.proofs.Common.{◌≡◌, ◌≢◌, ◌⊎◌, ℕ, List, [], ◌∷◌, Option, Some, None, Result, Ok, Err, slice_get, slice_set, refl, sym, ap, ◌∙◌, subst}
+use Rattle.std.proofs.Common.{◌≡◌, ℕ, List, [], ◌∷◌, Option, Some, None, Ok, slice_set, sym, ap, ◌∙◌, subst}
 use Rattle.std.proofs.lemmas.Option.{same_Some}
 use Rattle.conn_engine.specs.declared.input.Input.{Input}
-use Rattle.conn_engine.specs.declared.supply.NoMemory.{NoMemory}
 use Rattle.conn_engine.specs.Facts.{Fact}
 use Rattle.conn_engine.specs.Asking.{OneAnswer}
 use Rattle.conn_engine.specs.Behind.{IsLast}
@@ -55,8 +54,7 @@ module _ {S P : Type 0} (call : S → Fact P → S → Type 0) (AreAlike : S →
       → EndsFor call slot_of a before now input xs (Ok tt) after a' → EndsFor call slot_of b before now input ys (Ok tt) then b' → AreOne xs ys after then a' b'
   ended_for None a a' b b' now input xs ys after then last alike h k = (h.1 ∙ sym k.1, (h.0 ∙ sym k.0, still a a' b b' alike h.2 k.2))
   ended_for (Some client) a a' b b' now input xs ys after then last alike h k =
-      let one = moved call AreAlike answers slot_of a a' b b' client h.0 k.0 now input h.1.0 k.1.0 alike h.1.2 k.1.2 in
-      (
-      h.2 ∙ over a a' client h.0 now input h.1.0 last h.1.2 ∙ sym (over b b' client k.0 now input k.1.0 last k.1.2) ∙ sym k.2,
-      (h.1.1 ∙ ap (λ x. x ∷ []) one.0 ∙ sym k.1.1, one.2),
+      let one = moved call AreAlike answers slot_of a a' b b' client h.0 k.0 now input h.1.0 k.1.0 alike h.1.2 k.1.2 in (
+        h.2 ∙ over a a' client h.0 now input h.1.0 last h.1.2 ∙ sym (over b b' client k.0 now input k.1.0 last k.1.2) ∙ sym k.2,
+        (h.1.1 ∙ ap (λ x. x ∷ []) one.0 ∙ sym k.1.1, one.2),
       )

@@ -1,5 +1,5 @@
 -- What a client sent is read in one way, where each call has one answer.
-use Rattle.std.proofs.Common.{◌≡◌, ◌≢◌, ◌⊎◌, ℕ, List, [], ◌∷◌, ◌++◌, Option, Some, None, Result, Ok, Err, slice_get, slice_set, refl, sym, ap, ◌∙◌, subst, ⊎_elim, inl, inr}
+use Rattle.std.proofs.Common.{◌≡◌, ◌≢◌, ◌⊎◌, ℕ, List, [], ◌∷◌, Some, None, refl, sym, ap, ◌∙◌, subst, ⊎_elim, inl, inr}
 use Rattle.std.proofs.lemmas.Option.{same_Some}
 use Rattle.mqtt_wire.specs.declared.fault.StreamFault.{StreamFault}
 use Rattle.mqtt_wire.specs.declared.packet.Packet.{Packet}
@@ -13,7 +13,7 @@ use Rattle.conn_engine.specs.declared.standing.Standing.{Standing}
 use Rattle.conn_engine.specs.declared.standing.Standing.TheVariants.{Unconnected, Waiting, Connected, Ended}
 use Rattle.conn_engine.specs.Facts.{Fact}
 use Rattle.conn_engine.specs.Asking.{OneAnswer}
-use Rattle.conn_engine.specs.Standings.{ConnState, IsWaiting}
+use Rattle.conn_engine.specs.Standings.{IsWaiting}
 use Rattle.conn_engine.specs.Step.{Steps}
 use Rattle.conn_engine.proofs.OneStep.{stepped}
 use Rattle.conn_engine.proofs.Ended.{ends}
@@ -115,11 +115,10 @@ module _ {S P : Type 0} (call : S → Fact P → S → Type 0) (AreAlike : S →
   pub moved : (a a' b b' : S) (client c d : ClientState P) (now : ℕ) (input : Input) (x y : Said) → AreAlike a b
       → Moves call slot_of a client now input x c a' → Moves call slot_of b client now input y d b' → (x ≡ y) × (c.conn ≡ d.conn) × AreAlike a' b'
   moved a a' b b' client c d now input x y alike h k =
-      let one = stepped call AreAlike answers slot_of a a' b b' client.conn.number client.conn.standing now input x.packets y.packets x.next y.next c.conn.standing d.conn.standing alike h.stepped k.stepped in
-      (
-      λ i. record { connection = (h.told ∙ sym k.told) i; packets = one.0 i; next = one.1 i },
-      λ i. record { number = (h.same ∙ sym k.same) i; standing = one.2 i },
-      one.3,
+      let one = stepped call AreAlike answers slot_of a a' b b' client.conn.number client.conn.standing now input x.packets y.packets x.next y.next c.conn.standing d.conn.standing alike h.stepped k.stepped in (
+        λ i. record { connection = (h.told ∙ sym k.told) i; packets = one.0 i; next = one.1 i },
+        λ i. record { number = (h.same ∙ sym k.same) i; standing = one.2 i },
+        one.3,
       )
 
   -- a step at another input that is the same

@@ -1,5 +1,5 @@
 -- A CONNECT has one answer, where each call has one.
-use Rattle.std.proofs.Common.{◌≡◌, ◌≢◌, ℕ, ◌+◌, nat_lt, Bool, true, false, not, ◌&&◌, List, Option, Some, None, Result, Ok, Err, refl, sym, ap, ◌∙◌, subst}
+use Rattle.std.proofs.Common.{◌≡◌, ◌≢◌, ℕ, ◌+◌, nat_lt, Bool, true, false, not, ◌&&◌, Option, Some, None, Result, Ok, Err, sym, ◌∙◌, subst}
 use Rattle.mqtt_wire.specs.declared.packet.ConnectRefusal.{ConnectRefusal}
 use Rattle.mqtt_wire.specs.declared.packet.ConnectRefusal.TheVariants as refusals
 use Rattle.group_jobs.specs.Stamps.{Held}
@@ -15,7 +15,7 @@ use Rattle.conn_engine.specs.declared.standing.Standing.{Standing}
 use Rattle.conn_engine.specs.declared.standing.Standing.TheVariants.{Unconnected, Waiting, Connected, Ended}
 use Rattle.conn_engine.specs.Facts.{Fact}
 use Rattle.conn_engine.specs.Asking.{OneAnswer}
-use Rattle.conn_engine.specs.Ending.{down, Retires}
+use Rattle.conn_engine.specs.Ending.{down}
 use Rattle.conn_engine.specs.Connecting.{most_ticks, has_place, IsRefused, Accepts, WaitsAs, RetiresEarlier, ResumesAs, AttachedAs, Attaches, Withdraws, TriesAgain}
 use Rattle.conn_engine.proofs.OneCall as calls
 use Rattle.conn_engine.proofs.OneEnding as endings
@@ -71,7 +71,7 @@ module _ {S P : Type 0} (call : S → Fact P → S → Type 0) (AreAlike : S →
       → Attaches call a number now request ticks s r a' → Attaches call b number now request ticks t u b' → Agree s t r u a' b'
   attached a a' b b' number now request ticks s t r u alike h k =
       let one = calls.attached call AreAlike answers a h.mid b k.mid (asked number request.client request.clean_start now) h.answer k.answer alike
-          (had_memory h.answer h.mid a' request ticks s r h.answered) (had_memory k.answer k.mid b' request ticks t u k.answered) h.asked_for k.asked_for in
+      (had_memory h.answer h.mid a' request ticks s r h.answered) (had_memory k.answer k.mid b' request ticks t u k.answered) h.asked_for k.asked_for in
       attached_as h.answer h.mid a' k.mid b' request ticks s t r u one.1 h.answered (subst (λ x. AttachedAs call k.mid request ticks x t u b') (sym one.0) k.answered)
 
   withdrawn : (standing : Standing P) (a a' b b' : S) (number : ℕ) → AreAlike a b → Withdraws call a number standing a' → Withdraws call b number standing b' → AreAlike a' b'

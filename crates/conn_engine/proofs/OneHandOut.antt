@@ -1,5 +1,5 @@
 -- What is handed out is one, where each call has one answer.
-use Rattle.std.proofs.Common.{◌≡◌, ◌≢◌, ◌⊎◌, ℕ, ◌<◌, ◌≤◌, true, false, List, [], ◌∷◌, ◌++◌, Option, Some, None, Ok, refl, sym, ap, ◌∙◌, subst, ⊎_elim, inl, inr, arith}
+use Rattle.std.proofs.Common.{◌≡◌, ℕ, ◌<◌, ◌≤◌, true, false, List, [], ◌∷◌, ◌++◌, Option, Some, None, Ok, refl, sym, ap, ◌∙◌, subst, ⊎_elim, inl, inr, arith}
 use Rattle.std.proofs.lemmas.Bool.{cases_lt}
 use Rattle.std.proofs.lemmas.Option.{same_Some}
 use Rattle.mqtt_wire.specs.declared.packet.Packet.{Packet}
@@ -65,12 +65,11 @@ module _ {S P : Type 0} (call : S → Fact P → S → Type 0) (AreAlike : S →
   sent_one a a' b b' place p q window w v x y alike h k =
       let one = asked a a' b b' place p q (Some h.envelope) (Some k.envelope) alike h.asked k.asked in
       let envelope = same_Some h.envelope k.envelope one.1 in
-      let identifier = one_identifier (identifiers (held_of window)) h.identifier k.identifier h.free k.free in
-      (
-      h.sent ∙ (λ i. job false (envelope i).message (identifier i)) ∙ sym k.sent,
-      one.0,
-      h.put ∙ (λ i. after_put window (identifier i) (envelope i)) ∙ sym k.put,
-      one.2,
+      let identifier = one_identifier (identifiers (held_of window)) h.identifier k.identifier h.free k.free in (
+        h.sent ∙ (λ i. job false (envelope i).message (identifier i)) ∙ sym k.sent,
+        one.0,
+        h.put ∙ (λ i. after_put window (identifier i) (envelope i)) ∙ sym k.put,
+        one.2,
       )
 
   -- nothing goes out in the one, and something in the other

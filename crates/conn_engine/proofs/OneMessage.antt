@@ -1,11 +1,11 @@
 -- A PUBLISH and a PUBACK have one answer, where each call has one.
-use Rattle.std.proofs.Common.{◌≡◌, ◌≢◌, ℕ, ◌+◌, length, List, [], ◌∷◌, Option, Some, None, Result, Ok, Err, Contains, refl, sym, ap, ◌∙◌, subst, ⊎_elim, ◌⊎◌}
+use Rattle.std.proofs.Common.{◌≡◌, ◌≢◌, ℕ, ◌+◌, length, List, [], ◌∷◌, Option, Some, None, Result, Ok, Err, Contains, refl, sym, ap, ◌∙◌, subst, ⊎_elim}
 use Rattle.mqtt_wire.specs.declared.packet.Publish.{Publish}
 use Rattle.group_jobs.specs.Stamps.{Held}
 use Rattle.group_jobs.specs.declared.message.Message.{Message}
 use Rattle.group_jobs.specs.declared.stamp.Stamp.{Stamp}
 use Rattle.member_window.specs.Identifiers.{identifiers, AreDistinct}
-use Rattle.member_window.specs.Contents.{Contents, held_of, IsSound, after_ack}
+use Rattle.member_window.specs.Contents.{Contents, held_of, IsSound}
 use Rattle.member_window.specs.Calls.{Acks}
 use Rattle.member_window.proofs.Lists.{contains_nil, contains_cons_cases, contains_identifier}
 use Rattle.session_desk.specs.declared.session.Session.{Session}

@@ -1,14 +1,10 @@
 -- A step has one outcome, where each call has one answer.
-use Rattle.std.proofs.Common.{◌≡◌, ◌≢◌, ℕ, ◌-◌, Bool, true, false, List, [], ◌++◌, Option, Some, None, refl, sym, ap, ◌∙◌, subst}
+use Rattle.std.proofs.Common.{◌≡◌, ℕ, ◌-◌, Bool, true, false, List, ◌++◌, Option, Some, None, sym, ap, ◌∙◌, subst}
 use Rattle.std.specs.Option.{option_to_list}
 use Rattle.mqtt_wire.specs.declared.packet.Connect.{Connect}
 use Rattle.mqtt_wire.specs.declared.packet.ConnectRefusal.{ConnectRefusal}
 use Rattle.mqtt_wire.specs.declared.packet.Packet.{Packet}
 use Rattle.mqtt_wire.specs.declared.packet.Packet.TheVariants as packets
-use Rattle.group_jobs.specs.Stamps.{Held}
-use Rattle.member_window.specs.Contents.{Contents}
-use Rattle.session_desk.specs.declared.session.Session.{Session}
-use Rattle.session_desk.specs.declared.session.Membership.{Membership}
 use Rattle.conn_rules.specs.declared.connecting.FirstAnswer.{FirstAnswer}
 use Rattle.conn_rules.specs.declared.connecting.FirstAnswer.TheVariants as first
 use Rattle.conn_rules.specs.Connecting.{first_answer, is_given_expiry}
@@ -23,7 +19,7 @@ use Rattle.conn_engine.specs.declared.standing.Standing.{Standing}
 use Rattle.conn_engine.specs.declared.standing.Standing.TheVariants.{Unconnected, Waiting, Connected, Ended}
 use Rattle.conn_engine.specs.Facts.{Fact}
 use Rattle.conn_engine.specs.Asking.{OneAnswer}
-use Rattle.conn_engine.specs.Ending.{down, Parts, Sweeps}
+use Rattle.conn_engine.specs.Ending.{down}
 use Rattle.conn_engine.specs.Connecting.{Attaches}
 use Rattle.conn_engine.specs.Answering.{Answers, Disconnects, DisconnectsIf, with_session, joining}
 use Rattle.conn_engine.specs.Step.{request_of, hearing, after_hand_out, IsClosed, IsRefusedIf, WaitsForConnect, IsParted, AnswersFirst, Concludes, AnswersPacket, IsHeard, AnswersTick, IsKicked, AnswersUnlessKicked, Reacts, Hands, Steps}
@@ -104,7 +100,7 @@ module _ {S P : Type 0} (call : S → Fact P → S → Type 0) (AreAlike : S →
   packet_answered a a' b b' number link now packet s t r u alike h k =
       let one = answered packet a h.1 b k.1 number (hearing link now) h.0 k.0 r u alike h.2 k.2 in
       let done = concluded r.next h.1 a' k.1 b' h.0 now s t one.2 h.3
-          (subst (λ l. Concludes call slot_of k.1 l now r.next t b') (sym one.0) (subst (λ (w : Reply). Concludes call slot_of k.1 k.0 now w.next t b') (sym one.1) k.3)) in
+      (subst (λ l. Concludes call slot_of k.1 l now r.next t b') (sym one.0) (subst (λ (w : Reply). Concludes call slot_of k.1 k.0 now w.next t b') (sym one.1) k.3)) in
       ((done.0, one.1), done.1)
 
   heard : (silent : Bool) (a a' b b' : S) (link : Link P) (now : ℕ) (s t : Standing P) (r u : Reply) → AreAlike a b
@@ -181,10 +177,9 @@ module _ {S P : Type 0} (call : S → Fact P → S → Type 0) (AreAlike : S →
       → Steps call slot_of a number standing now input xs next s a' → Steps call slot_of b number standing now input ys next' t b' → AreOneStep xs ys next next' s t a' b'
   stepped a a' b b' number standing now input xs ys next next' s t alike h k =
       let one = reacted standing input a h.mid b k.mid number now h.between k.between h.reply k.reply alike h.reacts k.reacts in
-      let hands = handed h.between h.mid a' k.mid b' h.sent k.sent s t one.1 h.hands (subst (λ x. Hands call slot_of k.mid x k.sent t b') (sym one.0.0) k.hands) in
-      (
-      h.written ∙ (λ i. option_to_list (one.0.1 i).packet ++ hands.0 i) ∙ sym k.written,
-      h.followed ∙ ap (λ (w : Reply). w.next) one.0.1 ∙ sym k.followed,
-      hands.1,
-      hands.2,
+      let hands = handed h.between h.mid a' k.mid b' h.sent k.sent s t one.1 h.hands (subst (λ x. Hands call slot_of k.mid x k.sent t b') (sym one.0.0) k.hands) in (
+        h.written ∙ (λ i. option_to_list (one.0.1 i).packet ++ hands.0 i) ∙ sym k.written,
+        h.followed ∙ ap (λ (w : Reply). w.next) one.0.1 ∙ sym k.followed,
+        hands.1,
+        hands.2,
       )

@@ -1,5 +1,5 @@
 -- Each call of brokers that are alike has one answer.
-use Rattle.std.proofs.Common.{◌≡◌, ◌≢◌, ◌⊎◌, ℕ, ◌<◌, ◌≤◌, ◌++◌, Bool, List, [], ◌∷◌, length, Option, Some, None, Result, Ok, Err, refl, sym, ap, ◌∙◌, subst, inl, inr, arith}
+use Rattle.std.proofs.Common.{◌≡◌, ◌≢◌, ℕ, Bool, List, Option, Some, None, Result, Ok, Err, refl, sym, ap, ◌∙◌, subst, inl, inr, arith}
 use Rattle.std.proofs.lemmas.Option.{same_Some}
 use Rattle.mqtt_topic.specs.Names.{Share}
 use Rattle.mqtt_topic.specs.Routes.{slot_of, routed, places_of}
@@ -24,10 +24,10 @@ use Rattle.conn_engine.specs.Facts.{Fact}
 use Rattle.conn_engine.specs.Facts.Fact.{Attach, Withdraw, Kicked, Park, ParkAsIs, Keep, Bury, Sweep, LendPlace, TakePlace, Bind, Find, Match, Offer, Take, TakeBack, Settle, GiveBack}
 use Rattle.conn_engine.specs.Asking.{IsSameQuestion, HadMemory}
 use Rattle.local_broker.specs.Places.{GroupPlace, cell_of}
-use Rattle.local_broker.specs.Groups.{IsOffered, HandsOut, HandsOutAgain, IsSettled, IsGivenBack, InGroup}
+use Rattle.local_broker.specs.Groups.{IsOffered, HandsOut, HandsOutAgain, IsSettled, IsGivenBack}
 use Rattle.local_broker.specs.Broker.{Broker}
 use Rattle.local_broker.specs.Alike.{AreAlikeInEachSlot, AreAlike}
-use Rattle.local_broker.specs.Calls.{AsksDesk, AsksRoutes, AsksGroup, Binds, OffersFrom, Calls, Closes}
+use Rattle.local_broker.specs.Calls.{AsksDesk, AsksGroup, Binds, OffersFrom, Calls, Closes}
 use Rattle.local_broker.proofs.OneGroup.{in_group, one_offer, one_take, one_take_back, one_settle, one_give_back, one_close}
 
 -- what a call of the desk says of its answer
@@ -115,7 +115,7 @@ module _ (one other one' other' : Broker) (alike : AreAlike one other) where
       → Calls one (GiveBack place after envelope (Ok done)) one' → Calls other (GiveBack place behind envelope y) other' → (GiveBack place after envelope (Ok done) ≡ its) × AreAlike one' other'
   given_back place after envelope its behind done (Ok also) is a b =
       let both = in_group {X = Unit {0}} one.groups other.groups one'.groups other'.groups place.slot (λ g h. IsGivenBack g place.number envelope h) (λ g h. IsGivenBack g place.number envelope h) alike.groups
-          (λ g h g' h' like c d. (tt, one_give_back g h g' h' like place.number envelope c d)) a.0 b.0 in
+      (λ g h g' h' like c d. (tt, one_give_back g h g' h' like place.number envelope c d)) a.0 b.0 in
       (ap (λ p. GiveBack place p envelope (Ok done)) (a.1 ∙ sym b.1) ∙ sym is, groups_alike a.2 b.2 both.1)
   given_back place after envelope its behind done (Err back) is a b = absurd b
 
@@ -149,11 +149,14 @@ module _ (one other one' other' : Broker) (alike : AreAlike one other) where
   one_answer (Bind share x) its law asks had also a b =
       let b' = rw asks.1 at b in
       let bound = one_bind one.routes one'.routes other'.routes share x asks.0 had (rw asks.1 at also) a.0 (subst (λ old. Binds old share asks.0 other'.routes) (sym alike.routes) b'.0) in
-      told (Bind share) x asks.0 its asks.1 (bound.0, record {
-        desk = a.1.desk ∙ alike.desk ∙ sym b'.1.desk;
-        routes = bound.1;
-        groups = same_groups one.groups other.groups one'.groups other'.groups alike.groups a.1.groups b'.1.groups;
-      })
+      told (Bind share) x asks.0 its asks.1 (
+        bound.0,
+        record {
+          desk = a.1.desk ∙ alike.desk ∙ sym b'.1.desk;
+          routes = bound.1;
+          groups = same_groups one.groups other.groups one'.groups other'.groups alike.groups a.1.groups b'.1.groups;
+        },
+      )
   one_answer (Find share x) its law asks had also a b =
       let b' = rw asks.1 at b in told (Find share) x asks.0 its asks.1 (a.0 ∙ ap (slot_of share.text) alike.routes ∙ sym b'.0, same a.1 b'.1)
   one_answer (Match topic x) its law asks had also a b =
@@ -166,18 +169,18 @@ module _ (one other one' other' : Broker) (alike : AreAlike one other) where
       let b' = rw asks.2 at b in
       let also' = rw asks.2 at also in
       let done = in_group one.groups other.groups one'.groups other'.groups place.slot (λ g h. HandsOut g place.number x h) (λ g h. HandsOut g place.number asks.1 h) alike.groups
-          (λ g h g' h' like c d. one_take g h g' h' like place.number x asks.1 had also' c d) a.0 b'.0 in
+      (λ g h g' h' like c d. one_take g h g' h' like place.number x asks.1 had also' c d) a.0 b'.0 in
       placed (Take place) place after asks.0 x asks.1 its asks.2 a.1 b'.1 (done.0, groups_alike a.2 b'.2 done.1)
   one_answer (TakeBack place after x) its law asks had also a b =
       let b' = rw asks.2 at b in
       let also' = rw asks.2 at also in
       let done = in_group one.groups other.groups one'.groups other'.groups place.slot (λ g h. HandsOutAgain g place.number x h) (λ g h. HandsOutAgain g place.number asks.1 h) alike.groups
-          (λ g h g' h' like c d. one_take_back g h g' h' like place.number x asks.1 had also' c d) a.0 b'.0 in
+      (λ g h g' h' like c d. one_take_back g h g' h' like place.number x asks.1 had also' c d) a.0 b'.0 in
       placed (TakeBack place) place after asks.0 x asks.1 its asks.2 a.1 b'.1 (done.0, groups_alike a.2 b'.2 done.1)
   one_answer (Settle place after envelope fate) its law asks had also a b =
       let b' = rw asks.1 at b in
       let done = in_group {X = Unit {0}} one.groups other.groups one'.groups other'.groups place.slot (λ g h. IsSettled g place.number envelope fate h) (λ g h. IsSettled g place.number envelope fate h) alike.groups
-          (λ g h g' h' like c d. (tt, one_settle g h g' h' like place.number envelope fate c d)) a.0 b'.0 in
+      (λ g h g' h' like c d. (tt, one_settle g h g' h' like place.number envelope fate c d)) a.0 b'.0 in
       (ap (λ p. Settle place p envelope fate) (a.1 ∙ sym b'.1) ∙ sym asks.1, groups_alike a.2 b'.2 done.1)
   one_answer (GiveBack place after envelope (Ok done)) its law asks had also a b = given_back place after envelope its asks.0 done asks.1 asks.2 a (rw asks.2 at b)
   one_answer (GiveBack place after envelope (Err back)) its law asks had also a b = absurd a

@@ -1,12 +1,11 @@
 -- Two new brokers of the same shares are alike, and so is what alike brokers tell.
-use Rattle.std.proofs.Common.{◌≡◌, ℕ, ◌<◌, List, length, slice_get, get_or, Option, Some, None, sym, ap, ◌∙◌, subst, arith}
+use Rattle.std.proofs.Common.{◌≡◌, ℕ, ◌<◌, List, slice_get, Some, sym, ap, ◌∙◌, arith}
 use Rattle.std.proofs.lemmas.List.{same_lists}
 use Rattle.std.proofs.lemmas.Option.{same_Some, get_or_from_slice_get}
 use Rattle.mqtt_topic.specs.Names.{Share}
 use Rattle.group_jobs.specs.Stamps.{Held}
 use Rattle.group_jobs.specs.Reports.{report_line}
 use Rattle.session_desk.specs.Books.{Books, new_books, with_free}
-use Rattle.local_group.specs.Groups.{Group}
 use Rattle.local_group.proofs.Alike.{fresh}
 use Rattle.local_broker.specs.Places.{GroupPlace, place_at}
 use Rattle.local_broker.specs.Broker.{Broker, HasAllPlaces, IsNewBroker}
@@ -17,10 +16,10 @@ use Rattle.local_broker.proofs.OneReport.{one_line}
 one_desk : (one other : Books Held GroupPlace) → HasAllPlaces one → HasAllPlaces other → one ≡ other
 one_desk one other a b =
     let free : one.free ≡ other.free =
-        same_lists one.free other.free (a.cells ∙ sym b.cells)
-        (λ cell d less.
-        (let small : cell < 256 = (let many = a.cells in omega arith) in
-        get_or_from_slice_get one.free cell (Some (place_at cell)) d (a.free cell small) ∙ sym (get_or_from_slice_get other.free cell (Some (place_at cell)) d (b.free cell small)))) in
+    same_lists one.free other.free (a.cells ∙ sym b.cells)
+    (λ cell d less.
+    (let small : cell < 256 = (let many = a.cells in omega arith) in
+    get_or_from_slice_get one.free cell (Some (place_at cell)) d (a.free cell small) ∙ sym (get_or_from_slice_get other.free cell (Some (place_at cell)) d (b.free cell small)))) in
     a.books ∙ ap (with_free new_books) free ∙ sym b.books
 
 pub one_new : (capacity : ℕ) (shares : List Share) (one other : Broker) → IsNewBroker capacity shares one → IsNewBroker capacity shares other → AreAlike one other

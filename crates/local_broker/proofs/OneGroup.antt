@@ -1,10 +1,9 @@
 -- A call of groups that are alike has one answer.
-use Rattle.std.proofs.Common.{◌≡◌, ◌≢◌, ◌⊎◌, ℕ, zero, suc, ◌<◌, ◌≤◌, true, false, List, [], ◌∷◌, length, slice_get, slice_set, Option, Some, None, Result, Ok, Err, refl, sym, ap, ◌∙◌, subst, ⊎_elim, inl, inr, arith}
+use Rattle.std.proofs.Common.{◌≡◌, ◌≢◌, ◌⊎◌, ℕ, zero, suc, true, false, List, [], ◌∷◌, length, slice_get, slice_set, Option, Some, None, Result, Ok, Err, refl, sym, ap, ◌∙◌, subst, ⊎_elim, inl, inr, arith}
 use Rattle.std.proofs.lemmas.Bool.{cases_eq, false≢true}
 use Rattle.std.proofs.lemmas.List.{length-set}
 use Rattle.std.proofs.lemmas.Option.{slice_get_within, same_Some}
 use Rattle.dispatch_core.specs.GroupState.{accepted_of}
-use Rattle.dispatch_core.specs.Step.{next_job}
 use Rattle.dispatch_core.specs.declared.event.Job.{Job}
 use Rattle.dispatch_core.proofs.ExactLaws.{same_next}
 use Rattle.dispatch_core.proofs.Spots.{slice_get-set_same, slice_get-set_other}
@@ -14,14 +13,14 @@ use Rattle.group_jobs.specs.declared.stamp.Stamp.{Stamp}
 use Rattle.group_jobs.specs.Stamps.{Held}
 use Rattle.local_group.specs.declared.error.OfferError.{OfferError}
 use Rattle.local_group.specs.declared.error.OfferError.TheVariants as why
-use Rattle.local_group.specs.Groups.{Group, life, MayOffer, MayNotOffer, Settles, GivesBack}
+use Rattle.local_group.specs.Groups.{Group, MayOffer, MayNotOffer}
 use Rattle.local_group.specs.Alike.{AreAlike}
 use Rattle.local_group.proofs.Alike as groups
 use Rattle.conn_engine.specs.declared.supply.NoMemory.{NoMemory}
 use Rattle.conn_engine.specs.declared.supply.OfferRefusal.{OfferRefusal}
 use Rattle.conn_engine.specs.declared.supply.OfferRefusal.TheVariants as refusal
 use Rattle.conn_engine.specs.Asking.{IsTold}
-use Rattle.local_broker.specs.Groups.{told_as, RefusesOffer, IsOffered, HandsOut, HandsOutAgain, IsOutAt, LetsGo, IsSettled, IsGivenBack, InGroup, ClosesEach}
+use Rattle.local_broker.specs.Groups.{told_as, IsOffered, HandsOut, HandsOutAgain, IsOutAt, IsSettled, IsGivenBack, InGroup, ClosesEach}
 use Rattle.local_broker.specs.Alike.{AreAlikeInEachSlot}
 
 none_cons : {A : Type 0} (a : A) (list : List A) → [] ≡ a ∷ list → ⊥

@@ -1,11 +1,9 @@
 -- Brokers that are alike are both open, or neither; and what a call needs of them they go on to have.
-use Rattle.std.proofs.Common.{◌≡◌, ℕ, zero, suc, Bool, not, ◌&&◌, List, [], ◌∷◌, length, slice_get, Some, refl, sym, ap, ◌∙◌, arith}
+use Rattle.std.proofs.Common.{◌≡◌, suc, not, ◌&&◌, List, [], ◌∷◌, length, refl, sym, arith}
 use Rattle.std.specs.List.{list_all}
 use Rattle.session_desk.specs.Hands.{DeskLaw}
 use Rattle.local_group.specs.Groups.{Group}
-use Rattle.conn_engine.specs.Facts.{Fact}
 use Rattle.conn_engine.specs.Asking.{OneAnswer}
-use Rattle.local_broker.specs.Places.{GroupPlace}
 use Rattle.local_broker.specs.Broker.{Broker, is_open}
 use Rattle.local_broker.specs.Alike.{AreAlikeInEachSlot, AreAlike}
 use Rattle.local_broker.specs.Calls.{Calls, Closes}
@@ -20,7 +18,7 @@ all_open (one ∷ these) [] alike = absurd (let e : length (one ∷ these) ≡ 0
 all_open (one ∷ these) (other ∷ those) alike =
     let first : one.state.closed ≡ other.state.closed = sym (alike.each 0 one other refl refl).state.mark in
     let rest : list_all (λ group. not group.state.closed) these ≡ list_all (λ group. not group.state.closed) those =
-        all_open these those (record { as_many = (let e : length (one ∷ these) ≡ length (other ∷ those) = alike.as_many in omega arith); each = λ slot g h there here. alike.each (suc slot) g h there here }) in
+    all_open these those (record { as_many = (let e : length (one ∷ these) ≡ length (other ∷ those) = alike.as_many in omega arith); each = λ slot g h there here. alike.each (suc slot) g h there here }) in
     λ i. not (first i) && rest i
 
 pub same_open : (one other : Broker) → AreAlike one other → is_open one ≡ is_open other

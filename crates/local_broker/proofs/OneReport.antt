@@ -1,5 +1,5 @@
 -- What is reported of groups that are alike is one line.
-use Rattle.std.proofs.Common.{◌≡◌, ℕ, ◌+◌, ◌<◌, ◌≤◌, List, [], ◌∷◌, ◌++◌, length, sum, codes, get_or, Option, refl, sym, ap, ◌∙◌, ⊎_elim, arith}
+use Rattle.std.proofs.Common.{◌≡◌, ℕ, ◌+◌, ◌<◌, ◌≤◌, List, [], ◌∷◌, ◌++◌, length, sum, codes, Option, refl, sym, ap, ◌∙◌, arith}
 use Rattle.std.proofs.lemmas.Grind.{same_number_lists}
 use Rattle.mqtt_topic.specs.Names.{Share}
 use Rattle.dispatch_core.specs.declared.event.Job.{Job}
@@ -9,7 +9,6 @@ use Rattle.dispatch_core.specs.JobRuns.{count_of}
 use Rattle.dispatch_core.specs.Mentions.{AreSame}
 use Rattle.dispatch_core.proofs.ExactLaws.{same_next}
 use Rattle.dispatch_core.proofs.JobLists.{count_of-cons}
-use Rattle.group_jobs.specs.declared.fate.Fate.{Fate}
 use Rattle.group_jobs.specs.declared.fate.Fate.TheVariants.{Acknowledged, Refused}
 use Rattle.group_jobs.specs.declared.report.Report.{Report}
 use Rattle.group_jobs.specs.Reports.{report_line, labelled}
@@ -41,8 +40,8 @@ pub one_line : (one other : Group) (share : Share) (report report' : Report) →
 unfolding report_line
 one_line one other share report report' alike a b =
     let accepts : report.accepted.items ≡ report'.accepted.items =
-        same_number_lists report.accepted.items report'.accepted.items (a.ports ∙ sym b.ports)
-        (λ port less. (let small : port < 64 = (let many = a.ports in omega arith) in a.accepted port small ∙ accepted one.state other.state alike.state port ∙ sym (b.accepted port small))) in
+    same_number_lists report.accepted.items report'.accepted.items (a.ports ∙ sym b.ports)
+    (λ port less. (let small : port < 64 = (let many = a.ports in omega arith) in a.accepted port small ∙ accepted one.state other.state alike.state port ∙ sym (b.accepted port small))) in
     let acknowledged = listed one.state other.state (times_settled Acknowledged) (settled_as Acknowledged report.settled) (settled_as Acknowledged report'.settled) alike.state (a.settled Acknowledged) (b.settled Acknowledged) in
     let refused = listed one.state other.state (times_settled Refused) (settled_as Refused report.settled) (settled_as Refused report'.settled) alike.state (a.settled Refused) (b.settled Refused) in
     let held = listed one.state other.state times_out report.held.items report'.held.items alike.state a.held b.held in

@@ -1,9 +1,9 @@
 -- What a call makes of groups that are alike is alike.
-use Rattle.std.proofs.Common.{◌≡◌, ◌≢◌, ◌⊎◌, ℕ, ◌<◌, ◌≤◌, Bool, true, false, List, [], ◌∷◌, ◌++◌, length, Option, Some, None, refl, sym, ap, ◌∙◌, subst, ⊎_elim, inl, inr, arith}
+use Rattle.std.proofs.Common.{◌≡◌, ◌⊎◌, ℕ, Bool, true, false, List, [], ◌∷◌, ◌++◌, length, Some, refl, sym, ap, ◌∙◌, subst, ⊎_elim, inl, inr, arith}
 use Rattle.dispatch_core.specs.declared.event.Job.{Job}
 use Rattle.dispatch_core.specs.declared.event.Event.{Event}
-use Rattle.dispatch_core.specs.declared.event.Event.TheVariants.{First, Again, Back, Close}
-use Rattle.dispatch_core.specs.GroupState.{GroupState, accepted_of}
+use Rattle.dispatch_core.specs.declared.event.Event.TheVariants.{First, Again, Close}
+use Rattle.dispatch_core.specs.GroupState.{accepted_of}
 use Rattle.dispatch_core.specs.Step.{next_job}
 use Rattle.dispatch_core.proofs.ExactLaws.{same_step, same_next, same_start}
 use Rattle.group_jobs.specs.declared.fate.Fate.{Fate}
@@ -11,7 +11,7 @@ use Rattle.group_jobs.specs.declared.message.Message.{Message}
 use Rattle.group_jobs.specs.declared.stamp.Stamp.{Stamp}
 use Rattle.group_jobs.specs.Stamps.{Held as Envelope, job_of, stamp_of}
 use Rattle.local_group.specs.declared.waiting.Waiting.{Waiting}
-use Rattle.local_group.specs.Groups.{Group, IsHeld, IsFresh, Adds, Accepts, MayOffer, Takes, TakesBack, Settles, GivesBack, Closes, waits, held_by, event_of}
+use Rattle.local_group.specs.Groups.{Group, IsHeld, IsFresh, Adds, Accepts, MayOffer, Takes, TakesBack, Settles, GivesBack, Closes, waits, held_by}
 use Rattle.local_group.specs.Alike.{AreAlike}
 
 first_is : {A : Type 0} (a b : A) (these those : List A) → a ∷ these ≡ b ∷ those → a ≡ b

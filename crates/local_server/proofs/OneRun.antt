@@ -1,11 +1,10 @@
 -- A run of a server has one outcome.
-use Rattle.std.proofs.Common.{◌≡◌, ℕ, zero, suc, max, Bool, true, false, List, [], ◌∷◌, ◌++◌, Ok, Err, Result, Option, refl, sym, ap, ◌∙◌, subst}
+use Rattle.std.proofs.Common.{◌≡◌, ℕ, zero, suc, max, Bool, true, false, List, [], ◌∷◌, ◌++◌, Ok, sym, ap, ◌∙◌, subst}
 use Rattle.session_desk.specs.Hands.{DeskLaw}
 use Rattle.conn_engine.specs.declared.input.Input.TheVariants as inputs
-use Rattle.client_table.specs.Clients.{ClientState, Said}
-use Rattle.client_table.specs.Cells.{InCell, Opens, Receives, TicksFor, EndsFor}
+use Rattle.client_table.specs.Clients.{Said}
+use Rattle.client_table.specs.Cells.{Opens, Receives, TicksFor, EndsFor}
 use Rattle.client_table.proofs.OneCell.{in_cell, opens, received, ticked_for, ended_for}
-use Rattle.local_broker.specs.Places.{GroupPlace}
 use Rattle.local_broker.specs.Broker.{Broker, is_open}
 use Rattle.local_broker.specs.Calls.{Calls}
 use Rattle.local_broker.proofs.Happened.{new_desk}
@@ -74,9 +73,9 @@ happened one other one' other' moment event xs ys alike h k =
     let like = alike.1 in
     let clock : one'.clock ≡ other'.clock = h.clock ∙ ap (λ c. max c moment) like.clock ∙ sym k.clock in
     let its : DoesIf (is_open one.broker) event other.broker one.clients one'.clock ys (Ok tt) other'.clients other'.broker =
-        subst (λ b. DoesIf b event other.broker one.clients one'.clock ys (Ok tt) other'.clients other'.broker) (sym (same_open one.broker other.broker like.broker))
-        (subst (λ c. DoesIf (is_open other.broker) event other.broker c one'.clock ys (Ok tt) other'.clients other'.broker) (sym like.clients)
-        (subst (λ n. DoesIf (is_open other.broker) event other.broker other.clients n ys (Ok tt) other'.clients other'.broker) (sym clock) k.does)) in
+    subst (λ b. DoesIf b event other.broker one.clients one'.clock ys (Ok tt) other'.clients other'.broker) (sym (same_open one.broker other.broker like.broker))
+    (subst (λ c. DoesIf (is_open other.broker) event other.broker c one'.clock ys (Ok tt) other'.clients other'.broker) (sym like.clients)
+    (subst (λ n. DoesIf (is_open other.broker) event other.broker other.clients n ys (Ok tt) other'.clients other'.broker) (sym clock) k.does)) in
     let both = done_if (is_open one.broker) event one.broker one'.broker other.broker other'.broker one.clients one'.clients other'.clients one'.clock xs ys (alike.0, like.broker) h.does its in
     (both.1.0, (both.1.1.0, record { broker = both.1.1.1; clients = both.0; clock = clock }))
 

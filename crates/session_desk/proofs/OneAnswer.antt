@@ -1,5 +1,5 @@
 -- Each call of a desk has one answer, and makes one thing of the books.
-use Rattle.std.proofs.Common.{◌≡◌, ◌≢◌, ◌⊎◌, ℕ, ◌<◌, ◌≤◌, Bool, true, false, IsTrue, ◌↔◌, List, [], Option, Some, None, refl, sym, ap, ◌∙◌, ⊎_elim, inl, inr, arith, slice_set, slice_get}
+use Rattle.std.proofs.Common.{◌≡◌, ◌⊎◌, ℕ, ◌<◌, ◌≤◌, Bool, true, false, IsTrue, ◌↔◌, List, Option, Some, None, refl, sym, ap, ◌∙◌, ⊎_elim, inl, inr, arith, slice_set, slice_get}
 use Rattle.std.specs.FinMap as map
 use Rattle.std.proofs.lemmas.Bool.{cases_lt}
 use Rattle.std.proofs.lemmas.Option.{same_Some}
@@ -7,11 +7,11 @@ use Rattle.session_desk.specs.declared.session.Session.{Session}
 use Rattle.session_desk.specs.declared.row.Row.{Row}
 use Rattle.session_desk.specs.declared.row.Standing.{Standing}
 use Rattle.session_desk.specs.declared.row.Standing.TheVariants.{Lent, Parked, Kept, Away}
-use Rattle.session_desk.specs.Rows.{Rows, HasRow, NoRow, IsKept, IsOverdue, IsOldest, IsRowOf, away}
+use Rattle.session_desk.specs.Rows.{Rows, NoRow, IsKept, IsOverdue, IsOldest, IsRowOf, away}
 use Rattle.session_desk.specs.Books.{Books, IsKicked, with_rows, with_free, after_park, after_end, after_keep}
 use Rattle.session_desk.specs.Hands.{DeskLaw}
-use Rattle.session_desk.specs.Keeping.{IsLent, IsAway, EndsLent, ParksLent, KeepsLent, KeepsAway, CanBury, Parks, ParksAsIs, Keeps, Buries, parked_at}
-use Rattle.session_desk.specs.Places.{IsFreeAt, IsLeast, LendsPlace, TakesPlace, cell_at}
+use Rattle.session_desk.specs.Keeping.{IsLent, EndsLent, Parks, ParksAsIs, Keeps, Buries, parked_at}
+use Rattle.session_desk.specs.Places.{IsLeast, LendsPlace, TakesPlace, cell_at}
 use Rattle.session_desk.specs.Sweeping.{HandsOut, Sweeps}
 use Rattle.session_desk.specs.Calls.{Call, Attach, Withdraw, Kicked, Park, ParkAsIs, Keep, Bury, Sweep, LendPlace, TakePlace, Makes}
 use Rattle.session_desk.specs.Asking.{IsSameQuestion, HadMemory}
@@ -116,9 +116,9 @@ module _ {P : Type 0} (old new new' : List (Option P)) (slot : ℕ) where
       let not_less : (h.number < k.number) → ⊥ = λ less. k.least h.number h.place less (ap (slice_get old) (sym h.at) ∙ h.is_free) in
       let not_more : (k.number < h.number) → ⊥ = λ more. h.least k.number k.place more (ap (slice_get old) (sym k.at) ∙ k.is_free) in
       let number : h.number ≡ k.number =
-          ⊎_elim (λ (less : h.number < k.number). absurd (not_less less))
-          (λ (l : k.number ≤ h.number). ⊎_elim (λ (more : k.number < h.number). absurd (not_more more)) (λ (m : h.number ≤ k.number). omega arith) (cases_lt k.number h.number))
-          (cases_lt h.number k.number) in
+      ⊎_elim (λ (less : h.number < k.number). absurd (not_less less))
+      (λ (l : k.number ≤ h.number). ⊎_elim (λ (more : k.number < h.number). absurd (not_more more)) (λ (m : h.number ≤ k.number). omega arith) (cases_lt k.number h.number))
+      (cases_lt h.number k.number) in
       let cell : c ≡ d = h.at ∙ ap (cell_at slot) number ∙ sym k.at in
       (cell, same_Some h.place k.place (same_Some (Some h.place) (Some k.place) (sym h.is_free ∙ ap (slice_get old) cell ∙ k.is_free)))
 

@@ -1,5 +1,5 @@
 -- A connection that asks for a session has one answer.
-use Rattle.std.proofs.Common.{◌≡◌, ◌≢◌, ℕ, ◌<◌, ◌≤◌, ◌⊎◌, true, List, [], ◌∷◌, Option, Some, None, Result, Ok, Err, refl, sym, ap, ◌∙◌, ⊎_elim, inl, inr, arith}
+use Rattle.std.proofs.Common.{◌≡◌, ◌≢◌, ℕ, ◌<◌, ◌≤◌, true, List, [], ◌∷◌, Some, None, Result, Ok, Err, refl, sym, ap, ◌∙◌, ⊎_elim, inl, inr, arith}
 use Rattle.std.specs.FinMap as map
 use Rattle.std.proofs.lemmas.Bool.{cases_lt}
 use Rattle.std.proofs.lemmas.Option.{same_Some}
@@ -15,7 +15,7 @@ use Rattle.session_desk.specs.Rows.{Rows, NoneLivesAs, is_living}
 use Rattle.session_desk.specs.Names.{assigned_name, IsNextName, NoNameLeft}
 use Rattle.session_desk.specs.Books.{Books, after_new, after_name, after_lend, after_replace, after_end, new_session}
 use Rattle.session_desk.specs.Hands.{DeskLaw}
-use Rattle.session_desk.specs.Attaching.{Request, IsClients, IsStale, HasStale, WantsNew, IsNew, BeginsFirst, BeginsOver, Resumes, Replaces, IsBusy, Names, AttachesClient, AttachesUnnamed, attaches_by}
+use Rattle.session_desk.specs.Attaching.{Request, IsClients, IsStale, HasStale, WantsNew, BeginsFirst, BeginsOver, Resumes, Replaces, IsBusy, Names, AttachesClient, AttachesUnnamed, attaches_by}
 
 -- the same answer, and the same books behind it
 abbrev pub AreOne : {A E P : Type 0} → A → A → Books E P → Books E P → Type 0
@@ -175,10 +175,9 @@ no_name rows assigned n is none = is.unused (none n is.above is.last)
 module _ {E P : Type 0} (old : Books E P) (connection : ℕ) where
   named_twice : (a b : Session E P) (new new' : Books E P) → Names old connection a new → Names old connection b new' → AreOne {A = Result (Attached E P) DeskError} (Ok (New a None)) (Ok (New b None)) new new'
   named_twice a b new new' h k =
-      let n = one_name old.rows old.assigned h.number k.number h.next k.next in
-      (
-      ap (λ s. Ok (New s None)) (h.is_new.is ∙ ap (λ m. new_session (record { number = old.made; client = assigned_name m })) n ∙ sym k.is_new.is),
-      h.after ∙ ap (λ m. after_name (after_new old (assigned_name m) connection) m) n ∙ sym k.after,
+      let n = one_name old.rows old.assigned h.number k.number h.next k.next in (
+        ap (λ s. Ok (New s None)) (h.is_new.is ∙ ap (λ m. new_session (record { number = old.made; client = assigned_name m })) n ∙ sym k.is_new.is),
+        h.after ∙ ap (λ m. after_name (after_new old (assigned_name m) connection) m) n ∙ sym k.after,
       )
 
   -- for one without
