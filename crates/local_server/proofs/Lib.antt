@@ -4,3 +4,4 @@ pub mod Happened
 pub mod Quotas
 pub mod Headline
 pub mod Addressed
+pub mod Emptied
