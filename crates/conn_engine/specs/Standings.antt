@@ -18,6 +18,13 @@ IsWaiting (Waiting request ticks) = ⊤
 IsWaiting (Connected link) = ⊥
 IsWaiting Ended = ⊥
 
+-- its client has its session
+abbrev pub IsConnected : {P : Type 0} → Standing P → Type 0
+IsConnected (Unconnected opened) = ⊥
+IsConnected (Waiting request ticks) = ⊥
+IsConnected (Connected link) = ⊤
+IsConnected Ended = ⊥
+
 -- a connection: its number, and how far it has come
 pub record ConnState (P : Type 0) : Type 0 where
   pub number : ℕ

@@ -1,5 +1,5 @@
 -- One step of a connection: its reply, and what is handed out behind it.
-use Rattle.std.specs.Prelude.{◌≡◌, ◌⊎◌, ℕ, ◌-◌, max, Bool, true, false, List, [], ◌++◌, Option, Some, None, ⊤}
+use Rattle.std.specs.Prelude.{◌≡◌, ◌⊎◌, ℕ, ◌-◌, max, Bool, true, false, List, [], ◌++◌, Option, Some, None, Result, Ok, Err, ⊤}
 use Rattle.std.specs.Option.{option_to_list}
 use Rattle.mqtt_wire.specs.declared.packet.Connect.{Connect}
 use Rattle.mqtt_wire.specs.declared.packet.ConnectRefusal.{ConnectRefusal}
@@ -18,6 +18,7 @@ use Rattle.conn_engine.specs.declared.input.Input.TheVariants as inputs
 use Rattle.conn_engine.specs.declared.input.Then.{Then}
 use Rattle.conn_engine.specs.declared.input.Then.TheVariants.{Go, Close, Kicked}
 use Rattle.conn_engine.specs.declared.reply.Reply.{Reply}
+use Rattle.conn_engine.specs.declared.supply.NoMemory.{NoMemory}
 use Rattle.conn_engine.specs.declared.standing.ConnectRequest.{ConnectRequest}
 use Rattle.conn_engine.specs.declared.standing.Link.{Link}
 use Rattle.conn_engine.specs.declared.standing.Standing.{Standing}
@@ -58,6 +59,11 @@ IsRefusedIf None standing reply = IsClosed standing reply
 abbrev pub WaitsForConnect : {P : Type 0} → Bool → ℕ → Standing P → Reply → Type 0
 WaitsForConnect true opened standing reply = IsClosed standing reply
 WaitsForConnect false opened standing reply = (standing ≡ Unconnected opened) × (reply ≡ going_on None)
+
+-- the connection goes on behind a reply
+abbrev pub GoesOn : Result Reply NoMemory → Type 0
+GoesOn (Ok reply) = reply.next ≡ Go
+GoesOn (Err refusal) = ⊥
 
 -- no packet came, and no fault
 abbrev pub IsNoPacket : Input → Type 0

@@ -22,39 +22,34 @@ pub(crate) fn answer<P: Place, S: Supply<P>>(
     supply: &mut S,
     alloc: Global,
     number: u16,
-    link: Link<P>,
+    link: &mut Link<P>,
     packet: Packet,
-) -> (Link<P>, Result<Reply, NoMemory>)
-    requires { link.session.window.retired ≡ false }
-    ensures answered { MatchResult result.1
-        (λ reply. Answers S.call P.slot_of supply.old number link packet result.0 reply supply.new)
-        (λ _. FailsToAnswer S.call P.slot_of supply.old number link packet result.0 supply.new) }
-    ensures sound { result.0.session.window.retired ≡ false }
+) -> Result<Reply, NoMemory>
+    requires { link.old.session.window.retired ≡ false }
+    ensures answered { MatchResult result
+        (λ reply. Answers S.call P.slot_of supply.old number link.old packet link.new reply supply.new)
+        (λ _. FailsToAnswer S.call P.slot_of supply.old number link.old packet link.new supply.new) }
+    ensures sound { link.new.session.window.retired ≡ false }
 {
     match packet {
-        Packet::Publish(packet) => (link, publish(supply, alloc, number, packet)),
+        Packet::Publish(packet) => publish(supply, alloc, number, packet),
         Packet::Puback(packet) => {
             let (identifier, code) = (packet.packet_identifier, packet.reason_code);
             drop(packet);
-            let mut link = link;
             acknowledge(supply, &mut link.session, identifier, code);
-            (link, Ok(Reply::going_on(None)))
+            Ok(Reply::going_on(None))
         }
         Packet::Subscribe(packet) => join(supply, alloc, link, packet),
         Packet::Unsubscribe(packet) => leave(supply, alloc, link, packet),
-        Packet::Pingreq => (link, Ok(Reply::going_on(Some(Packet::Pingresp)))),
+        Packet::Pingreq => Ok(Reply::going_on(Some(Packet::Pingresp))),
         Packet::Disconnect(packet) => {
             let expiry = packet.properties.session_expiry_interval;
             drop(packet);
-            let (link, reply) = disconnect(alloc, link, expiry);
-            (link, Ok(reply))
+            Ok(disconnect(alloc, link, expiry))
         }
         other => {
             drop(other);
-            (
-                link,
-                Ok(Reply::closing_with(alloc, ReasonCode::PROTOCOL_ERROR)),
-            )
+            Ok(Reply::closing_with(alloc, ReasonCode::PROTOCOL_ERROR))
         }
     }
 }
@@ -63,52 +58,52 @@ pub(crate) fn answer<P: Place, S: Supply<P>>(
 fn join<P: Place, S: Supply<P>>(
     supply: &mut S,
     alloc: Global,
-    mut link: Link<P>,
+    link: &mut Link<P>,
     packet: Subscribe,
-) -> (Link<P>, Result<Reply, NoMemory>)
-    requires { link.session.window.retired ≡ false }
-    ensures answered { MatchResult result.1
-        (λ reply. Answers S.call P.slot_of supply.old 0 link (packets.Subscribe packet) result.0 reply supply.new)
-        (λ _. FailsToAnswer S.call P.slot_of supply.old 0 link (packets.Subscribe packet) result.0 supply.new) }
-    ensures sound { result.0.session.window.retired ≡ false }
+) -> Result<Reply, NoMemory>
+    requires { link.old.session.window.retired ≡ false }
+    ensures answered { MatchResult result
+        (λ reply. Answers S.call P.slot_of supply.old 0 link.old (packets.Subscribe packet) link.new reply supply.new)
+        (λ _. FailsToAnswer S.call P.slot_of supply.old 0 link.old (packets.Subscribe packet) link.new supply.new) }
+    ensures sound { link.new.session.window.retired ≡ false }
 {
     let membership = link.take_membership();
     let (membership, replied) = subscribe(supply, alloc, membership, &link.terms, packet);
     link.put_membership(membership);
-    (link, replied)
+    replied
 }
 
 /// Answers an UNSUBSCRIBE.
 fn leave<P: Place, S: Supply<P>>(
     supply: &mut S,
     alloc: Global,
-    mut link: Link<P>,
+    link: &mut Link<P>,
     packet: Unsubscribe,
-) -> (Link<P>, Result<Reply, NoMemory>)
-    requires { link.session.window.retired ≡ false }
-    ensures answered { MatchResult result.1
-        (λ reply. Answers S.call P.slot_of supply.old 0 link (packets.Unsubscribe packet) result.0 reply supply.new)
-        (λ _. FailsToAnswer S.call P.slot_of supply.old 0 link (packets.Unsubscribe packet) result.0 supply.new) }
-    ensures sound { result.0.session.window.retired ≡ false }
+) -> Result<Reply, NoMemory>
+    requires { link.old.session.window.retired ≡ false }
+    ensures answered { MatchResult result
+        (λ reply. Answers S.call P.slot_of supply.old 0 link.old (packets.Unsubscribe packet) link.new reply supply.new)
+        (λ _. FailsToAnswer S.call P.slot_of supply.old 0 link.old (packets.Unsubscribe packet) link.new supply.new) }
+    ensures sound { link.new.session.window.retired ≡ false }
 {
     let membership = link.take_membership();
     let (membership, replied) = unsubscribe(supply, alloc, membership, packet);
     link.put_membership(membership);
-    (link, replied)
+    replied
 }
 
 /// Answers a DISCONNECT with this Session Expiry Interval (section 3.14).
-fn disconnect<P>(alloc: Global, mut link: Link<P>, expiry: Option<u32>) -> (Link<P>, Reply)
-    requires { link.session.window.retired ≡ false }
-    ensures answered { Disconnects link expiry result.0 result.1 }
-    ensures sound { result.0.session.window.retired ≡ false }
+fn disconnect<P>(alloc: Global, link: &mut Link<P>, expiry: Option<u32>) -> Reply
+    requires { link.old.session.window.retired ≡ false }
+    ensures answered { Disconnects link.old expiry link.new result }
+    ensures sound { link.new.session.window.retired ≡ false }
 {
     let Some(seconds) = expiry else {
-        return (link, Reply::closed(None));
+        return Reply::closed(None);
     };
     if link.terms.is_given_expiry(seconds) {
-        return (link, Reply::closing_with(alloc, ReasonCode::PROTOCOL_ERROR));
+        return Reply::closing_with(alloc, ReasonCode::PROTOCOL_ERROR);
     }
     link.session.expiry.seconds = seconds;
-    (link, Reply::closed(None))
+    Reply::closed(None)
 }

@@ -4,13 +4,13 @@ ghost use Rattle.mqtt_wire.specs.declared.packet.Packet.{Packet};
 ghost use Rattle.conn_engine.specs.declared.standing.Standing.TheVariants as standings;
 ghost use Rattle.conn_engine.specs.Standings.{IsSoundStanding, IsWaiting};
 ghost use Rattle.std.specs.Option.{option_to_list};
-ghost use Rattle.conn_engine.specs.Step.{IsWanted, Hands, HandsLess, GivesUp, Steps, FailsToStep};
+ghost use Rattle.conn_engine.specs.HandOuts.{HandsSome};
+ghost use Rattle.conn_engine.specs.Step.{IsWanted, Hands, HandsLess, Steps, FailsToStep, after_hand_out};
 
 use crate::connecting::is_waiting;
-use crate::ending::part;
 use crate::hand_outs::hand_out;
 use crate::input::{Input, Then};
-use crate::reacting::react;
+use crate::reacting::{give_up, let_go, react};
 use crate::reply::Reply;
 use crate::standing::{Link, Standing};
 use crate::supply::{NoMemory, Supply};
@@ -18,7 +18,6 @@ use mqtt_wire::Packet;
 use session_desk::Place;
 use std::alloc::Global;
 use std::marker::Model;
-use std::mem;
 
 /// A connection to a client. `P` is a place in a group.
 ///
@@ -105,91 +104,32 @@ impl<P: Place> Conn<P> {
             (λ _. (self.new.standing ≡ standings.Ended) × (packets.new.items ≡ [])
             × FailsToStep S.call P.slot_of supply.old self.old.number self.old.standing now input supply.new) }
     {
-        let standing = mem::replace(&mut self.standing, Standing::Ended);
-        let (standing, next) = step(
+        packets.clear();
+        if packets.reserve(1).is_err() {
+            drop(input);
+            give_up(supply, self.number, &mut self.standing, now);
+            return Err(NoMemory);
+        }
+        match react(
             supply,
             self.alloc,
             self.number,
-            standing,
+            &mut self.standing,
             now,
             input,
-            packets,
-        );
-        put(&mut self.standing, standing);
-        next
-    }
-}
-
-/// Puts a standing where that of a connection was taken from.
-fn put<P>(place: &mut Standing<P>, standing: Standing<P>)
-    requires { place.old ≡ standings.Ended }
-    ensures { place.new ≡ standing }
-{
-    let_go(mem::replace(place, standing));
-}
-
-/// Lets go of the standing of a connection that has ended.
-fn let_go<P>(standing: Standing<P>)
-    requires { standing ≡ standings.Ended }
-{
-    match standing {
-        Standing::Ended => {}
-        _other => unreachable!(),
-    }
-}
-
-/// One step of the connection with this number and this standing.
-fn step<P: Place, S: Supply<P>>(
-    supply: &mut S,
-    alloc: Global,
-    number: u16,
-    standing: Standing<P>,
-    now: u64,
-    input: Input,
-    packets: &mut Vec<Packet>,
-) -> (Standing<P>, Result<Then, NoMemory>)
-    requires known { number < 1024 }
-    requires sound { IsSoundStanding standing }
-    requires wanted { IsWanted standing input }
-    ensures stepped { MatchResult result.1
-        (λ next. Steps S.call P.slot_of supply.old number standing now input packets.new.items next result.0 supply.new)
-        (λ _. (result.0 ≡ standings.Ended) × (packets.new.items ≡ []) × FailsToStep S.call P.slot_of supply.old number standing now input supply.new) }
-    ensures sound { IsSoundStanding result.0 }
-{
-    packets.clear();
-    if let Err(_) = packets.reserve(1) {
-        drop(input);
-        give_up(supply, number, standing, now);
-        return (Standing::Ended, Err(NoMemory));
-    }
-    match react(supply, alloc, number, standing, now, input) {
-        (standing, Ok(reply)) => {
-            let next = write(reply, packets);
-            match hand(supply, alloc, standing, now, packets) {
-                (standing, Ok(())) => (standing, Ok(next)),
-                (standing, Err(NoMemory)) => {
-                    packets.clear();
-                    (standing, Err(NoMemory))
+        ) {
+            Ok(reply) => {
+                let next = write(reply, packets);
+                match hand(supply, self.alloc, self.number, &mut self.standing, now, packets) {
+                    Ok(()) => Ok(next),
+                    Err(NoMemory) => {
+                        packets.clear();
+                        Err(NoMemory)
+                    }
                 }
             }
+            Err(NoMemory) => Err(NoMemory),
         }
-        (standing, Err(NoMemory)) => (standing, Err(NoMemory)),
-    }
-}
-
-/// A connection is given up.
-fn give_up<P: Place, S: Supply<P>>(supply: &mut S, number: u16, standing: Standing<P>, now: u64)
-    requires { IsSoundStanding standing }
-    ensures { GivesUp S.call P.slot_of supply.old number standing now supply.new }
-{
-    match standing {
-        Standing::Unconnected { opened: _opened } => {}
-        Standing::Waiting {
-            request: _request,
-            ticks: _ticks,
-        } => supply.withdraw(number),
-        Standing::Connected(link) => part(supply, link.into_session(), now),
-        Standing::Ended => {}
     }
 }
 
@@ -210,19 +150,26 @@ fn write(reply: Reply, packets: &mut Vec<Packet>) -> Then
 fn hand<P: Place, S: Supply<P>>(
     supply: &mut S,
     alloc: Global,
-    standing: Standing<P>,
+    number: u16,
+    standing: &mut Standing<P>,
     now: u64,
     packets: &mut Vec<Packet>,
-) -> (Standing<P>, Result<(), NoMemory>)
-    requires { IsSoundStanding standing }
-    ensures handed { MatchResult result.1
-        (λ _. (sent : List Packet) × (packets.new.items ≡ packets.old.items ++ sent) × Hands S.call P.slot_of supply.old standing sent result.0 supply.new)
-        (λ _. (result.0 ≡ standings.Ended) × HandsLess S.call P.slot_of supply.old standing now supply.new) }
-    ensures sound { IsSoundStanding result.0 }
+) -> Result<(), NoMemory>
+    requires { IsSoundStanding standing.old }
+    ensures handed { MatchResult result
+        (λ _. (sent : List Packet) × (packets.new.items ≡ packets.old.items ++ sent) × Hands S.call P.slot_of supply.old standing.old sent standing.new supply.new)
+        (λ _. (standing.new ≡ standings.Ended) × HandsLess S.call P.slot_of supply.old standing.old now supply.new) }
+    ensures sound { IsSoundStanding standing.new }
 {
-    match standing {
-        Standing::Connected(link) => hand_to(supply, alloc, link, now, packets),
-        other => (other, Ok(())),
+    let Standing::Connected(link) = standing else {
+        return Ok(());
+    };
+    match hand_to(supply, alloc, link, packets) {
+        Ok(()) => Ok(()),
+        Err(NoMemory) => {
+            give_up(supply, number, standing, now);
+            Err(NoMemory)
+        }
     }
 }
 
@@ -230,25 +177,20 @@ fn hand<P: Place, S: Supply<P>>(
 fn hand_to<P: Place, S: Supply<P>>(
     supply: &mut S,
     alloc: Global,
-    mut link: Link<P>,
-    now: u64,
+    link: &mut Link<P>,
     packets: &mut Vec<Packet>,
-) -> (Standing<P>, Result<(), NoMemory>)
-    requires { link.session.window.retired ≡ false }
-    ensures handed { MatchResult result.1
-        (λ _. (sent : List Packet) × (packets.new.items ≡ packets.old.items ++ sent) × Hands S.call P.slot_of supply.old (standings.Connected link) sent result.0 supply.new)
-        (λ _. (result.0 ≡ standings.Ended) × HandsLess S.call P.slot_of supply.old (standings.Connected link) now supply.new) }
-    ensures sound { IsSoundStanding result.0 }
+) -> Result<(), NoMemory>
+    requires { link.old.session.window.retired ≡ false }
+    ensures handed { MatchResult result
+        (λ _. (sent : List Packet) × (packets.new.items ≡ packets.old.items ++ sent)
+        × Hands S.call P.slot_of supply.old (standings.Connected link.old) sent (standings.Connected link.new) supply.new)
+        (λ _. HandsSome S.call supply.old link.old.session.membership link.old.session.window link.new.session.membership link.new.session.window supply.new
+        × (link.new ≡ after_hand_out link.old link.new.session.membership link.new.session.window)) }
+    ensures sound { link.new.session.window.retired ≡ false }
 {
     let membership = link.take_membership();
     let window = &mut link.session.window;
     let (membership, handed) = hand_out(supply, alloc, membership, window, packets);
     link.put_membership(membership);
-    match handed {
-        Ok(()) => (Standing::Connected(link), Ok(())),
-        Err(NoMemory) => {
-            part(supply, link.into_session(), now);
-            (Standing::Ended, Err(NoMemory))
-        }
-    }
+    handed
 }

@@ -1,10 +1,14 @@
 //! What an input does to a connection, before anything is handed out.
-ghost use Rattle.std.specs.Prelude.{◌≡◌, ◌<◌, ◌≤◌, Ok, false, length, IfOk, IsOk, MatchResult};
+ghost use Rattle.std.specs.Prelude.{◌≡◌, ◌<◌, ◌≤◌, ◌↔◌, Ok, false, length, IfOk, IsOk, IsTrue, MatchResult};
 ghost use Rattle.conn_rules.specs.Connecting.{first_answer};
+ghost use Rattle.conn_rules.specs.Packets.{disconnect};
 ghost use Rattle.conn_rules.specs.declared.connecting.FirstAnswer.TheVariants as first;
 ghost use Rattle.conn_engine.specs.declared.standing.Standing.TheVariants as standings;
-ghost use Rattle.conn_engine.specs.Standings.{IsSoundStanding};
-ghost use Rattle.conn_engine.specs.Step.{request_of, IsNoPacket, IsWanted, IsClosed, AnswersFirst, Concludes, AnswersPacket, IsHeard, AnswersTick, IsKicked, Reacts, FailsOnPacket, FailsFirst, FailsToReact};
+ghost use Rattle.conn_engine.specs.Ending.{down};
+ghost use Rattle.conn_engine.specs.Facts.Fact.{ParkAsIs};
+ghost use Rattle.conn_engine.specs.Replies.{taken_over};
+ghost use Rattle.conn_engine.specs.Standings.{IsSoundStanding, IsConnected};
+ghost use Rattle.conn_engine.specs.Step.{request_of, IsNoPacket, IsWanted, IsClosed, AnswersFirst, AnswersPacket, AnswersTick, GoesOn, GivesUp, Reacts, FailsOnPacket, FailsFirst, FailsToReact};
 
 use crate::answering::answer;
 use crate::connecting::{attach, refuse, try_again};
@@ -20,8 +24,9 @@ use conn_rules::{
 use mqtt_wire::{Connect, Packet, ReasonCode};
 use session_desk::Place;
 use std::alloc::Global;
+use std::mem;
 
-/// The standing of a connection behind an input, and its reply.
+/// What an input does to the standing of a connection, and its reply.
 ///
 /// # Errors
 ///
@@ -30,6 +35,31 @@ pub(crate) fn react<P: Place, S: Supply<P>>(
     supply: &mut S,
     alloc: Global,
     number: u16,
+    standing: &mut Standing<P>,
+    now: u64,
+    input: Input,
+) -> Result<Reply, NoMemory>
+    requires known { number < 1024 }
+    requires sound { IsSoundStanding standing.old }
+    requires wanted { IsWanted standing.old input }
+    ensures reacted { MatchResult result
+        (λ reply. Reacts S.call P.slot_of supply.old number standing.old now input standing.new reply supply.new)
+        (λ _. (standing.new ≡ standings.Ended) × FailsToReact S.call P.slot_of supply.old number standing.old now input supply.new) }
+    ensures sound { IsSoundStanding standing.new }
+{
+    if is_connected(standing) {
+        return react_connected(supply, alloc, number, standing, now, input);
+    }
+    let before = mem::replace(standing, Standing::Ended);
+    let (behind, replied) = react_before(supply, number, before, now, input);
+    put(standing, behind);
+    replied
+}
+
+/// Before its client has its session, and where it has ended.
+fn react_before<P: Place, S: Supply<P>>(
+    supply: &mut S,
+    number: u16,
     standing: Standing<P>,
     now: u64,
     input: Input,
@@ -37,6 +67,7 @@ pub(crate) fn react<P: Place, S: Supply<P>>(
     requires known { number < 1024 }
     requires sound { IsSoundStanding standing }
     requires wanted { IsWanted standing input }
+    requires before { ¬ IsConnected standing }
     ensures reacted { MatchResult result.1
         (λ reply. Reacts S.call P.slot_of supply.old number standing now input result.0 reply supply.new)
         (λ _. (result.0 ≡ standings.Ended) × FailsToReact S.call P.slot_of supply.old number standing now input supply.new) }
@@ -49,11 +80,58 @@ pub(crate) fn react<P: Place, S: Supply<P>>(
         Standing::Waiting { request, ticks } => {
             react_waiting(supply, number, request, ticks, now, input)
         }
-        Standing::Connected(link) => react_connected(supply, alloc, number, link, now, input),
         Standing::Ended => {
             drop(input);
             close()
         }
+        _other => unreachable!(),
+    }
+}
+
+/// Whether the client of a connection has its session.
+fn is_connected<P>(standing: &Standing<P>) -> bool
+    ensures { IsTrue result ↔ IsConnected standing.now }
+{
+    matches!(standing, Standing::Connected(_))
+}
+
+/// Puts a standing where that of a connection was taken from.
+fn put<P>(place: &mut Standing<P>, standing: Standing<P>)
+    requires { place.old ≡ standings.Ended }
+    ensures { place.new ≡ standing }
+{
+    let_go(mem::replace(place, standing));
+}
+
+/// Lets go of the standing of a connection that has ended.
+pub(crate) fn let_go<P>(standing: Standing<P>)
+    requires { standing ≡ standings.Ended }
+{
+    match standing {
+        Standing::Ended => {}
+        _other => unreachable!(),
+    }
+}
+
+/// A connection is given up.
+pub(crate) fn give_up<P: Place, S: Supply<P>>(
+    supply: &mut S,
+    number: u16,
+    standing: &mut Standing<P>,
+    now: u64,
+)
+    requires { IsSoundStanding standing.old }
+    ensures given { GivesUp S.call P.slot_of supply.old number standing.old now supply.new }
+    ensures over { standing.new ≡ standings.Ended }
+{
+    match mem::replace(standing, Standing::Ended) {
+        Standing::Unconnected { opened: _opened } => {}
+        Standing::Waiting {
+            request: _request,
+            ticks: _ticks,
+        } => supply.withdraw(number),
+        Standing::Connected(link) => part(supply, link.into_session(), now),
+        Standing::Ended => {}
     }
 }
 
@@ -200,70 +278,69 @@ fn react_connected<P: Place, S: Supply<P>>(
     supply: &mut S,
     alloc: Global,
     number: u16,
-    link: Link<P>,
+    standing: &mut Standing<P>,
     now: u64,
     input: Input,
-) -> (Standing<P>, Result<Reply, NoMemory>)
-    requires known { number < 1024 }
-    requires sound { link.session.window.retired ≡ false }
-    ensures reacted { MatchResult result.1
-        (λ reply. Reacts S.call P.slot_of supply.old number (standings.Connected link) now input result.0 reply supply.new)
-        (λ _. (result.0 ≡ standings.Ended) × FailsToReact S.call P.slot_of supply.old number (standings.Connected link) now input supply.new) }
-    ensures sound { IsSoundStanding result.0 }
+) -> Result<Reply, NoMemory>
+    requires sound { IsSoundStanding standing.old }
+    requires connected { IsConnected standing.old }
+    ensures reacted { MatchResult result
+        (λ reply. Reacts S.call P.slot_of supply.old number standing.old now input standing.new reply supply.new)
+        (λ _. (standing.new ≡ standings.Ended) × FailsToReact S.call P.slot_of supply.old number standing.old now input supply.new) }
+    ensures sound { IsSoundStanding standing.new }
 {
     match input {
         Input::Packet(packet) => {
             if supply.kicked(number) {
                 drop(packet);
-                return take_over(supply, alloc, link, now);
+                give_up(supply, number, standing, now);
+                return Ok(taken_over(alloc));
             }
-            answer_packet(supply, alloc, number, link, now, packet)
+            answer_packet(supply, alloc, number, standing, now, packet)
         }
         Input::Tick => {
             if supply.kicked(number) {
-                return take_over(supply, alloc, link, now);
+                give_up(supply, number, standing, now);
+                return Ok(taken_over(alloc));
             }
-            tick(supply, alloc, link, now)
+            Ok(tick(supply, alloc, number, standing, now))
         }
         Input::Fault(fault) => {
-            part(supply, link.into_session(), now);
-            (
-                Standing::Ended,
-                Ok(Reply::closing_with(alloc, fault_code(fault))),
-            )
+            give_up(supply, number, standing, now);
+            Ok(Reply::closing_with(alloc, fault_code(fault)))
         }
         Input::EndOfInput => {
-            part(supply, link.into_session(), now);
-            (Standing::Ended, Ok(Reply::closed(None)))
+            give_up(supply, number, standing, now);
+            Ok(Reply::closed(None))
         }
         Input::Closing => {
-            part_as_is(supply, link.into_session());
-            (
-                Standing::Ended,
-                Ok(Reply::closing_with(alloc, ReasonCode::SERVER_SHUTTING_DOWN)),
-            )
+            shut_down(supply, standing);
+            Ok(Reply::closing_with(alloc, ReasonCode::SERVER_SHUTTING_DOWN))
         }
     }
 }
 
-/// Another connection has asked for the session: it is given up.
-fn take_over<P: Place, S: Supply<P>>(
-    supply: &mut S,
-    alloc: Global,
-    link: Link<P>,
-    now: u64,
-) -> (Standing<P>, Result<Reply, NoMemory>)
-    requires { link.session.window.retired ≡ false }
-    ensures kicked { IfOk result.1 (λ reply. IsKicked S.call P.slot_of supply.old link now result.0 reply supply.new) }
-    ensures fine { IsOk result.1 }
-    ensures sound { IsSoundStanding result.0 }
+/// Another connection has asked for the session.
+fn taken_over(alloc: Global) -> Reply
+    ensures { result ≡ taken_over (disconnect 0x8E) }
 {
-    part(supply, link.into_session(), now);
-    let reply = Reply {
+    Reply {
         packet: Some(disconnect(alloc, ReasonCode::SESSION_TAKEN_OVER)),
         next: Then::Kicked,
-    };
-    (Standing::Ended, Ok(reply))
+    }
+}
+
+/// The server closes: the session is parked as it is.
+fn shut_down<P: Place, S: Supply<P>>(supply: &mut S, standing: &mut Standing<P>)
+    requires sound { IsSoundStanding standing.old }
+    requires connected { IsConnected standing.old }
+    ensures parked { (link : Link P) → standing.old ≡ standings.Connected link → S.call supply.old (ParkAsIs (down link.session)) supply.new }
+    ensures over { standing.new ≡ standings.Ended }
+{
+    match mem::replace(standing, Standing::Ended) {
+        Standing::Connected(link) => part_as_is(supply, link.into_session()),
+        _other => unreachable!(),
+    }
 }
 
 /// Answers a packet.
@@ -271,45 +348,35 @@ fn answer_packet<P: Place, S: Supply<P>>(
     supply: &mut S,
     alloc: Global,
     number: u16,
-    mut link: Link<P>,
+    standing: &mut Standing<P>,
     now: u64,
     packet: Packet,
-) -> (Standing<P>, Result<Reply, NoMemory>)
-    requires { link.session.window.retired ≡ false }
-    ensures answered { MatchResult result.1
-        (λ reply. AnswersPacket S.call P.slot_of supply.old number link now packet result.0 reply supply.new)
-        (λ _. (result.0 ≡ standings.Ended) × FailsOnPacket S.call P.slot_of supply.old number link now packet supply.new) }
-    ensures sound { IsSoundStanding result.0 }
+) -> Result<Reply, NoMemory>
+    requires sound { IsSoundStanding standing.old }
+    requires connected { IsConnected standing.old }
+    ensures answered { (link : Link P) → standing.old ≡ standings.Connected link → MatchResult result
+        (λ reply. AnswersPacket S.call P.slot_of supply.old number link now packet standing.new reply supply.new)
+        (λ _. (standing.new ≡ standings.Ended) × FailsOnPacket S.call P.slot_of supply.old number link now packet supply.new) }
+    ensures sound { IsSoundStanding standing.new }
 {
+    let Standing::Connected(link) = standing else {
+        unreachable!()
+    };
     link.heard = link.heard.max(now);
-    let (link, replied) = answer(supply, alloc, number, link, packet);
-    match replied {
-        Ok(reply) => conclude(supply, link, now, reply),
-        Err(NoMemory) => {
-            part(supply, link.into_session(), now);
-            (Standing::Ended, Err(NoMemory))
-        }
+    let replied = answer(supply, alloc, number, link, packet);
+    if !goes_on(&replied) {
+        give_up(supply, number, standing, now);
     }
+    replied
 }
 
-/// The connection goes on, or its session is parked, as the reply says.
-fn conclude<P: Place, S: Supply<P>>(
-    supply: &mut S,
-    link: Link<P>,
-    now: u64,
-    reply: Reply,
-) -> (Standing<P>, Result<Reply, NoMemory>)
-    requires { link.session.window.retired ≡ false }
-    ensures concluded { Concludes S.call P.slot_of supply.old link now reply.next result.0 supply.new }
-    ensures same { result.1 ≡ Ok reply }
-    ensures sound { IsSoundStanding result.0 }
+/// Whether the connection goes on behind a reply.
+fn goes_on(replied: &Result<Reply, NoMemory>) -> bool
+    ensures { IsTrue result ↔ GoesOn replied.now }
 {
-    match reply.next {
-        Then::Go => (Standing::Connected(link), Ok(reply)),
-        Then::Close | Then::Kicked => {
-            part(supply, link.into_session(), now);
-            (Standing::Ended, Ok(reply))
-        }
+    match replied {
+        Ok(reply) => matches!(reply.next, Then::Go),
+        Err(NoMemory) => false,
     }
 }
 
@@ -317,21 +384,22 @@ fn conclude<P: Place, S: Supply<P>>(
 fn tick<P: Place, S: Supply<P>>(
     supply: &mut S,
     alloc: Global,
-    link: Link<P>,
+    number: u16,
+    standing: &mut Standing<P>,
     now: u64,
-) -> (Standing<P>, Result<Reply, NoMemory>)
-    requires { link.session.window.retired ≡ false }
-    ensures ticked { IfOk result.1 (λ reply. AnswersTick S.call P.slot_of supply.old link now result.0 reply supply.new) }
-    ensures fine { IsOk result.1 }
-    ensures sound { IsSoundStanding result.0 }
+) -> Reply
+    requires sound { IsSoundStanding standing.old }
+    requires connected { IsConnected standing.old }
+    ensures ticked { (link : Link P) → standing.old ≡ standings.Connected link → AnswersTick S.call P.slot_of supply.old link now standing.new result supply.new }
+    ensures sound { IsSoundStanding standing.new }
 {
     sweep(supply, now);
+    let Standing::Connected(link) = standing else {
+        unreachable!()
+    };
     if is_overdue(link.terms.keep_alive, now.saturating_sub(link.heard)) {
-        part(supply, link.into_session(), now);
-        return (
-            Standing::Ended,
-            Ok(Reply::closing_with(alloc, ReasonCode::KEEP_ALIVE_TIMEOUT)),
-        );
+        give_up(supply, number, standing, now);
+        return Reply::closing_with(alloc, ReasonCode::KEEP_ALIVE_TIMEOUT);
     }
-    (Standing::Connected(link), Ok(Reply::going_on(None)))
+    Reply::going_on(None)
 }

@@ -4,4 +4,5 @@ pub mod Happened
 pub mod Quotas
 pub mod Headline
 pub mod Addressed
+pub mod Emptied
 pub mod OneRun

@@ -1,5 +1,5 @@
 -- A server on one thread: what its connections share, its clients, and its clock.
-use Rattle.std.specs.Prelude.{◌≡◌, ℕ, List, Option, None, replicate, refl}
+use Rattle.std.specs.Prelude.{◌≡◌, ℕ, ◌<◌, List, Option, Some, None, replicate, slice_get, refl}
 use Rattle.std.specs.Coded.{Coded, code_by, coded×}
 use Rattle.client_table.specs.Clients.{ClientState}
 use Rattle.local_broker.specs.Places.{GroupPlace}
@@ -9,6 +9,10 @@ use Rattle.local_server.specs.declared.setup.Setup.{Setup}
 -- for each number the client of that connection, where one is open
 abbrev pub Clients : Type 0
 Clients = List (Option (ClientState GroupPlace))
+
+-- no connection below this number is open
+abbrev pub HasNoneBelow : ℕ → Clients → Type 0
+HasNoneBelow number clients = (each : ℕ) → each < number → slice_get clients each ≡ Some None
 
 pub record ServerState : Type 0 where
   pub broker : Broker

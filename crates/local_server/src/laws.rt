@@ -1,14 +1,15 @@
 //! Laws of a server: what holds whatever events happen to it. Each is the contract of a function that does nothing, stated over the
 //! definitions that the contract of [`Server::happen`](crate::Server::happen) cites.
-ghost use Rattle.std.specs.Prelude.{◌≡◌, ℕ, false, List, [], Result, Ok};
+ghost use Rattle.std.specs.Prelude.{◌≡◌, ℕ, true, false, List, [], Ok, Result};
 ghost use Rattle.session_desk.specs.Hands.{DeskLaw};
 ghost use Rattle.conn_engine.specs.declared.supply.NoMemory.{NoMemory};
 ghost use Rattle.client_table.specs.Clients.{Said};
 ghost use Rattle.local_broker.specs.Broker.{is_open};
 ghost use Rattle.local_server.specs.declared.event.Event.{Event};
+ghost use Rattle.local_server.specs.declared.event.Event.TheVariants as events;
 ghost use Rattle.local_server.specs.declared.event.TimedEvent.{TimedEvent};
 ghost use Rattle.local_server.specs.declared.setup.Setup.{Setup};
-ghost use Rattle.local_server.specs.Servers.{ServerState, IsNewServer};
+ghost use Rattle.local_server.specs.Servers.{HasNoneBelow, ServerState, IsNewServer};
 ghost use Rattle.local_server.specs.Alike.{AreAlike};
 ghost use Rattle.local_server.specs.Happening.{Happens, HappensAll};
 ghost use Rattle.local_server.specs.Headline.{HoldsTheHeadline};
@@ -64,6 +65,12 @@ pub fn addressing_law()
     ensures { (setup : Setup) (events : List TimedEvent) (earlier said : List Said) (moment : ℕ) (event : Event) (result : Result (Unit {0}) NoMemory)
         (first old new : ServerState) →
         IsNewServer setup first → HappensAll first events earlier old → Happens old moment event said result new → Answers event said }
+{}
+
+/// **A close ends every connection**, where memory was not wanted: none of the 64 is open behind it.
+pub fn emptying_law()
+    ensures { (moment : ℕ) (said : List Said) (old new : ServerState) →
+        is_open old.broker ≡ true → Happens old moment events.Close said (Ok tt) new → HasNoneBelow 64 new.clients }
 {}
 
 /// **Behind the close** nothing happens any more, and nothing is said.
