@@ -120,7 +120,14 @@ impl<P: Place> Conn<P> {
         ) {
             Ok(reply) => {
                 let next = write(reply, packets);
-                match hand(supply, self.alloc, self.number, &mut self.standing, now, packets) {
+                match hand(
+                    supply,
+                    self.alloc,
+                    self.number,
+                    &mut self.standing,
+                    now,
+                    packets,
+                ) {
                     Ok(()) => Ok(next),
                     Err(NoMemory) => {
                         packets.clear();
