@@ -7,3 +7,5 @@ pub mod Over
 pub mod Leaving
 pub mod Calling
 pub mod Quotas
+pub mod OneReading
+pub mod OneCell

@@ -15,10 +15,10 @@ module _ {S P : Type 0} (call : S → Fact P → S → Type 0) (slot_of : P → 
 
   pub tick_and_more : (old mid new : S) (client between client' : ClientState P) (now : ℕ) (said : Said) (kept before after after' rest : List Said) → kept ≡ before
       → Moves call slot_of old client now inputs.Tick said between mid → said.next ≡ Go → after ≡ kept ++ said ∷ []
-      → after' ≡ after ++ rest → Reads call slot_of mid between now rest client' new
+      → after' ≡ after ++ rest → Reads call slot_of mid between now rest client' new → between.unread ≡ client.unread
       → (more : List Said) × (after' ≡ before ++ more) × Ticks call slot_of old client now more client' new
-  tick_and_more old mid new client between client' now said kept before after after' rest same moved goes one more reads =
-      (said ∷ rest, joined before after after' rest said (rw same at one) more, inr (between, mid, moved, goes, reads))
+  tick_and_more old mid new client between client' now said kept before after after' rest same moved goes one more reads unread =
+      (said ∷ rest, joined before after after' rest said (rw same at one) more, inr (between, mid, moved, goes, reads, unread))
 
   pub fails_at_tick : (old new : S) (client client' : ClientState P) (now : ℕ) (before after : List Said) → after ≡ before
       → FailsToTick call slot_of old client now [] client' new
@@ -27,7 +27,7 @@ module _ {S P : Type 0} (call : S → Fact P → S → Type 0) (slot_of : P → 
 
   pub fails_behind_tick : (old mid new : S) (client between client' : ClientState P) (now : ℕ) (said : Said) (kept before after after' rest : List Said) → kept ≡ before
       → Moves call slot_of old client now inputs.Tick said between mid → said.next ≡ Go → after ≡ kept ++ said ∷ []
-      → after' ≡ after ++ rest → FailsToRead call slot_of mid between now rest client' new
+      → after' ≡ after ++ rest → FailsToRead call slot_of mid between now rest client' new → between.unread ≡ client.unread
       → (more : List Said) × (after' ≡ before ++ more) × FailsToTick call slot_of old client now more client' new
-  fails_behind_tick old mid new client between client' now said kept before after after' rest same moved goes one more fails =
-      (said ∷ rest, joined before after after' rest said (rw same at one) more, (between, mid, moved, goes, fails))
+  fails_behind_tick old mid new client between client' now said kept before after after' rest same moved goes one more fails unread =
+      (said ∷ rest, joined before after after' rest said (rw same at one) more, (between, mid, moved, goes, fails, unread))

@@ -89,12 +89,14 @@ module _ {S P : Type 0} (call : S → Fact P → S → Type 0) (slot_of : P → 
   Ticks old client now [] client' new = ⊥
   Ticks old client now (said ∷ rest) client' new =
       (Moves call slot_of old client now inputs.Tick said client' new × (said.next ≢ Go) × (rest ≡ []))
-      ⊎ ((between : ClientState P) × (mid : S) × Moves call slot_of old client now inputs.Tick said between mid × (said.next ≡ Go) × Reads mid between now rest client' new)
+      ⊎ ((between : ClientState P) × (mid : S) × Moves call slot_of old client now inputs.Tick said between mid × (said.next ≡ Go) × Reads mid between now rest client' new
+      × (between.unread ≡ client.unread))
 
   abbrev pub FailsToTick : S → ClientState P → ℕ → List Said → ClientState P → S → Type 0
   FailsToTick old client now [] client' new = IsGivenUp call slot_of old client now inputs.EndOfInput client' new ⊎ FailsToMove call slot_of old client now inputs.Tick client' new
   FailsToTick old client now (said ∷ rest) client' new =
       (between : ClientState P) × (mid : S) × Moves call slot_of old client now inputs.Tick said between mid × (said.next ≡ Go) × FailsToRead mid between now rest client' new
+      × (between.unread ≡ client.unread)
 
   -- one last step, and what was said before and after; memory may be wanted in it or for it
   abbrev pub Leaves : S → ClientState P → ℕ → Input → List Said → Result (Unit {0}) NoMemory → List Said → ClientState P → S → Type 0

@@ -1,9 +1,11 @@
 //! Laws: what is done to a client is a list of calls of the supply, whatever comes of it. Each is the contract of a function that does
 //! nothing, stated over the definitions that the contracts of [`Client`](crate::Client) and [`ClientTable`](crate::ClientTable) cite, and
 //! over every [`Supply`]. So what holds of a supply whatever calls are made of it holds behind each of their calls.
-ghost use Rattle.std.specs.Prelude.{◌≡◌, ℕ, List, Option, Result};
+ghost use Rattle.std.specs.Prelude.{◌≡◌, ℕ, List, Option, Result, Ok};
 ghost use Rattle.conn_engine.specs.declared.input.Input.{Input};
 ghost use Rattle.conn_engine.specs.declared.supply.NoMemory.{NoMemory};
+ghost use Rattle.conn_engine.specs.Asking.{OneAnswer};
+ghost use Rattle.conn_engine.specs.Behind.{IsLast};
 ghost use Rattle.conn_engine.specs.Calls.{CallsLead};
 ghost use Rattle.client_table.specs.Cells.{Opens, Receives, TicksFor, EndsFor, AbandonsEach};
 ghost use Rattle.client_table.specs.Clients.{ClientState, Said, Moves, IsGivenUp};
@@ -52,4 +54,21 @@ pub fn quota_law<P: Place, S: Supply<P>>()
         TicksFor S.call P.slot_of old before now more result after new → IsCellWithinQuota before → IsCellWithinQuota after }
     ensures ends { (now : ℕ) (input : Input) (more : List Said) (result : Result (Unit {0}) NoMemory) (before after : Option (ClientState P)) (old new : S) →
         EndsFor S.call P.slot_of old before now input more result after new → IsCellWithinQuota before → IsCellWithinQuota after }
+{}
+
+/// **What happens to a client comes out in one way** where each call of the supply has one answer and memory is not wanted: the same is
+/// said, the same becomes of the cell, and of the supply.
+pub fn one_outcome_law<P: Place, S: Supply<P>>()
+    ensures receives { (now : ℕ) (piece : List ℕ) (more more' : List Said) (before one other : Option (ClientState P)) (old new new' : S) →
+        OneAnswer S.call (λ these those. these ≡ those) →
+        Receives S.call P.slot_of old before now piece more (Ok tt) one new → Receives S.call P.slot_of old before now piece more' (Ok tt) other new' →
+        (one ≡ other) × ((more ≡ more') × (new ≡ new')) }
+    ensures ticks { (now : ℕ) (more more' : List Said) (before one other : Option (ClientState P)) (old new new' : S) →
+        OneAnswer S.call (λ these those. these ≡ those) →
+        TicksFor S.call P.slot_of old before now more (Ok tt) one new → TicksFor S.call P.slot_of old before now more' (Ok tt) other new' →
+        (one ≡ other) × ((more ≡ more') × (new ≡ new')) }
+    ensures ends { (now : ℕ) (input : Input) (more more' : List Said) (before one other : Option (ClientState P)) (old new new' : S) →
+        OneAnswer S.call (λ these those. these ≡ those) → IsLast input →
+        EndsFor S.call P.slot_of old before now input more (Ok tt) one new → EndsFor S.call P.slot_of old before now input more' (Ok tt) other new' →
+        (one ≡ other) × ((more ≡ more') × (new ≡ new')) }
 {}

@@ -11,3 +11,10 @@ pub mod Eager
 pub mod Calling
 pub mod Stepping
 pub mod Failing
+pub mod OneCall
+pub mod OneEnding
+pub mod OneConnecting
+pub mod OneMessage
+pub mod OneShare
+pub mod OneHandOut
+pub mod OneStep

@@ -1,9 +1,9 @@
 -- No step sends more than the quota lets it.
-use Rattle.std.proofs.Common.{◌≡◌, ℕ, ◌<◌, ◌≤◌, ◌-◌, Bool, true, false, List, [], ◌∷◌, ◌++◌, length, length-append, Option, Some, None, Result, Ok, Err, refl, sym, subst, arith, IsSomeAnd}
+use Rattle.std.proofs.Common.{◌≡◌, ℕ, ◌<◌, ◌≤◌, Bool, true, false, List, [], ◌∷◌, ◌++◌, length, length-append, Option, Some, None, Result, Ok, Err, refl, sym, subst, arith, IsSomeAnd}
 use Rattle.mqtt_wire.specs.declared.packet.Packet.{Packet}
 use Rattle.mqtt_wire.specs.declared.packet.Packet.TheVariants as packets
 use Rattle.group_jobs.specs.Stamps.{Held}
-use Rattle.member_window.specs.Contents.{Contents, HasQuota, after_put, after_resend, after_ack}
+use Rattle.member_window.specs.Contents.{Contents, HasQuota, after_put, after_resend}
 use Rattle.member_window.specs.Calls.{Acks}
 use Rattle.member_window.proofs.Lists.{length-entries_without}
 use Rattle.session_desk.specs.declared.attached.Attached.{Attached}
@@ -14,8 +14,6 @@ use Rattle.session_desk.specs.declared.session.Session.{Session}
 use Rattle.session_desk.specs.declared.session.Membership.{Membership}
 use Rattle.session_desk.specs.declared.session.Membership.TheVariants.{NotMember, Member, Leaving}
 use Rattle.mqtt_wire.specs.declared.packet.ConnectRefusal.{ConnectRefusal}
-use Rattle.conn_rules.specs.Connecting.{first_answer, is_given_expiry}
-use Rattle.conn_rules.specs.Ending.{fault_refusal, is_overdue, is_late}
 use Rattle.conn_rules.specs.declared.connecting.FirstAnswer.{FirstAnswer}
 use Rattle.conn_rules.specs.declared.connecting.FirstAnswer.TheVariants as first
 use Rattle.conn_engine.specs.declared.input.Input.{Input}
@@ -29,11 +27,11 @@ use Rattle.conn_engine.specs.declared.standing.Standing.{Standing}
 use Rattle.conn_engine.specs.declared.standing.Standing.TheVariants.{Unconnected, Waiting, Connected, Ended}
 use Rattle.conn_engine.specs.Acknowledging.{AcknowledgesFor}
 use Rattle.conn_engine.specs.Answering.{Answers, Disconnects, DisconnectsIf}
-use Rattle.conn_engine.specs.Connecting.{Accepts, AttachedAs, ResumesAs, WaitsAs, TriesAgain}
+use Rattle.conn_engine.specs.Connecting.{Accepts, AttachedAs, ResumesAs, WaitsAs}
 use Rattle.conn_engine.specs.Facts.{Fact}
-use Rattle.conn_engine.specs.HandOuts.{SendsAgain, SendsFresh, HandsFresh, HandsOut}
+use Rattle.conn_engine.specs.HandOuts.{SendsAgain, SendsFresh, HandsFresh}
 use Rattle.conn_engine.specs.Quotas.{quota_of, KeepsQuota, IsWithinQuota}
-use Rattle.conn_engine.specs.Step.{hearing, IsRefusedIf, WaitsForConnect, AnswersFirst, Concludes, AnswersPacket, AnswersTick, IsHeard, AnswersUnlessKicked, Reacts, Hands, Steps}
+use Rattle.conn_engine.specs.Step.{hearing, IsRefusedIf, WaitsForConnect, AnswersFirst, Concludes, AnswersPacket, IsHeard, AnswersUnlessKicked, Reacts, Hands, Steps}
 
 -- one packet more, where the quota lets it
 one_owed : (quota : ℕ) (window : Contents Held) (entry : ℕ × Held) → KeepsQuota quota window → HasQuota window → length (window.owed ++ entry ∷ []) ≤ quota

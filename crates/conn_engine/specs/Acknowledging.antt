@@ -1,7 +1,7 @@
 -- What a PUBACK does (section 3.4).
 use Rattle.std.specs.Prelude.{◌≡◌, ℕ, Option, Some, None}
 use Rattle.group_jobs.specs.Stamps.{Held}
-use Rattle.member_window.specs.Contents.{Contents}
+use Rattle.member_window.specs.Contents.{Contents, IsSound}
 use Rattle.member_window.specs.Calls.{Acks}
 use Rattle.session_desk.specs.declared.session.Session.{Session}
 use Rattle.session_desk.specs.declared.session.Membership.{Membership}
@@ -19,6 +19,8 @@ module _ {S P : Type 0} (call : S → Fact P → S → Type 0) where
 
   -- the message under this identifier is no longer in the window, and its place settles it; where there is none, nothing is done
   pub record SettlesIn (old : S) (place : P) (window : Contents Held) (identifier code : ℕ) (place' : P) (window' : Contents Held) (new : S) : Type 0 where
+    -- one message at most is under an identifier
+    pub sound : IsSound window
     pub found : Option Held
     pub acked : Acks window identifier found window'
     pub settled : Settles old place code found place' new

@@ -8,6 +8,7 @@ ghost use Rattle.conn_engine.specs.declared.input.Then.TheVariants.{Go};
 ghost use Rattle.conn_engine.specs.declared.standing.Link.{Link};
 ghost use Rattle.conn_engine.specs.declared.standing.Standing.{Standing};
 ghost use Rattle.conn_engine.specs.declared.standing.Standing.TheVariants as standings;
+ghost use Rattle.conn_engine.specs.Asking.{OneAnswer};
 ghost use Rattle.conn_engine.specs.Calls.{StepCalls, FailedCalls};
 ghost use Rattle.conn_engine.specs.Behind.{IsLast, IsAllHandedOut};
 ghost use Rattle.conn_engine.specs.Quotas.{IsWithinQuota};
@@ -57,4 +58,14 @@ pub fn calls_law<P: Place, S: Supply<P>>()
     ensures failed { (number now : ℕ) (standing : Standing P) (input : Input) (old new : S) →
         FailsToStep S.call P.slot_of old number standing now input new →
         FailedCalls S.call old number standing input new }
+{}
+
+/// **A step has one outcome** where each call of its supply has one answer, memory aside: the same packets, the same that becomes of
+/// the connection, and the same supply.
+pub fn one_step_law<P: Place, S: Supply<P>>()
+    ensures { (number now : ℕ) (standing one other : Standing P) (input : Input) (packets packets' : List Packet) (next next' : Then) (old new new' : S) →
+        OneAnswer S.call (λ these those. these ≡ those) →
+        Steps S.call P.slot_of old number standing now input packets next one new →
+        Steps S.call P.slot_of old number standing now input packets' next' other new' →
+        (packets ≡ packets') × (next ≡ next') × (one ≡ other) × (new ≡ new') }
 {}

@@ -25,7 +25,7 @@ same_moves one other one_new other_new job other_job spot jobs same moves other_
     (λ (elsewhere : j ≢ job). other_moves.others j (λ e. elsewhere (e ∙ sym jobs)) ∙ same j ∙ sym (moves.others j elsewhere))
     (same_job j job)
 
-same_next : (one other : GroupState) (port : ℕ) → ((j : Job) → spot_of other j ≡ spot_of one j) → next_job one port ≡ next_job other port
+pub same_next : (one other : GroupState) (port : ℕ) → ((j : Job) → spot_of other j ≡ spot_of one j) → next_job one port ≡ next_job other port
 same_next one other port same =
     let at : ℕ → Job = λ number. record { port = port; number = number } in
     let more : accepted_of one port ≤ accepted_of other port = not_longer (row_of one port) (row_of other port) (λ number there. subst IsSome (sym (same (at number))) there) in
@@ -40,7 +40,7 @@ same_hand_outs one other one_new other_new member job same hands other_hands m =
     (λ (elsewhere : m ≢ member). other_hands.others m elsewhere ∙ same m ∙ sym (hands.others m elsewhere))
     (cases_eq m member)
 
-same_step : (one other one_new other_new : GroupState) (event : Event) → AreSame one other → Step one event one_new → Step other event other_new → AreSame one_new other_new
+pub same_step : (one other one_new other_new : GroupState) (event : Event) → AreSame one other → Step one event one_new → Step other event other_new → AreSame one_new other_new
 same_step one other one_new other_new (Accept port) same step other_step =
     record {
       spots = same_moves one other one_new other_new (next_job one port) (next_job other port) Queued (same_next one other port same.spots) same.spots step.made.0 other_step.made.0;
@@ -89,7 +89,7 @@ same_leads one other one_new other_new [] same led other_led = subst (AreSame on
 same_leads one other one_new other_new (event ∷ events) same led other_led =
     same_leads led.0 other_led.0 one_new other_new events (same_step one other led.0 other_led.0 event same led.1 other_led.1) led.2 other_led.2
 
-same_start : (one other : GroupState) → IsEmpty one → IsEmpty other → AreSame one other
+pub same_start : (one other : GroupState) → IsEmpty one → IsEmpty other → AreSame one other
 same_start one other empty other_empty =
     record {
       spots = λ j. other_empty.no_job j ∙ sym (empty.no_job j);

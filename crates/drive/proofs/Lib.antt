@@ -3,3 +3,4 @@ pub mod Cut
 pub mod Lines
 pub mod Playing
 pub mod Streams
+pub mod OneOutput

@@ -23,6 +23,7 @@
 
 mod driving;
 mod form;
+pub mod laws;
 mod numbers;
 mod script;
 mod stream;

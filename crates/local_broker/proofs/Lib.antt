@@ -5,3 +5,8 @@ pub mod Events
 pub mod Happened
 pub mod Holding
 pub mod Outs
+pub mod OneGroup
+pub mod OneAnswer
+pub mod OneReport
+pub mod OneBeginning
+pub mod OneOpen

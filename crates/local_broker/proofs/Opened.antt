@@ -1,6 +1,7 @@
 -- How a broker begins.
 use Rattle.std.proofs.Common.{◌≡◌, ◌≢◌, ℕ, zero, suc, ◌+◌, ◌<◌, ◌≤◌, List, [], ◌∷◌, ◌++◌, length, replicate, slice_get, slice_set, refl, Option, Some, None, sym, ap, ◌∙◌, subst, ⊎_elim, arith}
 use Rattle.std.proofs.lemmas.Bool.{cases_eq}
+use Rattle.std.proofs.lemmas.List.{length-replicate, length-set}
 use Rattle.std.proofs.lemmas.Option.{slice_get_within, same_Some}
 use Rattle.dispatch_core.proofs.Spots.{slice_get-set_same, slice_get-set_other, slice_get-push_same, slice_get-push_other}
 use Rattle.group_jobs.specs.Stamps.{Held}
@@ -28,6 +29,7 @@ group_more capacity groups group fresh new slot other there =
 -- a new desk with the places of these cells, and no others
 pub record IsFurnished (desk : Books Held GroupPlace) (at : ℕ) : Type 0 where
   pub books : desk ≡ with_free new_books desk.free
+  pub cells : length desk.free ≡ 256
   pub filled : (cell : ℕ) → cell < at → IsFreeAt desk.free cell (place_at cell)
   pub empty : (cell : ℕ) → at ≤ cell → cell < 256 → slice_get desk.free cell ≡ Some None
 
@@ -41,6 +43,7 @@ begins desk is =
     subst (λ (b : Books Held GroupPlace). IsFurnished b 0) (sym is)
     (record {
       books = refl;
+      cells = length-replicate {A = Option GroupPlace} 256 None;
       filled = λ cell less. absurd (omega arith);
       empty = λ cell from less. none_at 256 cell None less;
     })
@@ -65,6 +68,7 @@ takes old new at place None free less is furnished took after =
     let set : new.free ≡ slice_set old.free at (Some (place_at at)) = same ∙ took.1 ∙ ap (λ p. slice_set old.free at (Some p)) is in
     record {
       books = after ∙ ap (λ b. with_free b free) furnished.books ∙ ap (with_free new_books) (sym same);
+      cells = ap length set ∙ length-set old.free at (Some (place_at at)) ∙ furnished.cells;
       filled = filled_more old.free new.free at took.0 set furnished.filled;
       empty = λ cell from small. ap (λ l. slice_get l cell) set ∙ slice_get-set_other old.free at cell (Some (place_at at)) (λ e. omega arith) ∙ furnished.empty cell (omega arith) small;
     }

@@ -43,6 +43,7 @@ AreNewGroups capacity groups = (slot : ℕ) (group : Group) → slice_get groups
 -- a desk without sessions, with each place free
 pub record HasAllPlaces (desk : Books Held GroupPlace) : Type 0 where
   pub books : desk ≡ with_free new_books desk.free
+  pub cells : length desk.free ≡ 256
   pub free : (cell : ℕ) → cell < 256 → IsFreeAt desk.free cell (place_at cell)
 
 -- no session, all places free, these shares bound, and no message in any group

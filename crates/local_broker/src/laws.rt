@@ -7,9 +7,13 @@ ghost use Rattle.session_desk.specs.Hands.{DeskLaw};
 ghost use Rattle.local_group.specs.Groups.{Group};
 ghost use Rattle.local_broker.specs.Broker.{Broker, IsClosed, IsNewBroker};
 ghost use Rattle.local_broker.specs.Histories.{Happening, HappensAll, AreRunning, OnlyEnds, HasOut, NoneSpends};
+ghost use Rattle.conn_engine.specs.Facts.{Fact};
 ghost use Rattle.conn_engine.specs.Facts.Fact.{Take, TakeBack};
-ghost use Rattle.local_broker.specs.Calls.{Calls};
+ghost use Rattle.conn_engine.specs.Asking.{IsSameQuestion, HadMemory};
+ghost use Rattle.local_broker.specs.Alike.{AreAlike};
+ghost use Rattle.local_broker.specs.Calls.{Calls, Closes};
 ghost use Rattle.local_broker.specs.Places.{GroupPlace};
+ghost use Rattle.local_broker.specs.Reporting.{TellsLine};
 
 /// **The desk law holds always**, whatever calls are made of a new broker: at most 256 sessions, no two of one client that are lent
 /// or parked, each row's session its own, and none that is parked is ending.
@@ -44,4 +48,18 @@ pub fn holding_law()
         Calls old (TakeBack place after (Ok (Some envelope))) b → HasOut b place envelope }
     ensures stays { (happenings : List Happening) (old b : Broker) (place : GroupPlace) (envelope : Held) →
         HasOut old place envelope → HappensAll old happenings b → NoneSpends envelope.stamp happenings → HasOut b place envelope }
+{}
+
+/// **A broker answers each question in one way**, memory aside: of two brokers that are alike and keep the desk law, each answers a call
+/// with the same arguments as the other does, and they are alike behind it (`one`), and behind the close (`closed`). New ones of the
+/// same shares are alike (`new`), and of brokers that are alike each share's line is the same (`told`).
+pub fn one_answer_law()
+    ensures new { (capacity : ℕ) (shares : List Share) (a b : Broker) →
+        IsNewBroker capacity shares a → IsNewBroker capacity shares b → AreAlike a b }
+    ensures one { (a b a' b' : Broker) (fact its : Fact GroupPlace) →
+        AreAlike a b → DeskLaw a.desk.rows a.desk.made → IsSameQuestion fact its → HadMemory fact → HadMemory its →
+        Calls a fact a' → Calls b its b' → (fact ≡ its) × AreAlike a' b' }
+    ensures closed { (a b a' b' : Broker) → AreAlike a b → Closes a a' → Closes b b' → AreAlike a' b' }
+    ensures told { (a b : Broker) (slot : ℕ) (line line' : List ℕ) →
+        AreAlike a b → TellsLine a slot line → TellsLine b slot line' → line ≡ line' }
 {}

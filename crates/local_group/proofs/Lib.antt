@@ -4,3 +4,4 @@ pub mod Steps
 pub mod Tallied
 pub mod Fates
 pub mod Holding
+pub mod Alike

@@ -62,16 +62,17 @@ pub record Adds (old : Group) (event : Event) (new : Group) : Type 0 where
   pub step : Step old.state event new.state
   pub form : KeepsForm old new
 
+-- a port may accept a message, memory aside
+abbrev pub MayOffer : Group → ℕ → Type 0
+MayOffer group port = (group.state.closed ≡ false) × (accepted_of group.state port < life) × (length group.queue < group.capacity)
+
 -- a port accepts a message: it is the last of the queue
 pub record Accepts (old : Group) (port : ℕ) (message : Message) (stamp : Stamp) (new : Group) : Type 0 where
+  pub may : MayOffer old port
   pub event : Adds old (Accept port) new
   pub stamped : stamp ≡ stamp_of old.slot (next_job old.state port)
   pub queue : new.queue ≡ old.queue ++ waits (next_job old.state port) message ∷ []
   pub returned : new.returned ≡ old.returned
-
--- a port may accept a message, memory aside
-abbrev pub MayOffer : Group → ℕ → Type 0
-MayOffer group port = (group.state.closed ≡ false) × (accepted_of group.state port < life) × (length group.queue < group.capacity)
 
 -- why a message is not accepted; of several reasons the first counts
 abbrev pub MayNotOffer : Group → ℕ → OfferError → Type 0

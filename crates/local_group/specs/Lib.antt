@@ -1,4 +1,5 @@
 pub mod Groups
+pub mod Alike
 pub mod Spots
 pub mod Reporting
 pub mod Refusals

@@ -5,3 +5,4 @@ pub mod Quotas
 pub mod Headline
 pub mod Addressed
 pub mod Emptied
+pub mod OneRun

@@ -1,4 +1,5 @@
 pub mod Servers
+pub mod Alike
 pub mod Happening
 pub mod Runs
 pub mod Quotas

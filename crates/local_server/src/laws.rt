@@ -10,6 +10,7 @@ ghost use Rattle.local_server.specs.declared.event.Event.TheVariants as events;
 ghost use Rattle.local_server.specs.declared.event.TimedEvent.{TimedEvent};
 ghost use Rattle.local_server.specs.declared.setup.Setup.{Setup};
 ghost use Rattle.local_server.specs.Servers.{HasNoneBelow, ServerState, IsNewServer};
+ghost use Rattle.local_server.specs.Alike.{AreAlike};
 ghost use Rattle.local_server.specs.Happening.{Happens, HappensAll};
 ghost use Rattle.local_server.specs.Headline.{HoldsTheHeadline};
 ghost use Rattle.local_server.specs.Quotas.{AllWithinQuota};
@@ -78,4 +79,17 @@ pub fn closing_law()
         is_open old.broker ≡ false → HappensAll old events said new → said ≡ [] }
     ensures still { (events : List TimedEvent) (said : List Said) (old new : ServerState) →
         is_open old.broker ≡ false → HappensAll old events said new → (new.broker ≡ old.broker) × (new.clients ≡ old.clients) }
+{}
+
+/// **A run has one outcome**, where memory was not wanted: whatever events happen to two servers of one setup, the same is said in them,
+/// and the servers are alike behind them (`all`). New ones are alike (`new`), and each event keeps servers alike that keep the desk law,
+/// and says the same in both (`one`).
+pub fn one_run_law()
+    ensures new { (setup : Setup) (a b : ServerState) → IsNewServer setup a → IsNewServer setup b → AreAlike a b }
+    ensures one { (moment : ℕ) (event : Event) (said said' : List Said) (a b a' b' : ServerState) →
+        AreAlike a b → DeskLaw a.broker.desk.rows a.broker.desk.made →
+        Happens a moment event said (Ok tt) a' → Happens b moment event said' (Ok tt) b' → (said ≡ said') × AreAlike a' b' }
+    ensures all { (setup : Setup) (events : List TimedEvent) (said said' : List Said) (first first' last last' : ServerState) →
+        IsNewServer setup first → IsNewServer setup first' →
+        HappensAll first events said last → HappensAll first' events said' last' → (said ≡ said') × AreAlike last last' }
 {}

@@ -134,7 +134,8 @@ impl<T> Window<T> {
     /// The session may not be ending: [`Window::retired`] tells.
     pub fn ack(&mut self, identifier: u16) -> Option<T>
         requires { self.old.retired ≡ false }
-        ensures { Acks self.old identifier result self.new }
+        ensures acked { Acks self.old identifier result self.new }
+        ensures sound { IsSound self.old }
     {
         let place = self.entries.place_of(identifier)?;
         let (_, item) = self.entries.remove(place);

@@ -9,3 +9,5 @@ pub mod OneHand
 pub mod TakenOut
 pub mod Marked
 pub mod LastIn
+pub mod OneClient
+pub mod OneAnswer

@@ -9,6 +9,7 @@ pub mod Attaching
 pub mod Opening
 pub mod Keeping
 pub mod Calls
+pub mod Asking
 pub mod Hands
 pub mod AskedBack
 pub mod Stored

@@ -2,6 +2,7 @@
 //! stated over the definitions that the contracts of [`Desk`](crate::Desk) cite, so they are about what its methods do.
 ghost use Rattle.std.specs.Prelude.{◌≡◌, ◌↔◌, ℕ, ◌+◌, ◌<◌, nat_lt, if◌then◌else◌, List, [], Some, Result, Err};
 ghost use Rattle.session_desk.specs.AskedBack.{IsAskedBack};
+ghost use Rattle.session_desk.specs.Asking.{IsSameQuestion, HadMemory};
 ghost use Rattle.session_desk.specs.Attaching.{Attaches, Request};
 ghost use Rattle.session_desk.specs.Books.{Books, IsKicked, new_books};
 ghost use Rattle.session_desk.specs.Calls.{Call, Makes, MakesAll};
@@ -59,4 +60,13 @@ pub fn names_run_out<E, P>()
     ensures { (old new : Books E P) (request : Request) (answer : Result (Attached E P) DeskError) →
         request.client ≡ [] → old.assigned ≡ 99999999 → Attaches old request answer new →
         (answer ≡ Err NoName) × (new ≡ old) }
+{}
+
+/// **A desk answers each question in one way**, memory aside: two calls of one desk with the same arguments, neither of which wanted
+/// memory, are answered alike and leave the same books. So which session a sweep hands out, which name is given, which place is lent,
+/// and whether a session is handed back leaves nothing open.
+pub fn one_answer_law<E, P>()
+    ensures { (cell : P → ℕ) (old new new' : Books E P) (call other : Call E P) →
+        DeskLaw old.rows old.made → IsSameQuestion call other → HadMemory call → HadMemory other →
+        Makes cell old call new → Makes cell old other new' → (call ≡ other) × (new ≡ new') }
 {}

@@ -13,5 +13,6 @@ pub returns : goal.returns
 returns c =
     record {
       books = c.cells.invariant.books;
+      cells = c.cells.invariant.cells;
       free = λ cell less. c.cells.invariant.filled cell (let done = c.cells-test.false in omega arith);
     }

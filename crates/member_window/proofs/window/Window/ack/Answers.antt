@@ -16,8 +16,8 @@ invariant_of-self g c =
     let after = kept_ack i.entries.all i.entries.owed i.quota i.retired c.args.identifier place c.remove-item.new.self.all less c.self.invariant found c.remove-item.ensures.all (as_number (nat_lt place i.entries.owed)) in
     subst (λ n. IsKept c.remove-item.new.self.all n i.quota i.retired) (sym c.remove-item.ensures.owed) after.0
 
-pub returns : goal.returns
-returns g c =
+pub returns-clause-acked : goal.returns-clause-acked
+returns-clause-acked g c =
     let i = c.self.inside in
     let place = c.in_ok-place.place in
     let found = c.in_ok-place.ensures in
