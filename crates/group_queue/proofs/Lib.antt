@@ -15,4 +15,5 @@ pub mod Endings
 pub mod MainLaws
 pub mod Rooms
 pub mod Joined
+pub mod Orderly
 pub mod Finished

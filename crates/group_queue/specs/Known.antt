@@ -87,3 +87,4 @@ pub record IsJoined (group : GroupId) (ports : List PortState) (places : List Pl
   pub pushed : (worth : Posted → ℕ) → sum_by worth (bag_of passes.returns).pushed ≡ sum_by (λ (p : PlaceState). sum_by worth p.given) order
   pub kept : dockets ≡ map (λ (p : PlaceState). p.docket) order
   pub balanced : All IsBalanced order
+  pub few : group.shape.places ≤ 32
