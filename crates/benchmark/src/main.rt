@@ -8,6 +8,7 @@ mod group;
 mod job;
 mod matching;
 mod reading;
+mod server;
 mod settling;
 
 use std::process::ExitCode;
@@ -33,6 +34,8 @@ enum Run {
     Matching { names: u32 },
     /// So many PUBLISH packets are read, in pieces of so many bytes.
     Reading { packets: u32, piece: usize },
+    /// So many jobs go through a server to a member, so many of them at once.
+    Server { jobs: u32, window: u16 },
     /// So many isolated jobs of so many ports, in turn, are put into a list of jobs.
     Settling { ports: u8, jobs: u32 },
     /// So many sweeps find nothing due among so many parked sessions.
@@ -42,7 +45,7 @@ enum Run {
 fn main(rt: HostRuntime) -> ExitCode {
     let Ok(Some(run)) = run_in_words(&rt) else {
         let _ = eprintln!(rt;
-            "usage: benchmark desk OTHERS TIMES | group JOBS | job JOBS | matching NAMES | reading PACKETS PIECE | settling PORTS JOBS | sweeps SESSIONS SWEEPS"
+            "usage: benchmark desk OTHERS TIMES | group JOBS | job JOBS | matching NAMES | reading PACKETS PIECE | server JOBS WINDOW | settling PORTS JOBS | sweeps SESSIONS SWEEPS"
         );
         return ExitCode::from(USAGE);
     };
@@ -52,6 +55,7 @@ fn main(rt: HostRuntime) -> ExitCode {
         Run::Job { jobs } => job::written(rt.alloc(), jobs),
         Run::Matching { names } => matching::matched(rt.alloc(), names),
         Run::Reading { packets, piece } => reading::read(rt.alloc(), packets, piece),
+        Run::Server { jobs, window } => server::served(rt.alloc(), jobs, window),
         Run::Settling { ports, jobs } => settling::isolated(rt.alloc(), ports, jobs),
         Run::Sweeps { sessions, sweeps } => desk::idle_sweeps(rt.alloc(), sessions, sweeps),
     };
@@ -68,6 +72,9 @@ fn main(rt: HostRuntime) -> ExitCode {
         Run::Matching { names } => println!(rt; "{names} names matched {counted} filters"),
         Run::Reading { packets, .. } => println!(rt;
             "{packets} packets had {counted} bytes of payload"
+        ),
+        Run::Server { jobs, window } => println!(rt;
+            "{jobs} jobs through a server, {window} at once, wrote {counted} bytes"
         ),
         Run::Settling { ports, jobs } => {
             println!(rt; "{jobs} isolated jobs of {ports} ports make {counted} runs")
@@ -102,6 +109,9 @@ fn run_in_words(rt: &(impl Env + Alloc)) -> io::Result<Option<Run>> {
             packets,
             piece: piece as usize,
         }),
+        ("server", Some(jobs), Some(window)) => u16::try_from(window)
+            .ok()
+            .map(|window| Run::Server { jobs, window }),
         ("settling", Some(ports), Some(jobs)) => u8::try_from(ports)
             .ok()
             .map(|ports| Run::Settling { ports, jobs }),

@@ -19,6 +19,9 @@ use session_desk::Place;
 use std::alloc::Global;
 use std::marker::Model;
 
+/// How many packets there is room for from the start: most steps send a reply, a message, or both.
+const MOST_AT_ONCE: usize = 2;
+
 /// A connection to a client. `P` is a place in a group.
 ///
 /// It has a session while its client does, so it can't be dropped until it has ended.
@@ -105,7 +108,7 @@ impl<P: Place> Conn<P> {
             × FailsToStep S.call P.slot_of supply.old self.old.number self.old.standing now input supply.new) }
     {
         packets.clear();
-        if packets.reserve(1).is_err() {
+        if packets.reserve_exact(MOST_AT_ONCE).is_err() {
             drop(input);
             give_up(supply, self.number, &mut self.standing, now);
             return Err(NoMemory);

@@ -6,7 +6,9 @@ use Rattle.std.proofs.lemmas.List.Sums.{sum_by-cons}
 use Rattle.dispatch_core.specs.declared.event.Job.{Job}
 use Rattle.dispatch_core.specs.JobRuns.{count_of}
 use Rattle.group_jobs.specs.declared.fate.Fate.TheVariants.{Acknowledged, Refused}
-use Rattle.group_jobs.specs.Balance.{Account, Balance}
+use Rattle.group_jobs.specs.declared.report.Report.{Report}
+use Rattle.group_jobs.specs.Reports.{fates_of, times_accepted}
+use Rattle.group_jobs.specs.Balance.{Account, Balance, AddsUp}
 
 -- the places together are in balance
 pub balance_of-all : (accounts : List Account) → All Balance accounts → (job : Job)
@@ -28,3 +30,9 @@ balance_of-all (a ∷ accounts) all job =
       sum_by-cons (λ (b : Account). count_of job b.given) a accounts,
       sum_by-cons (λ (b : Account). count_of job b.out) a accounts,
     )
+
+-- and so a report names each accepted job once
+pub one_fate : (accounts : List Account) (report : Report) → AddsUp accounts report → (job : Job) → fates_of report job ≡ times_accepted report.accepted.items job
+one_fate accounts report adds job =
+    let all = balance_of-all accounts adds.balanced job in
+    omega (arith, all, adds.first job, adds.given job, adds.held job, adds.settled Acknowledged job, adds.settled Refused job)

@@ -9,6 +9,8 @@ use Rattle.group_jobs.specs.Reports.{times_accepted}
 
 -- what one place did, from the group's opening on
 pub record Account : Type 0 where
+  -- its number
+  pub place : ℕ
   -- the jobs that it was the first to be handed, those that it was handed again, those that it gave back, and what it has out
   pub firsts : List Job
   pub agains : List Job

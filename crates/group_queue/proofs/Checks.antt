@@ -48,7 +48,7 @@ positive {X} f (x ∷ xs) some = cases (λ enough. positive f xs enough) (ltb 0 
 pub All-there : {X : Type 0} (P : X → Type 0) (xs : List X) (x : X) → All P xs → Contains xs x → P x
 All-there P xs x all (k, less, is) = subst P is (all k x less)
 
-both : (p q : Bool) → 1 ≤ cond (p && q) 1 0 → (p ≡ true) × (q ≡ true)
+pub both : (p q : Bool) → 1 ≤ cond (p && q) 1 0 → (p ≡ true) × (q ≡ true)
 both true true some = (refl, refl)
 both true false some = absurd (omega arith)
 both false q some = absurd (omega arith)

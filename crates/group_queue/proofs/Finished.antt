@@ -1,5 +1,5 @@
 -- All was taken in and popped: the report adds up.
-use Rattle.std.proofs.Common.{◌≡◌, ℕ, zero, suc, ◌+◌, ◌≤◌, List, [], ◌∷◌, length, get_or, Contains, All, refl, sym, ap, ◌∙◌, subst, arith, Bool, true, false, ltb}
+use Rattle.std.proofs.Common.{◌≡◌, ℕ, ◌+◌, ◌≤◌, List, [], ◌∷◌, length, get_or, All, refl, sym, ap, ◌∙◌, subst, arith, Bool, true, false, ltb}
 use Rattle.std.specs.Prelude.{map, sum_by}
 use Rattle.std.proofs.lemmas.List.Sorted.{Contains-permutation, sum_by-IsPermutation}
 use Rattle.std.proofs.lemmas.List.Elements.{All-cons, All-nil, All-head, All-tail, Contains-get_or}
@@ -14,6 +14,7 @@ use Rattle.group_jobs.specs.Settled.{settled_as, runs_of, least_spare, spare_of}
 use Rattle.group_jobs.specs.Stamps.{Held, job_of}
 use Rattle.group_jobs.specs.Dockets.{Kept}
 use Rattle.group_jobs.specs.Balance.{Account, Balance, AddsUp}
+use Rattle.group_jobs.specs.Endings.{AreOrderly}
 use Rattle.group_jobs.specs.Reports.{times_accepted}
 use Rattle.group_queue.specs.declared.posted.Posted.{Posted}
 use Rattle.group_queue.specs.declared.place.Passes.{Passes}
@@ -24,26 +25,18 @@ use Rattle.group_queue.specs.Past.{Stands, through}
 use Rattle.group_queue.proofs.MainLaws.{posts}
 use Rattle.group_queue.specs.Returns.{bag_of, popping_back, StandsBack}
 use Rattle.group_queue.specs.Ports.{GroupId, PortState}
-use Rattle.group_queue.specs.Places.{PlaceState, IsBalanced, account_of, jobs_in}
-use Rattle.group_queue.specs.Ends.{HasAll, IsWhole, AreCounts, place_numbers}
+use Rattle.group_queue.specs.Places.{PlaceState, IsPlaceOf, IsBalanced, account_of, jobs_in}
+use Rattle.group_queue.specs.Ends.{HasAll, IsWhole, AreCounts}
 use Rattle.shared_ledger.specs.Giving.{times_in}
 use Rattle.shared_ledger.specs.Givers.{HolderState}
 use Rattle.std.proofs.lemmas.List.Sums.{sum_by-cons}
 use Rattle.group_queue.specs.Known.{knowing, ended, IsRoomFor, IsJoined, HasGathered}
 use Rattle.group_queue.proofs.Lengths.{as_many}
+use Rattle.group_queue.proofs.Orderly.{order_whole, orderly}
 use Rattle.group_queue.proofs.Partition.{sum_by-map}
 use Rattle.group_queue.proofs.MainEnds.{bit}
-use Rattle.group_queue.proofs.Checks.{present, All-there}
+use Rattle.group_queue.proofs.Checks.{All-there}
 use Rattle.group_queue.proofs.Rooms.{room_returned, room_queued, firsts_below, adds_first, adds_given, adds_held}
-
--- what has this number
-there_with : (places : List PlaceState) (n : ℕ) → Contains (place_numbers places) n → (p : PlaceState) × Contains places p × (p.number ≡ n)
-there_with [] n (k, less, is) = absurd (omega arith)
-there_with (p ∷ places) n (zero, less, is) = (p, (0, omega arith, refl), is)
-there_with (p ∷ places) n (suc k, less, is) =
-    let rest = there_with places n (k, omega arith, is) in
-    let within = rest.1.1 in
-    (rest.0, (suc rest.1.0, omega arith, rest.1.2), rest.2)
 
 All-accounts : (places : List PlaceState) → All IsBalanced places → All Balance (map account_of places)
 All-accounts [] all = All-nil Balance
@@ -71,9 +64,7 @@ module _ (group : GroupId) (ports : List PortState) (places : List PlaceState) (
     (before holder : HolderState) (j : IsJoined group ports places passes dockets) (gave : HasGathered group places before holder) (whole : IsWhole group ports places held)
     (ledger : Ledger) (ends : (fate : Fate) (job : Job) → count_of job (settled_as fate ledger) ≡ times_in holder.gave fate job) where
   all_places : HasAll group.shape.places (map (λ (p : PlaceState). p.number) j.order)
-  all_places number less =
-      let there = there_with places number (whole.all_places number less) in
-      present (λ (p : PlaceState). p.number) j.order there.0 number (Contains-permutation places j.order there.0 j.same there.1) there.2
+  all_places = order_whole group ports places held passes dockets j whole
 
   -- a sum over all places, in whatever order
   summed : (f : PlaceState → ℕ) → sum_by f j.order ≡ sum_by f places
@@ -143,7 +134,7 @@ module _ (group : GroupId) (ports : List PortState) (places : List PlaceState) (
     )
 
     -- what a port accepted after a queued job is queued
-    pub youngest : (items : List Posted) → Stands (view passes.main) items → (older younger : Job) → older.port ≡ younger.port → older.number ≤ younger.number → 1 ≤ count_of older (jobs_in queued)
+    youngest : (items : List Posted) → Stands (view passes.main) items → (older younger : Job) → older.port ≡ younger.port → older.number ≤ younger.number → 1 ≤ count_of older (jobs_in queued)
         → count_of younger (jobs_in queued) ≡ times_accepted accepted younger
     youngest items there older younger port later some =
         let stands = subst (λ (v : View). Stands v items) j.names there in
@@ -153,6 +144,16 @@ module _ (group : GroupId) (ports : List PortState) (places : List PlaceState) (
         let none = not_below older.number (popped older.port) (omega (arith, below older, firsts older, first older, some, at_most_one (ltb older.number (get_or accepted older.port 0)))) in
         let same = ap (λ (p : ℕ). length (through p (posts stands.holds.past))) port in
         omega (arith, below younger, firsts younger, first younger, above younger.number (popped younger.port) (omega (arith, none, later, same)))
+
+    pub orderly_end : (items : List Posted) → Stands (view passes.main) items → All (IsPlaceOf group) places → (report : Report) → report.accepted.items ≡ accepted → report.queued.items ≡ jobs_in queued
+        → AreOrderly (map account_of places) report
+    orderly_end items there ours report accepted_is queued_is = orderly group ports places held passes dockets j whole items there ours report
+        (λ older younger port later some. omega (
+          arith,
+          youngest items there older younger port later (omega (arith, some, ap (count_of older) queued_is)),
+          ap (count_of younger) queued_is,
+          ap (λ (l : List ℕ). times_accepted l younger) accepted_is,
+        ))
 
     settled_sum : (fate : Fate) (job : Job)
         → sum_by (λ (a : Account). a.settled fate job) (map account_of places) ≡ sum_by (λ (d : Kept). count_of job (settled_as fate d.settled)) dockets + count_of job (settled_as fate ledger)

@@ -15,4 +15,7 @@ pub mod Endings
 pub mod MainLaws
 pub mod Rooms
 pub mod Joined
+pub mod SameRuns
+pub mod Compared
+pub mod Orderly
 pub mod Finished

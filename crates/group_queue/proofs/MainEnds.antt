@@ -2,7 +2,7 @@
 -- once, or popped by who ends the group, or it stands in the queue.
 use Rattle.std.proofs.Common.{◌≡◌, ◌≢◌, ℕ, zero, suc, ◌+◌, ◌<◌, ◌≤◌, ◌⊎◌, inl, inr, Bool, true, false, cond, eqb, ltb, eq-eqb, List, [], ◌∷◌, ◌++◌, length, get_or, Contains, refl, sym, ap, ◌∙◌, subst, arith, append_assoc, length-append}
 use Rattle.std.specs.Prelude.{map, filter, sum_by, ◌&&◌}
-use Rattle.std.proofs.lemmas.Bool.{lt-ltb, le-ltb, ltb-true, ltb-false, eqb-true}
+use Rattle.std.proofs.lemmas.Bool.{lt-ltb, le-ltb, ltb-true, ltb-false, eqb-true, eqb-false}
 use Rattle.std.proofs.lemmas.List.{get_or_past}
 use Rattle.std.proofs.lemmas.List.Sums.{sum_by-cons, sum_by-append, get_or-le-sum_by}
 use Rattle.dispatch_core.specs.declared.event.Job.{Job}
@@ -19,7 +19,7 @@ use Rattle.group_queue.specs.Ends.{HasAll, AreCounts}
 use Rattle.group_queue.specs.Known.{port_entry, place_entry, knowing}
 use Rattle.group_queue.proofs.Lists.{same_name-refl, same_name-true, same_name-other, through-push, through-other}
 use Rattle.group_queue.proofs.MainLaws.{posts}
-use Rattle.group_queue.proofs.Partition.{times, spread, sum_by-map, sum_by-none}
+use Rattle.group_queue.proofs.Partition.{times, spread, sum_by-map, sum_by-none, sum_by-same}
 
 -- 1 where it is so
 abbrev pub bit : Bool → ℕ
@@ -75,6 +75,15 @@ there_once name numbers k (i, less, is) =
     let one : f (get_or numbers i k) ≡ 1 = ap f is ∙ ap (λ b. bit b) (same_name-refl (name k)) in
     omega (arith, get_or-le-sum_by f numbers i k less, one)
 
+turned : (m n : ℕ) → bit (eqb m n) ≡ bit (eqb n m)
+turned m n = cases (eqb m n) refl (eqb n m) refl
+  where
+    cases : (b : Bool) → eqb m n ≡ b → (d : Bool) → eqb n m ≡ d → bit b ≡ bit d
+    cases true is true is' = refl
+    cases true is false is' = absurd (eqb-false n m is' (sym (eqb-true m n is)))
+    cases false is true is' = absurd (eqb-false m n is (sym (eqb-true n m is')))
+    cases false is false is' = refl
+
 -- who has all names
 module _ (past : List Pop) (items : List Posted) (owner : Name → ℕ) (pass : ℕ) (shape : Shape) (left : List Posted) (places : List PlaceState) (ports : List PortState)
     (no_port : (port : ℕ) → popped_by (Port port) past ≡ [])
@@ -87,7 +96,7 @@ module _ (past : List Pop) (items : List Posted) (owner : Name → ℕ) (pass : 
   split : Each (λ e. (owner e.name ≡ pass) × (e.list ≡ list_of e.name past items)) (map place_entry places) × Each (λ e. (owner e.name ≡ pass) × (e.list ≡ list_of e.name past items)) (map port_entry ports)
   split = Each-split (λ e. (owner e.name ≡ pass) × (e.list ≡ list_of e.name past items)) (map place_entry places) (map port_entry ports) fits.entries.1
 
-  once : (n : Name) → bit (same_name n Finisher) + (sum_by (λ (p : PlaceState). bit (same_name n (Place p.number))) places + sum_by (λ (p : PortState). bit (same_name n (Port p.number))) ports) ≤ 1
+  pub once : (n : Name) → bit (same_name n Finisher) + (sum_by (λ (p : PlaceState). bit (same_name n (Place p.number))) places + sum_by (λ (p : PortState). bit (same_name n (Port p.number))) ports) ≤ 1
   unfolding unit
   once n = omega (
     arith,
@@ -97,6 +106,18 @@ module _ (past : List Pop) (items : List Posted) (owner : Name → ℕ) (pass : 
     sum_by-map (unit n) place_entry places,
     sum_by-map (unit n) port_entry ports,
   )
+
+  -- no two places have one number
+  pub numbers_apart : (number : ℕ) → sum_by (λ (p : PlaceState). bit (eqb p.number number)) places ≤ 1
+  numbers_apart number = omega (
+    arith,
+    once (Place number),
+    sum_by-same (λ (p : PlaceState). bit (eqb number p.number)) (λ (p : PlaceState). bit (eqb p.number number)) (λ p. turned number p.number) places,
+  )
+
+  -- what a place was the first to be handed is what it popped
+  pub place_popped : (p : PlaceState) → Contains places p → p.firsts ≡ popped_by (Place p.number) past
+  place_popped p here = (Each-there (λ e. (owner e.name ≡ pass) × (e.list ≡ list_of e.name past items)) place_entry places p split.0 here).1
 
   -- the names of the places, and of who ends the group
   poppers : List Name

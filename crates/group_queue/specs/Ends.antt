@@ -1,12 +1,11 @@
 -- The end of a group: what `finish` answers, of all of its ports and places and the envelopes that they have out.
 use Rattle.std.specs.Prelude.{◌≡◌, ℕ, ◌<◌, ◌≤◌, ◌==◌, ◌&&◌, if◌then◌else◌, List, map, length, sum_by, count_by, Contains, slice_index_or}
 use Rattle.dispatch_core.specs.JobRuns.{count_of}
-use Rattle.dispatch_core.specs.declared.event.Job.{Job}
-use Rattle.group_jobs.specs.Reports.{times_accepted}
 use Rattle.group_jobs.specs.declared.stamp.Stamp.{Stamp}
 use Rattle.group_jobs.specs.declared.report.Report.{Report}
 use Rattle.group_jobs.specs.Stamps.{Held, job_of}
 use Rattle.group_jobs.specs.Balance.{AddsUp}
+use Rattle.group_jobs.specs.Endings.{AreOrderly}
 use Rattle.group_queue.specs.declared.error.Lack.TheVariants.{Port, Place, Envelope}
 use Rattle.group_queue.specs.declared.error.FinishError.{FinishError}
 use Rattle.group_queue.specs.declared.error.FinishError.TheVariants.{Missing, Stranger, Memory}
@@ -59,6 +58,4 @@ pub record Reports (group : GroupId) (ports : List PortState) (places : List Pla
   pub accepted : AreCounts group.shape.ports ports report.accepted.items
   pub envelopes : report.held.items ≡ map (λ envelope. job_of envelope.stamp) held
   pub adds : AddsUp (map account_of places) report
-  -- what a port accepted after a message that was never handed out was not handed out either
-  pub youngest : (older younger : Job) → older.port ≡ younger.port → older.number ≤ younger.number → 1 ≤ count_of older report.queued.items
-      → count_of younger report.queued.items ≡ times_accepted report.accepted.items younger
+  pub orderly : AreOrderly (map account_of places) report

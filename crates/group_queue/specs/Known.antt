@@ -1,5 +1,5 @@
 -- What who ends a group knows, once it has taken in the passes of all ports and places. No public clause cites this module.
-use Rattle.std.specs.Prelude.{◌≡◌, ℕ, ◌+◌, ◌≤◌, List, [], ◌++◌, map, length, sum_by, All, vec_capacity}
+use Rattle.std.specs.Prelude.{◌≡◌, ℕ, ◌+◌, ◌≤◌, ◌<◌, List, [], ◌++◌, map, length, sum_by, All, Contains, vec_capacity, Result, Ok, Err}
 use Rattle.std.specs.List.Sorted.{IsPermutation}
 use Rattle.crossbeam_queue.specs.Passes.{view}
 use Rattle.group_jobs.specs.Dockets.{Kept}
@@ -9,10 +9,14 @@ use Rattle.group_jobs.specs.declared.fate.Fate.TheVariants.{Acknowledged, Refuse
 use Rattle.group_jobs.specs.Settled.{settled_as, runs_of, least_spare}
 use Rattle.dispatch_core.specs.declared.event.Job.{Job}
 use Rattle.group_jobs.specs.declared.ledger.Ledger.{Ledger}
+use Rattle.group_jobs.specs.declared.stamp.Stamp.{Stamp}
 use Rattle.shared_ledger.specs.Giving.{times_in, jobs_in}
 use Rattle.shared_ledger.specs.Givers.{HolderState}
 use Rattle.group_queue.specs.declared.reserving.Lists.{Lists}
-use Rattle.group_queue.specs.Ends.{AreCounts}
+use Rattle.group_queue.specs.declared.error.FinishError.{FinishError}
+use Rattle.group_queue.specs.declared.error.FinishError.TheVariants.{Missing, Stranger, Memory}
+use Rattle.group_queue.specs.declared.error.Lack.TheVariants.{Port as MissingPort, Place as MissingPlace, Envelope}
+use Rattle.group_queue.specs.Ends.{AreCounts, times_held, times_out}
 use Rattle.group_queue.specs.declared.posted.Posted.{Posted}
 use Rattle.group_queue.specs.declared.view.Name.TheVariants.{Port, Place}
 use Rattle.group_queue.specs.declared.view.Entry.{Entry}
@@ -76,6 +80,20 @@ pub record AreReady (count : ℕ) (ports : List PortState) (places : List PlaceS
   pub none_returned : lists.returned.items ≡ []
   pub room_for_returned : IsRoomFor ports places holder.settled (vec_capacity lists.returned)
 
+-- the stamp is of this group, and its job is one of these
+abbrev pub IsAmong : GroupId → List Job → Stamp → Type 0
+IsAmong group jobs stamp = (stamp.group ≡ group.slot) × Contains jobs (job_of stamp)
+
+-- what a look at the envelopes told: exactly those are there whose messages are out; or which one is lacking, or a stranger
+abbrev pub IsCompared : GroupId → List PlaceState → List Held → Result (Unit {0}) FinishError → Type 0
+IsCompared group places held (Ok done) = (stamp : Stamp) → times_held stamp held ≡ times_out group stamp places
+IsCompared group places held (Err (Missing (MissingPort number))) = ⊥
+IsCompared group places held (Err (Missing (MissingPlace number))) = ⊥
+IsCompared group places held (Err (Missing (Envelope stamp))) = times_held stamp held < times_out group stamp places
+IsCompared group places held (Err (Stranger stamp)) =
+    ((other : Stamp) → times_out group other places ≤ times_held other held) × (times_out group stamp places < times_held stamp held)
+IsCompared group places held (Err Memory) = ⊥
+
 -- all passes were taken in, in some order of the places, and the dockets kept
 pub record IsJoined (group : GroupId) (ports : List PortState) (places : List PlaceState) (passes : Passes) (dockets : List Kept) : Type 0 where
   pub order : List PlaceState
@@ -87,3 +105,4 @@ pub record IsJoined (group : GroupId) (ports : List PortState) (places : List Pl
   pub pushed : (worth : Posted → ℕ) → sum_by worth (bag_of passes.returns).pushed ≡ sum_by (λ (p : PlaceState). sum_by worth p.given) order
   pub kept : dockets ≡ map (λ (p : PlaceState). p.docket) order
   pub balanced : All IsBalanced order
+  pub few : group.shape.places ≤ 32

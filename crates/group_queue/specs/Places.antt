@@ -76,6 +76,7 @@ jobs_in list = map (λ posted. posted.job) list
 -- what the place did with jobs: what it settled is in its docket, or in what it gave to the group's ledger
 abbrev pub account_of : PlaceState → Account
 account_of place = record {
+  place = place.number;
   firsts = jobs_in place.firsts;
   agains = jobs_in place.agains;
   given = jobs_in place.given;

@@ -6,6 +6,7 @@ ghost use Rattle.group_jobs.specs.Stamps.{stamp_of};
 ghost use Rattle.group_queue.specs.Ports.{PortState};
 ghost use Rattle.group_queue.specs.Places.{PlaceState};
 ghost use Rattle.group_queue.specs.Ends.{port_numbers, place_numbers, HasAll, times_held, times_out, IsWhole, IsBecause};
+ghost use Rattle.group_queue.specs.Known.{IsCompared};
 
 use crate::error::{FinishError, Lack};
 use crate::group::SharedGroup;
@@ -13,11 +14,13 @@ use crate::place::Place;
 use crate::port::Port;
 use dispatch_core::Job;
 use group_jobs::{Envelope, Stamp};
+use std::alloc::Global;
 
 impl<'a> SharedGroup<'a> {
     /// Looks at ports, places, lacking envelopes and strangers, in this order.
     pub(crate) fn check(
         &self,
+        alloc: Global,
         ports: &[Port],
         places: &[Place],
         held: &[Envelope],
@@ -30,6 +33,16 @@ impl<'a> SharedGroup<'a> {
         if let Some(number) = lacking_place(places, self.places) {
             return Err(FinishError::Missing(Lack::Place(number)));
         }
+        match self.compare(alloc, places, held) {
+            Some(compared) => compared,
+            None => self.count(places, held),
+        }
+    }
+
+    // Counts envelopes and what is out, each as often as there are jobs.
+    fn count(&self, places: &[Place], held: &[Envelope]) -> Result<(), FinishError>
+        ensures { IsCompared self.now places.now held.now result }
+    {
         if let Some(stamp) = self.lacking_envelope(places, held) {
             return Err(FinishError::Missing(Lack::Envelope(stamp)));
         }

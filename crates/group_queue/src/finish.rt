@@ -102,7 +102,7 @@ impl<'a> SharedGroup<'a> {
         ensures same { places.new.items ≡ places.old.items }
         ensures answer { IsPrepared self.now ports.now places.old.items held.now result }
     {
-        self.check(ports, places, held)?;
+        self.check(alloc, ports, places, held)?;
         let mut holder = self.hold(rt, places);
         match reserve(alloc, self.ports, ports, places, held, &mut holder) {
             Ok(lists) => Ok((lists, holder)),

@@ -15,6 +15,7 @@
 #![tactic(auto)]
 
 mod checking;
+mod comparing;
 mod ending;
 mod error;
 mod finish;

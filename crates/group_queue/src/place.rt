@@ -1,9 +1,10 @@
 //! Places: where a group hands messages out.
-ghost use Rattle.std.specs.Prelude.{◌≡◌, ◌↔◌, IsTrue};
+ghost use Rattle.std.specs.Prelude.{◌≡◌, ◌<◌, ◌↔◌, IsTrue, All};
 ghost use Rattle.group_jobs.specs.Stamps.{stamp_of, job_of};
 
 use crate::main_queue::MainPass;
 use crate::returns_queue::ReturnsPass;
+use dispatch_core::Job;
 use group_jobs::{Docket, Envelope, Fate, Stamp};
 use shared_ledger::Giver;
 use std::marker::Model;
@@ -62,6 +63,14 @@ impl Place {
         ensures balance { IsBalanced self.now }
     {
         &self.docket
+    }
+
+    /// The jobs that it has out. Their numbers are those that a run can have.
+    pub(crate) fn out(&self) -> &[Job]
+        ensures value { result.now ≡ self.now.docket.out }
+        ensures small { All (λ job. job.number < u64.MAX) result.now }
+    {
+        self.docket.out()
     }
 
     /// Whether an envelope is one that this place has out.

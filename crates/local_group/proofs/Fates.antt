@@ -11,7 +11,7 @@ use Rattle.group_jobs.specs.declared.fate.Fate.TheVariants as fate
 use Rattle.group_jobs.specs.declared.report.Report.{Report}
 use Rattle.group_jobs.specs.Reports.{fates_of, times_accepted}
 use Rattle.local_group.specs.Groups.{Group}
-use Rattle.local_group.specs.Spots.{times_queued, times_out, times_returned, times_settled}
+use Rattle.group_jobs.specs.Spots.{times_queued, times_out, times_returned, times_settled}
 use Rattle.local_group.specs.Reporting.{Reports}
 
 -- how often a job at this spot stands in all lists together

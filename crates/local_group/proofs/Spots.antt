@@ -7,7 +7,7 @@ use Rattle.dispatch_core.specs.GroupState.{GroupState, spot_of}
 use Rattle.dispatch_core.specs.Step.{Moves}
 use Rattle.dispatch_core.specs.JobRuns.{count_of}
 use Rattle.local_group.specs.Keeping.{Outs}
-use Rattle.local_group.specs.Spots.{times_queued, times_out, times_returned, Lists}
+use Rattle.group_jobs.specs.Spots.{times_queued, times_out, times_returned, Lists}
 use Rattle.dispatch_core.proofs.JobLists.{count_of-cons}
 use Rattle.dispatch_core.proofs.Spots.{same_job}
 use Rattle.local_group.proofs.Counts.{count_of-same, count_of-other, take_off}

@@ -17,7 +17,8 @@ use Rattle.group_jobs.specs.declared.fate.Fate.TheVariants as fate
 use Rattle.local_group.specs.declared.waiting.Waiting.{Waiting}
 use Rattle.local_group.specs.Groups.{event_of}
 use Rattle.local_group.specs.Keeping.{front_of, closes_left, IsRanged, IsKept}
-use Rattle.local_group.specs.Spots.{jobs_in, times_queued, times_out, times_returned, Lists}
+use Rattle.local_group.specs.Spots.{jobs_in}
+use Rattle.group_jobs.specs.Spots.{times_queued, times_out, times_returned, Lists}
 use Rattle.dispatch_core.proofs.Histories.{leads_push}
 use Rattle.dispatch_core.proofs.JobLists.{count_of-cons, count_of-append}
 use Rattle.dispatch_core.proofs.Spots.{same_job}

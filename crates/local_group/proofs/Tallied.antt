@@ -11,7 +11,7 @@ use Rattle.dispatch_core.specs.Lawful.{IsLawful}
 use Rattle.group_jobs.specs.Settled.{settled_as, IsUnsettled}
 use Rattle.local_group.specs.declared.report.Tally.{Tally}
 use Rattle.local_group.specs.Keeping.{IsRanged}
-use Rattle.local_group.specs.Spots.{times_out, times_settled, Lists}
+use Rattle.group_jobs.specs.Spots.{times_out, times_settled, Lists}
 use Rattle.local_group.specs.Tallies.{IsBefore, ListsBefore, Tallies, Gains, Counts}
 use Rattle.dispatch_core.proofs.JobLists.{count_of-cons}
 use Rattle.dispatch_core.proofs.Spots.{same_job}

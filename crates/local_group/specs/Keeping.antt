@@ -7,7 +7,8 @@ use Rattle.dispatch_core.specs.GroupState.{GroupState, spot_of}
 use Rattle.dispatch_core.specs.History.{IsRun}
 use Rattle.dispatch_core.specs.Lawful.{RisesByPort}
 use Rattle.local_group.specs.declared.waiting.Waiting.{Waiting}
-use Rattle.local_group.specs.Spots.{jobs_in, times_queued, times_out, times_returned, Lists}
+use Rattle.local_group.specs.Spots.{jobs_in}
+use Rattle.group_jobs.specs.Spots.{times_queued, times_out, times_returned, Lists}
 
 -- the job in front of the list, if there is one
 abbrev pub front_of : List Waiting → Option Job

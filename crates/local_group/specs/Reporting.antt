@@ -6,7 +6,8 @@ use Rattle.group_jobs.specs.declared.fate.Fate.{Fate}
 use Rattle.group_jobs.specs.declared.report.Report.{Report}
 use Rattle.group_jobs.specs.Settled.{settled_as}
 use Rattle.local_group.specs.Groups.{Group}
-use Rattle.local_group.specs.Spots.{jobs_in, times_queued, times_out, times_returned, times_settled, Lists}
+use Rattle.local_group.specs.Spots.{jobs_in}
+use Rattle.group_jobs.specs.Spots.{times_queued, times_out, times_returned, times_settled, Lists}
 
 -- what became of a group's messages: for each port how many it accepted, and each job in the list of its spot, once
 pub record Reports (group : Group) (report : Report) : Type 0 where

@@ -1,53 +1,7 @@
--- Lists of jobs by where the jobs are.
-use Rattle.std.specs.Prelude.{◌≡◌, ℕ, List, map, Option, Some, None}
+-- The jobs of messages that wait.
+use Rattle.std.specs.Prelude.{List, map}
 use Rattle.dispatch_core.specs.declared.event.Job.{Job}
-use Rattle.dispatch_core.specs.declared.event.Spot.{Spot}
-use Rattle.dispatch_core.specs.declared.event.Spot.TheVariants.{Queued, Held, Acked, Refused, Returned}
-use Rattle.dispatch_core.specs.GroupState.{GroupState, spot_of}
-use Rattle.dispatch_core.specs.JobRuns.{count_of}
-use Rattle.group_jobs.specs.declared.fate.Fate.{Fate}
-use Rattle.group_jobs.specs.declared.fate.Fate.TheVariants as fate
 use Rattle.local_group.specs.declared.waiting.Waiting.{Waiting}
 
 abbrev pub jobs_in : List Waiting → List Job
 jobs_in waiting = map (λ w. w.job) waiting
-
--- how often a job at this spot stands in the queue, among the jobs that are out, and among the returned ones
-abbrev pub times_queued : Option Spot → ℕ
-times_queued None = 0
-times_queued (Some Queued) = 1
-times_queued (Some (Held place)) = 0
-times_queued (Some (Acked place)) = 0
-times_queued (Some (Refused place)) = 0
-times_queued (Some Returned) = 0
-
-abbrev pub times_out : Option Spot → ℕ
-times_out None = 0
-times_out (Some Queued) = 0
-times_out (Some (Held place)) = 1
-times_out (Some (Acked place)) = 0
-times_out (Some (Refused place)) = 0
-times_out (Some Returned) = 0
-
-abbrev pub times_returned : Option Spot → ℕ
-times_returned None = 0
-times_returned (Some Queued) = 0
-times_returned (Some (Held place)) = 0
-times_returned (Some (Acked place)) = 0
-times_returned (Some (Refused place)) = 0
-times_returned (Some Returned) = 1
-
--- and how often among those of this fate
-abbrev pub times_settled : Fate → Option Spot → ℕ
-times_settled which None = 0
-times_settled which (Some Queued) = 0
-times_settled which (Some (Held place)) = 0
-times_settled fate.Acknowledged (Some (Acked place)) = 1
-times_settled fate.Refused (Some (Acked place)) = 0
-times_settled fate.Acknowledged (Some (Refused place)) = 0
-times_settled fate.Refused (Some (Refused place)) = 1
-times_settled which (Some Returned) = 0
-
--- the list has each job as often as its spot says
-abbrev pub Lists : (Option Spot → ℕ) → GroupState → List Job → Type 0
-Lists times state jobs = (job : Job) → count_of job jobs ≡ times (spot_of state job)

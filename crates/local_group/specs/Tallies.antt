@@ -7,7 +7,7 @@ use Rattle.dispatch_core.specs.JobRuns.{count_of}
 use Rattle.group_jobs.specs.declared.fate.Fate.{Fate}
 use Rattle.group_jobs.specs.Settled.{settled_as}
 use Rattle.local_group.specs.declared.report.Tally.{Tally}
-use Rattle.local_group.specs.Spots.{times_out, times_settled}
+use Rattle.group_jobs.specs.Spots.{times_out, times_settled}
 
 -- the job is of an earlier port, or of this one with a smaller number
 abbrev pub IsBefore : ℕ → ℕ → Job → Type 0

@@ -3,7 +3,8 @@ ghost use Rattle.std.specs.Prelude.{◌≡◌, ◌≢◌, ◌≤◌, ◌<◌, �
 ghost use Rattle.local_group.specs.Groups.{IsFresh, IsHeld, Accepts, MayOffer, MayNotOffer, held_by, Takes, TakesBack, MayNotTake, Settles, GivesBack, Closes, event_of};
 ghost use Rattle.dispatch_core.specs.History.{IsRun};
 ghost use Rattle.local_group.specs.Keeping.{IsRanged};
-ghost use Rattle.local_group.specs.Spots.{jobs_in, times_queued, times_returned, Lists};
+ghost use Rattle.local_group.specs.Spots.{jobs_in};
+ghost use Rattle.group_jobs.specs.Spots.{times_queued, times_returned, Lists};
 ghost use Rattle.local_group.specs.declared.error.OfferError.TheVariants as OfferError;
 
 use crate::error::{NotTaken, OfferError, TakeError};

@@ -1,6 +1,5 @@
 -- All that is left was popped, and adds up.
 use Rattle.std.proofs.Common.{◌∙◌, ap, sym, subst, refl, [], vec_capacity, arith}
-use Rattle.dispatch_core.specs.JobRuns.{count_of}
 use Rattle.group_jobs.specs.declared.ledger.Ledger.{Ledger}
 use Rattle.group_jobs.specs.Settled.{least_spare}
 use Rattle.group_queue.specs.Known.{IsRoomFor}
@@ -9,7 +8,7 @@ use Rattle.group_queue.specs.declared.view.Bag.{Bag}
 use Rattle.group_queue.specs.Views.{popping}
 use Rattle.group_queue.specs.Past.{Stands}
 use Rattle.group_queue.specs.Returns.{StandsBack}
-use Rattle.group_queue.proofs.Finished.{room_back, room_main, room_settled, adds_up, youngest}
+use Rattle.group_queue.proofs.Finished.{room_back, room_main, room_settled, adds_up, orderly_end}
 use Rattle.group_queue.proofs.group.SharedGroup.end.Goals as goal
 
 pub pop_returned-requires-clause-room : goal.pop_returned-requires-clause-room
@@ -42,8 +41,7 @@ returns g c =
       adds = adds_up c.args.self c.args.ports.items c.args.places.items c.args.held.items c.join_all-passes.result c.join_all-passes.new.dockets.items c.args.holder c.join_all-passes.new.holder c.join_all-passes.ensures.joined c.join_all-passes.ensures.given c.requires.whole
           c.end-settled.result c.end-settled.ensures.counts
           c.args.lists.accepted.items c.requires.ready.counts queued stands c.pop_returned.ensures.0 back _ refl c.requires.ready.envelopes c.pop_queued.ensures.2 c.pop_returned.ensures.2 c.merge_all.ensures;
-      youngest = λ older younger port later some.
-          ap (count_of younger) c.pop_queued.ensures.2 ∙ youngest c.args.self c.args.ports.items c.args.places.items c.args.held.items c.join_all-passes.result c.join_all-passes.new.dockets.items c.args.holder c.join_all-passes.new.holder c.join_all-passes.ensures.joined c.join_all-passes.ensures.given c.requires.whole c.end-settled.result c.end-settled.ensures.counts
-          c.args.lists.accepted.items c.requires.ready.counts queued stands c.pop_returned.ensures.0 back c.look.ensures.stands.0 c.look.ensures.stands.1 older younger port later
-          (omega (arith, some, ap (count_of older) c.pop_queued.ensures.2));
+      orderly = orderly_end c.args.self c.args.ports.items c.args.places.items c.args.held.items c.join_all-passes.result c.join_all-passes.new.dockets.items c.args.holder c.join_all-passes.new.holder c.join_all-passes.ensures.joined c.join_all-passes.ensures.given c.requires.whole
+          c.end-settled.result c.end-settled.ensures.counts
+          c.args.lists.accepted.items c.requires.ready.counts queued stands c.pop_returned.ensures.0 back c.look.ensures.stands.0 c.look.ensures.stands.1 c.requires.places _ refl c.pop_queued.ensures.2;
     }

@@ -30,6 +30,7 @@ returns-clause-joined c =
       pushed = (λ w. pushed_all last c.take_keeper-passes.new.place rest _ _ _ _ kept.place kept.left.parts made.parts more.parts w);
       kept = more.dockets ∙ ap (λ l. l ++ map (λ (p : PlaceState). p.docket) rest) (c.push_reserved.ensures.items ∙ ap (λ l. l ++ c.join_place-docket.result.0 ∷ []) c.requires.none ∙ ap (λ (d : Kept). d ∷ []) (made.docket ∙ ap (λ (p : PlaceState). p.docket) kept.place));
       balanced = All-cons IsBalanced last rest (subst IsBalanced kept.place made.balanced) more.balanced;
+      few = kept.few;
     }
 
 pub returns-clause-given : goal.returns-clause-given

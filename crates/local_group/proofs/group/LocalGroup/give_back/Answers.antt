@@ -3,7 +3,7 @@ use Rattle.dispatch_core.specs.declared.event.Event.TheVariants.{Back}
 use Rattle.dispatch_core.specs.declared.event.Spot.TheVariants.{Returned}
 use Rattle.local_group.specs.declared.waiting.Waiting.{Waiting}
 use Rattle.local_group.specs.Keeping.{IsKept}
-use Rattle.local_group.specs.Spots.{times_out}
+use Rattle.group_jobs.specs.Spots.{times_out}
 use Rattle.local_group.proofs.Spots.{one_out}
 use Rattle.local_group.proofs.Steps.{kept_back, left_same}
 use Rattle.local_group.proofs.group.LocalGroup.give_back.Goals as goal

@@ -2,7 +2,8 @@ use Rattle.std.proofs.Common.{◌≡◌, ◌∙◌, List, refl, ap, subst}
 use Rattle.dispatch_core.specs.declared.event.Job.{Job}
 use Rattle.dispatch_core.specs.GroupState.{GroupState, accepted_of}
 use Rattle.dispatch_core.specs.JobRuns.{count_of}
-use Rattle.local_group.specs.Spots.{jobs_in, times_out, times_settled}
+use Rattle.local_group.specs.Spots.{jobs_in}
+use Rattle.group_jobs.specs.Spots.{times_out, times_settled}
 use Rattle.group_jobs.specs.Settled.{settled_as}
 use Rattle.local_group.specs.Tallies.{ListsBefore}
 use Rattle.local_group.proofs.Tallied.{lists_all}
