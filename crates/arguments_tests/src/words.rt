@@ -33,10 +33,7 @@ fn told(alloc: Global, command: &str, setup: &Setup) -> Result<String, AllocErro
 fn what_words_ask_for(rt: HostRuntime) -> Result<(), Fail> {
     let rows = [
         ("share_broker solo", "solo 1024 0"),
-        (
-            "share_broker solo --capacity 2 --group g:job",
-            "solo 2 1",
-        ),
+        ("share_broker solo --capacity 2 --group g:job", "solo 2 1"),
         ("share_broker drive", "drive 1024 0"),
         ("share_broker drive --capacity 1", "drive 1 0"),
         (

@@ -59,10 +59,22 @@ fn serve(alloc: Global, server: &mut Server, jobs: u32, window: u16) -> Option<u
     connect.extend_from_slice(&window.to_be_bytes()).ok()?;
     connect.extend_from_slice(NAME).ok()?;
     happen(server, words, &Event::Open(member))?;
-    happen(server, words, &Event::Bytes(member, Bytes::from_vec(connect).ok()?))?;
-    happen(server, words, &Event::Bytes(member, Bytes::from_static(SUBSCRIBE)))?;
+    happen(
+        server,
+        words,
+        &Event::Bytes(member, Bytes::from_vec(connect).ok()?),
+    )?;
+    happen(
+        server,
+        words,
+        &Event::Bytes(member, Bytes::from_static(SUBSCRIBE)),
+    )?;
     happen(server, words, &Event::Open(publisher))?;
-    happen(server, words, &Event::Bytes(publisher, Bytes::from_static(PUBLISHER)))?;
+    happen(
+        server,
+        words,
+        &Event::Bytes(publisher, Bytes::from_static(PUBLISHER)),
+    )?;
     let publish = Event::Bytes(publisher, Bytes::from_static(PUBLISH));
     let pubacks = pubacks(alloc, member, window)?;
     for _ in 0..jobs / u32::from(window.max(1)) {

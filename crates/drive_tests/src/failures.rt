@@ -50,7 +50,12 @@ impl Read for FailingReader<'_> {
 #[test]
 fn reader_fails(rt: HostRuntime) {
     let mut writer = Vec::new(rt.alloc());
-    let ended = solo(rt.alloc(), plain(rt.alloc()), &mut FailingReader(CONNECT), &mut writer);
+    let ended = solo(
+        rt.alloc(),
+        plain(rt.alloc()),
+        &mut FailingReader(CONNECT),
+        &mut writer,
+    );
     assert_eq!(rt; ended, Err(RunError::Device));
     assert_eq!(rt; writer.len(), 0);
     assert_eq!(rt; RunError::Device.status(), 3);
@@ -75,9 +80,19 @@ impl Read for EmptyLines {
 #[test]
 fn most_reads(rt: HostRuntime) {
     let mut writer = Vec::new(rt.alloc());
-    let ended = solo(rt.alloc(), plain(rt.alloc()), &mut EmptyLines((1 << 20) - 1), &mut writer);
+    let ended = solo(
+        rt.alloc(),
+        plain(rt.alloc()),
+        &mut EmptyLines((1 << 20) - 1),
+        &mut writer,
+    );
     assert_eq!(rt; ended, Ok(()));
-    let ended = solo(rt.alloc(), plain(rt.alloc()), &mut EmptyLines(1 << 20), &mut writer);
+    let ended = solo(
+        rt.alloc(),
+        plain(rt.alloc()),
+        &mut EmptyLines(1 << 20),
+        &mut writer,
+    );
     assert_eq!(rt; ended, Err(RunError::Device));
     assert_eq!(rt; writer.len(), 0);
 }

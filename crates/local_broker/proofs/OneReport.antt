@@ -15,7 +15,8 @@ use Rattle.group_jobs.specs.Reports.{report_line, labelled}
 use Rattle.group_jobs.specs.Settled.{settled_as}
 use Rattle.local_group.specs.Groups.{Group}
 use Rattle.local_group.specs.Alike.{AreAlike}
-use Rattle.local_group.specs.Spots.{Lists, jobs_in, times_out, times_settled}
+use Rattle.group_jobs.specs.Spots.{Lists, times_out, times_settled}
+use Rattle.local_group.specs.Spots.{jobs_in}
 use Rattle.local_group.specs.Reporting.{Reports}
 use Rattle.local_group.proofs.Counts.{count_of-same, take_off}
 
