@@ -3,9 +3,9 @@ use Rattle.std.proofs.Common.{◌≡◌, ℕ, List, [], ◌∷◌, Option, Some,
 use Rattle.std.proofs.lemmas.Option.{same_Some}
 use Rattle.conn_engine.specs.declared.input.Input.{Input}
 use Rattle.conn_engine.specs.Facts.{Fact}
-use Rattle.conn_engine.specs.Asking.{OneAnswer}
-use Rattle.conn_engine.specs.Behind.{IsLast}
-use Rattle.conn_engine.proofs.Ended.{ends_by}
+use Rattle.conn_laws.specs.Asking.{OneAnswer}
+use Rattle.conn_laws.specs.Behind.{IsLast}
+use Rattle.conn_laws.proofs.Ended.{ends_by}
 use Rattle.client_table.specs.Clients.{ClientState, Said, Moves}
 use Rattle.client_table.specs.Streams.{fed}
 use Rattle.client_table.specs.Cells.{kept, InCell, Opens, Receives, TicksFor, EndsFor}

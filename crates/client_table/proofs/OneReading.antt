@@ -12,11 +12,11 @@ use Rattle.conn_engine.specs.declared.input.Then.TheVariants.{Go}
 use Rattle.conn_engine.specs.declared.standing.Standing.{Standing}
 use Rattle.conn_engine.specs.declared.standing.Standing.TheVariants.{Unconnected, Waiting, Connected, Ended}
 use Rattle.conn_engine.specs.Facts.{Fact}
-use Rattle.conn_engine.specs.Asking.{OneAnswer}
+use Rattle.conn_laws.specs.Asking.{OneAnswer}
 use Rattle.conn_engine.specs.Standings.{IsWaiting}
 use Rattle.conn_engine.specs.Step.{Steps}
-use Rattle.conn_engine.proofs.OneStep.{stepped}
-use Rattle.conn_engine.proofs.Ended.{ends}
+use Rattle.conn_laws.proofs.OneStep.{stepped}
+use Rattle.conn_laws.proofs.Ended.{ends}
 use Rattle.client_table.specs.Clients.{ClientState, Said, Moves}
 use Rattle.client_table.specs.Streams.{IsRead, IsInFront, Closes, ReadsOne, ReadsLast, Reads, Ticks}
 use Rattle.client_table.specs.Cells.{kept, kept_as}

@@ -3,7 +3,7 @@ use Rattle.std.proofs.Common.{◌≡◌, ℕ, inl, inr}
 use Rattle.conn_engine.specs.declared.input.Input.TheVariants as inputs
 use Rattle.conn_engine.specs.declared.standing.Standing.TheVariants.{Ended}
 use Rattle.conn_engine.specs.Facts.{Fact}
-use Rattle.conn_engine.proofs.Ended.{ends_by}
+use Rattle.conn_laws.proofs.Ended.{ends_by}
 use Rattle.client_table.specs.Clients.{ClientState, IsGivenUp}
 
 module _ {S P : Type 0} (call : S → Fact P → S → Type 0) (slot_of : P → ℕ) where

@@ -6,8 +6,8 @@ use Rattle.conn_engine.specs.declared.supply.NoMemory.{NoMemory}
 use Rattle.conn_engine.specs.declared.standing.Standing.{Standing}
 use Rattle.conn_engine.specs.declared.standing.Standing.TheVariants.{Unconnected, Waiting, Connected, Ended}
 use Rattle.conn_engine.specs.Facts.{Fact}
-use Rattle.conn_engine.specs.Quotas.{IsWithinQuota}
-use Rattle.conn_engine.proofs.Quotas as steps
+use Rattle.conn_laws.specs.Quotas.{IsWithinQuota}
+use Rattle.conn_laws.proofs.Quotas as steps
 use Rattle.client_table.specs.Cells.{kept, kept_as, Opens, Receives, TicksFor, EndsFor}
 use Rattle.client_table.specs.Clients.{ClientState, Said, Moves, FailsToMove, IsGivenUp}
 use Rattle.client_table.specs.Quotas.{IsCellWithinQuota}

@@ -1,4 +1,5 @@
 pub mod Clients
 pub mod Streams
 pub mod Cells
+pub mod Deliveries
 pub mod Quotas

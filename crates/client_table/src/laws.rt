@@ -1,32 +1,34 @@
 //! Laws: what is done to a client is a list of calls of the supply, whatever comes of it. Each is the contract of a function that does
 //! nothing, stated over the definitions that the contracts of [`Client`](crate::Client) and [`ClientTable`](crate::ClientTable) cite, and
 //! over every [`Supply`]. So what holds of a supply whatever calls are made of it holds behind each of their calls.
-ghost use Rattle.std.specs.Prelude.{◌≡◌, ℕ, List, Option, Result, Ok};
+ghost use Rattle.std.specs.Prelude.{◌≡◌, ℕ, List, [], ◌∷◌, Option, Result, Ok};
 ghost use Rattle.conn_engine.specs.declared.input.Input.{Input};
 ghost use Rattle.conn_engine.specs.declared.supply.NoMemory.{NoMemory};
-ghost use Rattle.conn_engine.specs.Asking.{OneAnswer};
-ghost use Rattle.conn_engine.specs.Behind.{IsLast};
-ghost use Rattle.conn_engine.specs.Calls.{CallsLead};
+ghost use Rattle.conn_laws.specs.Asking.{OneAnswer};
+ghost use Rattle.conn_laws.specs.Behind.{IsLast};
+ghost use Rattle.conn_laws.specs.Calls.{CallsLead};
 ghost use Rattle.client_table.specs.Cells.{Opens, Receives, TicksFor, EndsFor, AbandonsEach};
 ghost use Rattle.client_table.specs.Clients.{ClientState, Said, Moves, IsGivenUp};
+ghost use Rattle.client_table.specs.Deliveries.{Delivers};
 ghost use Rattle.client_table.specs.Quotas.{IsCellWithinQuota};
 ghost use Rattle.client_table.specs.Streams.{Reads, FailsToRead, Ticks, FailsToTick};
 
 use conn_engine::Supply;
 use session_desk::Place;
 
-/// **What a client does is a list of calls**: reading its stream, a Tick, a last step, and giving it up, with memory and without.
+/// **What a client does is a list of calls**: reading its stream, a Tick, a last step, and giving it up, with memory and without. Where
+/// memory is not wanted, what these calls hand out is what the client is told for the first time.
 pub fn calls_law<P: Place, S: Supply<P>>()
     ensures reads { (now : ℕ) (said : List Said) (client after : ClientState P) (old new : S) →
-        Reads S.call P.slot_of old client now said after new → CallsLead S.call old new }
+        Reads S.call P.slot_of old client now said after new → Delivers S.call old said new }
     ensures fails_to_read { (now : ℕ) (said : List Said) (client after : ClientState P) (old new : S) →
         FailsToRead S.call P.slot_of old client now said after new → CallsLead S.call old new }
     ensures ticks { (now : ℕ) (said : List Said) (client after : ClientState P) (old new : S) →
-        Ticks S.call P.slot_of old client now said after new → CallsLead S.call old new }
+        Ticks S.call P.slot_of old client now said after new → Delivers S.call old said new }
     ensures fails_to_tick { (now : ℕ) (said : List Said) (client after : ClientState P) (old new : S) →
         FailsToTick S.call P.slot_of old client now said after new → CallsLead S.call old new }
     ensures moves { (now : ℕ) (input : Input) (said : Said) (client after : ClientState P) (old new : S) →
-        Moves S.call P.slot_of old client now input said after new → CallsLead S.call old new }
+        Moves S.call P.slot_of old client now input said after new → Delivers S.call old (said ∷ []) new }
     ensures given_up { (now : ℕ) (input : Input) (client after : ClientState P) (old new : S) →
         IsGivenUp S.call P.slot_of old client now input after new → CallsLead S.call old new }
 {}
@@ -41,6 +43,17 @@ pub fn table_calls_law<P: Place, S: Supply<P>>()
         EndsFor S.call P.slot_of old before now input more result after new → CallsLead S.call old new }
     ensures abandons { (now : ℕ) (cells : List (Option (ClientState P))) (old new : S) →
         AbandonsEach S.call P.slot_of old cells now new → CallsLead S.call old new }
+{}
+
+/// **What is handed out for the client in a cell is what it is told**, where memory is not wanted: each message that a place is handed goes out at
+/// once in a PUBLISH of its own, in their order, and no other message goes out for the first time.
+pub fn hand_out_law<P: Place, S: Supply<P>>()
+    ensures receives { (now : ℕ) (piece : List ℕ) (more : List Said) (before after : Option (ClientState P)) (old new : S) →
+        Receives S.call P.slot_of old before now piece more (Ok tt) after new → Delivers S.call old more new }
+    ensures ticks { (now : ℕ) (more : List Said) (before after : Option (ClientState P)) (old new : S) →
+        TicksFor S.call P.slot_of old before now more (Ok tt) after new → Delivers S.call old more new }
+    ensures ends { (now : ℕ) (input : Input) (more : List Said) (before after : Option (ClientState P)) (old new : S) →
+        EndsFor S.call P.slot_of old before now input more (Ok tt) after new → Delivers S.call old more new }
 {}
 
 /// **The quota is kept** (section 4.9), whatever happens to the client in a cell, with memory and without: of the PUBLISH packets that it was

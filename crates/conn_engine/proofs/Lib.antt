@@ -5,16 +5,3 @@ pub mod Fresh
 pub mod Sweeping
 pub mod Resuming
 pub mod First
-pub mod Ended
-pub mod Quotas
-pub mod Eager
-pub mod Calling
-pub mod Stepping
-pub mod Failing
-pub mod OneCall
-pub mod OneEnding
-pub mod OneConnecting
-pub mod OneMessage
-pub mod OneShare
-pub mod OneHandOut
-pub mod OneStep

@@ -1,5 +1,4 @@
 pub mod Facts
-pub mod Asking
 pub mod Ready
 pub mod Replies
 pub mod Publishing
@@ -12,6 +11,3 @@ pub mod Standings
 pub mod Connecting
 pub mod Answering
 pub mod Step
-pub mod Calls
-pub mod Behind
-pub mod Quotas

@@ -7,9 +7,9 @@ use conn_rules::{disconnect, puback};
 use mqtt_wire::{Packet, PacketIdentifier, ReasonCode};
 use std::alloc::Global;
 
-/// What a connection answers to an input, before anything is handed out.
+/// What a connection answers to an input, before anything is handed out. The laws of its steps speak of it.
 #[derive(Drop)]
-pub(crate) struct Reply {
+pub struct Reply {
     /// The packet that is sent, if there is one.
     pub packet: Option<Packet>,
     /// What becomes of the connection.

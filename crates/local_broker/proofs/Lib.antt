@@ -3,6 +3,7 @@ pub mod Opened
 pub mod Closed
 pub mod Events
 pub mod Happened
+pub mod HandedOut
 pub mod Holding
 pub mod Outs
 pub mod OneGroup

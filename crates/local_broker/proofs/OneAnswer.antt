@@ -22,7 +22,7 @@ use Rattle.conn_engine.specs.declared.supply.OfferRefusal.{OfferRefusal}
 use Rattle.conn_engine.specs.declared.supply.OfferRefusal.TheVariants as refusal
 use Rattle.conn_engine.specs.Facts.{Fact}
 use Rattle.conn_engine.specs.Facts.Fact.{Attach, Withdraw, Kicked, Park, ParkAsIs, Keep, Bury, Sweep, LendPlace, TakePlace, Bind, Find, Match, Offer, Take, TakeBack, Settle, GiveBack}
-use Rattle.conn_engine.specs.Asking.{IsSameQuestion, HadMemory}
+use Rattle.conn_laws.specs.Asking.{IsSameQuestion, HadMemory}
 use Rattle.local_broker.specs.Places.{GroupPlace, cell_of}
 use Rattle.local_broker.specs.Groups.{IsOffered, HandsOut, HandsOutAgain, IsSettled, IsGivenBack}
 use Rattle.local_broker.specs.Broker.{Broker}

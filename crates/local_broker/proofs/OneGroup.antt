@@ -19,7 +19,7 @@ use Rattle.local_group.proofs.Alike as groups
 use Rattle.conn_engine.specs.declared.supply.NoMemory.{NoMemory}
 use Rattle.conn_engine.specs.declared.supply.OfferRefusal.{OfferRefusal}
 use Rattle.conn_engine.specs.declared.supply.OfferRefusal.TheVariants as refusal
-use Rattle.conn_engine.specs.Asking.{IsTold}
+use Rattle.conn_laws.specs.Asking.{IsTold}
 use Rattle.local_broker.specs.Groups.{told_as, IsOffered, HandsOut, HandsOutAgain, IsOutAt, IsSettled, IsGivenBack, InGroup, ClosesEach}
 use Rattle.local_broker.specs.Alike.{AreAlikeInEachSlot}
 

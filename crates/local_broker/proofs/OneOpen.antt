@@ -3,7 +3,7 @@ use Rattle.std.proofs.Common.{◌≡◌, suc, not, ◌&&◌, List, [], ◌∷◌
 use Rattle.std.specs.List.{list_all}
 use Rattle.session_desk.specs.Hands.{DeskLaw}
 use Rattle.local_group.specs.Groups.{Group}
-use Rattle.conn_engine.specs.Asking.{OneAnswer}
+use Rattle.conn_laws.specs.Asking.{OneAnswer}
 use Rattle.local_broker.specs.Broker.{Broker, is_open}
 use Rattle.local_broker.specs.Alike.{AreAlikeInEachSlot, AreAlike}
 use Rattle.local_broker.specs.Calls.{Calls, Closes}

@@ -5,3 +5,4 @@ pub mod Alike
 pub mod Calls
 pub mod Reporting
 pub mod Histories
+pub mod HandOuts

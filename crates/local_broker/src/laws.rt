@@ -6,10 +6,11 @@ ghost use Rattle.group_jobs.specs.Stamps.{Held};
 ghost use Rattle.session_desk.specs.Hands.{DeskLaw};
 ghost use Rattle.local_group.specs.Groups.{Group};
 ghost use Rattle.local_broker.specs.Broker.{Broker, IsClosed, IsNewBroker};
+ghost use Rattle.local_broker.specs.HandOuts.{handed_by_all, handed_in_all, seen_by_group};
 ghost use Rattle.local_broker.specs.Histories.{Happening, HappensAll, AreRunning, OnlyEnds, HasOut, NoneSpends};
 ghost use Rattle.conn_engine.specs.Facts.{Fact};
 ghost use Rattle.conn_engine.specs.Facts.Fact.{Take, TakeBack};
-ghost use Rattle.conn_engine.specs.Asking.{IsSameQuestion, HadMemory};
+ghost use Rattle.conn_laws.specs.Asking.{IsSameQuestion, HadMemory};
 ghost use Rattle.local_broker.specs.Alike.{AreAlike};
 ghost use Rattle.local_broker.specs.Calls.{Calls, Closes};
 ghost use Rattle.local_broker.specs.Places.{GroupPlace};
@@ -48,6 +49,15 @@ pub fn holding_law()
         Calls old (TakeBack place after (Ok (Some envelope))) b → HasOut b place envelope }
     ensures stays { (happenings : List Happening) (old b : Broker) (place : GroupPlace) (envelope : Held) →
         HasOut old place envelope → HappensAll old happenings b → NoneSpends envelope.stamp happenings → HasOut b place envelope }
+{}
+
+/// **What places are handed is what the events of the groups tell**: whatever calls are made of a new broker, the hand-outs among
+/// the events of a group, first and later, are those of its places, in their order, each with its place and its job.
+pub fn hand_out_law()
+    ensures { (capacity : ℕ) (shares : List Share) (happenings : List Happening) (first b : Broker) →
+        IsNewBroker capacity shares first → HappensAll first happenings b →
+        (slot : ℕ) (group : Group) → slice_get b.groups slot ≡ Some group →
+        handed_in_all group.events ≡ seen_by_group slot (handed_by_all happenings) }
 {}
 
 /// **A broker answers each question in one way**, memory aside: of two brokers that are alike and keep the desk law, each answers a call

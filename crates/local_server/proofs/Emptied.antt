@@ -6,7 +6,7 @@ use Rattle.dispatch_core.proofs.Spots.{slice_get-set_same, slice_get-set_other}
 use Rattle.conn_engine.specs.declared.input.Input.TheVariants as inputs
 use Rattle.conn_engine.specs.declared.standing.Standing.{Standing}
 use Rattle.conn_engine.specs.declared.standing.Standing.TheVariants.{Ended}
-use Rattle.conn_engine.proofs.Ended.{ends_by}
+use Rattle.conn_laws.proofs.Ended.{ends_by}
 use Rattle.client_table.specs.Cells.{kept_as, EndsFor}
 use Rattle.client_table.specs.Clients.{ClientState, Said}
 use Rattle.local_broker.specs.Places.{GroupPlace}

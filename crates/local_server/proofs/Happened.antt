@@ -1,18 +1,27 @@
 -- What becomes of a broker in a run of its server.
-use Rattle.std.proofs.Common.{◌≡◌, ℕ, zero, suc, Bool, true, false, List, [], ◌∷◌, ◌++◌, Ok, Err, Result, refl, ap, subst, ◌∙◌}
+use Rattle.std.proofs.Common.{◌≡◌, ℕ, zero, suc, Bool, true, false, List, [], ◌∷◌, ◌++◌, map, Option, Ok, Err, IsOk, Result, refl, sym, ap, subst, ◌∙◌}
+use Rattle.std.specs.List.{cons_option}
+use Rattle.std.proofs.lemmas.Bool.{false≢true}
+use Rattle.std.proofs.lemmas.List.{map-append}
+use Rattle.std.proofs.lemmas.List.Elements.{filter_map-append}
 use Rattle.dispatch_core.proofs.RunLaws.{lawful_run}
 use Rattle.session_desk.specs.Hands.{DeskLaw}
+use Rattle.conn_engine.specs.declared.input.Input.{Input}
 use Rattle.conn_engine.specs.declared.input.Input.TheVariants as inputs
 use Rattle.conn_engine.specs.declared.supply.NoMemory.{NoMemory}
 use Rattle.conn_engine.specs.Facts.{Fact}
-use Rattle.conn_engine.specs.Calls.{MakesAll, CallsLead}
-use Rattle.client_table.specs.Clients.{Said}
-use Rattle.client_table.proofs.Calling.{receives, ticks_for, ends_for}
+use Rattle.conn_laws.specs.Calls.{hand_out_of, handed, messages_of, MakesAll, CallsLead}
+use Rattle.client_table.specs.Clients.{ClientState, Said}
+use Rattle.client_table.specs.Cells.{Receives, TicksFor, EndsFor}
+use Rattle.client_table.specs.Deliveries.{fresh_said, Delivers}
+use Rattle.client_table.proofs.Calling.{fresh_said-append, receives_told, ticks_told, ends_told, receives, ticks_for, ends_for}
 use Rattle.local_broker.specs.Places.{GroupPlace}
 use Rattle.local_broker.specs.Broker.{Broker, is_open}
-use Rattle.local_broker.specs.Calls.{Calls}
+use Rattle.local_broker.specs.Calls.{Calls, Closes}
+use Rattle.local_broker.specs.HandOuts.{HandOut, handed_by, handed_by_all}
 use Rattle.local_broker.specs.Histories.{Happening, HappensAll as HappensToBroker}
 use Rattle.local_broker.specs.Histories.Happening.{Called, Closed}
+use Rattle.local_broker.proofs.HandedOut.{handed_all}
 use Rattle.local_broker.proofs.Happened.{running_all, running_first, law_all_along, new_desk}
 use Rattle.local_server.specs.declared.event.Event.{Event}
 use Rattle.local_server.specs.declared.event.Event.TheVariants as events
@@ -20,65 +29,128 @@ use Rattle.local_server.specs.declared.event.TimedEvent.{TimedEvent}
 use Rattle.local_server.specs.declared.setup.Setup.{Setup}
 use Rattle.local_server.specs.Servers.{Clients, ServerState, IsNewServer}
 use Rattle.local_server.specs.Happening.{slot_of, EndsAt, EndsFirst, ClosesAll, Does, DoesIf, Happens, HappensAll}
+use Rattle.local_server.specs.Deliveries.{HandsOutWhatIsSaid}
 use Rattle.local_server.specs.Runs.{HaveLed, AllRunLawfully}
 
-still : (old new : Broker) → new ≡ old → HaveLed old new
-still old new same = ([], same)
+-- what happened to a broker in an event by which this was said; what was said is what was handed out, where memory was not wanted
+record Ran (result : Result (Unit {0}) NoMemory) (old : Broker) (said : List Said) (new : Broker) : Type 0 where
+  happenings : List Happening
+  led : HappensToBroker old happenings new
+  told : IsOk result → fresh_said said ≡ messages_of (handed_by_all happenings)
+
+still : (result : Result (Unit {0}) NoMemory) (old new : Broker) (said : List Said) → said ≡ [] → new ≡ old → Ran result old said new
+still result old new said none same = record { happenings = []; led = same; told = λ ok. ap fresh_said none }
 
 joins : (happenings others : List Happening) (old mid new : Broker) → HappensToBroker old happenings mid → HappensToBroker mid others new → HappensToBroker old (happenings ++ others) new
 joins [] others old mid new these those = subst (λ b. HappensToBroker b others new) these those
 joins (happening ∷ happenings) others old mid new these those = (these.0, these.1, joins happenings others these.0 mid new these.2 those)
 
-behind : (old mid new : Broker) → HaveLed old mid → HaveLed mid new → HaveLed old new
-behind old mid new these those = (these.0 ++ those.0, joins these.0 those.0 old mid new these.1 those.1)
+-- what is said first and then, and what is handed out first and then
+told_behind : (said more : List Said) (happenings others : List Happening) → fresh_said said ≡ messages_of (handed_by_all happenings) → fresh_said more ≡ messages_of (handed_by_all others)
+    → fresh_said (said ++ more) ≡ messages_of (handed_by_all (happenings ++ others))
+told_behind said more happenings others these those =
+    fresh_said-append said more ∙ (λ i. these i ++ those i)
+    ∙ sym (ap messages_of (filter_map-append handed_by happenings others) ∙ map-append (λ (h : HandOut). h.1.message) (handed_by_all happenings) (handed_by_all others))
 
-called : (facts : List (Fact GroupPlace)) (old new : Broker) → MakesAll Calls old facts new → HaveLed old new
-called [] old new same = still old new same
-called (fact ∷ facts) old new made =
-    let later = called facts made.0 new made.2 in (Called fact ∷ later.0, (made.0, made.1, later.1))
+behind : (result : Result (Unit {0}) NoMemory) (old mid new : Broker) (said more all : List Said) → all ≡ said ++ more → Ran (Ok tt) old said mid → Ran result mid more new → Ran result old all new
+behind result old mid new said more all is these those =
+    record {
+      happenings = these.happenings ++ those.happenings;
+      led = joins these.happenings those.happenings old mid new these.led those.led;
+      told = λ ok. ap fresh_said is ∙ told_behind said more these.happenings those.happenings (these.told refl) (those.told ok);
+    }
 
-by_calls : (old new : Broker) → CallsLead Calls old new → HaveLed old new
-by_calls old new calls = called calls.0 old new calls.1
+-- calls of connections
+called : (facts : List (Fact GroupPlace)) (old new : Broker) → MakesAll Calls old facts new → HappensToBroker old (map Called facts) new
+called [] old new same = same
+called (fact ∷ facts) old new made = (made.0, made.1, called facts made.0 new made.2)
 
-ended : (number : ℕ) (old new : Broker) (clients clients' : Clients) (now : ℕ) (said : List Said) (result : Result (Unit {0}) NoMemory)
-    → EndsAt number old clients now said result clients' new → HaveLed old new
-ended number old new clients clients' now said result ends = by_calls old new (ends_for Calls slot_of result ends.before old new now inputs.Closing said ends.after ends.becomes)
+handed_by_calls : (facts : List (Fact GroupPlace)) → handed_by_all (map Called facts) ≡ handed facts
+handed_by_calls [] = refl
+handed_by_calls (fact ∷ facts) = ap (cons_option (hand_out_of fact)) (handed_by_calls facts)
 
-first_ended : (number : ℕ) (old new : Broker) (clients clients' : Clients) (now : ℕ) (said : List Said) → EndsFirst number old clients now said clients' new → HaveLed old new
-first_ended zero old new clients clients' now said ends = still old new ends.2
+by_calls : (result : Result (Unit {0}) NoMemory) (old new : Broker) (said : List Said) → Delivers Calls old said new → Ran result old said new
+by_calls result old new said calls =
+    record { happenings = map Called calls.facts; led = called calls.facts old new calls.made; told = λ ok. calls.told ∙ ap messages_of (sym (handed_by_calls calls.facts)) }
+
+cut_short : (error : NoMemory) (old new : Broker) (said : List Said) → CallsLead Calls old new → Ran (Err error) old said new
+cut_short error old new said calls = record { happenings = map Called calls.0; led = called calls.0 old new calls.1; told = λ ok. absurd (false≢true ok) }
+
+-- what happens to the client of a number
+received : (result : Result (Unit {0}) NoMemory) (old new : Broker) (before after : Option (ClientState GroupPlace)) (now : ℕ) (piece : List ℕ) (said : List Said)
+    → Receives Calls slot_of old before now piece said result after new → Ran result old said new
+received (Ok done) old new before after now piece said does = by_calls (Ok done) old new said (receives_told Calls slot_of before old new now piece said after does)
+received (Err error) old new before after now piece said does = cut_short error old new said (receives Calls slot_of (Err error) before old new now piece said after does)
+
+ticked : (result : Result (Unit {0}) NoMemory) (old new : Broker) (before after : Option (ClientState GroupPlace)) (now : ℕ) (said : List Said)
+    → TicksFor Calls slot_of old before now said result after new → Ran result old said new
+ticked (Ok done) old new before after now said does = by_calls (Ok done) old new said (ticks_told Calls slot_of before old new now said after does)
+ticked (Err error) old new before after now said does = cut_short error old new said (ticks_for Calls slot_of (Err error) before old new now said after does)
+
+ended : (result : Result (Unit {0}) NoMemory) (old new : Broker) (before after : Option (ClientState GroupPlace)) (now : ℕ) (input : Input) (said : List Said)
+    → EndsFor Calls slot_of old before now input said result after new → Ran result old said new
+ended (Ok done) old new before after now input said does = by_calls (Ok done) old new said (ends_told Calls slot_of before old new now input said after does)
+ended (Err error) old new before after now input said does = cut_short error old new said (ends_for Calls slot_of (Err error) before old new now input said after does)
+
+-- the close
+ended_at : (number : ℕ) (result : Result (Unit {0}) NoMemory) (old new : Broker) (clients clients' : Clients) (now : ℕ) (said : List Said)
+    → EndsAt number old clients now said result clients' new → Ran result old said new
+ended_at number result old new clients clients' now said ends = ended result old new ends.before ends.after now inputs.Closing said ends.becomes
+
+first_ended : (number : ℕ) (old new : Broker) (clients clients' : Clients) (now : ℕ) (said : List Said) → EndsFirst number old clients now said clients' new → Ran (Ok tt) old said new
+first_ended zero old new clients clients' now said ends = still (Ok tt) old new said ends.0 ends.2
 first_ended (suc number) old new clients clients' now said ends =
-    behind old ends.0 new (first_ended number old ends.0 clients ends.1 now ends.2 ends.4) (ended number ends.0 new ends.1 clients' now ends.3 (Ok tt) ends.5)
+    behind (Ok tt) old ends.0 new ends.2 ends.3 said ends.6 (first_ended number old ends.0 clients ends.1 now ends.2 ends.4) (ended_at number (Ok tt) ends.0 new ends.1 clients' now ends.3 ends.5)
 
-closed : (old new : Broker) (clients clients' : Clients) (now : ℕ) (said : List Said) (result : Result (Unit {0}) NoMemory)
-    → ClosesAll old clients now said result clients' new → HaveLed old new
-closed old new clients clients' now said (Ok done) closes =
-    behind old closes.0 new (Closed ∷ [], (closes.0, closes.1, refl)) (first_ended closes.2 closes.0 new clients clients' now said closes.4)
-closed old new clients clients' now said (Err refusal) closes =
+all_closed : (old closed : Broker) → Closes old closed → Ran (Ok tt) old [] closed
+all_closed old closed closes = record { happenings = Closed ∷ []; led = (closed, closes, refl); told = λ ok. refl }
+
+closed : (result : Result (Unit {0}) NoMemory) (old new : Broker) (clients clients' : Clients) (now : ℕ) (said : List Said)
+    → ClosesAll old clients now said result clients' new → Ran result old said new
+closed (Ok done) old new clients clients' now said closes =
+    behind (Ok done) old closes.0 new [] said said refl (all_closed old closes.0 closes.1) (first_ended closes.2 closes.0 new clients clients' now said closes.4)
+closed (Err refusal) old new clients clients' now said closes =
     let fails = closes.3 in
-    behind old closes.0 new (Closed ∷ [], (closes.0, closes.1, refl))
-    (behind closes.0 fails.0 new (first_ended closes.2 closes.0 fails.0 clients fails.1 now fails.2 fails.4) (ended closes.2 fails.0 new fails.1 clients' now fails.3 (Err refusal) fails.5))
+    behind (Err refusal) old closes.0 new [] said said refl (all_closed old closes.0 closes.1)
+    (behind (Err refusal) closes.0 fails.0 new fails.2 fails.3 said fails.6 (first_ended closes.2 closes.0 fails.0 clients fails.1 now fails.2 fails.4)
+    (ended_at closes.2 (Err refusal) fails.0 new fails.1 clients' now fails.3 fails.5))
 
 does : (event : Event) (old new : Broker) (clients clients' : Clients) (now : ℕ) (said : List Said) (result : Result (Unit {0}) NoMemory)
-    → Does event old clients now said result clients' new → HaveLed old new
-does (events.Open number) old new clients clients' now said result done = still old new done.1
-does (events.Bytes number piece) old new clients clients' now said result done = by_calls old new (receives Calls slot_of result done.before old new now piece said done.after done.becomes)
-does (events.Tick number) old new clients clients' now said result done = by_calls old new (ticks_for Calls slot_of result done.before old new now said done.after done.becomes)
-does (events.End number) old new clients clients' now said result done =
-    by_calls old new (ends_for Calls slot_of result done.before old new now inputs.EndOfInput said done.after done.becomes)
-does events.Close old new clients clients' now said result done = closed old new clients clients' now said result done
+    → Does event old clients now said result clients' new → Ran result old said new
+does (events.Open number) old new clients clients' now said result done = still result old new said done.2 done.1
+does (events.Bytes number piece) old new clients clients' now said result done = received result old new done.before done.after now piece said done.becomes
+does (events.Tick number) old new clients clients' now said result done = ticked result old new done.before done.after now said done.becomes
+does (events.End number) old new clients clients' now said result done = ended result old new done.before done.after now inputs.EndOfInput said done.becomes
+does events.Close old new clients clients' now said result done = closed result old new clients clients' now said done
 
 does_if : (open? : Bool) (event : Event) (old new : Broker) (clients clients' : Clients) (now : ℕ) (said : List Said) (result : Result (Unit {0}) NoMemory)
-    → DoesIf open? event old clients now said result clients' new → HaveLed old new
+    → DoesIf open? event old clients now said result clients' new → Ran result old said new
 does_if true event old new clients clients' now said result done = does event old new clients clients' now said result done
-does_if false event old new clients clients' now said result done = still old new done.3
+does_if false event old new clients clients' now said result done = still result old new said done.0 done.3
+
+ran : (moment : ℕ) (event : Event) (said : List Said) (result : Result (Unit {0}) NoMemory) (old new : ServerState) → Happens old moment event said result new → Ran result old.broker said new.broker
+ran moment event said result old new happens = does_if (is_open old.broker) event old.broker new.broker old.clients new.clients new.clock said result happens.does
 
 pub happened : (moment : ℕ) (event : Event) (said : List Said) (result : Result (Unit {0}) NoMemory) (old new : ServerState) → Happens old moment event said result new → HaveLed old.broker new.broker
-happened moment event said result old new happens = does_if (is_open old.broker) event old.broker new.broker old.clients new.clients new.clock said result happens.does
+happened moment event said result old new happens = let run = ran moment event said result old new happens in (run.happenings, run.led)
+
+all_ran : (events : List TimedEvent) (said : List Said) (old new : ServerState) → HappensAll old events said new → Ran (Ok tt) old.broker said new.broker
+all_ran [] said old new all = still (Ok tt) old.broker new.broker said all.0 (ap (λ s. s.broker) all.1)
+all_ran (first ∷ others) said old new all =
+    behind (Ok tt) old.broker all.0.broker new.broker all.1 all.2 said all.5 (ran first.moment first.event all.1 (Ok tt) old all.0 all.3) (all_ran others all.2 all.0 new all.4)
 
 pub all_happened : (events : List TimedEvent) (said : List Said) (old new : ServerState) → HappensAll old events said new → HaveLed old.broker new.broker
-all_happened [] said old new all = still old.broker new.broker (ap (λ s. s.broker) all.1)
-all_happened (first ∷ others) said old new all =
-    behind old.broker all.0.broker new.broker (happened first.moment first.event all.1 (Ok tt) old all.0 all.3) (all_happened others all.2 all.0 new all.4)
+all_happened events said old new all = let run = all_ran events said old new all in (run.happenings, run.led)
+
+-- what is handed out in a run is what is said
+pub hands : (setup : Setup) (events : List TimedEvent) (said : List Said) (first last : ServerState) → IsNewServer setup first → HappensAll first events said last → HandsOutWhatIsSaid last said
+hands setup events said first last new all =
+    let run = all_ran events said first last all in
+    record {
+      hand_outs = handed_by_all run.happenings;
+      sent = run.told refl;
+      handed = handed_all setup.capacity setup.groups run.happenings first.broker last.broker new.broker run.led;
+    }
 
 pub runs : (setup : Setup) (events : List TimedEvent) (said : List Said) (first last : ServerState) → IsNewServer setup first → HappensAll first events said last → AllRunLawfully last.broker
 runs setup events said first last new all slot group there =

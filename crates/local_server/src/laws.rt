@@ -9,6 +9,7 @@ ghost use Rattle.local_server.specs.declared.event.Event.{Event};
 ghost use Rattle.local_server.specs.declared.event.Event.TheVariants as events;
 ghost use Rattle.local_server.specs.declared.event.TimedEvent.{TimedEvent};
 ghost use Rattle.local_server.specs.declared.setup.Setup.{Setup};
+ghost use Rattle.local_server.specs.Deliveries.{HandsOutWhatIsSaid};
 ghost use Rattle.local_server.specs.Servers.{HasNoneBelow, ServerState, IsNewServer};
 ghost use Rattle.local_server.specs.Alike.{AreAlike};
 ghost use Rattle.local_server.specs.Happening.{Happens, HappensAll};
@@ -42,6 +43,14 @@ pub fn happenings_law()
 pub fn running_law()
     ensures { (setup : Setup) (events : List TimedEvent) (said : List Said) (first last : ServerState) →
         IsNewServer setup first → HappensAll first events said last → AllRunLawfully last.broker }
+{}
+
+/// **What is handed out is what is sent**, in every run: the messages of the PUBLISH packets with DUP 0 that the clients are told of are,
+/// in order, those that places were handed, and the hand-outs that a group's events tell are those to its places, in the same order. So
+/// no message goes out for the first time that was not handed out, none is handed out and not sent, and none is sent twice with DUP 0.
+pub fn hand_out_law()
+    ensures { (setup : Setup) (events : List TimedEvent) (said : List Said) (first last : ServerState) →
+        IsNewServer setup first → HappensAll first events said last → HandsOutWhatIsSaid last said }
 {}
 
 /// **A session is in one pair of hands, whatever happens to the server.**

@@ -1,8 +1,0 @@
--- A step has one outcome.
-use Rattle.std.proofs.Common.{◌≡◌, refl}
-use Rattle.conn_engine.proofs.OneStep.{stepped}
-use Rattle.conn_engine.proofs.laws.one_step_law.Goals as goal
-
-pub returns : goal.returns
-returns g c number now standing one other input packets packets' next next' old new new' answers steps also =
-    stepped g.S.Supply.call (λ these those. these ≡ those) answers g.P.Place.slot_of old new old new' number standing now input packets packets' next next' one other refl steps also

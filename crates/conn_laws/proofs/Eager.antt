@@ -1,0 +1,72 @@
+-- Nothing is left to hand out behind a step.
+use Rattle.std.proofs.Common.{◌≡◌, ℕ, List, [], ◌∷◌, Some, None, sym, subst, inl, inr, ⊎_elim}
+use Rattle.mqtt_wire.specs.declared.packet.Packet.{Packet}
+use Rattle.group_jobs.specs.Stamps.{Held}
+use Rattle.member_window.specs.Contents.{Contents, IsNextResend, HasRoom, after_resend}
+use Rattle.session_desk.specs.declared.session.Membership.{Membership}
+use Rattle.session_desk.specs.declared.session.Membership.TheVariants.{NotMember, Member, Leaving}
+use Rattle.conn_engine.specs.declared.standing.Standing.{Standing}
+use Rattle.conn_engine.specs.declared.standing.Standing.TheVariants.{Unconnected, Waiting, Connected, Ended}
+use Rattle.conn_engine.specs.Facts.{Fact}
+use Rattle.conn_engine.specs.HandOuts.{SendsAgain, AsksFor, SendsNone, SendsFresh, LeavesWith, HandsFresh}
+use Rattle.conn_laws.specs.Behind.{IsServed, IsAllHandedOut}
+use Rattle.conn_engine.specs.Step.{Hands}
+
+-- what waits still waits for the quota
+abbrev Waits : Contents Held → Type 0
+Waits window = IsNextResend window None
+
+all_again : (sent : List Packet) (old new : Contents Held) → SendsAgain old sent new → Waits new
+all_again [] old new sends = subst Waits (sym sends.1) sends.0
+all_again (packet ∷ packets) old new sends = all_again packets (after_resend old (Some sends.0)) new sends.3
+
+module _ {S P : Type 0} (call : S → Fact P → S → Type 0) where
+  asked_last : (old new : S) (place place' : P) (window : Contents Held) → AsksFor call old place None place' new → IsServed call new (Member place') window
+  asked_last old new place place' window (inl found) = cc
+  asked_last old new place place' window (inr none) = inr (old, none.1, place, none.0, none.2, none.3)
+
+  none_fresh : (old new : S) (place place' : P) (window window' : Contents Held) → SendsNone call old place window place' window' new → IsServed call new (Member place') window'
+  none_fresh old new place place' window window' sends =
+      ⊎_elim
+      (λ (full : ¬ HasRoom window × (place' ≡ place) × (new ≡ old)). inl (λ room. full.0 (subst HasRoom sends.0 room)))
+      (λ (none : HasRoom window × AsksFor call old place None place' new). asked_last old new place place' window' none.1)
+      sends.1
+
+  all_fresh : (sent : List Packet) (old new : S) (place place' : P) (window window' : Contents Held) → SendsFresh call old place window sent place' window' new
+      → Waits window → Waits window' × IsServed call new (Member place') window'
+  all_fresh [] old new place place' window window' sends waits =
+      (subst Waits (sym sends.0) waits, none_fresh old new place place' window window' sends)
+  all_fresh (packet ∷ packets) old new place place' window window' sends waits =
+      let one = sends.3 in
+      all_fresh packets sends.2 new sends.0 place' sends.1 window' sends.4 (subst Waits (sym one.put) (λ quota. one.room.1))
+
+  leaves : (old new : S) (place : P) (window window' : Contents Held) (membership : Membership P) → LeavesWith call old place window membership new → IsServed call new membership window'
+  leaves old new place window window' membership (inl gone) = subst (λ m. IsServed call new m window') (sym gone.1) tt
+  leaves old new place window window' membership (inr stays) = subst (λ m. IsServed call new m window') (sym stays.1) tt
+
+  fresh : (membership : Membership P) (old new : S) (window : Contents Held) (sent : List Packet) (membership' : Membership P) (window' : Contents Held)
+      → HandsFresh call old membership window sent membership' window' new → Waits window → Waits window' × IsServed call new membership' window'
+  fresh NotMember old new window sent membership' window' hands waits =
+      (subst Waits (sym hands.2) waits, subst (λ m. IsServed call new m window') (sym hands.1) tt)
+  fresh (Member place) old new window sent membership' window' hands waits =
+      let all = all_fresh sent old new place hands.0 window window' hands.2 waits in
+      (all.0, subst (λ m. IsServed call new m window') (sym hands.1) all.1)
+  fresh (Leaving place) old new window sent membership' window' hands waits =
+      (subst Waits (sym hands.1) waits, leaves old new place window window' membership' hands.2)
+
+  -- nothing is left, where the connection has a session
+  abbrev pub NoneLeft : Standing P → S → Type 0
+  NoneLeft (Unconnected opened) new = Unit {0}
+  NoneLeft (Waiting request ticks) new = Unit {0}
+  NoneLeft (Connected link) new = IsAllHandedOut call link new
+  NoneLeft Ended new = Unit {0}
+
+  module _ (slot_of : P → ℕ) where
+    pub handed : (between : Standing P) (old new : S) (sent : List Packet) (standing : Standing P) → Hands call slot_of old between sent standing new → NoneLeft standing new
+    handed (Unconnected opened) old new sent standing hands = subst (λ s. NoneLeft s new) (sym hands.1) tt
+    handed (Waiting request ticks) old new sent standing hands = subst (λ s. NoneLeft s new) (sym hands.1) tt
+    handed (Connected link) old new sent standing hands =
+        let out = hands.2 in
+        let all = fresh link.session.membership old new out.between out.fresh hands.0 hands.1 out.sent_fresh (all_again out.again link.session.window out.between out.sent_again) in
+        subst (λ s. NoneLeft s new) (sym hands.3) (record { again = all.0; fresh = all.1 })
+    handed Ended old new sent standing hands = subst (λ s. NoneLeft s new) (sym hands.1) tt

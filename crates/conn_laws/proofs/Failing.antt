@@ -1,0 +1,196 @@
+-- A step that wants memory is a list of calls.
+use Rattle.std.proofs.Common.{◌≡◌, ℕ, List, [], ◌∷◌, ◌++◌, map, Result, refl, sym, ap, ◌∙◌, append-nil, inl, inr, ⊎_elim, is_some}
+use Rattle.mqtt_wire.specs.declared.packet.Packet.{Packet}
+use Rattle.mqtt_wire.specs.declared.packet.Packet.TheVariants as packets
+use Rattle.mqtt_wire.specs.declared.packet.Publish.{Publish}
+use Rattle.group_jobs.specs.declared.message.Message.{Message}
+use Rattle.group_jobs.specs.declared.stamp.Stamp.{Stamp}
+use Rattle.conn_rules.specs.Publishing.{message_of}
+use Rattle.conn_engine.specs.declared.input.Input.{Input}
+use Rattle.conn_engine.specs.declared.input.Input.TheVariants as inputs
+use Rattle.conn_engine.specs.declared.input.Then.{Then}
+use Rattle.conn_engine.specs.declared.standing.Link.{Link}
+use Rattle.conn_engine.specs.declared.standing.Standing.{Standing}
+use Rattle.conn_engine.specs.declared.standing.Standing.TheVariants.{Unconnected, Waiting, Connected, Ended}
+use Rattle.conn_engine.specs.declared.supply.OfferRefusal.{OfferRefusal}
+use Rattle.conn_engine.specs.Facts.{Fact}
+use Rattle.conn_engine.specs.Facts.Fact.{Match, Offer}
+use Rattle.conn_engine.specs.Answering.{FailsToAnswer}
+use Rattle.conn_laws.specs.Calls.{offer_of, match_of, settlement_of, offered, matched, settled, MakesAll, OffersToEach, OffersNone, SettlesOne, SettlesNone, OffersToSome, FailedCalls}
+use Rattle.conn_engine.specs.Publishing.{OffersFirst, OffersSome, IsCutShort}
+use Rattle.conn_engine.specs.Step.{hearing, after_hand_out, GivesUp, FailsToReact, HandsLess, FailsToHand, FailsToStep}
+use Rattle.conn_laws.proofs.Calling.{Plain, HandsSomething, still, one, behind, after, joins, parted, swept, failed_to_attach, failed_again, handed_some, some_answered}
+use Rattle.conn_laws.proofs.Stepping.{Walked, none_behind, none_before, further, reacted}
+
+module _ {S P : Type 0} (call : S → Fact P → S → Type 0) where
+  plain : (given : List Message) (old new : S) (number : ℕ) (standing : Standing P) (input : Input) → Plain call given old new → FailedCalls call old number standing input new
+  plain given old new number standing input calls = record { facts = calls.facts; made = calls.made; offers = inr calls.offers; settles = inr calls.settles }
+
+  some_of : (number : ℕ) (input : Input) (facts : List (Fact P)) → OffersToEach number input facts → OffersToSome number input facts
+  some_of number input facts each =
+      record {
+        publish = each.publish;
+        came = each.came;
+        slots = each.slots;
+        others = [];
+        match = each.match ∙ ap (λ slots. (each.publish.topic, slots) ∷ []) (sym (append-nil each.slots));
+        offers = each.offers;
+      }
+
+  -- what holds of the calls of a step
+  stepped : (given : List Message) (old new : S) (number : ℕ) (standing : Standing P) (input : Input) (next : Then) → Walked call given old number standing input next new → FailedCalls call old number standing input new
+  stepped given old new number standing input next calls =
+      record {
+        facts = calls.facts;
+        made = calls.made;
+        offers =
+            ⊎_elim
+            (λ (each : OffersToEach number input calls.facts). inl (some_of number input calls.facts each))
+            (λ (none : OffersNone standing input calls.facts next). inr none.offers)
+            calls.offers;
+        settles = ⊎_elim (λ (only : SettlesOne standing input calls.facts). inl only) (λ (none : SettlesNone standing input calls.facts next). inr none.settles) calls.settles;
+      }
+
+  -- a message is offered to some of these groups, from the first on
+  record OffersPart (old : S) (number : ℕ) (message : Message) (slots : List ℕ) (new : S) : Type 0 where
+    these : List ℕ
+    others : List ℕ
+    parts : slots ≡ these ++ others
+    facts : List (Fact P)
+    made : MakesAll call old facts new
+    match : matched facts ≡ []
+    offers : offered facts ≡ map (λ slot. (slot, number, message)) these
+    settles : settled facts ≡ []
+
+  none_of : (slots : List ℕ) (old new : S) (number : ℕ) (message : Message) → new ≡ old → OffersPart old number message slots new
+  none_of slots old new number message same =
+      record { these = []; others = slots; parts = refl; facts = []; made = same; match = refl; offers = refl; settles = refl }
+
+  one_and : (slot : ℕ) (slots : List ℕ) (old mid new : S) (number : ℕ) (message : Message) (answer : Result Stamp OfferRefusal) → call old (Offer slot number message answer) mid
+      → OffersPart mid number message slots new → OffersPart old number message (slot ∷ slots) new
+  one_and slot slots old mid new number message answer offers rest =
+      record {
+        these = slot ∷ rest.these;
+        others = rest.others;
+        parts = ap (λ l. slot ∷ l) rest.parts;
+        facts = Offer slot number message answer ∷ rest.facts;
+        made = (mid, offers, rest.made);
+        match = rest.match;
+        offers = ap (λ l. (slot, number, message) ∷ l) rest.offers;
+        settles = rest.settles;
+      }
+
+  first_of : (slots : List ℕ) (old new : S) (number : ℕ) (message : Message) → OffersFirst call old number message slots new → OffersPart old number message slots new
+  first_of [] old new number message offers = absurd offers
+  first_of (slot ∷ slots) old new number message offers =
+      one_and slot slots old offers.1 new number message offers.0 offers.2 (
+      ⊎_elim
+      (λ (last : new ≡ offers.1). none_of slots offers.1 new number message last)
+      (λ (more : OffersFirst call offers.1 number message slots new). first_of slots offers.1 new number message more)
+      offers.3)
+
+  part_of : (slots : List ℕ) (old new : S) (number : ℕ) (message : Message) → OffersSome call old number message slots new → OffersPart old number message slots new
+  part_of slots old new number message (inl none) = none_of slots old new number message none
+  part_of slots old new number message (inr offers) = first_of slots old new number message offers
+
+  -- a PUBLISH that was cut short, with calls by which nothing is offered before and behind it
+  cut_short : (old before after new : S) (number : ℕ) (standing : Standing P) (publish : Publish) → Plain call [] old before → IsCutShort call before number publish after → Plain call [] after new
+      → FailedCalls call old number standing (inputs.Packet (packets.Publish publish)) new
+  cut_short old before after new number standing publish first cut last =
+      let part = part_of cut.slots cut.mid after number (message_of publish) cut.offered in
+      let these = Match publish.topic cut.slots ∷ part.facts in
+      let made = joins call these last.facts before after new (cut.mid, cut.matched, part.made) last.made in
+      record {
+        facts = first.facts ++ (these ++ last.facts);
+        made = joins call first.facts (these ++ last.facts) old before new first.made made;
+        offers = inl (record {
+          publish = publish;
+          came = refl;
+          slots = part.these;
+          others = part.others;
+          match =
+              none_before match_of first.facts (these ++ last.facts) _ first.match (none_behind match_of these last.facts _ (ap (λ l. (publish.topic, cut.slots) ∷ l) part.match) last.match)
+              ∙ ap (λ slots. (publish.topic, slots) ∷ []) part.parts;
+          offers = none_before offer_of first.facts (these ++ last.facts) _ first.offers (none_behind offer_of these last.facts _ part.offers last.offers);
+        });
+        settles = inr (none_before settlement_of first.facts (these ++ last.facts) _ first.settles (none_behind settlement_of these last.facts _ part.settles last.settles));
+      }
+
+  module _ (slot_of : P → ℕ) where
+    given_up : (standing : Standing P) (old new : S) (number now : ℕ) → GivesUp call slot_of old number standing now new → Plain call [] old new
+    given_up (Unconnected opened) old new number now gives = still call old new gives
+    given_up (Waiting request ticks) old new number now gives = one call old new _ gives refl refl refl refl
+    given_up (Connected link) old new number now gives = parted call old new link.session now gives
+    given_up Ended old new number now gives = still call old new gives
+
+    -- memory was wanted for the answer to a packet
+    failed_to_answer : (packet : Packet) (old before after new : S) (number now : ℕ) (link link' : Link P) → Plain call [] old before
+        → FailsToAnswer call slot_of before number (hearing link now) packet link' after → Plain call [] after new → FailedCalls call old number (Connected link) (inputs.Packet packet) new
+    failed_to_answer (packets.Publish publish) old before after new number now link link' first fails last = cut_short old before after new number (Connected link) publish first fails.0 last
+    failed_to_answer (packets.Subscribe subscribe) old before after new number now link link' first fails last =
+        plain [] old new number (Connected link) _ (
+        behind call old before new first (
+        behind call before after new
+        (some_answered call slot_of before after subscribe.subscriptions (is_some subscribe.properties.subscription_identifier) link.terms link.session.membership fails.0 fails.1) last))
+    failed_to_answer (packets.Unsubscribe unsubscribe) old before after new number now link link' first fails last =
+        plain [] old new number (Connected link) _ (behind call old before new first (behind call before after new (still call before after fails.1) last))
+    failed_to_answer (packets.Connect connect) old before after new number now link link' first fails last = absurd fails
+    failed_to_answer (packets.Connack connack) old before after new number now link link' first fails last = absurd fails
+    failed_to_answer (packets.Puback puback) old before after new number now link link' first fails last = absurd fails
+    failed_to_answer (packets.Suback suback) old before after new number now link link' first fails last = absurd fails
+    failed_to_answer (packets.Unsuback unsuback) old before after new number now link link' first fails last = absurd fails
+    failed_to_answer packets.Pingreq old before after new number now link link' first fails last = absurd fails
+    failed_to_answer packets.Pingresp old before after new number now link link' first fails last = absurd fails
+    failed_to_answer (packets.Disconnect disconnect) old before after new number now link link' first fails last = absurd fails
+    failed_to_answer (packets.Foreign kind) old before after new number now link link' first fails last = absurd fails
+    failed_to_answer (packets.OtherVersion version) old before after new number now link link' first fails last = absurd fails
+    failed_to_answer packets.WithWill old before after new number now link link' first fails last = absurd fails
+
+    -- memory was wanted for the reply
+    failed_to_react : (standing : Standing P) (input : Input) (old new : S) (number now : ℕ) → FailsToReact call slot_of old number standing now input new
+        → FailedCalls call old number standing input new
+    failed_to_react (Unconnected opened) (inputs.Packet packet) old new number now fails = plain [] old new number _ _ (failed_to_attach call old new number now _ fails.2)
+    failed_to_react (Unconnected opened) (inputs.Fault fault) old new number now fails = absurd fails
+    failed_to_react (Unconnected opened) inputs.Tick old new number now fails = absurd fails
+    failed_to_react (Unconnected opened) inputs.EndOfInput old new number now fails = absurd fails
+    failed_to_react (Unconnected opened) inputs.Closing old new number now fails = absurd fails
+    failed_to_react (Waiting request ticks) inputs.Tick old new number now fails =
+        plain [] old new number _ _ (behind call old fails.0 new (swept call 256 old fails.0 now fails.1) (failed_again call fails.0 new number now request fails.2))
+    failed_to_react (Waiting request ticks) (inputs.Packet packet) old new number now fails = absurd fails
+    failed_to_react (Waiting request ticks) (inputs.Fault fault) old new number now fails = absurd fails
+    failed_to_react (Waiting request ticks) inputs.EndOfInput old new number now fails = absurd fails
+    failed_to_react (Waiting request ticks) inputs.Closing old new number now fails = absurd fails
+    failed_to_react (Connected link) (inputs.Packet packet) old new number now fails =
+        let answer = fails.2 in
+        failed_to_answer packet old fails.0 answer.1 new number now link answer.0 (one call old fails.0 _ fails.1 refl refl refl refl) answer.2
+        (parted call answer.1 new answer.0.session now answer.3)
+    failed_to_react (Connected link) (inputs.Fault fault) old new number now fails = absurd fails
+    failed_to_react (Connected link) inputs.Tick old new number now fails = absurd fails
+    failed_to_react (Connected link) inputs.EndOfInput old new number now fails = absurd fails
+    failed_to_react (Connected link) inputs.Closing old new number now fails = absurd fails
+    failed_to_react Ended (inputs.Packet packet) old new number now fails = absurd fails
+    failed_to_react Ended (inputs.Fault fault) old new number now fails = absurd fails
+    failed_to_react Ended inputs.Tick old new number now fails = absurd fails
+    failed_to_react Ended inputs.EndOfInput old new number now fails = absurd fails
+    failed_to_react Ended inputs.Closing old new number now fails = absurd fails
+
+    -- memory was wanted for what is handed out
+    handed_less : (between : Standing P) (old new : S) (now : ℕ) → HandsLess call slot_of old between now new → HandsSomething call old new
+    handed_less (Unconnected opened) old new now hands = absurd hands
+    handed_less (Waiting request ticks) old new now hands = absurd hands
+    handed_less (Connected link) old new now hands =
+        let some = handed_some call old hands.2 link.session.membership link.session.window hands.0 hands.1 hands.3 in
+        (some.0 ++ [], after call some.0 [] old hands.2 new some.1 (parted call hands.2 new (after_hand_out link hands.0 hands.1).session now hands.4))
+    handed_less Ended old new now hands = absurd hands
+
+    pub failed : (old new : S) (number now : ℕ) (standing : Standing P) (input : Input) → FailsToStep call slot_of old number standing now input new → FailedCalls call old number standing input new
+    failed old new number now standing input (inl gives) = plain [] old new number standing input (given_up standing old new number now gives)
+    failed old new number now standing input (inr fails) =
+        ⊎_elim
+        (λ (reply : FailsToReact call slot_of old number standing now input new). failed_to_react standing input old new number now reply)
+        (λ (hand : FailsToHand call slot_of old number standing now input new).
+        let some = handed_less hand.between hand.mid new now hand.hands in
+        stepped some.0 old new number standing input hand.reply.next (
+        further call some.0 old hand.mid new number standing input hand.reply.next
+        (reacted call slot_of standing input old hand.mid number now hand.between hand.reply hand.reacts) some.1))
+        fails

@@ -1,0 +1,14 @@
+pub mod Ended
+pub mod Quotas
+pub mod Eager
+pub mod Replying
+pub mod Calling
+pub mod Stepping
+pub mod Failing
+pub mod OneCall
+pub mod OneEnding
+pub mod OneConnecting
+pub mod OneMessage
+pub mod OneShare
+pub mod OneHandOut
+pub mod OneStep

@@ -1,0 +1,144 @@
+-- A SUBSCRIBE and an UNSUBSCRIBE have one answer, where each call has one.
+use Rattle.std.proofs.Common.{◌≡◌, ◌≢◌, ℕ, Bool, List, [], ◌∷◌, Option, Some, None, Result, Ok, Err, sym, ap, ◌∙◌, subst, inl, inr, is_some}
+use Rattle.std.proofs.lemmas.Option.{same_Some}
+use Rattle.mqtt_wire.specs.declared.packet.Subscribe.{Subscribe}
+use Rattle.mqtt_wire.specs.declared.packet.Subscription.{Subscription}
+use Rattle.mqtt_wire.specs.declared.packet.Unsubscribe.{Unsubscribe}
+use Rattle.mqtt_topic.specs.declared.error.TopicError.{TopicError}
+use Rattle.mqtt_topic.specs.Names.{Share, share_of}
+use Rattle.conn_rules.specs.declared.subscribing.EntryAnswer.{EntryAnswer}
+use Rattle.conn_rules.specs.declared.subscribing.EntryAnswer.TheVariants as entries
+use Rattle.conn_rules.specs.declared.terms.Terms.{Terms}
+use Rattle.conn_rules.specs.Subscribing.{entry_answer, subscribe_refusal, unsubscribe_refusal}
+use Rattle.conn_rules.specs.Packets.{suback, unsuback}
+use Rattle.session_desk.specs.declared.session.Membership.{Membership}
+use Rattle.session_desk.specs.declared.session.Membership.TheVariants.{NotMember, Member, Leaving}
+use Rattle.conn_engine.specs.declared.reply.Reply.{Reply}
+use Rattle.conn_engine.specs.declared.supply.BindRefusal.{BindRefusal}
+use Rattle.conn_engine.specs.declared.supply.BindRefusal.TheVariants as refusal
+use Rattle.conn_engine.specs.Facts.{Fact}
+use Rattle.conn_laws.specs.Asking.{OneAnswer}
+use Rattle.conn_engine.specs.Replies.{going_on}
+use Rattle.conn_engine.specs.Subscribing.{IsLent, EntersAs, StaysAs, Joins, AnswersEntry, AnswersEntries, SubscribesAs, Subscribes, LeavesFrom, LeavesBy, LeavesByAll, UnsubscribesAs, Unsubscribes}
+use Rattle.conn_laws.proofs.OneCall as calls
+use Rattle.conn_laws.proofs.OneEnding.{none_some}
+
+ok_is : (x y : ℕ) → ◌≡◌ {A = Result ℕ BindRefusal} (Ok x) (Ok y) → x ≡ y
+ok_is x y e = cc
+
+bound_or_not : (x : ℕ) (y : BindRefusal) → Ok x ≡ Err y → ⊥
+bound_or_not x y e = cc
+
+slot_had : (x : ℕ) → Ok x ≢ Err refusal.Memory
+slot_had x e = bound_or_not x refusal.Memory e
+
+none_had : ◌≢◌ {A = Result ℕ BindRefusal} (Err refusal.NoSlot) (Err refusal.Memory)
+none_had e = cc
+
+-- a code and a membership are one
+abbrev AreOne : {P : Type 0} → ℕ → ℕ → Membership P → Membership P → Type 0
+AreOne c d m n = (c ≡ d) × (m ≡ n)
+
+module _ {S P : Type 0} (call : S → Fact P → S → Type 0) (slot_of : P → ℕ) where
+  stayed : (place : P) (found : Option ℕ) (old : Membership P) (c d : ℕ) (m n : Membership P) → StaysAs call slot_of place found old c m → StaysAs call slot_of place found old d n → AreOne c d m n
+  stayed place found old c d m n (inl h) (inl k) = (h.1 ∙ sym k.1, h.2 ∙ sym k.2)
+  stayed place found old c d m n (inl h) (inr k) = absurd (k.0 h.0)
+  stayed place found old c d m n (inr h) (inl k) = absurd (h.0 k.0)
+  stayed place found old c d m n (inr h) (inr k) = (h.1 ∙ sym k.1, h.2 ∙ sym k.2)
+
+  left_from : (place : P) (found : Option ℕ) (c d : ℕ) (m n : Membership P) → LeavesFrom call slot_of place found c m → LeavesFrom call slot_of place found d n → AreOne c d m n
+  left_from place found c d m n (inl h) (inl k) = (h.1 ∙ sym k.1, h.2 ∙ sym k.2)
+  left_from place found c d m n (inl h) (inr k) = absurd (k.0 h.0)
+  left_from place found c d m n (inr h) (inl k) = absurd (h.0 k.0)
+  left_from place found c d m n (inr h) (inr k) = (h.1 ∙ sym k.1, h.2 ∙ sym k.2)
+
+module _ {S P : Type 0} (call : S → Fact P → S → Type 0) (AreAlike : S → S → Type 0) (answers : OneAnswer call AreAlike) (slot_of : P → ℕ) where
+  abbrev Agree : ℕ → ℕ → Membership P → Membership P → S → S → Type 0
+  Agree c d m n a b = AreOne c d m n × AreAlike a b
+
+  lent : (x y : Option P) (a a' b b' : S) (slot c d : ℕ) (m n : Membership P) → AreAlike a b → IsLent call slot_of a slot x c m a' → IsLent call slot_of b slot y d n b' → Agree c d m n a' b'
+  lent None None a a' b b' slot c d m n alike h k = ((h.1 ∙ sym k.1, h.2 ∙ sym k.2), (calls.lent call AreAlike answers a a' b b' slot None None alike h.0 k.0).1)
+  lent None (Some q) a a' b b' slot c d m n alike h k = absurd (none_some q (calls.lent call AreAlike answers a a' b b' slot None (Some q) alike h.0 k.0).0)
+  lent (Some p) None a a' b b' slot c d m n alike h k = absurd (none_some p (sym (calls.lent call AreAlike answers a a' b b' slot (Some p) None alike h.0 k.0).0))
+  lent (Some p) (Some q) a a' b b' slot c d m n alike h k =
+      let one = calls.lent call AreAlike answers a a' b b' slot (Some p) (Some q) alike h.0 k.0 in
+      ((h.1 ∙ sym k.1, h.2 ∙ ap Member (same_Some p q one.0) ∙ sym k.2), one.1)
+
+  entered : (x y : Result ℕ BindRefusal) (a a' b b' : S) (share : Share) (c d : ℕ) (m n : Membership P) → AreAlike a b
+      → EntersAs call slot_of a share x c m a' → EntersAs call slot_of b share y d n b' → Agree c d m n a' b'
+  entered (Ok x) (Ok y) a a' b b' share c d m n alike h k =
+      let one = calls.bound call AreAlike answers a h.0 b k.0 share (Ok x) (Ok y) alike (slot_had x) (slot_had y) h.2 k.2 in
+      lent h.1 k.1 h.0 a' k.0 b' x c d m n one.1 h.3 (subst (λ slot. IsLent call slot_of k.0 slot k.1 d n b') (sym (ok_is x y one.0)) k.3)
+  entered (Ok x) (Err refusal.NoSlot) a a' b b' share c d m n alike h k =
+      absurd (bound_or_not x refusal.NoSlot (calls.bound call AreAlike answers a h.0 b b' share (Ok x) (Err refusal.NoSlot) alike (slot_had x) none_had h.2 k.0).0)
+  entered (Err refusal.NoSlot) (Ok y) a a' b b' share c d m n alike h k =
+      absurd (bound_or_not y refusal.NoSlot (sym (calls.bound call AreAlike answers a a' b k.0 share (Err refusal.NoSlot) (Ok y) alike none_had (slot_had y) h.0 k.2).0))
+  entered (Err refusal.NoSlot) (Err refusal.NoSlot) a a' b b' share c d m n alike h k =
+      ((h.1 ∙ sym k.1, h.2 ∙ sym k.2), (calls.bound call AreAlike answers a a' b b' share (Err refusal.NoSlot) (Err refusal.NoSlot) alike none_had none_had h.0 k.0).1)
+  entered (Err refusal.Memory) y a a' b b' share c d m n alike h k = absurd h
+  entered x (Err refusal.Memory) a a' b b' share c d m n alike h k = absurd k
+
+  stays : (a a' b b' : S) (share : Share) (place : P) (old : Membership P) (x y : Option ℕ) (c d : ℕ) (m n : Membership P) → AreAlike a b
+      → (x ≡ y) × AreAlike a' b' → StaysAs call slot_of place x old c m → StaysAs call slot_of place y old d n → Agree c d m n a' b'
+  stays a a' b b' share place old x y c d m n alike one h k = (stayed call slot_of place x old c d m n h (subst (λ f. StaysAs call slot_of place f old d n) (sym one.0) k), one.1)
+
+  joined : (old : Membership P) (a a' b b' : S) (share : Share) (c d : ℕ) (m n : Membership P) → AreAlike a b
+      → Joins call slot_of a old share c m a' → Joins call slot_of b old share d n b' → Agree c d m n a' b'
+  joined NotMember a a' b b' share c d m n alike h k = entered h.0 k.0 a a' b b' share c d m n alike h.1 k.1
+  joined (Member place) a a' b b' share c d m n alike h k =
+      stays a a' b b' share place (Member place) h.0 k.0 c d m n alike (calls.found call AreAlike answers a a' b b' share h.0 k.0 alike h.1 k.1) h.2 k.2
+  joined (Leaving place) a a' b b' share c d m n alike h k =
+      stays a a' b b' share place (Leaving place) h.0 k.0 c d m n alike (calls.found call AreAlike answers a a' b b' share h.0 k.0 alike h.1 k.1) h.2 k.2
+
+  entry_answered : (which : EntryAnswer) (a a' b b' : S) (old : Membership P) (c d : ℕ) (m n : Membership P) → AreAlike a b
+      → AnswersEntry call slot_of a old which c m a' → AnswersEntry call slot_of b old which d n b' → Agree c d m n a' b'
+  entry_answered (entries.Refuse code) a a' b b' old c d m n alike h k = ((h.0 ∙ sym k.0, h.1 ∙ sym k.1), calls.still call AreAlike answers a a' b b' alike h.2 k.2)
+  entry_answered (entries.Join share) a a' b b' old c d m n alike h k = joined old a a' b b' share c d m n alike h k
+
+  entries_answered : (subscriptions : List Subscription) (a a' b b' : S) (identified : Bool) (terms : Terms) (old : Membership P) (cs ds : List ℕ) (m n : Membership P) → AreAlike a b
+      → AnswersEntries call slot_of identified terms a old subscriptions cs m a' → AnswersEntries call slot_of identified terms b old subscriptions ds n b' → (cs ≡ ds) × (m ≡ n) × AreAlike a' b'
+  entries_answered [] a a' b b' identified terms old cs ds m n alike h k = (h.0 ∙ sym k.0, h.1 ∙ sym k.1, calls.still call AreAlike answers a a' b b' alike h.2 k.2)
+  entries_answered (entry ∷ others) a a' b b' identified terms old cs ds m n alike h k =
+      let one = entry_answered (entry_answer identified entry terms) a h.3 b k.3 old h.0 k.0 h.2 k.2 alike h.4 k.4 in
+      let rest = entries_answered others h.3 a' k.3 b' identified terms h.2 h.1 k.1 m n one.1 h.5 (subst (λ was. AnswersEntries call slot_of identified terms k.3 was others k.1 n b') (sym one.0.1) k.5) in
+      (h.6 ∙ (λ i. one.0.0 i ∷ rest.0 i) ∙ sym k.6, rest.1, rest.2)
+
+  subscribed_as : (refused : Option ℕ) (a a' b b' : S) (terms : Terms) (old : Membership P) (subscribe : Subscribe) (r u : Reply) (m n : Membership P) → AreAlike a b
+      → SubscribesAs call slot_of refused terms a old subscribe r m a' → SubscribesAs call slot_of refused terms b old subscribe u n b' → (r ≡ u) × (m ≡ n) × AreAlike a' b'
+  subscribed_as (Some code) a a' b b' terms old subscribe r u m n alike h k = (h.0 ∙ sym k.0, h.1 ∙ sym k.1, calls.still call AreAlike answers a a' b b' alike h.2 k.2)
+  subscribed_as None a a' b b' terms old subscribe r u m n alike h k =
+      let one = entries_answered subscribe.subscriptions a a' b b' (is_some subscribe.properties.subscription_identifier) terms old h.0 k.0 m n alike h.2 k.2 in
+      (h.1 ∙ ap (λ codes. going_on (Some (suback subscribe.packet_identifier codes))) one.0 ∙ sym k.1, one.1, one.2)
+
+  pub subscribed : (a a' b b' : S) (terms : Terms) (old : Membership P) (subscribe : Subscribe) (r u : Reply) (m n : Membership P) → AreAlike a b
+      → Subscribes call slot_of terms a old subscribe r m a' → Subscribes call slot_of terms b old subscribe u n b' → (r ≡ u) × (m ≡ n) × AreAlike a' b'
+  subscribed a a' b b' terms old subscribe r u m n alike h k = subscribed_as (subscribe_refusal subscribe) a a' b b' terms old subscribe r u m n alike h k
+
+  -- a share is left
+  left : (old : Membership P) (parsed : Result Share TopicError) (a a' b b' : S) (c d : ℕ) (m n : Membership P) → AreAlike a b
+      → LeavesBy call slot_of a old parsed c m a' → LeavesBy call slot_of b old parsed d n b' → Agree c d m n a' b'
+  left NotMember parsed a a' b b' c d m n alike h k = ((h.0 ∙ sym k.0, h.1 ∙ sym k.1), calls.still call AreAlike answers a a' b b' alike h.2 k.2)
+  left (Member place) (Ok share) a a' b b' c d m n alike h k =
+      let one = calls.found call AreAlike answers a a' b b' share h.0 k.0 alike h.1 k.1 in
+      (left_from call slot_of place h.0 c d m n h.2 (subst (λ f. LeavesFrom call slot_of place f d n) (sym one.0) k.2), one.1)
+  left (Member place) (Err error) a a' b b' c d m n alike h k = ((h.0 ∙ sym k.0, h.1 ∙ sym k.1), calls.still call AreAlike answers a a' b b' alike h.2 k.2)
+  left (Leaving place) parsed a a' b b' c d m n alike h k = ((h.0 ∙ sym k.0, h.1 ∙ sym k.1), calls.still call AreAlike answers a a' b b' alike h.2 k.2)
+
+  all_left : (texts : List (List ℕ)) (a a' b b' : S) (old : Membership P) (cs ds : List ℕ) (m n : Membership P) → AreAlike a b
+      → LeavesByAll call slot_of a old texts cs m a' → LeavesByAll call slot_of b old texts ds n b' → (cs ≡ ds) × (m ≡ n) × AreAlike a' b'
+  all_left [] a a' b b' old cs ds m n alike h k = (h.0 ∙ sym k.0, h.1 ∙ sym k.1, calls.still call AreAlike answers a a' b b' alike h.2 k.2)
+  all_left (text ∷ texts) a a' b b' old cs ds m n alike h k =
+      let one = left old (share_of text) a h.3 b k.3 h.0 k.0 h.2 k.2 alike h.4 k.4 in
+      let rest = all_left texts h.3 a' k.3 b' h.2 h.1 k.1 m n one.1 h.5 (subst (λ was. LeavesByAll call slot_of k.3 was texts k.1 n b') (sym one.0.1) k.5) in
+      (h.6 ∙ (λ i. one.0.0 i ∷ rest.0 i) ∙ sym k.6, rest.1, rest.2)
+
+  unsubscribed_as : (refused : Option ℕ) (a a' b b' : S) (old : Membership P) (unsubscribe : Unsubscribe) (r u : Reply) (m n : Membership P) → AreAlike a b
+      → UnsubscribesAs call slot_of refused a old unsubscribe r m a' → UnsubscribesAs call slot_of refused b old unsubscribe u n b' → (r ≡ u) × (m ≡ n) × AreAlike a' b'
+  unsubscribed_as (Some code) a a' b b' old unsubscribe r u m n alike h k = (h.0 ∙ sym k.0, h.1 ∙ sym k.1, calls.still call AreAlike answers a a' b b' alike h.2 k.2)
+  unsubscribed_as None a a' b b' old unsubscribe r u m n alike h k =
+      let one = all_left unsubscribe.filters a a' b b' old h.0 k.0 m n alike h.2 k.2 in
+      (h.1 ∙ ap (λ codes. going_on (Some (unsuback unsubscribe.packet_identifier codes))) one.0 ∙ sym k.1, one.1, one.2)
+
+  pub unsubscribed : (a a' b b' : S) (old : Membership P) (unsubscribe : Unsubscribe) (r u : Reply) (m n : Membership P) → AreAlike a b
+      → Unsubscribes call slot_of a old unsubscribe r m a' → Unsubscribes call slot_of b old unsubscribe u n b' → (r ≡ u) × (m ≡ n) × AreAlike a' b'
+  unsubscribed a a' b b' old unsubscribe r u m n alike h k = unsubscribed_as (unsubscribe_refusal unsubscribe) a a' b b' old unsubscribe r u m n alike h k

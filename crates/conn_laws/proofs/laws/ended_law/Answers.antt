@@ -1,0 +1,11 @@
+-- A connection is over exactly where its step says so.
+use Rattle.conn_laws.proofs.Ended.{ends, ends_by}
+use Rattle.conn_laws.proofs.laws.ended_law.Goals as goal
+
+pub returns-clause-told : goal.returns-clause-told
+returns-clause-told g c number now standing standing' input packets next old new steps =
+    ends g.S.Supply.call g.P.Place.slot_of old new number now standing standing' input packets next steps
+
+pub returns-clause-last : goal.returns-clause-last
+returns-clause-last g c number now standing standing' input packets next old new steps last =
+    ends_by g.S.Supply.call g.P.Place.slot_of old new number now standing standing' input packets next steps last

@@ -1,0 +1,152 @@
+-- The calls that a step makes, one after the other: what they offer, what they settle, and what they hand out.
+use Rattle.std.specs.Prelude.{◌≡◌, ◌⊎◌, ℕ, Bool, true, false, List, [], ◌∷◌, ◌++◌, map, filter_map, Option, Some, None, Ok, Contains, ⊤}
+use Rattle.mqtt_wire.specs.declared.packet.Packet.{Packet}
+use Rattle.mqtt_wire.specs.declared.packet.Packet.TheVariants as packets
+use Rattle.mqtt_wire.specs.declared.packet.Publish.{Publish}
+use Rattle.group_jobs.specs.declared.fate.Fate.{Fate}
+use Rattle.group_jobs.specs.declared.message.Message.{Message}
+use Rattle.group_jobs.specs.Stamps.{Held}
+use Rattle.member_window.specs.Contents.{held_of}
+use Rattle.conn_rules.specs.declared.publishing.PublishAnswer.{PublishAnswer}
+use Rattle.conn_rules.specs.declared.publishing.PublishAnswer.TheVariants as answers
+use Rattle.conn_rules.specs.Publishing.{publish_answer, message_of}
+use Rattle.conn_rules.specs.Acknowledging.{fate_of}
+use Rattle.conn_engine.specs.declared.input.Input.{Input}
+use Rattle.conn_engine.specs.declared.input.Input.TheVariants as inputs
+use Rattle.conn_engine.specs.declared.input.Then.{Then}
+use Rattle.conn_engine.specs.declared.input.Then.TheVariants as thens
+use Rattle.conn_engine.specs.declared.standing.Standing.{Standing}
+use Rattle.conn_engine.specs.declared.standing.Standing.TheVariants.{Connected}
+use Rattle.conn_engine.specs.Connecting.{has_place}
+use Rattle.conn_engine.specs.Facts.{Fact}
+use Rattle.conn_engine.specs.Facts.Fact.{Match, Offer, Take, TakeBack, Settle}
+
+-- what a call offers: to the group of which slot, from which connection, and which message
+abbrev pub offer_of : {P : Type 0} → Fact P → Option (ℕ × ℕ × Message)
+offer_of (Offer slot connection message answer) = Some (slot, connection, message)
+offer_of other = None
+
+-- which slots a topic matched
+abbrev pub match_of : {P : Type 0} → Fact P → Option (List ℕ × List ℕ)
+match_of (Match topic slots) = Some (topic, slots)
+match_of other = None
+
+-- what a call settles, and how
+abbrev pub settlement_of : {P : Type 0} → Fact P → Option (Held × Fate)
+settlement_of (Settle place place' envelope fate) = Some (envelope, fate)
+settlement_of other = None
+
+abbrev pub offered : {P : Type 0} → List (Fact P) → List (ℕ × ℕ × Message)
+offered facts = filter_map offer_of facts
+
+abbrev pub matched : {P : Type 0} → List (Fact P) → List (List ℕ × List ℕ)
+matched facts = filter_map match_of facts
+
+abbrev pub settled : {P : Type 0} → List (Fact P) → List (Held × Fate)
+settled facts = filter_map settlement_of facts
+
+-- what a call hands out: to which place, and what
+abbrev pub hand_out_of : {P : Type 0} → Fact P → Option (P × Held)
+hand_out_of (Take place place' (Ok (Some envelope))) = Some (place, envelope)
+hand_out_of (TakeBack place place' (Ok (Some envelope))) = Some (place, envelope)
+hand_out_of other = None
+
+abbrev pub handed : {P : Type 0} → List (Fact P) → List (P × Held)
+handed facts = filter_map hand_out_of facts
+
+-- the messages of what is handed out
+abbrev pub messages_of : {P : Type 0} → List (P × Held) → List Message
+messages_of hand_outs = map (λ h. h.1.message) hand_outs
+
+-- the message of a PUBLISH that was not sent before: its DUP is 0 (3.3.1.1)
+abbrev pub message_if_fresh : Bool → Publish → Option Message
+message_if_fresh true publish = None
+message_if_fresh false publish = Some (message_of publish)
+
+abbrev pub fresh_message : Packet → Option Message
+fresh_message (packets.Publish publish) = message_if_fresh publish.dup publish
+fresh_message other = None
+
+-- the messages that these packets bring for the first time
+abbrev pub fresh_messages : List Packet → List Message
+fresh_messages sent = filter_map fresh_message sent
+
+-- a PUBLISH whose message is to be offered; any other is refused, or closes the connection
+abbrev pub IsToBeOffered : PublishAnswer → Type 0
+IsToBeOffered (answers.Close code) = ⊥
+IsToBeOffered (answers.Refuse identifier code) = ⊥
+IsToBeOffered (answers.Offer identifier) = ⊤
+
+-- a connection is given a PUBLISH whose message is to be offered
+abbrev pub Brings : {P : Type 0} → Standing P → Input → Publish → Type 0
+Brings (Connected link) (inputs.Packet (packets.Publish publish)) brought = (brought ≡ publish) × IsToBeOffered (publish_answer publish)
+Brings standing input brought = ⊥
+
+-- a connection is given a PUBACK for this message, which its session holds, and which has this fate then
+abbrev pub Confirms : {P : Type 0} → Standing P → Input → Held → Fate → Type 0
+Confirms (Connected link) (inputs.Packet (packets.Puback puback)) envelope fate =
+    (has_place link.session.membership ≡ true)
+    × Contains (held_of link.session.window) (puback.packet_identifier, envelope) × (fate ≡ fate_of puback.reason_code)
+Confirms standing input envelope fate = ⊥
+
+-- the calls of a step in which a message was brought: it is offered once to each group that the one match answers, in their order
+pub record OffersToEach {P : Type 0} (number : ℕ) (input : Input) (facts : List (Fact P)) : Type 0 where
+  pub publish : Publish
+  pub came : input ≡ inputs.Packet (packets.Publish publish)
+  pub accepted : IsToBeOffered (publish_answer publish)
+  pub slots : List ℕ
+  pub match : matched facts ≡ (publish.topic, slots) ∷ []
+  pub offers : offered facts ≡ map (λ slot. (slot, number, message_of publish)) slots
+
+-- the calls of any other step: nothing is offered; and none that brought a message is such a step, unless another connection took the session
+pub record OffersNone {P : Type 0} (standing : Standing P) (input : Input) (facts : List (Fact P)) (next : Then) : Type 0 where
+  pub match : matched facts ≡ []
+  pub offers : offered facts ≡ []
+  pub unless : (publish : Publish) → Brings standing input publish → next ≡ thens.Kicked
+
+-- the calls of a step in which a message was acknowledged: it is settled once, and nothing else is
+pub record SettlesOne {P : Type 0} (standing : Standing P) (input : Input) (facts : List (Fact P)) : Type 0 where
+  pub envelope : Held
+  pub fate : Fate
+  pub confirmed : Confirms standing input envelope fate
+  pub settles : settled facts ≡ (envelope, fate) ∷ []
+
+-- the calls of any other step: nothing is settled
+pub record SettlesNone {P : Type 0} (standing : Standing P) (input : Input) (facts : List (Fact P)) (next : Then) : Type 0 where
+  pub settles : settled facts ≡ []
+  pub unless : (envelope : Held) (fate : Fate) → Confirms standing input envelope fate → next ≡ thens.Kicked
+
+-- the calls of a step that wanted memory for a PUBLISH: its message was offered once to some of the groups, from the first on
+pub record OffersToSome {P : Type 0} (number : ℕ) (input : Input) (facts : List (Fact P)) : Type 0 where
+  pub publish : Publish
+  pub came : input ≡ inputs.Packet (packets.Publish publish)
+  pub slots : List ℕ
+  pub others : List ℕ
+  pub match : matched facts ≡ (publish.topic, slots ++ others) ∷ []
+  pub offers : offered facts ≡ map (λ slot. (slot, number, message_of publish)) slots
+
+module _ {S P : Type 0} (call : S → Fact P → S → Type 0) where
+  -- these calls are made, one after the other
+  abbrev pub MakesAll : S → List (Fact P) → S → Type 0
+  MakesAll old [] new = new ≡ old
+  MakesAll old (fact ∷ facts) new = (mid : S) × call old fact mid × MakesAll mid facts new
+
+  -- some calls lead from the one to the other
+  abbrev pub CallsLead : S → S → Type 0
+  CallsLead old new = (facts : List (Fact P)) × MakesAll old facts new
+
+  -- the calls of a step, and what they offer, settle and hand out
+  pub record StepCalls (old : S) (number : ℕ) (standing : Standing P) (input : Input) (sent : List Packet) (next : Then) (new : S) : Type 0 where
+    pub facts : List (Fact P)
+    pub made : MakesAll old facts new
+    pub offers : OffersToEach number input facts ⊎ OffersNone standing input facts next
+    pub settles : SettlesOne standing input facts ⊎ SettlesNone standing input facts next
+    -- what is handed out goes out at once, each message in a PUBLISH of its own, in their order; and no other goes out for the first time
+    pub hands : fresh_messages sent ≡ messages_of (handed facts)
+
+  -- the calls of a step that wanted memory
+  pub record FailedCalls (old : S) (number : ℕ) (standing : Standing P) (input : Input) (new : S) : Type 0 where
+    pub facts : List (Fact P)
+    pub made : MakesAll old facts new
+    pub offers : OffersToSome number input facts ⊎ (offered facts ≡ [])
+    pub settles : SettlesOne standing input facts ⊎ (settled facts ≡ [])

@@ -1,0 +1,4 @@
+pub mod Asking
+pub mod Calls
+pub mod Behind
+pub mod Quotas

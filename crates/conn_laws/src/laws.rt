@@ -1,0 +1,70 @@
+//! The laws, each over every supply.
+ghost use Rattle.std.specs.Prelude.{◌≡◌, ◌≢◌, ◌↔◌, ℕ, List};
+ghost use Rattle.mqtt_wire.specs.declared.packet.Packet.{Packet};
+ghost use Rattle.conn_engine.specs.declared.input.Input.{Input};
+ghost use Rattle.conn_engine.specs.declared.input.Then.{Then};
+ghost use Rattle.conn_engine.specs.declared.input.Then.TheVariants.{Go};
+ghost use Rattle.conn_engine.specs.declared.standing.Link.{Link};
+ghost use Rattle.conn_engine.specs.declared.standing.Standing.{Standing};
+ghost use Rattle.conn_engine.specs.declared.standing.Standing.TheVariants as standings;
+ghost use Rattle.conn_laws.specs.Asking.{OneAnswer};
+ghost use Rattle.conn_laws.specs.Calls.{StepCalls, FailedCalls};
+ghost use Rattle.conn_laws.specs.Behind.{IsLast, IsAllHandedOut};
+ghost use Rattle.conn_laws.specs.Quotas.{IsWithinQuota};
+ghost use Rattle.conn_engine.specs.Step.{Steps, FailsToStep};
+
+use conn_engine::Supply;
+use session_desk::Place;
+
+/// **A connection is over exactly where its step says so**: it has ended behind a step that does not go on, and behind no other.
+/// And it ends by a fault, by the end of its input, and by the broker's closing (`last`).
+pub fn ended_law<P: Place, S: Supply<P>>()
+    ensures told { (number now : ℕ) (standing standing' : Standing P) (input : Input) (packets : List Packet) (next : Then) (old new : S) →
+        Steps S.call P.slot_of old number standing now input packets next standing' new →
+        (standing' ≡ standings.Ended) ↔ (next ≢ Go) }
+    ensures last { (number now : ℕ) (standing standing' : Standing P) (input : Input) (packets : List Packet) (next : Then) (old new : S) →
+        Steps S.call P.slot_of old number standing now input packets next standing' new →
+        IsLast input → standing' ≡ standings.Ended }
+{}
+
+/// **Nothing is left to hand out** behind a step that leaves a client with its session: no message waits to be sent again that the
+/// quota has room for; and where the session is a member's, its window has no room for another message, or there was none, when it
+/// was asked for last.
+pub fn eager_law<P: Place, S: Supply<P>>()
+    ensures { (number now : ℕ) (standing : Standing P) (link : Link P) (input : Input) (packets : List Packet) (next : Then) (old new : S) →
+        Steps S.call P.slot_of old number standing now input packets next (standings.Connected link) new →
+        IsAllHandedOut S.call link new }
+{}
+
+/// **The quota is kept** (section 4.9): of the PUBLISH packets that a connection sent, those that wait for their PUBACK are never more than the
+/// Receive Maximum of its CONNECT, and never more than 256.
+pub fn quota_law<P: Place, S: Supply<P>>()
+    ensures { (number now : ℕ) (standing standing' : Standing P) (input : Input) (packets : List Packet) (next : Then) (old new : S) →
+        Steps S.call P.slot_of old number standing now input packets next standing' new →
+        IsWithinQuota standing → IsWithinQuota standing' }
+{}
+
+/// **A step is a list of calls**, and so is one that wants memory (`failed`): what holds of every list of calls holds behind every
+/// step. Among them:
+///
+/// - a message is offered only by the PUBLISH that brought it, once to each group that matches, in the order of their slots; where
+///   memory is wanted, to some of them, from the first on;
+/// - a message is settled only by a PUBACK under its identifier, once, as its Reason Code says.
+pub fn calls_law<P: Place, S: Supply<P>>()
+    ensures stepped { (number now : ℕ) (standing standing' : Standing P) (input : Input) (packets : List Packet) (next : Then) (old new : S) →
+        Steps S.call P.slot_of old number standing now input packets next standing' new →
+        StepCalls S.call old number standing input packets next new }
+    ensures failed { (number now : ℕ) (standing : Standing P) (input : Input) (old new : S) →
+        FailsToStep S.call P.slot_of old number standing now input new →
+        FailedCalls S.call old number standing input new }
+{}
+
+/// **A step has one outcome** where each call of its supply has one answer, memory aside: the same packets, the same that becomes of
+/// the connection, and the same supply.
+pub fn one_step_law<P: Place, S: Supply<P>>()
+    ensures { (number now : ℕ) (standing one other : Standing P) (input : Input) (packets packets' : List Packet) (next next' : Then) (old new new' : S) →
+        OneAnswer S.call (λ these those. these ≡ those) →
+        Steps S.call P.slot_of old number standing now input packets next one new →
+        Steps S.call P.slot_of old number standing now input packets' next' other new' →
+        (packets ≡ packets') × (next ≡ next') × (one ≡ other) × (new ≡ new') }
+{}

@@ -1,0 +1,8 @@
+//! Laws of a connection's steps: what holds of each, whatever it asks and is answered. Each is the contract of a function that does
+//! nothing, stated over the definitions that the contract of [`Conn::step`](conn_engine::Conn::step) cites, and over every
+//! [`Supply`](conn_engine::Supply).
+#![tactic(auto)]
+
+mod laws;
+
+pub use laws::{calls_law, eager_law, ended_law, one_step_law, quota_law};

@@ -1,0 +1,6 @@
+-- What is handed out is what is sent.
+use Rattle.local_server.proofs.Happened.{hands}
+use Rattle.local_server.proofs.laws.hand_out_law.Goals as goal
+
+pub returns : goal.returns
+returns c setup events said first last new all = hands setup events said first last new all
