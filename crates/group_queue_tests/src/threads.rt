@@ -1,12 +1,14 @@
-//! Two threads publish while two others take, settle and gather: each accepted message is acknowledged, and once.
+//! Two threads publish while two others take, settle and gather, and the group ends with its report: each accepted message is
+//! acknowledged, and once.
 ghost use Rattle.std.specs.Prelude.{◌≡◌, All, IfSome};
 ghost use Rattle.gate_word.specs.Seats.{AreSeatsOf};
-ghost use Rattle.group_queue.specs.Ports.{IsPortOf};
+ghost use Rattle.group_queue.specs.Ports.{GroupId, IsPortOf};
 ghost use Rattle.group_queue.specs.Places.{IsPlaceOf};
 
 use crate::group_ledger::{acknowledge, offer, take_seat};
-use crate::row::{take_place, take_port};
-use gate_word::{Gate, GateSeat};
+use crate::row::{end, take_place, take_port};
+use gate_word::{Gate, GateSeat, Turn};
+use group_jobs::Report;
 use group_queue::{Place, Port, SharedGroup};
 use std::alloc::Global;
 use std::sync::Wait;
@@ -34,109 +36,195 @@ struct Taker {
     place: Place,
 }
 
-/// Offers messages, and says how many were accepted: none where nobody publishes.
-fn publish<R: Wait>(
-    rt: &R,
-    alloc: Global,
-    group: &SharedGroup<'_>,
-    gate: &Gate,
-    publisher: Option<Publisher>,
-) -> u64
-    requires gate { group.now.gate ≡ gate.now }
-    requires seated { IfSome publisher (λ p. (p.seat.gate ≡ gate.now) × IsPortOf group.now p.port) }
+/// What threads share: a group, as those who publish and take see it.
+///
+/// At a join only those clauses of a thread's closure come through in which no type that it captures by reference names a
+/// lifetime. `SharedGroup` names its gate's, so the threads are given a type parameter with this bound in its place.
+trait Workplace {
+    ghost group: { Self → GroupId };
+
+    /// Offers messages through a port of it, and hands the port back.
+    fn publish<R: Wait>(
+        &self,
+        rt: &R,
+        alloc: Global,
+        gate: &Gate,
+        publisher: Option<Publisher>,
+    ) -> Option<Port>
+        requires gate { (group self.now).gate ≡ gate.now }
+        requires seated { IfSome publisher (λ p. (p.seat.gate ≡ gate.now) × IsPortOf (group self.now) p.port) }
+        ensures port { IfSome result (IsPortOf (group self.now)) };
+
+    /// Takes messages at a place of it and acknowledges them, and hands the place back.
+    fn work<R: Wait>(
+        &self,
+        rt: &R,
+        alloc: Global,
+        gate: &Gate,
+        taker: Option<Taker>,
+    ) -> Option<Place>
+        requires gate { (group self.now).gate ≡ gate.now }
+        requires seated { IfSome taker (λ t. (t.seat.gate ≡ gate.now) × IsPlaceOf (group self.now) t.place) }
+        ensures place { IfSome result (IsPlaceOf (group self.now)) };
+}
+
+impl<'a> Workplace for SharedGroup<'a> {
+    ghost group = { λ group. group };
+
+    fn publish<R: Wait>(
+        &self,
+        rt: &R,
+        alloc: Global,
+        gate: &Gate,
+        publisher: Option<Publisher>,
+    ) -> Option<Port> {
+        let Publisher { seat, mut port } = publisher?;
+        if let Ok(turn) = gate.enter(seat) {
+            offer_all(rt, alloc, self, &mut port, &turn);
+            gate.leave(turn);
+        }
+        Some(port)
+    }
+
+    fn work<R: Wait>(
+        &self,
+        rt: &R,
+        alloc: Global,
+        gate: &Gate,
+        taker: Option<Taker>,
+    ) -> Option<Place> {
+        let Taker { seat, mut place } = taker?;
+        if let Ok(turn) = gate.enter(seat) {
+            acknowledge_all(rt, alloc, self, &mut place, &turn);
+            gate.leave(turn);
+        }
+        Some(place)
+    }
+}
+
+/// Offers messages.
+fn offer_all<R: Wait>(rt: &R, alloc: Global, group: &SharedGroup<'_>, port: &mut Port, turn: &Turn)
+    requires port { IsPortOf group.now port.old }
+    requires turn { turn.now.gate ≡ group.now.gate }
+    ensures { IsPortOf group.now port.new }
 {
-    let Some(Publisher { seat, mut port }) = publisher else {
-        return 0;
-    };
-    let Ok(turn) = gate.enter(seat) else {
-        return 0;
-    };
     for _ in 0..OFFERS {
-        let _offered = offer(rt, alloc, group, &mut port, &turn);
+        let _offered = offer(rt, alloc, group, port, turn);
     }
-    gate.leave(turn);
-    let accepted = port.accepted();
-    drop(port);
-    accepted
 }
 
-/// Takes messages, acknowledges them, and now and then gathers what was settled. How many it acknowledged: none where nobody
-/// takes.
-fn work<R: Wait>(
+/// Takes messages, acknowledges them, and now and then gathers what was settled.
+fn acknowledge_all<R: Wait>(
     rt: &R,
     alloc: Global,
     group: &SharedGroup<'_>,
-    gate: &Gate,
-    taker: Option<Taker>,
-) -> u64
-    requires gate { group.now.gate ≡ gate.now }
-    requires seated { IfSome taker (λ t. (t.seat.gate ≡ gate.now) × IsPlaceOf group.now t.place) }
+    place: &mut Place,
+    turn: &Turn,
+)
+    requires place { IsPlaceOf group.now place.old }
+    requires turn { turn.now.gate ≡ group.now.gate }
+    ensures { IsPlaceOf group.now place.new }
 {
-    let Some(Taker { seat, mut place }) = taker else {
-        return 0;
-    };
-    let Ok(turn) = gate.enter(seat) else {
-        return 0;
-    };
-    let mut acknowledged = 0u64;
     for round in 0..TRIES {
-        if acknowledge(rt, group, &mut place, &turn).is_some() {
-            acknowledged = acknowledged.saturating_add(1);
-        }
+        let _acknowledged = acknowledge(rt, group, place, turn);
         if round % 64 == 0 {
-            let _gathered = group.gather(rt, alloc, &mut place);
+            let _gathered = group.gather(rt, alloc, place);
         }
     }
-    gate.leave(turn);
-    drop(place);
-    acknowledged
 }
 
-/// Two threads publish. How many messages were accepted.
-fn publish_both<R: Threads + Wait + Sync>(
+/// Two threads publish.
+fn publish_both<G: Workplace + Sync, R: Threads + Wait + Sync>(
     rt: &R,
     alloc: Global,
-    group: &SharedGroup<'_>,
+    group: &G,
     gate: &Gate,
     first: Option<Publisher>,
     second: Option<Publisher>,
-) -> (u64, u64)
-    requires gate { group.now.gate ≡ gate.now }
-    requires first { IfSome first (λ p. (p.seat.gate ≡ gate.now) × IsPortOf group.now p.port) }
-    requires second { IfSome second (λ p. (p.seat.gate ≡ gate.now) × IsPortOf group.now p.port) }
+) -> (Option<Port>, Option<Port>)
+    requires gate { (G.group group.now).gate ≡ gate.now }
+    requires first { IfSome first (λ p. (p.seat.gate ≡ gate.now) × IsPortOf (G.group group.now) p.port) }
+    requires second { IfSome second (λ p. (p.seat.gate ≡ gate.now) × IsPortOf (G.group group.now) p.port) }
+    ensures first { IfSome result.0 (IsPortOf (G.group group.now)) }
+    ensures second { IfSome result.1 (IsPortOf (G.group group.now)) }
 {
     thread::join(
         rt,
-        || -> u64
-            requires { (group.now.gate ≡ gate.now) × IfSome first (λ p. (p.seat.gate ≡ gate.now) × IsPortOf group.now p.port) }
-        { publish(rt, alloc, group, gate, first) },
-        || -> u64
-            requires { (group.now.gate ≡ gate.now) × IfSome second (λ p. (p.seat.gate ≡ gate.now) × IsPortOf group.now p.port) }
-        { publish(rt, alloc, group, gate, second) },
+        || -> Option<Port>
+            requires { ((G.group group.now).gate ≡ gate.now) × IfSome first (λ p. (p.seat.gate ≡ gate.now) × IsPortOf (G.group group.now) p.port) }
+            ensures { IfSome result (IsPortOf (G.group group.entry.now)) }
+        { group.publish(rt, alloc, gate, first) },
+        || -> Option<Port>
+            requires { ((G.group group.now).gate ≡ gate.now) × IfSome second (λ p. (p.seat.gate ≡ gate.now) × IsPortOf (G.group group.now) p.port) }
+            ensures { IfSome result (IsPortOf (G.group group.entry.now)) }
+        { group.publish(rt, alloc, gate, second) },
     )
 }
 
-/// Two threads take and settle. How many messages were acknowledged.
-fn work_both<R: Threads + Wait + Sync>(
+/// Two threads take and settle.
+fn work_both<G: Workplace + Sync, R: Threads + Wait + Sync>(
     rt: &R,
     alloc: Global,
-    group: &SharedGroup<'_>,
+    group: &G,
     gate: &Gate,
     near: Option<Taker>,
     far: Option<Taker>,
-) -> (u64, u64)
-    requires gate { group.now.gate ≡ gate.now }
-    requires near { IfSome near (λ t. (t.seat.gate ≡ gate.now) × IsPlaceOf group.now t.place) }
-    requires far { IfSome far (λ t. (t.seat.gate ≡ gate.now) × IsPlaceOf group.now t.place) }
+) -> (Option<Place>, Option<Place>)
+    requires gate { (G.group group.now).gate ≡ gate.now }
+    requires near { IfSome near (λ t. (t.seat.gate ≡ gate.now) × IsPlaceOf (G.group group.now) t.place) }
+    requires far { IfSome far (λ t. (t.seat.gate ≡ gate.now) × IsPlaceOf (G.group group.now) t.place) }
+    ensures near { IfSome result.0 (IsPlaceOf (G.group group.now)) }
+    ensures far { IfSome result.1 (IsPlaceOf (G.group group.now)) }
 {
     thread::join(
         rt,
-        || -> u64
-            requires { (group.now.gate ≡ gate.now) × IfSome near (λ t. (t.seat.gate ≡ gate.now) × IsPlaceOf group.now t.place) }
-        { work(rt, alloc, group, gate, near) },
-        || -> u64
-            requires { (group.now.gate ≡ gate.now) × IfSome far (λ t. (t.seat.gate ≡ gate.now) × IsPlaceOf group.now t.place) }
-        { work(rt, alloc, group, gate, far) },
+        || -> Option<Place>
+            requires { ((G.group group.now).gate ≡ gate.now) × IfSome near (λ t. (t.seat.gate ≡ gate.now) × IsPlaceOf (G.group group.now) t.place) }
+            ensures { IfSome result (IsPlaceOf (G.group group.entry.now)) }
+        { group.work(rt, alloc, gate, near) },
+        || -> Option<Place>
+            requires { ((G.group group.now).gate ≡ gate.now) × IfSome far (λ t. (t.seat.gate ≡ gate.now) × IsPlaceOf (G.group group.now) t.place) }
+            ensures { IfSome result (IsPlaceOf (G.group group.entry.now)) }
+        { group.work(rt, alloc, gate, far) },
+    )
+}
+
+/// What the four threads hand back.
+type Back = ((Option<Port>, Option<Port>), (Option<Place>, Option<Place>));
+
+/// Four threads at once.
+fn run<G: Workplace + Sync, R: Threads + Wait + Sync>(
+    rt: &R,
+    alloc: Global,
+    group: &G,
+    gate: &Gate,
+    publishers: (Option<Publisher>, Option<Publisher>),
+    takers: (Option<Taker>, Option<Taker>),
+) -> Back
+    requires gate { (G.group group.now).gate ≡ gate.now }
+    requires first { IfSome publishers.0 (λ p. (p.seat.gate ≡ gate.now) × IsPortOf (G.group group.now) p.port) }
+    requires second { IfSome publishers.1 (λ p. (p.seat.gate ≡ gate.now) × IsPortOf (G.group group.now) p.port) }
+    requires near { IfSome takers.0 (λ t. (t.seat.gate ≡ gate.now) × IsPlaceOf (G.group group.now) t.place) }
+    requires far { IfSome takers.1 (λ t. (t.seat.gate ≡ gate.now) × IsPlaceOf (G.group group.now) t.place) }
+    ensures ports { IfSome result.0.0 (IsPortOf (G.group group.now)) × IfSome result.0.1 (IsPortOf (G.group group.now)) }
+    ensures places { IfSome result.1.0 (IsPlaceOf (G.group group.now)) × IfSome result.1.1 (IsPlaceOf (G.group group.now)) }
+{
+    let (first, second) = publishers;
+    let (near, far) = takers;
+    thread::join(
+        rt,
+        || -> (Option<Port>, Option<Port>)
+            requires gate { (G.group group.now).gate ≡ gate.now }
+            requires first { IfSome first (λ p. (p.seat.gate ≡ gate.now) × IsPortOf (G.group group.now) p.port) }
+            requires second { IfSome second (λ p. (p.seat.gate ≡ gate.now) × IsPortOf (G.group group.now) p.port) }
+            ensures { IfSome result.0 (IsPortOf (G.group group.entry.now)) × IfSome result.1 (IsPortOf (G.group group.entry.now)) }
+        { publish_both(rt, alloc, group, gate, first, second) },
+        || -> (Option<Place>, Option<Place>)
+            requires gate { (G.group group.now).gate ≡ gate.now }
+            requires near { IfSome near (λ t. (t.seat.gate ≡ gate.now) × IsPlaceOf (G.group group.now) t.place) }
+            requires far { IfSome far (λ t. (t.seat.gate ≡ gate.now) × IsPlaceOf (G.group group.now) t.place) }
+            ensures { IfSome result.0 (IsPlaceOf (G.group group.entry.now)) × IfSome result.1 (IsPlaceOf (G.group group.entry.now)) }
+        { work_both(rt, alloc, group, gate, near, far) },
     )
 }
 
@@ -176,7 +264,34 @@ fn seated_taker(
     Some(Taker { seat, place })
 }
 
-/// Four threads at once, and then a third place alone. How many messages were accepted, and how many acknowledged.
+/// Puts a port back to the others.
+fn put_port(group: &SharedGroup<'_>, ports: &mut Vec<Port>, port: Option<Port>)
+    requires ports { All (IsPortOf group.now) ports.old.items }
+    requires port { IfSome port (IsPortOf group.now) }
+    ensures { All (IsPortOf group.now) ports.new.items }
+{
+    let _ = group;
+    if let Some(port) = port {
+        let _pushed = ports.push(port);
+    }
+}
+
+/// Puts a place back to the others.
+fn put_place(group: &SharedGroup<'_>, places: &mut Vec<Place>, place: Option<Place>)
+    requires places { All (IsPlaceOf group.now) places.old.items }
+    requires place { IfSome place (IsPlaceOf group.now) }
+    ensures { All (IsPlaceOf group.now) places.new.items }
+{
+    let _ = group;
+    if let Some(place) = place {
+        match places.push(place) {
+            Ok(()) => {}
+            Err(refused) => drop(refused),
+        }
+    }
+}
+
+/// Four threads at once, with two ports and two places, which come back.
 fn all_at_once<R: Threads + Wait + Sync>(
     rt: &R,
     alloc: Global,
@@ -185,68 +300,74 @@ fn all_at_once<R: Threads + Wait + Sync>(
     group: &SharedGroup<'_>,
     ports: &mut Vec<Port>,
     places: &mut Vec<Place>,
-) -> (u64, u64)
+)
     requires seats { AreSeatsOf gate.now seats.old.items }
     requires gate { group.now.gate ≡ gate.now }
     requires ports { All (IsPortOf group.now) ports.old.items }
     requires places { All (IsPlaceOf group.now) places.old.items }
+    ensures seats { AreSeatsOf gate.now seats.new.items }
+    ensures ports { All (IsPortOf group.now) ports.new.items }
+    ensures places { All (IsPlaceOf group.now) places.new.items }
 {
     let first = seated_publisher(gate, seats, group, ports);
     let second = seated_publisher(gate, seats, group, ports);
     let near = seated_taker(gate, seats, group, places);
     let far = seated_taker(gate, seats, group, places);
-    let (sent, taken) = run(rt, alloc, group, gate, first, second, near, far);
-    let last = seated_taker(gate, seats, group, places);
-    let left = work(rt, alloc, group, gate, last);
-    (sent, taken.saturating_add(left))
+    let (sent, worked) = run(rt, alloc, group, gate, (first, second), (near, far));
+    put_port(group, ports, sent.0);
+    put_port(group, ports, sent.1);
+    put_place(group, places, worked.0);
+    put_place(group, places, worked.1);
 }
 
-/// Four threads at once. How many messages were accepted, and how many acknowledged.
-fn run<R: Threads + Wait + Sync>(
+/// One place alone, which comes back.
+fn take_left<R: Wait>(
     rt: &R,
     alloc: Global,
-    group: &SharedGroup<'_>,
     gate: &Gate,
-    first: Option<Publisher>,
-    second: Option<Publisher>,
-    near: Option<Taker>,
-    far: Option<Taker>,
-) -> (u64, u64)
+    seats: &mut Vec<GateSeat>,
+    group: &SharedGroup<'_>,
+    places: &mut Vec<Place>,
+)
+    requires seats { AreSeatsOf gate.now seats.old.items }
     requires gate { group.now.gate ≡ gate.now }
-    requires first { IfSome first (λ p. (p.seat.gate ≡ gate.now) × IsPortOf group.now p.port) }
-    requires second { IfSome second (λ p. (p.seat.gate ≡ gate.now) × IsPortOf group.now p.port) }
-    requires near { IfSome near (λ t. (t.seat.gate ≡ gate.now) × IsPlaceOf group.now t.place) }
-    requires far { IfSome far (λ t. (t.seat.gate ≡ gate.now) × IsPlaceOf group.now t.place) }
+    requires places { All (IsPlaceOf group.now) places.old.items }
+    ensures { All (IsPlaceOf group.now) places.new.items }
 {
-    let (sent, taken) = thread::join(
-        rt,
-        || -> (u64, u64)
-            requires { (group.now.gate ≡ gate.now) × IfSome first (λ p. (p.seat.gate ≡ gate.now) × IsPortOf group.now p.port) × IfSome second (λ p. (p.seat.gate ≡ gate.now) × IsPortOf group.now p.port) }
-        { publish_both(rt, alloc, group, gate, first, second) },
-        || -> (u64, u64)
-            requires { (group.now.gate ≡ gate.now) × IfSome near (λ t. (t.seat.gate ≡ gate.now) × IsPlaceOf group.now t.place) × IfSome far (λ t. (t.seat.gate ≡ gate.now) × IsPlaceOf group.now t.place) }
-        { work_both(rt, alloc, group, gate, near, far) },
-    );
-    (
-        sent.0.saturating_add(sent.1),
-        taken.0.saturating_add(taken.1),
-    )
+    let last = seated_taker(gate, seats, group, places);
+    let last = group.work(rt, alloc, gate, last);
+    put_place(group, places, last);
+}
+
+/// Four threads at once, then one place alone that takes what is left, and the group's report.
+fn whole_run<R: Threads + Wait + Sync>(
+    rt: &R,
+    alloc: Global,
+    gate: &Gate,
+    seats: Vec<GateSeat>,
+    opened: (SharedGroup<'_>, Vec<Port>, Vec<Place>),
+) -> Option<Report>
+    requires seats { AreSeatsOf gate.now seats.items }
+    requires gate { opened.0.gate ≡ gate.now }
+    requires ports { All (IsPortOf opened.0) opened.1.items }
+    requires places { All (IsPlaceOf opened.0) opened.2.items }
+{
+    let (group, mut ports, mut places) = opened;
+    let mut seats = seats;
+    all_at_once(rt, alloc, gate, &mut seats, &group, &mut ports, &mut places);
+    take_left(rt, alloc, gate, &mut seats, &group, &mut places);
+    end(rt, alloc, group, ports, places, Vec::new(alloc))
 }
 
 #[test]
 fn four_threads_at_once(rt: HostRuntime) -> Result<(), Fail> {
-    let (gate, mut seats) = Gate::open(rt.alloc(), 5)?;
-    let (group, mut ports, mut places) = SharedGroup::open(rt.alloc(), &gate, 0, 2, 3, 2_048)?;
-    let told = all_at_once(
-        &rt,
-        rt.alloc(),
-        &gate,
-        &mut seats,
-        &group,
-        &mut ports,
-        &mut places,
-    );
-    group.abandon();
-    assert_eq!(rt; told, (2_000, 2_000));
+    let (gate, seats) = Gate::open(rt.alloc(), 5)?;
+    let opened = SharedGroup::open(rt.alloc(), &gate, 0, 2, 2, 2_048)?;
+    let report = whole_run(&rt, rt.alloc(), &gate, seats, opened).ok_or("a report")?;
+    assert_eq!(rt; report.accepted.as_slice(), &[1_000, 1_000][..]);
+    assert_eq!(rt; report.settled.acknowledged.len(), 2_000);
+    assert!(rt; report.settled.refused.is_empty());
+    assert!(rt; report.held.is_empty() && report.queued.is_empty() && report.returned.is_empty());
+    drop(report);
     Ok(())
 }
