@@ -1,0 +1,75 @@
+-- The calls of a bell, as the steps that they make.
+use Rattle.std.specs.Prelude.{◌≡◌, ℕ, ◌+◌, ◌%◌, ◌==◌, ◌≤◌, ◌<◌, ◌⊎◌, if◌then◌else◌, Bool, true, Option, Some, length, slice_get, All, List, [], ◌∷◌, ◌++◌}
+use Rattle.std.specs.Option.{is_some}
+use Rattle.std.specs.Int.{bit_at}
+use Rattle.atomic_table.specs.Seated.{TableId}
+use Rattle.bell.specs.declared.wake.Call.{Call}
+use Rattle.bell.specs.declared.step.Step.{Step}
+use Rattle.bell.specs.declared.step.Step.TheVariants.{Listened, Settled, Rang, Called}
+use Rattle.bell.specs.History.{rings, is_idle, was_called, wakes}
+use Rattle.bell.specs.Handles.{Ear, Hand, turn}
+
+-- this step was made, behind what others did since the last one
+abbrev pub Makes : Step → List Step → List Step → Type 0
+Makes step old new = (since : List Step) × (new ≡ step ∷ (since ++ old))
+
+-- the worker listens: it isn't idle any more, and has heard all rings so far
+abbrev pub Listens : Ear → Ear → Type 0
+Listens old new = (new.bell ≡ old.bell) × (new.worker ≡ old.worker) × Makes (Listened old.worker) old.history new.history
+
+-- the worker is idle, and may wait exactly where the bell didn't ring since its last step, or rang a multiple of 2 ^ 32 times
+abbrev pub Settles : Ear → Bool → Ear → Type 0
+Settles old may_wait new =
+    (new.bell ≡ old.bell) × (new.worker ≡ old.worker)
+    × ((since : List Step) × (new.history ≡ Settled old.worker ∷ (since ++ old.history)) × (may_wait ≡ (rings since % turn == 0)))
+
+-- by this number, the workers that are idle then are those of the history
+abbrev pub ShowsIdle : ℕ → List Step → Type 0
+ShowsIdle found history = (worker : ℕ) → worker < 32 → (bit_at found worker == 1) ≡ is_idle worker history
+
+-- the worker was called; it is to be woken where it was idle
+abbrev pub Calls : ℕ → List Step → Option Call → List Step → Type 0
+Calls worker old call new =
+    (since : List Step) × (new ≡ Called worker ∷ (since ++ old)) × (is_some call ≡ is_idle worker (since ++ old))
+
+-- the worker was called, and woken where it was idle
+abbrev pub Wakes : ℕ → List Step → ℕ → List Step → Type 0
+Wakes worker old woken new =
+    (since : List Step) × (new ≡ Called worker ∷ (since ++ old)) × (woken ≡ (if is_idle worker (since ++ old) then 1 else 0))
+
+-- of the workers below this number, each that was idle then was called since
+abbrev pub CalledBelow : ℕ → List Step → List Step → Type 0
+CalledBelow count old since = (worker : ℕ) → worker < count → is_idle worker old ≡ true → was_called worker since ≡ true
+
+-- who was idle was called since, or as many were woken as were wanted
+pub record CallsIdle (workers wanted woken : ℕ) (old new : List Step) : Type 0 where
+  pub since : List Step
+  pub is : new ≡ since ++ old
+  pub most : woken ≤ wanted
+  pub each : (woken ≡ wanted) ⊎ CalledBelow workers old since
+  pub idle : woken + wakes old ≤ wakes new
+
+-- who was idle at the moment of the ring was called since, or as many were woken as were wanted
+pub record Rings (workers wanted woken : ℕ) (old new : List Step) : Type 0 where
+  pub others : List Step
+  pub since : List Step
+  pub is : new ≡ since ++ Rang ∷ (others ++ old)
+  pub most : woken ≤ wanted
+  pub each : (woken ≡ wanted) ⊎ CalledBelow workers (others ++ old) since
+  pub idle : woken + wakes (others ++ old) ≤ wakes new
+
+-- the listeners of a bell that was just made, numbered from 0 on, in that order; and those who ring it
+pub record AreListeners (bell : TableId) (count : ℕ) (listeners : List Ear) : Type 0 where
+  pub all : length listeners ≡ count
+  pub each : (worker : ℕ) → worker < count → slice_get listeners worker ≡ Some (record { bell = bell; worker = worker; history = [] })
+
+pub record AreRingers (bell : TableId) (count : ℕ) (ringers : List Hand) : Type 0 where
+  pub all : length ringers ≡ count
+  pub each : (number : ℕ) → number < count → slice_get ringers number ≡ Some (record { bell = bell; history = [] })
+
+-- they are of this bell
+abbrev pub AreListenersOf : TableId → List Ear → Type 0
+AreListenersOf bell listeners = All (λ listener. listener.bell ≡ bell) listeners
+
+abbrev pub AreRingersOf : TableId → List Hand → Type 0
+AreRingersOf bell ringers = All (λ ringer. ringer.bell ≡ bell) ringers

@@ -1,0 +1,4 @@
+pub mod History
+pub mod Handles
+pub mod Calls
+pub mod Rule

@@ -1,0 +1,144 @@
+//! The word: a table of `atomic_table` with one word and no slot, under a rule, and the steps on it. The bits from 32
+//! on count the rings, the bits below tell which workers are idle. The rule is that some history leads to what is
+//! there; each step is one more of it, and tells what the word was.
+ghost use Rattle.std.specs.Prelude.{◌≡◌, ◌<◌, ◌==◌, ◌/◌, []};
+ghost use Rattle.std.specs.Int.{bit_at};
+ghost use Rattle.bell.specs.declared.step.Step.TheVariants.{Listened, Settled, Rang, Called};
+ghost use Rattle.bell.specs.Handles.{turn};
+ghost use Rattle.bell.specs.Rule.{IsPassOf, Tells};
+
+use crate::step::View;
+use atomic_table::{Play, Seat, Split, Table, TableRule};
+use std::alloc::Global;
+
+/// Some history leads to what the word is.
+pub struct Past;
+
+impl TableRule<(), View, usize> for Past {
+    ghost use Rattle.std.specs.Prelude.{[]};
+    ghost use Rattle.bell.specs.Rule.{HasPast};
+
+    ghost holds = { λ _. HasPast };
+
+    ghost first = { λ _. record { history = [] } };
+}
+
+pub type Word = Table<(), View, usize, Past, Global>;
+
+pub type Pass = Seat<(), View>;
+
+/// Clears the bit of a worker that listens.
+pub struct Listening;
+
+impl Play<(), View> for Listening {
+    ghost use Rattle.bell.specs.declared.step.Step.TheVariants.{Listened};
+    ghost use Rattle.bell.specs.Rule.{all_but, TellsOfOne};
+
+    ghost then = { λ operation. TellsOfOne Listened all_but operation.first };
+}
+
+/// Sets the bit of a worker that settles.
+pub struct Settling;
+
+impl Play<(), View> for Settling {
+    ghost use Rattle.bell.specs.declared.step.Step.TheVariants.{Settled};
+    ghost use Rattle.bell.specs.Rule.{bit_of, TellsOfOne};
+
+    ghost then = { λ operation. TellsOfOne Settled bit_of operation.first };
+}
+
+/// Counts a ring.
+pub struct Ringing;
+
+impl Play<(), View> for Ringing {
+    ghost use Rattle.bell.specs.declared.step.Step.TheVariants.{Rang};
+    ghost use Rattle.bell.specs.Rule.{Tells};
+
+    ghost then = { λ _. Tells Rang };
+}
+
+/// Clears the bit of a worker that is called.
+pub struct Calling;
+
+impl Play<(), View> for Calling {
+    ghost use Rattle.bell.specs.declared.step.Step.TheVariants.{Called};
+    ghost use Rattle.bell.specs.Rule.{all_but, TellsOfOne};
+
+    ghost then = { λ operation. TellsOfOne Called all_but operation.first };
+}
+
+/// Makes one more who knows the same.
+pub struct Telling;
+
+impl Split<View> for Telling {
+    ghost left = { λ v. v };
+
+    ghost right = { λ v. v };
+}
+
+// A ring, in the bits that count them.
+const RING: u64 = 4_294_967_296;
+
+/// Clears the bit of a worker that listens, and answers the number that was there.
+pub fn listen(word: &Word, pass: &mut Pass, worker: usize) -> u64
+    requires word { IsPassOf word.now.shared.table_id pass.old.table_id }
+    requires few { worker < 32 }
+    ensures same { pass.new.table_id ≡ pass.old.table_id }
+    ensures told { Tells (Listened worker) pass.old.me result pass.new.me }
+{
+    word.shared.fetch_and::<Listening>(pass, 0, !(1 << worker))
+}
+
+/// Sets the bit of a worker that settles, and answers the number that was there.
+pub fn settle(word: &Word, pass: &mut Pass, worker: usize) -> u64
+    requires word { IsPassOf word.now.shared.table_id pass.old.table_id }
+    requires few { worker < 32 }
+    ensures same { pass.new.table_id ≡ pass.old.table_id }
+    ensures told { Tells (Settled worker) pass.old.me result pass.new.me }
+{
+    word.shared.fetch_or::<Settling>(pass, 0, 1 << worker)
+}
+
+/// Counts a ring, and answers the number that was there.
+pub fn ring(word: &Word, pass: &mut Pass) -> u64
+    requires word { IsPassOf word.now.shared.table_id pass.old.table_id }
+    ensures same { pass.new.table_id ≡ pass.old.table_id }
+    ensures told { Tells Rang pass.old.me result pass.new.me }
+{
+    word.shared.fetch_add::<Ringing>(pass, 0, RING)
+}
+
+/// Clears the bit of a worker that is called, and answers the number that was there.
+pub fn call(word: &Word, pass: &mut Pass, worker: usize) -> u64
+    requires word { IsPassOf word.now.shared.table_id pass.old.table_id }
+    requires few { worker < 32 }
+    ensures same { pass.new.table_id ≡ pass.old.table_id }
+    ensures told { Tells (Called worker) pass.old.me result pass.new.me }
+{
+    word.shared.fetch_and::<Calling>(pass, 0, !(1 << worker))
+}
+
+/// One more who knows the same.
+pub fn tell(word: &Word, pass: &mut Pass) -> Pass
+    requires word { IsPassOf word.now.shared.table_id pass.old.table_id }
+    ensures same { (pass.new.table_id ≡ pass.old.table_id) × (result.table_id ≡ pass.old.table_id) }
+    ensures old { pass.new.me ≡ pass.old.me }
+    ensures new { result.me ≡ (pass.old.me.0, []) }
+{
+    word.shared.split_seat::<Telling>(pass)
+}
+
+/// How often the bell rang by this number, counted from 0 again at 2^32.
+pub fn count_of(word: u64) -> u64
+    ensures { result ≡ word / turn }
+{
+    word / RING
+}
+
+/// Whether the worker is idle by this number.
+pub fn has_idle(word: u64, worker: usize) -> bool
+    requires { worker < 32 }
+    ensures { result ≡ (bit_at word worker == 1) }
+{
+    word >> worker & 1 == 1
+}
