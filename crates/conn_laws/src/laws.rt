@@ -49,7 +49,9 @@ pub fn quota_law<P: Place, S: Supply<P>>()
 ///
 /// - a message is offered only by the PUBLISH that brought it, once to each group that matches, in the order of their slots; where
 ///   memory is wanted, to some of them, from the first on;
-/// - a message is settled only by a PUBACK under its identifier, once, as its Reason Code says.
+/// - a message is settled only by a PUBACK under its identifier, once, as its Reason Code says;
+/// - what is handed to a place goes out at once, each message in a PUBLISH of its own with DUP 0, in their order, and no other packet
+///   brings a message for the first time; where memory is wanted nothing goes out, and the session has what was handed.
 pub fn calls_law<P: Place, S: Supply<P>>()
     ensures stepped { (number now : ℕ) (standing standing' : Standing P) (input : Input) (packets : List Packet) (next : Then) (old new : S) →
         Steps S.call P.slot_of old number standing now input packets next standing' new →
