@@ -58,7 +58,24 @@ impl Ledger {
         Ok(())
     }
 
-    /// Makes room for the runs of another ledger, beside all the room that there is.
+    /// Makes room for the runs of another ledger, so that it may be merged.
+    ///
+    /// # Errors
+    ///
+    /// 503 [`JobError::Memory`]. The jobs stay, and there is no less room than before.
+    pub fn make_room_for(&mut self, other: &Ledger) -> Result<(), JobError>
+        ensures ok { OnOk result ((fate : fate_type) → length (runs_of fate other.now) ≤ spare_of fate self.new) }
+        ensures kept { KeepsSettled self.old self.new }
+        ensures spare { (fate : fate_type) → spare_of fate self.old ≤ spare_of fate self.new }
+    {
+        let acknowledged = count(&other.acknowledged)?;
+        let refused = count(&other.refused)?;
+        self.acknowledged.reserve(acknowledged)?;
+        self.refused.reserve(refused)?;
+        Ok(())
+    }
+
+    /// Makes room for the runs of another ledger, beside all the room that there is: so room for several is added up.
     ///
     /// # Errors
     ///

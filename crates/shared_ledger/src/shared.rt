@@ -81,7 +81,7 @@ impl SharedLedger {
         let Some(mut ledger) = queue::take_up(rt, &self.queue, pass) else {
             return Ok(false);
         };
-        let Ok(()) = ledger.reserve_for(docket.settled()) else {
+        let Ok(()) = ledger.make_room_for(docket.settled()) else {
             queue::put_back(rt, &self.queue, pass, ledger);
             return Err(JobError::Memory);
         };

@@ -14,7 +14,7 @@ give-requires-clause-more g c = (
   λ fate job. omega (
     arith,
     counts_permuted _ _ job (c.merge.ensures.jobs fate),
-    count_of-append job (settled_as fate c.reserve_for.new.self) (settled_as fate c.exchange.result),
+    count_of-append job (settled_as fate c.make_room_for.new.self) (settled_as fate c.exchange.result),
     ap (λ runs. count_of job (jobs_of runs)) (c.in-Ok.ensures.kept fate),
     ap (λ v. times_in v.hand fate job) c.in-Some.ensures.answer,
   ),
@@ -34,7 +34,7 @@ returns-clause-answer g c =
         arith,
         gave.counts fate job,
         counts_permuted _ _ job (c.merge.ensures.jobs fate),
-        count_of-append job (settled_as fate c.reserve_for.new.self) (settled_as fate c.exchange.result),
+        count_of-append job (settled_as fate c.make_room_for.new.self) (settled_as fate c.exchange.result),
         ap (λ runs. count_of job (jobs_of runs)) (c.in-Ok.ensures.kept fate),
         ap (λ v. times_in v.hand fate job) taken,
         ap (λ (l : Ledger). count_of job (settled_as fate l)) c.exchange.ensures.given,
