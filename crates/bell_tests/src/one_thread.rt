@@ -63,10 +63,10 @@ fn finds_nothing(bell: &Bell, listener: &mut Listener) -> bool
 #[test]
 fn a_ring_wakes_the_idle_ones_until_there_are_enough(rt: HostRuntime) -> Result<(), Fail> {
     let (bell, mut listeners, mut ringers) = Bell::open(rt.alloc(), 3, 1)?;
-    let mut third = take_listener(&bell, &mut listeners).ok_or("a third listener")?;
-    let mut second = take_listener(&bell, &mut listeners).ok_or("a second listener")?;
-    let mut first = take_listener(&bell, &mut listeners).ok_or("a first listener")?;
-    let mut ringer = take_ringer(&bell, &mut ringers).ok_or("a ringer")?;
+    let mut third = take_listener(&bell, &mut listeners).expect(&rt, "a third listener");
+    let mut second = take_listener(&bell, &mut listeners).expect(&rt, "a second listener");
+    let mut first = take_listener(&bell, &mut listeners).expect(&rt, "a first listener");
+    let mut ringer = take_ringer(&bell, &mut ringers).expect(&rt, "a ringer");
     let wakers = [none(), none(), none()];
     assert_eq!(rt; bell.ring(&mut ringer, 3, &wakers), 0);
     assert!(rt; finds_nothing(&bell, &mut third));
@@ -84,8 +84,8 @@ fn a_ring_wakes_the_idle_ones_until_there_are_enough(rt: HostRuntime) -> Result<
 #[test]
 fn who_looks_for_work_hears_a_ring(rt: HostRuntime) -> Result<(), Fail> {
     let (bell, mut listeners, mut ringers) = Bell::open(rt.alloc(), 3, 1)?;
-    let mut third = take_listener(&bell, &mut listeners).ok_or("a third listener")?;
-    let mut ringer = take_ringer(&bell, &mut ringers).ok_or("a ringer")?;
+    let mut third = take_listener(&bell, &mut listeners).expect(&rt, "a third listener");
+    let mut ringer = take_ringer(&bell, &mut ringers).expect(&rt, "a ringer");
     let wakers = [none(), none(), none()];
     bell.listen(&mut third);
     assert_eq!(rt; bell.ring(&mut ringer, 1, &wakers), 0);

@@ -136,9 +136,9 @@ fn run<R: Threads + Wait + Sync>(
 #[test]
 fn no_ring_is_slept_through(rt: HostRuntime) -> Result<(), Fail> {
     let (bell, mut listeners, mut ringers) = Bell::open(rt.alloc(), 2, 1)?;
-    let second = take_listener(&bell, &mut listeners).ok_or("a second listener")?;
-    let first = take_listener(&bell, &mut listeners).ok_or("a first listener")?;
-    let ringer = take_ringer(&bell, &mut ringers).ok_or("a ringer")?;
+    let second = take_listener(&bell, &mut listeners).expect(&rt, "a second listener");
+    let first = take_listener(&bell, &mut listeners).expect(&rt, "a first listener");
+    let ringer = take_ringer(&bell, &mut ringers).expect(&rt, "a ringer");
     assert_eq!(rt; run(&rt, &bell, first, second, ringer), JOBS);
     Ok(())
 }
