@@ -4,12 +4,12 @@ ghost use Rattle.std.specs.Prelude.{◌≡◌, ◌<◌, ◌%◌, ℕ, true, fals
 ghost use Rattle.bell.specs.declared.step.Step.{Step};
 ghost use Rattle.bell.specs.declared.step.Step.TheVariants.{Rang, Settled};
 ghost use Rattle.bell.specs.Handles.{turn};
-ghost use Rattle.bell.specs.History.{is_idle, rings, was_called, was_roused};
+ghost use Rattle.bell.specs.History.{is_idle, rings, was_roused};
 
-/// **No bell is slept through.** Let a worker have settled behind `since`, what was done after it had listened; let it
+/// **No bell is slept through.** Let a worker have settled behind `since`, which was done after it had listened; let it
 /// be allowed to wait, and let fewer than 2^32 rings stand in `since`. Then each ring that was rung after it had
-/// listened, until it listens again or is called, found it idle (`heard`). And an idle worker stays idle until it listens or is called (`stays`), so that
-/// one that isn't idle any more, and didn't listen, was called (`called`).
+/// listened found it idle, until it listens again or is called (`heard`). Who is idle stays idle until it listens or is
+/// called (`stays`), so that one who isn't idle any more listened or was called (`roused`).
 pub fn never_slept_through()
     ensures heard { (worker : ℕ) (known since after later earlier : List Step) →
         rings since % turn ≡ 0 → rings since < turn →
@@ -17,6 +17,6 @@ pub fn never_slept_through()
         is_idle worker (earlier ++ known) ≡ true }
     ensures stays { (worker : ℕ) (since before : List Step) →
         is_idle worker before ≡ true → was_roused worker since ≡ false → is_idle worker (since ++ before) ≡ true }
-    ensures called { (worker : ℕ) (since before : List Step) →
+    ensures roused { (worker : ℕ) (since before : List Step) →
         is_idle worker before ≡ true → is_idle worker (since ++ before) ≡ false → was_roused worker since ≡ true }
 {}

@@ -7,5 +7,5 @@ returns-clause-heard c worker known since after later earlier even few is none =
 pub returns-clause-stays : goal.returns-clause-stays
 returns-clause-stays c worker since before idle none = stays worker since before idle none
 
-pub returns-clause-called : goal.returns-clause-called
-returns-clause-called c worker since before idle over = called worker since before idle over
+pub returns-clause-roused : goal.returns-clause-roused
+returns-clause-roused c worker since before idle over = called worker since before idle over
