@@ -1,0 +1,5 @@
+pub mod Nothing
+pub mod Outcomes
+pub mod Reactors
+pub mod Sockets
+pub mod Sources

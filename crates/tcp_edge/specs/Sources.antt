@@ -1,0 +1,40 @@
+-- A listener as contracts see it, and what the system's refusals mean.
+use Rattle.std.specs.Prelude.{◌≡◌, ◌≢◌, ℕ, ◌<◌, Option, Some, None}
+use Rattle.std_io.specs.declared.io.kind.ErrorKind.{ErrorKind}
+use Rattle.std_io.specs.declared.io.kind.ErrorKind.TheVariants as kind
+use Rattle.mio.specs.declared.net.listener.TcpListener.{TcpListener}
+use Rattle.tcp_edge.specs.declared.source.OpenError.{OpenError}
+use Rattle.tcp_edge.specs.declared.source.OpenError.TheVariants as refusal
+use Rattle.transport.specs.declared.answers.Arrival.{Arrival}
+use Rattle.transport.specs.declared.answers.Arrival.TheVariants as arrival
+use Rattle.transport.specs.declared.counts.Tally.{Tally}
+use Rattle.tcp_edge.specs.Sockets.{SocketState, new_socket}
+
+-- the listener of the system's, its port, and how often it failed and gave
+pub record SourceState : Type 0 where
+  pub listener : TcpListener
+  pub port : ℕ
+  pub tally : Tally
+
+-- the port that was asked for, or some port where none was
+abbrev pub IsPortFor : ℕ → ℕ → Type 0
+IsPortFor asked port = (0 < port) × (asked ≢ 0 → port ≡ asked)
+
+-- why a listener was not opened
+abbrev pub open_error_of : ErrorKind → OpenError
+open_error_of kind.AddrInUse = refusal.PortInUse
+open_error_of _ = refusal.System
+
+-- what it means that no connection was accepted; of one that is gone, nothing
+abbrev pub refused_arrival : {T : Type 0} → ErrorKind → Option (Arrival T)
+refused_arrival kind.WouldBlock = Some arrival.Idle
+refused_arrival kind.Interrupted = None
+refused_arrival kind.ConnectionAborted = None
+refused_arrival _ = Some arrival.Failed
+
+-- of a connection that came, nothing was asked yet
+abbrev pub IsFresh : {W : Type 0} → Arrival (SocketState W) → Type 0
+IsFresh (arrival.Came socket) = socket ≡ new_socket socket.wire
+IsFresh arrival.Idle = Unit {0}
+IsFresh arrival.End = ⊥
+IsFresh arrival.Failed = Unit {0}

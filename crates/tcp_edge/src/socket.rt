@@ -1,0 +1,208 @@
+//! A transport over a stream that never waits.
+ghost use Rattle.std.specs.Prelude.{◌≡◌, ◌≤◌, ◌<◌, [], length, Some};
+ghost use Rattle.tcp_edge.specs.Sockets.{Receives, Sends, new_socket};
+ghost use Rattle.tcp_edge.specs.Outcomes.{CountsWithin, got_of, passed_on, put_of, raised};
+ghost use Rattle.transport.specs.Counting.{MayGoOn, after_flushed, after_got, after_put};
+ghost use Rattle.transport.specs.Streams.{GivesWithin, TakesWithin, after_read, after_write};
+
+use crate::wire::{Outcome, Wire};
+use mio::event::Source;
+use mio::net::TcpStream;
+use mio::{Interest, Registry, Token};
+use std::io;
+use std::marker::Model;
+use transport::{Counts, Flushed, Got, Put, Transport, WriteBehind};
+
+/// A TCP connection as it is served: many small packets go in one call of the system.
+pub type TcpTransport = WriteBehind<Socket<TcpStream>>;
+
+/// A transport over a stream that never waits. What the stream does not take at once is idle, and nothing is kept back.
+///
+/// Contracts see it as a `SocketState`: the stream, the counts, and how often a write was idle.
+#[derive(Drop)]
+pub struct Socket<W> {
+    wire: W,
+    counts: Counts,
+    refused: u64,
+}
+
+impl<W> Model for Socket<W> {
+    ghost use Rattle.tcp_edge.specs.Sockets.{SocketState};
+
+    ghost Value = { SocketState W };
+
+    ghost view = { λ s. record { wire = s.wire; counts = s.counts; refused = s.refused } };
+}
+
+impl<W> Socket<W> {
+    /// A socket over a stream, of which nothing was asked yet.
+    pub fn new(wire: W) -> Socket<W>
+        ensures { result ≡ new_socket wire }
+    {
+        Socket {
+            wire,
+            counts: Counts::NONE,
+            refused: 0,
+        }
+    }
+
+    /// The stream.
+    pub fn into_wire(self) -> W
+        ensures { result ≡ self.wire }
+    {
+        self.wire
+    }
+}
+
+impl<W: Wire> Socket<W> {
+    /// Asks the stream for bytes, and counts nothing yet.
+    pub(crate) fn ask(&mut self, buffer: &mut [u8]) -> Outcome
+        ensures within { CountsWithin result buffer.new }
+        ensures came { W.came self.new.wire ≡ passed_on (W.came self.old.wire) result buffer.new }
+        ensures went { W.went self.new.wire ≡ W.went self.old.wire }
+        ensures asked { W.receives self.old.wire result self.new.wire }
+        ensures counts { self.new.counts ≡ self.old.counts }
+        ensures refused { self.new.refused ≡ self.old.refused }
+        ensures room { length buffer.new ≡ length buffer.old }
+    {
+        self.wire.receive(buffer)
+    }
+
+    /// What a read gives, where the stream came to this. Counts it.
+    pub(crate) fn settle(&mut self, outcome: Outcome) -> Got
+        requires { MayGoOn self.old.counts }
+        ensures got { result ≡ got_of outcome }
+        ensures counts { self.new.counts ≡ after_got result self.old.counts }
+        ensures wire { self.new.wire ≡ self.old.wire }
+        ensures refused { self.new.refused ≡ self.old.refused }
+    {
+        let got = got_from(outcome);
+        self.counts.count_got(got);
+        got
+    }
+}
+
+/// What a read gives.
+fn got_from(outcome: Outcome) -> Got
+    ensures { result ≡ got_of outcome }
+{
+    match outcome {
+        Outcome::Count(0) => Got::End,
+        Outcome::Count(count) => Got::Bytes(count),
+        Outcome::NotNow => Got::Idle,
+        Outcome::Broken => Got::Failed,
+    }
+}
+
+/// What a write takes, after so many that were idle.
+fn put_from(outcome: Outcome, refused: u64) -> Put
+    ensures { result ≡ put_of outcome refused }
+{
+    match outcome {
+        Outcome::Count(0) => Put::Failed,
+        Outcome::Count(count) => Put::Wrote(count),
+        Outcome::NotNow if refused < u64::MAX => Put::Idle,
+        Outcome::NotNow => Put::Failed,
+        Outcome::Broken => Put::Failed,
+    }
+}
+
+impl<W: Wire> Transport for Socket<W> {
+    ghost use Rattle.tcp_edge.specs.Nothing.{nothing_kept};
+
+    ghost counts = { λ s. s.counts };
+
+    ghost refusals = { λ s. s.refused };
+
+    ghost given = { λ s. W.came s.wire };
+
+    ghost accepted = { λ s. W.went s.wire };
+
+    ghost left = { λ s. W.went s.wire };
+
+    ghost kept = { λ _. [] };
+
+    fn read(&mut self, buffer: &mut [u8]) -> Got
+        requires goes_on { MayGoOn self.old.counts }
+        requires room { 0 < length buffer.old }
+        ensures within { GivesWithin result buffer.new }
+        ensures given { W.came self.new.wire ≡ after_read (W.came self.old.wire) result buffer.new }
+        ensures accepted { W.went self.new.wire ≡ W.went self.old.wire }
+        ensures counts { self.new.counts ≡ after_got result self.old.counts }
+        ensures refusals { self.old.refused ≤ self.new.refused }
+        ensures same { self.new.refused ≡ self.old.refused }
+        ensures asked { Receives W.receives self.old.wire result self.new.wire }
+    {
+        let outcome = self.ask(buffer);
+        self.settle(outcome)
+    }
+
+    fn write(&mut self, bytes: &[u8]) -> Put
+        requires goes_on { MayGoOn self.old.counts }
+        requires some { 0 < length bytes.now }
+        ensures within { TakesWithin result bytes.now }
+        ensures given { W.came self.new.wire ≡ W.came self.old.wire }
+        ensures accepted { W.went self.new.wire ≡ after_write (W.went self.old.wire) result bytes.now }
+        ensures counts { self.new.counts ≡ after_put result self.old.counts }
+        ensures refusals { self.old.refused ≤ self.new.refused }
+        ensures refused { result ≡ Put.Idle → self.old.refused < self.new.refused }
+        ensures raised { self.new.refused ≡ raised result self.old.refused }
+        ensures asked { Sends W.sends self.old.refused self.old.wire result self.new.wire }
+    {
+        let put = put_from(self.wire.send(bytes), self.refused);
+        self.counts.count_put(put);
+        if put == Put::Idle {
+            self.refused += 1;
+        }
+        put
+    }
+
+    fn flush(&mut self) -> Flushed
+        ensures done { result ≡ Flushed.Done }
+        ensures same { self.new ≡ self.old }
+    {
+        Flushed::Done
+    }
+
+    fn failures(&self) -> u64 {
+        self.counts.failures
+    }
+
+    fn ends(&self) -> u64 {
+        self.counts.ends
+    }
+
+    fn idles(&self) -> u64 {
+        self.counts.idles
+    }
+
+    ghost in_order = { λ s. nothing_kept (W.went s.wire) };
+}
+
+impl<W: Source> Source for Socket<W> {
+    ghost use Rattle.tcp_edge.specs.Sockets.{KeepsSocket};
+
+    ghost keeps = { KeepsSocket W.keeps };
+
+    fn register(
+        &mut self,
+        registry: &Registry,
+        token: Token,
+        interests: Interest,
+    ) -> io::Result<()> {
+        self.wire.register(registry, token, interests)
+    }
+
+    fn reregister(
+        &mut self,
+        registry: &Registry,
+        token: Token,
+        interests: Interest,
+    ) -> io::Result<()> {
+        self.wire.reregister(registry, token, interests)
+    }
+
+    fn deregister(&mut self, registry: &Registry) -> io::Result<()> {
+        self.wire.deregister(registry)
+    }
+}

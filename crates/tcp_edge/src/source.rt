@@ -1,0 +1,175 @@
+//! Where connections come from: a listener on the loopback.
+ghost use Rattle.std.specs.Prelude.{◌≡◌, ◌<◌, IfOk, IfErr, IfSome, Some};
+ghost use Rattle.std.specs.IoError.{error_kind};
+ghost use Rattle.tcp_edge.specs.Sources.{IsFresh, IsPortFor, open_error_of, refused_arrival};
+ghost use Rattle.transport.specs.Counting.{MayCome, after_arrival};
+
+use crate::socket::Socket;
+use mio::net::{TcpListener, TcpStream};
+use std::io::ErrorKind;
+use std::marker::Model;
+use std::net::{Ipv4Addr, Net, SocketAddr};
+use thiserror::Error;
+use transport::{Arrival, Source, Tally};
+
+// How many connections that are gone already one call passes over: more than the system lets wait. So who is left behind them came
+// since, and is told of by the next wait.
+const MOST_GONE: u32 = 65_536;
+
+/// Why no listener was opened.
+#[derive(Clone, Copy, Debug, PartialEq, Eq, Error)]
+pub enum OpenError {
+    /// Another listener has the port.
+    #[error("the port is in use")]
+    PortInUse,
+    /// The system refused.
+    #[error("the system refused")]
+    System,
+}
+
+/// A listener on 127.0.0.1. It never waits: where no connection waits it is idle. Those that come while it is up wait for it.
+///
+/// Contracts see it as a `SourceState`: the listener of the system's, its port, and how often it gave and failed.
+#[derive(Drop)]
+pub struct TcpSource {
+    listener: TcpListener,
+    port: u16,
+    tally: Tally,
+}
+
+impl Model for TcpSource {
+    ghost use Rattle.tcp_edge.specs.Sources.{SourceState};
+
+    ghost Value = { SourceState };
+
+    ghost view = { λ s. record { listener = s.listener; port = s.port; tally = s.tally } };
+}
+
+/// What it means that a listener was not opened.
+fn open_error(kind: ErrorKind) -> OpenError
+    ensures { result ≡ open_error_of kind }
+{
+    match kind {
+        ErrorKind::AddrInUse => OpenError::PortInUse,
+        _ => OpenError::System,
+    }
+}
+
+/// What it means that no connection was accepted. `None` is one that was gone already: another one may wait.
+fn refused(kind: ErrorKind) -> Option<Arrival<Socket<TcpStream>>>
+    ensures { result ≡ refused_arrival kind }
+{
+    match kind {
+        ErrorKind::WouldBlock => Some(Arrival::Idle),
+        ErrorKind::Interrupted => None,
+        ErrorKind::ConnectionAborted => None,
+        _ => Some(Arrival::Failed),
+    }
+}
+
+impl TcpSource {
+    /// Listens at a port of 127.0.0.1; at port 0 the system chooses one.
+    ///
+    /// # Errors
+    ///
+    /// [`OpenError::PortInUse`], [`OpenError::System`].
+    pub fn open(net: &impl Net, port: u16) -> Result<TcpSource, OpenError>
+        ensures port { IfOk result (λ source. IsPortFor port source.port) }
+        ensures fresh { IfOk result (λ source. source.tally ≡ record { failures = 0; arrivals = 0 }) }
+    {
+        let address = SocketAddr::from((Ipv4Addr::LOCALHOST, port));
+        let listener = TcpListener::bind(net, address).map_err(|e| open_error(e.kind()))?;
+        let chosen = listener.local_addr().map_err(|_| OpenError::System)?.port();
+        if chosen == 0 || port != 0 && chosen != port {
+            return Err(OpenError::System);
+        }
+        Ok(TcpSource {
+            listener,
+            port: chosen,
+            tally: Tally::NONE,
+        })
+    }
+
+    /// The port.
+    pub fn port(&self) -> u16
+        ensures { result ≡ self.now.port }
+    {
+        self.port
+    }
+
+    /// The connection that waits longest. `None` is one that was gone already.
+    fn accept(&self) -> Option<Arrival<Socket<TcpStream>>>
+        ensures { IfSome result (λ arrival. IsFresh arrival) }
+    {
+        match self.listener.accept() {
+            Ok((stream, _)) => match stream.set_nodelay(true) {
+                Ok(()) => Some(Arrival::Came(Socket::new(stream))),
+                Err(_) => None,
+            },
+            Err(e) => refused(e.kind()),
+        }
+    }
+
+    /// The connection that waits longest and is not gone.
+    fn accept_next(&self) -> Arrival<Socket<TcpStream>>
+        ensures { IsFresh result }
+    {
+        for _ in 0..MOST_GONE {
+            if let Some(arrival) = self.accept() {
+                return arrival;
+            }
+        }
+        Arrival::Idle
+    }
+}
+
+impl Source<Socket<TcpStream>> for TcpSource {
+    ghost tally = { λ s. s.tally };
+
+    fn next(&mut self) -> Arrival<Socket<TcpStream>>
+        requires { MayCome self.old.tally }
+        ensures tally { self.new.tally ≡ after_arrival result self.old.tally }
+        ensures fresh { IsFresh result }
+        ensures same { (self.new.port ≡ self.old.port) × (self.new.listener ≡ self.old.listener) }
+    {
+        let arrival = self.accept_next();
+        self.tally.count_arrival(&arrival);
+        arrival
+    }
+
+    fn failures(&self) -> u64 {
+        self.tally.failures
+    }
+
+    fn arrivals(&self) -> u64 {
+        self.tally.arrivals
+    }
+}
+
+impl mio::event::Source for TcpSource {
+    ghost use Rattle.std.specs.Prelude.{◌≡◌};
+
+    ghost keeps = { λ old new. new ≡ old };
+
+    fn register(
+        &mut self,
+        registry: &mio::Registry,
+        token: mio::Token,
+        interests: mio::Interest,
+    ) -> std::io::Result<()> {
+        self.listener.register(registry, token, interests)
+    }
+
+    fn reregister(
+        &mut self,
+        registry: &mio::Registry,
+        token: mio::Token,
+        interests: mio::Interest,
+    ) -> std::io::Result<()> {
+        self.listener.reregister(registry, token, interests)
+    }
+
+    fn deregister(&mut self, registry: &mio::Registry) -> std::io::Result<()> {
+        self.listener.deregister(registry)
+    }
+}
