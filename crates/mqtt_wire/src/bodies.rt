@@ -11,6 +11,7 @@ ghost use Rattle.mqtt_wire.specs.Bodies.{delivery_at, publish_body_at, last_prop
 ghost use Rattle.mqtt_wire.specs.ConnectBody.{expect, connect_payload_at, connect_fields_at, connect_5_at, connect_at};
 
 use crate::binary::Binary;
+use crate::boxed::Boxed;
 use crate::fault::{Fault, StreamFault};
 use crate::fields::{
     read_binary_if, read_byte, read_identifier, read_text, read_text_if, read_u16,
@@ -21,9 +22,9 @@ use crate::packet::{
     Connect, Delivery, Disconnect, Packet, Puback, Publish, QoS, RetainHandling, Subscribe,
     Subscription, SubscriptionOptions, Unsubscribe,
 };
-use crate::packet_properties::PublishProperties;
 use crate::properties::Properties;
 use crate::property::Section;
+use crate::rare_properties::RareProperties;
 use crate::reason_code::ReasonCode;
 use crate::sections::read_properties;
 use crate::text::Text;
@@ -96,7 +97,8 @@ fn read_connect_5(alloc: Global, mut body: Bytes) -> Result<Packet, Fault>
     if flags / 4 % 2 == 1 {
         return Ok(Packet::WithWill);
     }
-    Ok(Packet::Connect(read_connect_fields(alloc, flags, body)?))
+    let connect = read_connect_fields(alloc, flags, body)?;
+    Ok(Packet::Connect(Boxed::new(alloc, connect)?))
 }
 
 /// Whether the connect flags are lawful: bit 0 is reserved, a will QoS of 3 is none, and without a will its flags are 0
@@ -173,14 +175,15 @@ fn read_publish(alloc: Global, flags: PublishFlags, mut body: Bytes) -> Result<P
 }
 
 /// Takes the properties of a PUBLISH. Most have none, and a length of 0 says so.
-fn read_publish_properties(alloc: Global, body: &mut Bytes) -> Result<PublishProperties, Fault>
+fn read_publish_properties(alloc: Global, body: &mut Bytes) -> Result<RareProperties, Fault>
     ensures { GivesPublish result body.new (properties_at Section.Publish body.old) }
 {
     if let [0, ..] = body.as_slice() {
         body.advance(1);
-        return Ok(PublishProperties::new(alloc));
+        return Ok(RareProperties::none());
     }
-    Ok(read_properties(alloc, Section::Publish, body)?.into_publish())
+    let properties = read_properties(alloc, Section::Publish, body)?.into_publish();
+    Ok(RareProperties::new(alloc, properties)?)
 }
 
 /// Reads the reason code and the properties that end a PUBACK or a DISCONNECT (sections 3.4.2 and 3.14.2).

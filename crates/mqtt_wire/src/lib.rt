@@ -22,6 +22,7 @@
 mod binary;
 mod bodies;
 mod body_writing;
+mod boxed;
 mod fault;
 mod field_writing;
 mod fields;
@@ -38,6 +39,7 @@ mod properties;
 mod property;
 mod property_sizes;
 mod property_writing;
+mod rare_properties;
 mod reason_code;
 mod sections;
 mod short;
@@ -50,6 +52,7 @@ mod values;
 mod writing;
 
 pub use binary::Binary;
+pub use boxed::Boxed;
 pub use fault::{Fault, ReadFault, StreamFault};
 pub use identifier::PacketIdentifier;
 pub use laws::{
@@ -67,6 +70,7 @@ pub use packet_properties::{
     Authentication, ConnectProperties, DisconnectProperties, PubackProperties, PublishProperties,
     SubscribeProperties, UnsubscribeProperties,
 };
+pub use rare_properties::RareProperties;
 pub use reason_code::ReasonCode;
 pub use splitter::Splitter;
 pub use text::Text;

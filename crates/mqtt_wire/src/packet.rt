@@ -1,13 +1,15 @@
 //! The control packets (chapter 3), as plain values.
 
 use crate::binary::Binary;
+use crate::boxed::Boxed;
 use crate::identifier::PacketIdentifier;
 use crate::non_empty::NonEmpty;
 use crate::offer::Offer;
 use crate::packet_properties::{
-    ConnectProperties, DisconnectProperties, PubackProperties, PublishProperties,
-    SubscribeProperties, UnsubscribeProperties,
+    ConnectProperties, DisconnectProperties, PubackProperties, SubscribeProperties,
+    UnsubscribeProperties,
 };
+use crate::rare_properties::RareProperties;
 use crate::reason_code::ReasonCode;
 use crate::text::Text;
 use bytes::Bytes;
@@ -95,7 +97,7 @@ pub struct Publish {
     pub retain: bool,
     pub topic: Text,
     pub delivery: Delivery,
-    pub properties: PublishProperties,
+    pub properties: RareProperties,
     /// Shared, as the bytes of a [`Text`] are.
     pub payload: Bytes,
 }
@@ -194,7 +196,8 @@ pub enum ForeignKind {
 /// The last three are what reading makes of packets whose bodies are not looked at.
 #[derive(Debug, Drop, PartialEq)]
 pub enum Packet {
-    Connect(Connect),
+    /// It stands apart, since it is large and seldom comes.
+    Connect(Boxed<Connect>),
     Connack(Connack),
     Publish(Publish),
     Puback(Puback),

@@ -1,6 +1,7 @@
 //! The properties of each packet (chapter 3), as plain values. What is left out is `None`.
 
-ghost use Rattle.std.specs.Prelude.{◌≡◌, [], None, IfOk};
+ghost use Rattle.std.specs.Prelude.{◌≡◌, ◌↔◌, [], None, IfOk, IsTrue};
+ghost use Rattle.mqtt_wire.specs.RareProperties.{no_properties};
 
 use crate::binary::Binary;
 use crate::text::Text;
@@ -80,6 +81,19 @@ impl PublishProperties {
 }
 
 impl PublishProperties {
+    /// Whether there is none of them.
+    pub fn is_none(&self) -> bool
+        ensures { IsTrue result ↔ (self.now ≡ no_properties) }
+    {
+        let has_number = self.payload_format_indicator.is_some()
+            || self.message_expiry_interval.is_some()
+            || self.topic_alias.is_some();
+        let has_text = self.content_type.is_some()
+            || self.response_topic.is_some()
+            || self.correlation_data.is_some();
+        !has_number && !has_text && self.user_properties.as_slice().is_empty()
+    }
+
     /// The same properties, which share their bytes.
     pub fn try_clone(&self, alloc: Global) -> Result<PublishProperties, AllocError>
         ensures { IfOk result (λ properties. properties ≡ self.now) }

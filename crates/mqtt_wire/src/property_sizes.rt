@@ -12,6 +12,7 @@ use crate::packet_properties::{
     Authentication, ConnectProperties, DisconnectProperties, PubackProperties, PublishProperties,
     SubscribeProperties, UnsubscribeProperties,
 };
+use crate::rare_properties::RareProperties;
 use crate::text::Text;
 use crate::user_properties::UserProperty;
 use crate::values::{MaximumPacketSize, ReceiveMaximum, SubscriptionIdentifier};
@@ -33,7 +34,17 @@ pub(crate) fn connect_list_size(properties: &ConnectProperties) -> usize
 }
 
 /// Those of a PUBLISH.
-pub(crate) fn publish_list_size(properties: &PublishProperties) -> usize
+pub(crate) fn publish_properties_size(properties: &RareProperties) -> usize
+    ensures { result ≡ min (length (publish_list properties.now)) greatest }
+{
+    match properties.get() {
+        Some(properties) => publish_list_size(properties),
+        None => 0,
+    }
+}
+
+/// Those of a PUBLISH that has some.
+fn publish_list_size(properties: &PublishProperties) -> usize
     ensures { result ≡ min (length (publish_list properties.now)) greatest }
 {
     let numbers = byte_size(properties.payload_format_indicator)

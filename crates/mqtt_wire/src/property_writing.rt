@@ -19,9 +19,10 @@ use crate::packet_properties::{
     SubscribeProperties, UnsubscribeProperties,
 };
 use crate::property_sizes::{
-    connect_list_size, disconnect_list_size, puback_list_size, publish_list_size,
+    connect_list_size, disconnect_list_size, puback_list_size, publish_properties_size,
     subscribe_list_size, unsubscribe_list_size,
 };
+use crate::rare_properties::RareProperties;
 use crate::reason_code::ReasonCode;
 use crate::single_properties::{
     put_binary_if, put_byte_if, put_flag_if, put_text_if, put_u16_if, put_u32_if,
@@ -128,14 +129,16 @@ fn put_unless(out: &mut Vec<u8>, identifier: u8, available: bool)
 }
 
 /// Writes the section of a PUBLISH (section 3.3.2.3).
-pub(crate) fn put_publish_properties(out: &mut Vec<u8>, list: &PublishProperties)
+pub(crate) fn put_publish_properties(out: &mut Vec<u8>, list: &RareProperties)
     requires size { length (publish_list list.now) < 268435456 }
     requires room { HasRoom out.old (properties (publish_list list.now)) }
     ensures appended { Appends out.old (properties (publish_list list.now)) out.new }
     ensures fits { PublishFits list.now }
 {
-    put_variable_byte_integer(out, 3, publish_list_size(list) as u32);
-    put_publish_list(out, list);
+    put_variable_byte_integer(out, 3, publish_properties_size(list) as u32);
+    if let Some(properties) = list.get() {
+        put_publish_list(out, properties);
+    }
 }
 
 /// Writes the section of a SUBSCRIBE (section 3.8.2.1).

@@ -12,8 +12,8 @@ use crate::binary::Binary;
 use crate::offer::Offer;
 use crate::packet::{Acceptance, Connack, Connect, Delivery, Packet, QoS, Subscription};
 use crate::property_sizes::{
-    connect_list_size, disconnect_list_size, puback_list_size, publish_list_size, section_size,
-    subscribe_list_size, unsubscribe_list_size, variable_size,
+    connect_list_size, disconnect_list_size, puback_list_size, publish_properties_size,
+    section_size, subscribe_list_size, unsubscribe_list_size, variable_size,
 };
 use crate::reason_code::ReasonCode;
 use crate::text::Text;
@@ -34,7 +34,7 @@ pub(crate) fn body_size(packet: &Packet) -> Option<usize>
         }
         Packet::Connack(connack) => within(connack_size(connack)),
         Packet::Publish(publish) => {
-            let properties = section_size(publish_list_size(&publish.properties))?;
+            let properties = section_size(publish_properties_size(&publish.properties))?;
             let header = 2 + publish.topic.as_bytes().len() + delivery_size(&publish.delivery);
             within(header + properties + publish.payload.len())
         }

@@ -4,9 +4,9 @@ use crate::written;
 use bytes::Bytes;
 use mqtt_wire::{
     Acceptance, Binary, Connack, ConnectRefusal, Delivery, Fault, MaximumPacketSize, NonEmpty,
-    Offer, Packet, PacketIdentifier, Publish, PublishProperties, QoS, ReasonCode, ReceiveMaximum,
-    StreamFault, Suback, SubscriptionIdentifier, Text, Unsuback, UserProperties, UserProperty,
-    encode_into, encoded_size,
+    Offer, Packet, PacketIdentifier, Publish, PublishProperties, QoS, RareProperties, ReasonCode,
+    ReceiveMaximum, StreamFault, Suback, SubscriptionIdentifier, Text, Unsuback, UserProperties,
+    UserProperty, encode_into, encoded_size,
 };
 use std::alloc::Global;
 use std::test::Fail;
@@ -143,6 +143,7 @@ fn publish(alloc: Global, payload: &'static [u8]) -> Result<Packet, Fault> {
     let user_properties = one_property(alloc)?;
     let mut properties = PublishProperties::new(alloc);
     properties.user_properties = user_properties;
+    let properties = RareProperties::new(alloc, properties)?;
     Ok(Packet::Publish(Publish {
         dup: false,
         retain: false,

@@ -8,4 +8,4 @@ pub returns-in-0 : goal.returns-in-0
 returns-in-0 c =
     let some : 1 ≤ length c.as_slice.result.now = omega arith in
     let zero : get_or c.as_slice.result.now 0 0 ≡ 0 = omega arith in
-    (nothing, c.new.ensures, rw (c.advance.ensures, ← c.as_slice.ensures) (empty_section Publish c.as_slice.result.now some zero))
+    (nothing, c.none.ensures, rw (c.advance.ensures, ← c.as_slice.ensures) (empty_section Publish c.as_slice.result.now some zero))
