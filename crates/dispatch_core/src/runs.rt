@@ -205,6 +205,13 @@ impl Runs {
         self.older.count() + count(&self.recent)
     }
 
+    /// How many runs there are. It looks at none of them.
+    pub fn run_count(&self) -> usize
+        ensures { result ≡ length self.now.runs }
+    {
+        self.older.long.len() + self.older.short.len() + self.recent.len()
+    }
+
     /// Whether there is no job.
     pub fn is_empty(&self) -> bool
         ensures { IsTrue result ↔ (jobs_of self.now.runs ≡ []) }
