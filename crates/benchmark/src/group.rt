@@ -1,7 +1,7 @@
 //! A group on one thread: messages are offered through one port, taken by one place and acknowledged.
 
 use bytes::Bytes;
-use group_jobs::{Fate, Message, MessageProperties};
+use group_jobs::{Fate, Message, MessageProperties, SharedMessage};
 use local_group::LocalGroup;
 use mqtt_wire::{Text, UserProperties};
 use std::alloc::Global;
@@ -18,7 +18,7 @@ pub(crate) fn settled(alloc: Global, jobs: u32) -> Option<u64> {
 }
 
 /// A message of 14 bytes.
-fn message(alloc: Global) -> Option<Message> {
+fn message(alloc: Global) -> Option<SharedMessage> {
     let properties = MessageProperties {
         payload_format_indicator: None,
         content_type: None,
@@ -26,11 +26,12 @@ fn message(alloc: Global) -> Option<Message> {
         correlation_data: None,
         user_properties: UserProperties::new(alloc),
     };
-    Some(Message {
+    let message = Message {
         topic: Text::parse(Bytes::from_static(b"plant/1/job"))?,
         properties,
         payload: Bytes::from_static(b"fourteen bytes"),
-    })
+    };
+    SharedMessage::new(alloc, message).ok()
 }
 
 /// Takes a message and acknowledges it: 1, or 0 where there is none.

@@ -1,7 +1,7 @@
 //! The cell of a number, in which a client may be.
-ghost use Rattle.std.specs.Prelude.{◌≡◌, ◌++◌, List, None};
+ghost use Rattle.std.specs.Prelude.{◌≡◌, ◌++◌, List, Some};
 ghost use Rattle.conn_engine.specs.declared.input.Input.TheVariants as inputs;
-ghost use Rattle.client_table.specs.Clients.{Said as Words};
+ghost use Rattle.client_table.specs.Clients.{ClientState, Said as Words};
 ghost use Rattle.client_table.specs.Cells.{kept, Opens, Receives, TicksFor, EndsFor};
 
 use crate::client::Client;
@@ -10,18 +10,16 @@ use conn_engine::{NoMemory, Supply};
 use session_desk::Place;
 use std::alloc::Global;
 
-/// Keeps a client while its connection goes on.
-fn keep<P>(cell: &mut Option<Client<P>>, client: Client<P>)
-    requires { cell.old ≡ None }
-    ensures { cell.new ≡ kept client }
+/// Lets go of the client in a cell where its connection has ended.
+fn let_go_of_ended<P>(cell: &mut Option<Client<P>>)
+    ensures { (client : ClientState P) → cell.old ≡ Some client → cell.new ≡ kept client }
 {
-    if client.has_ended() {
-        client.end();
+    let Some(client) = cell else { return };
+    if !client.has_ended() {
         return;
     }
-    match cell.replace(client) {
-        None => {}
-        Some(_other) => unreachable!(),
+    if let Some(client) = cell.take() {
+        client.end();
     }
 }
 
@@ -30,7 +28,10 @@ pub(crate) fn open<P>(cell: &mut Option<Client<P>>, alloc: Global, number: u8, n
     ensures { Opens number now cell.old cell.new }
 {
     if cell.is_none() {
-        keep(cell, Client::open(alloc, number, now));
+        match cell.replace(Client::open(alloc, number, now)) {
+            None => {}
+            Some(_other) => unreachable!(),
+        }
     }
 }
 
@@ -45,11 +46,11 @@ pub(crate) fn receive<P: Place, S: Supply<P>>(
     ensures { (more : List Words) × (said.new.items ≡ said.old.items ++ more)
         × Receives S.call P.slot_of supply.old cell.old now piece.now more result cell.new supply.new }
 {
-    let Some(mut client) = cell.take() else {
+    let Some(client) = cell else {
         return Ok(());
     };
     let received = client.receive(supply, now, piece, said);
-    keep(cell, client);
+    let_go_of_ended(cell);
     received
 }
 
@@ -63,11 +64,11 @@ pub(crate) fn tick<P: Place, S: Supply<P>>(
     ensures { (more : List Words) × (said.new.items ≡ said.old.items ++ more)
         × TicksFor S.call P.slot_of supply.old cell.old now more result cell.new supply.new }
 {
-    let Some(mut client) = cell.take() else {
+    let Some(client) = cell else {
         return Ok(());
     };
     let ticked = client.tick(supply, now, said);
-    keep(cell, client);
+    let_go_of_ended(cell);
     ticked
 }
 
@@ -81,11 +82,11 @@ pub(crate) fn end_of_input<P: Place, S: Supply<P>>(
     ensures { (more : List Words) × (said.new.items ≡ said.old.items ++ more)
         × EndsFor S.call P.slot_of supply.old cell.old now inputs.EndOfInput more result cell.new supply.new }
 {
-    let Some(mut client) = cell.take() else {
+    let Some(client) = cell else {
         return Ok(());
     };
     let ended = client.end_of_input(supply, now, said);
-    keep(cell, client);
+    let_go_of_ended(cell);
     ended
 }
 
@@ -99,10 +100,10 @@ pub(crate) fn closing<P: Place, S: Supply<P>>(
     ensures { (more : List Words) × (said.new.items ≡ said.old.items ++ more)
         × EndsFor S.call P.slot_of supply.old cell.old now inputs.Closing more result cell.new supply.new }
 {
-    let Some(mut client) = cell.take() else {
+    let Some(client) = cell else {
         return Ok(());
     };
     let closed = client.closing(supply, now, said);
-    keep(cell, client);
+    let_go_of_ended(cell);
     closed
 }

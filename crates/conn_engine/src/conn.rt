@@ -8,9 +8,10 @@ ghost use Rattle.conn_engine.specs.HandOuts.{HandsSome};
 ghost use Rattle.conn_engine.specs.Step.{IsWanted, Hands, HandsLess, Steps, FailsToStep, after_hand_out};
 
 use crate::connecting::is_waiting;
+use crate::ending::give_up;
 use crate::hand_outs::hand_out;
 use crate::input::{Input, Then};
-use crate::reacting::{give_up, let_go, react};
+use crate::reacting::react;
 use crate::reply::Reply;
 use crate::standing::{Link, Standing};
 use crate::supply::{NoMemory, Supply};
@@ -80,7 +81,7 @@ impl<P> Conn<P> {
             standing,
             alloc: _,
         } = self;
-        let_go(standing);
+        standing.let_go();
     }
 }
 

@@ -1,14 +1,41 @@
 //! What becomes of a session whose connection has ended, or whose time is over.
 ghost use Rattle.std.specs.Prelude.{◌≡◌, ℕ, false, List};
+ghost use Rattle.conn_engine.specs.declared.standing.Standing.TheVariants as standings;
 ghost use Rattle.group_jobs.specs.Stamps.{Held};
 ghost use Rattle.member_window.specs.Contents.{held_of, IsDown};
 ghost use Rattle.conn_engine.specs.Facts.Fact.{ParkAsIs};
 ghost use Rattle.conn_engine.specs.Ending.{down, ending, GivesBack, Ends, Retires, Parts, Sweeps};
+ghost use Rattle.conn_engine.specs.Standings.{IsSoundStanding};
+ghost use Rattle.conn_engine.specs.Step.{GivesUp};
 
+use crate::standing::Standing;
 use crate::supply::Supply;
 use group_jobs::Envelope;
 use member_window::Window;
-use session_desk::{Membership, ROWS, Session};
+use session_desk::{Membership, Place, ROWS, Session};
+use std::mem;
+
+/// A connection is given up.
+pub(crate) fn give_up<P: Place, S: Supply<P>>(
+    supply: &mut S,
+    number: u16,
+    standing: &mut Standing<P>,
+    now: u64,
+)
+    requires { IsSoundStanding standing.old }
+    ensures given { GivesUp S.call P.slot_of supply.old number standing.old now supply.new }
+    ensures over { standing.new ≡ standings.Ended }
+{
+    match mem::replace(standing, Standing::Ended) {
+        Standing::Unconnected { opened: _opened } => {}
+        Standing::Waiting {
+            request: _request,
+            ticks: _ticks,
+        } => supply.withdraw(number),
+        Standing::Connected(link) => part(supply, link.into_session(), now),
+        Standing::Ended => {}
+    }
+}
 
 /// The connection of a session has ended: the desk parks it, and it is retired where it ends with its connection.
 pub(crate) fn part<P, S: Supply<P>>(supply: &mut S, mut session: Session<Envelope, P>, now: u64)

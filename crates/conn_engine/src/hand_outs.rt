@@ -78,8 +78,8 @@ fn next_again(alloc: Global, window: &mut Window<Envelope>) -> Result<Option<Pac
     let Some((identifier, envelope)) = window.next_resend() else {
         return Ok(None);
     };
-    let message = envelope.message().try_copy(alloc)?;
-    Ok(Some(job(true, message, identifier_of(identifier))))
+    let packet = job(alloc, true, envelope.message(), identifier_of(identifier))?;
+    Ok(Some(packet))
 }
 
 /// The packet identifier of this number.
@@ -154,9 +154,9 @@ fn put(alloc: Global, window: &mut Window<Envelope>, envelope: Envelope) -> Resu
     ensures sound { window.new.retired ≡ window.old.retired }
 {
     let _held = window.len();
-    let copy = envelope.message().try_copy(alloc);
+    let shared = envelope.message().share();
     match window.put(envelope) {
-        Ok(identifier) => Ok(job(false, copy?, identifier_of(identifier))),
+        Ok(identifier) => Ok(job(alloc, false, &*shared?, identifier_of(identifier))?),
         Err(_back) => unreachable!(),
     }
 }

@@ -9,9 +9,9 @@ ghost use Rattle.conn_engine.specs.Publishing.{Took, Offers, OffersSome, IsOffer
 use crate::reply::Reply;
 use crate::supply::{NoMemory, OfferRefusal, Supply};
 use conn_rules::{PublishAnswer, answer_to_publish, message_of, puback_code};
-use group_jobs::Message;
+use group_jobs::{Message, SharedMessage};
 use mqtt_topic::{SlotIter, Slots, TopicName};
-use mqtt_wire::{PacketIdentifier, Publish};
+use mqtt_wire::{PacketIdentifier, Publish, Text};
 use std::alloc::Global;
 
 /// Answers a PUBLISH of this connection.
@@ -50,39 +50,36 @@ fn offer<P, S: Supply<P>>(
     alloc: Global,
     connection: u16,
     identifier: PacketIdentifier,
-    publish: Publish,
+    mut publish: Publish,
 ) -> Result<Reply, NoMemory>
     requires { publish_answer publish ≡ answers.Offer identifier }
     ensures replied { IfOk result (λ reply. IsOffered S.call supply.old connection publish identifier reply supply.new) }
     ensures cut_short { OnErr result (IsCutShort S.call supply.old connection publish supply.new) }
 {
-    let (slots, message) = matching(supply, message_of(publish));
-    let taken = offer_to_all(supply, alloc, connection, &slots, message)?;
+    let (slots, topic) = matching(supply, publish.topic);
+    publish.topic = topic;
+    let taken = offer_to_all(
+        supply,
+        alloc,
+        connection,
+        &slots,
+        message_of(alloc, publish),
+    )?;
     let code = puback_code(slots.len(), taken);
     Ok(Reply::acknowledging(alloc, identifier, code))
 }
 
-/// The slots of the groups that match a message's topic, and the message.
-fn matching<P, S: Supply<P>>(supply: &mut S, message: Message) -> (Slots, Message)
-    requires { name_of message.topic ≡ Ok message.topic }
-    ensures asked { S.call supply.old (Match message.topic result.0) supply.new }
-    ensures message { result.1 ≡ message }
+/// The slots of the groups that match a topic, and the topic.
+fn matching<P, S: Supply<P>>(supply: &mut S, topic: Text) -> (Slots, Text)
+    requires { name_of topic ≡ Ok topic }
+    ensures asked { S.call supply.old (Match topic result.0) supply.new }
+    ensures topic { result.1 ≡ topic }
 {
-    let Message {
-        topic,
-        properties,
-        payload,
-    } = message;
     let Ok(name) = TopicName::parse(topic) else {
         unreachable!()
     };
     let slots = supply.matching(&name);
-    let message = Message {
-        topic: name.into_text(),
-        properties,
-        payload,
-    };
-    (slots, message)
+    (slots, name.into_text())
 }
 
 /// Offers a message to all these groups, and says how many took it. All copies are made before the first is offered.
@@ -96,17 +93,22 @@ fn offer_to_all<P, S: Supply<P>>(
     ensures offered { IfOk result (λ taken. Offers S.call supply.old connection message slots.now taken supply.new) }
     ensures cut_short { OnErr result (OffersSome S.call supply.old connection message slots.now supply.new) }
 {
+    let message = SharedMessage::new(alloc, message)?;
     let copies = copies_of(alloc, &message, slots.len().saturating_sub(1))?;
     offer_each(supply, connection, slots.iter(), message, copies)
 }
 
 /// So many copies of a message, which share its bytes.
-fn copies_of(alloc: Global, message: &Message, count: usize) -> Result<Vec<Message>, NoMemory>
+fn copies_of(
+    alloc: Global,
+    message: &SharedMessage,
+    count: usize,
+) -> Result<Vec<SharedMessage>, NoMemory>
     ensures count { IfOk result (λ copies. vec_len copies ≡ count) }
     ensures alike { IfOk result (λ copies. All (λ copy. copy ≡ message.now) copies.items) }
 {
     let mut copies = Vec::with_capacity(alloc, count)?;
-    match copy_into(alloc, message, count, &mut copies) {
+    match copy_into(message, count, &mut copies) {
         Ok(()) => Ok(copies),
         Err(NoMemory) => {
             drop(copies);
@@ -117,10 +119,9 @@ fn copies_of(alloc: Global, message: &Message, count: usize) -> Result<Vec<Messa
 
 /// Puts so many copies of a message into an empty list.
 fn copy_into(
-    alloc: Global,
-    message: &Message,
+    message: &SharedMessage,
     count: usize,
-    copies: &mut Vec<Message>,
+    copies: &mut Vec<SharedMessage>,
 ) -> Result<(), NoMemory>
     requires items { copies.old.items ≡ [] }
     requires none { vec_len copies.old ≡ 0 }
@@ -128,7 +129,7 @@ fn copy_into(
     ensures alike { OnOk result (All (λ copy. copy ≡ message.now) copies.new.items) }
 {
     for _ in 0..count {
-        copies.push(message.try_copy(alloc)?)?;
+        copies.push(message.share()?)?;
     }
     Ok(())
 }
@@ -139,8 +140,8 @@ fn offer_each<P, S: Supply<P>>(
     supply: &mut S,
     connection: u16,
     mut slots: SlotIter,
-    message: Message,
-    mut copies: Vec<Message>,
+    message: SharedMessage,
+    mut copies: Vec<SharedMessage>,
 ) -> Result<usize, NoMemory>
     requires enough { length slots ≤ vec_len copies + 1 }
     requires alike { All (λ copy. copy ≡ message) copies.items }
@@ -166,7 +167,7 @@ fn offer_one<P, S: Supply<P>>(
     supply: &mut S,
     connection: u16,
     slot: u8,
-    message: Message,
+    message: SharedMessage,
 ) -> Result<usize, NoMemory>
     ensures offered { (answer : _) × S.call supply.old (Offer slot connection message answer) supply.new
         × IfOk result (λ taken. Took answer taken × (taken ≤ 1)) }

@@ -8,11 +8,11 @@ ghost use Rattle.conn_engine.specs.Ending.{down};
 ghost use Rattle.conn_engine.specs.Facts.Fact.{ParkAsIs};
 ghost use Rattle.conn_engine.specs.Replies.{taken_over};
 ghost use Rattle.conn_engine.specs.Standings.{IsSoundStanding, IsConnected};
-ghost use Rattle.conn_engine.specs.Step.{request_of, IsNoPacket, IsWanted, IsClosed, AnswersFirst, AnswersPacket, AnswersTick, GoesOn, GivesUp, Reacts, FailsOnPacket, FailsFirst, FailsToReact};
+ghost use Rattle.conn_engine.specs.Step.{request_of, IsNoPacket, IsWanted, IsClosed, AnswersFirst, AnswersPacket, AnswersTick, GoesOn, Reacts, FailsOnPacket, FailsFirst, FailsToReact};
 
 use crate::answering::answer;
 use crate::connecting::{attach, refuse, try_again};
-use crate::ending::{part, part_as_is, sweep};
+use crate::ending::{give_up, part_as_is, sweep};
 use crate::input::{Input, Then};
 use crate::reply::Reply;
 use crate::standing::{ConnectRequest, Link, Standing};
@@ -47,12 +47,12 @@ pub(crate) fn react<P: Place, S: Supply<P>>(
         (λ _. (standing.new ≡ standings.Ended) × FailsToReact S.call P.slot_of supply.old number standing.old now input supply.new) }
     ensures sound { IsSoundStanding standing.new }
 {
-    if is_connected(standing) {
+    if standing.is_connected() {
         return react_connected(supply, alloc, number, standing, now, input);
     }
     let before = mem::replace(standing, Standing::Ended);
     let (behind, replied) = react_before(supply, number, before, now, input);
-    put(standing, behind);
+    standing.put(behind);
     replied
 }
 
@@ -85,53 +85,6 @@ fn react_before<P: Place, S: Supply<P>>(
             close()
         }
         _other => unreachable!(),
-    }
-}
-
-/// Whether the client of a connection has its session.
-fn is_connected<P>(standing: &Standing<P>) -> bool
-    ensures { IsTrue result ↔ IsConnected standing.now }
-{
-    matches!(standing, Standing::Connected(_))
-}
-
-/// Puts a standing where that of a connection was taken from.
-fn put<P>(place: &mut Standing<P>, standing: Standing<P>)
-    requires { place.old ≡ standings.Ended }
-    ensures { place.new ≡ standing }
-{
-    let_go(mem::replace(place, standing));
-}
-
-/// Lets go of the standing of a connection that has ended.
-pub(crate) fn let_go<P>(standing: Standing<P>)
-    requires { standing ≡ standings.Ended }
-{
-    match standing {
-        Standing::Ended => {}
-        _other => unreachable!(),
-    }
-}
-
-/// A connection is given up.
-pub(crate) fn give_up<P: Place, S: Supply<P>>(
-    supply: &mut S,
-    number: u16,
-    standing: &mut Standing<P>,
-    now: u64,
-)
-    requires { IsSoundStanding standing.old }
-    ensures given { GivesUp S.call P.slot_of supply.old number standing.old now supply.new }
-    ensures over { standing.new ≡ standings.Ended }
-{
-    match mem::replace(standing, Standing::Ended) {
-        Standing::Unconnected { opened: _opened } => {}
-        Standing::Waiting {
-            request: _request,
-            ticks: _ticks,
-        } => supply.withdraw(number),
-        Standing::Connected(link) => part(supply, link.into_session(), now),
-        Standing::Ended => {}
     }
 }
 
@@ -219,7 +172,15 @@ fn connect<P: Place, S: Supply<P>>(
     ensures sound { IsSoundStanding result.0 }
 {
     match packet {
-        Packet::Connect(connect) => attach(supply, number, now, request_of(connect, now), 0),
+        Packet::Connect(connect) => {
+            attach(
+                supply,
+                number,
+                now,
+                request_of(connect.into_inner(), now),
+                0,
+            )
+        }
         _other => unreachable!(),
     }
 }

@@ -1,7 +1,9 @@
 //! How far a connection has come.
-ghost use Rattle.std.specs.Prelude.{◌≡◌};
+ghost use Rattle.std.specs.Prelude.{◌≡◌, ◌↔◌, IsTrue};
 ghost use Rattle.session_desk.specs.declared.session.Membership.TheVariants.{NotMember};
+ghost use Rattle.conn_engine.specs.declared.standing.Standing.TheVariants as standings;
 ghost use Rattle.conn_engine.specs.Answering.{joining};
+ghost use Rattle.conn_engine.specs.Standings.{IsConnected};
 
 use conn_rules::Terms;
 use group_jobs::Envelope;
@@ -83,4 +85,31 @@ pub(crate) enum Standing<P> {
     Connected(Link<P>),
     /// The connection has ended.
     Ended,
+}
+
+impl<P> Standing<P> {
+    /// Whether the client has its session.
+    pub(crate) fn is_connected(&self) -> bool
+        ensures { IsTrue result ↔ IsConnected self.now }
+    {
+        matches!(self, Standing::Connected(_))
+    }
+
+    /// Puts a standing where that of a connection was taken from.
+    pub(crate) fn put(&mut self, standing: Standing<P>)
+        requires { self.old ≡ standings.Ended }
+        ensures { self.new ≡ standing }
+    {
+        mem::replace(self, standing).let_go();
+    }
+
+    /// Lets go of the standing of a connection that has ended.
+    pub(crate) fn let_go(self)
+        requires { self ≡ standings.Ended }
+    {
+        match self {
+            Standing::Ended => {}
+            _other => unreachable!(),
+        }
+    }
 }

@@ -6,7 +6,7 @@ ghost use Rattle.conn_engine.specs.Ready.{IsReady};
 ghost use Rattle.member_window.specs.Contents.{held_of};
 ghost use Rattle.session_desk.specs.Attaching.{asked};
 
-use group_jobs::{Envelope, Fate, JobError, Message, Stamp};
+use group_jobs::{Envelope, Fate, JobError, SharedMessage, Stamp};
 use mqtt_topic::{Share, Slots, TopicName};
 use mqtt_wire::Text;
 use session_desk::{Attached, DeskError, Session};
@@ -150,7 +150,12 @@ pub trait Supply<P> {
         ensures { call self.old (Match topic.now result) self.new };
 
     /// Offers a message of a connection to the group of this slot.
-    fn offer(&mut self, slot: u8, connection: u16, message: Message) -> Result<Stamp, OfferRefusal>
+    fn offer(
+        &mut self,
+        slot: u8,
+        connection: u16,
+        message: SharedMessage,
+    ) -> Result<Stamp, OfferRefusal>
         ensures { call self.old (Offer slot connection message result) self.new };
 
     /// Hands the oldest queued message to a place; `None` where nothing is queued, or the broker is closed.

@@ -1,5 +1,5 @@
 //! What becomes of a PUBLISH, as far as it asks no group (sections 3.3 and 3.4).
-ghost use Rattle.std.specs.Prelude.{◌≡◌};
+ghost use Rattle.std.specs.Prelude.{◌≡◌, is_some};
 ghost use Rattle.std.specs.List.{list_any};
 ghost use Rattle.mqtt_topic.specs.Levels.{is_wildcard};
 ghost use Rattle.conn_rules.specs.Publishing.{closing_code, publish_answer, identified_answer, puback_code};
@@ -34,7 +34,7 @@ fn answer_under(identifier: PacketIdentifier, publish: &Publish) -> PublishAnswe
 {
     match closing_code(publish) {
         Some(code) => PublishAnswer::Close(code),
-        None if publish.properties.message_expiry_interval.is_some() => {
+        None if expires(publish) => {
             PublishAnswer::Refuse(identifier, ReasonCode::IMPLEMENTATION_SPECIFIC_ERROR)
         }
         None => PublishAnswer::Offer(identifier),
@@ -48,7 +48,7 @@ pub fn closing_code(publish: &Publish) -> Option<ReasonCode>
     if publish.retain {
         return Some(ReasonCode::RETAIN_NOT_SUPPORTED);
     }
-    if publish.properties.topic_alias.is_some() {
+    if has_topic_alias(publish) {
         return Some(ReasonCode::TOPIC_ALIAS_INVALID);
     }
     let topic = publish.topic.as_bytes();
@@ -59,6 +59,26 @@ pub fn closing_code(publish: &Publish) -> Option<ReasonCode>
         return Some(ReasonCode::MALFORMED_PACKET);
     }
     None
+}
+
+/// Whether it expires (section 3.3.2.3.3).
+fn expires(publish: &Publish) -> bool
+    ensures { result ≡ is_some publish.now.properties.message_expiry_interval }
+{
+    match publish.properties.get() {
+        Some(properties) => properties.message_expiry_interval.is_some(),
+        None => false,
+    }
+}
+
+/// Whether it has a Topic Alias (section 3.3.2.3.4).
+fn has_topic_alias(publish: &Publish) -> bool
+    ensures { result ≡ is_some publish.now.properties.topic_alias }
+{
+    match publish.properties.get() {
+        Some(properties) => properties.topic_alias.is_some(),
+        None => false,
+    }
 }
 
 /// Whether a wildcard stands in the text (section 4.7.1).

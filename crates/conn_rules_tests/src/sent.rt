@@ -81,7 +81,11 @@ fn passed_on(alloc: Global, digits: &str, dup: bool) -> Result<Vec<u8>, Fault> {
         return Ok(Vec::new(alloc));
     };
     match packet(alloc, digits) {
-        Ok(Some(Packet::Publish(publish))) => written(alloc, job(dup, message_of(publish), one)),
+        Ok(Some(Packet::Publish(publish))) => {
+            let message = message_of(alloc, publish);
+            let packet = job(alloc, dup, &message, one).or(Err(Fault::Memory))?;
+            written(alloc, packet)
+        }
         Ok(other) => {
             drop(other);
             Ok(Vec::new(alloc))

@@ -1,7 +1,7 @@
 //! Envelopes: messages in a member's hands.
 ghost use Rattle.std.specs.Prelude.{◌≡◌};
 
-use crate::message::Message;
+use crate::shared_message::SharedMessage;
 use crate::stamp::Stamp;
 use std::marker::Model;
 
@@ -12,7 +12,7 @@ use std::marker::Model;
 pub struct Envelope {
     stamp: Stamp,
     place: u8,
-    message: Message,
+    message: SharedMessage,
 }
 
 impl Model for Envelope {
@@ -25,7 +25,7 @@ impl Model for Envelope {
 
 impl Envelope {
     /// An envelope. A group makes one for each hand-out, and no others: one that was made otherwise is a stranger to it.
-    pub fn new(stamp: Stamp, place: u8, message: Message) -> Envelope
+    pub fn new(stamp: Stamp, place: u8, message: SharedMessage) -> Envelope
         ensures { result ≡ record { stamp = stamp; place = place; message = message } }
     {
         Envelope {
@@ -49,15 +49,15 @@ impl Envelope {
         self.place
     }
 
-    /// The message.
-    pub fn message(&self) -> &Message
+    /// The message, to be shared.
+    pub fn message(&self) -> &SharedMessage
         ensures { result.now ≡ self.now.message }
     {
         &self.message
     }
 
     /// Takes the envelope apart, for the group that it goes back to.
-    pub fn open(self) -> (Stamp, Message)
+    pub fn open(self) -> (Stamp, SharedMessage)
         ensures { result ≡ (self.stamp, self.message) }
     {
         let Envelope {

@@ -68,8 +68,8 @@ impl Ledger {
         ensures kept { KeepsSettled self.old self.new }
         ensures spare { (fate : fate_type) → spare_of fate self.old ≤ spare_of fate self.new }
     {
-        let acknowledged = count(&other.acknowledged)?;
-        let refused = count(&other.refused)?;
+        let acknowledged = other.acknowledged.run_count();
+        let refused = other.refused.run_count();
         self.acknowledged.reserve(acknowledged)?;
         self.refused.reserve(refused)?;
         Ok(())
@@ -85,8 +85,8 @@ impl Ledger {
         ensures kept { KeepsSettled self.old self.new }
         ensures spare { (fate : fate_type) → spare_of fate self.old ≤ spare_of fate self.new }
     {
-        let acknowledged = count(&other.acknowledged)?;
-        let refused = count(&other.refused)?;
+        let acknowledged = other.acknowledged.run_count();
+        let refused = other.refused.run_count();
         let Some(room) = self.spare().checked_add(acknowledged.max(refused)) else {
             return Err(JobError::Memory);
         };
@@ -107,6 +107,15 @@ impl Ledger {
         ensures { result ≡ min (length (settled_as fates.Acknowledged self.now) + length (settled_as fates.Refused self.now)) u128.MAX }
     {
         self.acknowledged.len().saturating_add(self.refused.len())
+    }
+
+    /// How many runs the jobs are in, of whatever fate, or 2^64 - 1 where they are in more. It looks at none of them.
+    pub fn run_count(&self) -> usize
+        ensures { result ≡ min (length (runs_of fates.Acknowledged self.now) + length (runs_of fates.Refused self.now)) usize.MAX }
+    {
+        self.acknowledged
+            .run_count()
+            .saturating_add(self.refused.run_count())
     }
 
     /// Puts a job to those of this fate. There is room for a run, and the number is below 2^64 - 1.
@@ -135,18 +144,4 @@ impl Ledger {
         self.acknowledged.merge(acknowledged);
         self.refused.merge(refused);
     }
-}
-
-/// How many runs the jobs are in.
-fn count(runs: &Runs) -> Result<usize, JobError>
-    ensures { IfOk result (λ count. count ≡ length runs.now.runs) }
-{
-    let mut count: usize = 0;
-    for _run in runs.runs() {
-        let Some(more) = count.checked_add(1) else {
-            return Err(JobError::Memory);
-        };
-        count = more;
-    }
-    Ok(count)
 }

@@ -1,6 +1,6 @@
 //! The values of a group's messages: what a message is, who holds it, what became of it.
 //!
-//! A [`Message`] that a group accepts gets a [`Stamp`]: its group, the port that it came through, and its number there. Who
+//! A [`SharedMessage`] that a group accepts gets a [`Stamp`]: its group, the port that it came through, and its number there. Who
 //! is handed it has an [`Envelope`], which must be spent. What one place of the group has out, and what it settled, is its
 //! [`Docket`]; the settled jobs of a place or of a group, by [`Fate`], are a [`Ledger`]. A [`Report`] says at the end what
 //! became of each message.
@@ -17,6 +17,7 @@ pub mod laws;
 mod ledger;
 mod message;
 mod report;
+mod shared_message;
 mod stamp;
 
 pub use docket::Docket;
@@ -26,4 +27,5 @@ pub use fate::Fate;
 pub use ledger::Ledger;
 pub use message::{Message, MessageProperties};
 pub use report::Report;
+pub use shared_message::SharedMessage;
 pub use stamp::Stamp;

@@ -1,5 +1,5 @@
 //! Messages: what a group passes on of a PUBLISH.
-ghost use Rattle.std.specs.Prelude.{◌≡◌, IfOk};
+ghost use Rattle.std.specs.Prelude.{◌≡◌, ◌↔◌, [], None, IfOk, IsTrue};
 
 use crate::error::JobError;
 use bytes::Bytes;
@@ -45,8 +45,24 @@ impl Message {
 }
 
 impl MessageProperties {
-    // Equal properties, which share all bytes.
-    fn try_copy(&self, alloc: Global) -> Result<MessageProperties, JobError>
+    /// Whether there is none of them.
+    pub fn is_none(&self) -> bool
+        ensures { IsTrue result ↔ (self.now ≡ record { payload_format_indicator = None; content_type = None; response_topic = None; correlation_data = None; user_properties = [] }) }
+    {
+        let has_text = self.content_type.is_some()
+            || self.response_topic.is_some()
+            || self.correlation_data.is_some();
+        !has_text
+            && self.payload_format_indicator.is_none()
+            && self.user_properties.as_slice().is_empty()
+    }
+
+    /// Equal properties, which share all bytes.
+    ///
+    /// # Errors
+    ///
+    /// 503 [`JobError::Memory`].
+    pub fn try_copy(&self, alloc: Global) -> Result<MessageProperties, JobError>
         ensures { IfOk result (λ copy. copy ≡ self.now) }
     {
         Ok(MessageProperties {

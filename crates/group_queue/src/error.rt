@@ -3,7 +3,7 @@ ghost use Rattle.std.specs.Prelude.{◌≡◌};
 ghost use Rattle.group_queue.specs.Refusals.{number_of, finish_number};
 ghost use Rattle.group_queue.specs.declared.error.FinishError.TheVariants as finish_error;
 
-use group_jobs::{JobError, Message, Stamp};
+use group_jobs::{JobError, SharedMessage, Stamp};
 use thiserror::Error;
 
 /// Why a message was not accepted.
@@ -34,7 +34,7 @@ impl OfferError {
 #[error("{error}")]
 pub struct NotTaken {
     /// The message that was offered.
-    pub message: Message,
+    pub message: SharedMessage,
     pub error: OfferError,
 }
 

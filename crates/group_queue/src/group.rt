@@ -11,7 +11,7 @@ use crate::returns_queue::ReturnsQueue;
 use crate::{main_queue, returns_queue};
 use dispatch_core::Job;
 use gate_word::{Drained, Gate, Turn};
-use group_jobs::{Envelope, JobError, Message, Stamp};
+use group_jobs::{Envelope, JobError, SharedMessage, Stamp};
 use shared_ledger::SharedLedger;
 use std::alloc::Global;
 use std::marker::Model;
@@ -65,7 +65,7 @@ impl<'a> SharedGroup<'a> {
         rt: &R,
         port: &mut Port,
         turn: &Turn,
-        message: Message,
+        message: SharedMessage,
     ) -> Result<Stamp, NotTaken>
         requires port { IsPortOf self.now port.old }
         requires turn { turn.now.gate ≡ self.now.gate }

@@ -2,13 +2,13 @@
 ghost use Rattle.std.specs.Prelude.{◌≡◌};
 
 use dispatch_core::Job;
-use group_jobs::Message;
+use group_jobs::SharedMessage;
 
 /// A message in one of a group's queues, with the port that it came through and its number there.
 #[derive(Debug, Drop)]
 pub struct Posted {
     pub job: Job,
-    pub message: Message,
+    pub message: SharedMessage,
 }
 
 impl Posted {

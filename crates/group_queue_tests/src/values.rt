@@ -1,6 +1,6 @@
 //! Messages, ledgers, reports and the texts of errors.
 use bytes::Bytes;
-use group_jobs::{JobError, Message, MessageProperties};
+use group_jobs::{JobError, Message, MessageProperties, SharedMessage};
 use group_queue::{NotTaken, OfferError, Place, Port, SharedGroup};
 use mqtt_wire::{Text, UserProperties};
 use std::alloc::Global;
@@ -8,9 +8,9 @@ use std::fmt::Display;
 use std::test::Fail;
 
 /// A message on the topic `job` with this payload.
-pub fn message(alloc: Global, payload: &'static [u8]) -> Option<Message> {
+pub fn message(alloc: Global, payload: &'static [u8]) -> Option<SharedMessage> {
     let topic = Text::parse(Bytes::from_static(b"job"))?;
-    Some(Message {
+    let message = Message {
         topic,
         properties: MessageProperties {
             payload_format_indicator: Some(1),
@@ -20,7 +20,8 @@ pub fn message(alloc: Global, payload: &'static [u8]) -> Option<Message> {
             user_properties: UserProperties::new(alloc),
         },
         payload: Bytes::from_static(payload),
-    })
+    };
+    SharedMessage::new(alloc, message).ok()
 }
 
 /// Whether the copy of a message is equal to it.
@@ -28,7 +29,7 @@ fn is_copied(alloc: Global) -> Option<bool> {
     let first = message(alloc, b"A")?;
     let copy = first.try_copy(alloc);
     let is_equal = match &copy {
-        Ok(copy) => *copy == first,
+        Ok(copy) => *copy == *first,
         Err(_) => false,
     };
     drop(copy);
@@ -51,7 +52,8 @@ fn what_threads_may_do_with_it() {
     crosses_threads::<SharedGroup<'static>>();
     crosses_threads::<Port>();
     crosses_threads::<Place>();
-    crosses_threads::<Message>();
+    crosses_threads::<SharedMessage>();
+    is_shared_by_threads::<SharedMessage>();
 }
 
 /// The text of an error.

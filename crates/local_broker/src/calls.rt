@@ -11,7 +11,7 @@ use crate::opening::SLOTS;
 use crate::place::LocalPlace;
 use crate::supply::LocalSupply;
 use conn_engine::{BindRefusal, NoMemory, OfferRefusal, Supply};
-use group_jobs::{Envelope, Fate, Message, Stamp};
+use group_jobs::{Envelope, Fate, SharedMessage, Stamp};
 use mqtt_topic::{Share, Slots, TopicError, TopicName};
 use mqtt_wire::Text;
 use session_desk::{Attached, DeskError, Place, Session};
@@ -112,7 +112,7 @@ impl Supply<LocalPlace> for LocalSupply {
         &mut self,
         slot: u8,
         connection: u16,
-        message: Message,
+        message: SharedMessage,
     ) -> Result<Stamp, OfferRefusal> {
         if connection >= PORTS {
             return Err(OfferRefusal::LifeSpent);

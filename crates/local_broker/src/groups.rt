@@ -4,14 +4,14 @@ ghost use Rattle.local_broker.specs.Groups.{ClosesEach, told_as, IsOffered, Hand
 
 use crate::letting_go::let_go;
 use conn_engine::{NoMemory, OfferRefusal};
-use group_jobs::{Envelope, Fate, Message, Stamp};
+use group_jobs::{Envelope, Fate, SharedMessage, Stamp};
 use local_group::{LocalGroup, NotTaken, OfferError, TakeError};
 
 /// Offers a message through a port.
 pub(crate) fn offer(
     group: &mut LocalGroup,
     port: u8,
-    message: Message,
+    message: SharedMessage,
 ) -> Result<Stamp, OfferRefusal>
     requires { port < 64 }
     ensures { IsOffered group.old port message result group.new }

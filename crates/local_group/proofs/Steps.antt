@@ -227,6 +227,12 @@ kept_settled old new events event queue returned out place job spot held moves u
       outs = outs_less old new job spot moves out kept.outs (ap times_out held) over;
     }
 
+-- what a place holds may be settled by it
+pub may_fate : (fate : Fate) (state : GroupState) (place : ℕ) (job : Job) → IsRanged state → spot_of state job ≡ Some (Held place)
+    → MayHappen state (event_of fate place job)
+may_fate fate.Acknowledged state place job ranged held = record { in_range = (ranged.places job place held, ranged.ports job (ap is_some held)); not_closed = λ needs. absurd needs; ready = held }
+may_fate fate.Refused state place job ranged held = record { in_range = (ranged.places job place held, ranged.ports job (ap is_some held)); not_closed = λ needs. absurd needs; ready = held }
+
 -- by whatever fate
 pub kept_fate : (fate : Fate) (old new : GroupState) (events : List Event) (queue returned : List Waiting) (out place : ℕ) (job : Job)
     → IsKept old events queue returned out → Step old (event_of fate place job) new

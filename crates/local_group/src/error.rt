@@ -3,7 +3,7 @@ ghost use Rattle.std.specs.Prelude.{◌≡◌};
 ghost use Rattle.local_group.specs.Refusals.{offer_number, take_number};
 ghost use Rattle.local_group.specs.declared.error.TakeError.TheVariants as take_error;
 
-use group_jobs::Message;
+use group_jobs::SharedMessage;
 use std::alloc::AllocError;
 use thiserror::Error;
 
@@ -39,7 +39,7 @@ pub enum TakeError {
 #[derive(Debug, Drop)]
 pub struct NotTaken {
     pub why: OfferError,
-    pub message: Message,
+    pub message: SharedMessage,
 }
 
 impl OfferError {

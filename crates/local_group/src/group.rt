@@ -11,7 +11,7 @@ use crate::error::{NotTaken, OfferError, TakeError};
 use crate::events::{conclude, note};
 use crate::waiting::{Waiting, front_of, make_way_back, put_behind, take_front};
 use dispatch_core::{Event, Job, Spot, State};
-use group_jobs::{Envelope, Fate, JobError, Message, Stamp};
+use group_jobs::{Envelope, Fate, JobError, SharedMessage, Stamp};
 use std::alloc::Global;
 use std::collections::VecDeque;
 use std::marker::Model;
@@ -132,7 +132,7 @@ impl LocalGroup {
     /// # Errors
     ///
     /// The first that applies, with the message: 401, 502, 501 or 503 of [`OfferError`].
-    pub fn offer(&mut self, port: u8, message: Message) -> Result<Stamp, NotTaken>
+    pub fn offer(&mut self, port: u8, message: SharedMessage) -> Result<Stamp, NotTaken>
         requires port { port < 64 }
         ensures accepted { IfOk result (λ stamp. Accepts self.old port message stamp self.new) }
         ensures refused { IfErr result (λ refusal. MayNotOffer self.old port refusal.why) }

@@ -5,7 +5,7 @@ ghost use Rattle.local_group.specs.Groups.{waits};
 ghost use Rattle.local_group.specs.Keeping.{front_of};
 
 use dispatch_core::Job;
-use group_jobs::Message;
+use group_jobs::SharedMessage;
 use std::alloc::AllocError;
 use std::collections::VecDeque;
 
@@ -13,7 +13,7 @@ use std::collections::VecDeque;
 #[derive(Debug, Drop)]
 pub struct Waiting {
     pub job: Job,
-    pub message: Message,
+    pub message: SharedMessage,
 }
 
 /// The job in front, if there is one.
@@ -50,7 +50,7 @@ pub(crate) fn take_front(waiting: &mut VecDeque<Waiting>) -> Waiting
 }
 
 /// Puts a message behind the others. There is room for it.
-pub(crate) fn put_behind(waiting: &mut VecDeque<Waiting>, job: Job, message: Message)
+pub(crate) fn put_behind(waiting: &mut VecDeque<Waiting>, job: Job, message: SharedMessage)
     requires { deque_len waiting.old < deque_capacity waiting.old }
     ensures items { waiting.new.items ≡ waiting.old.items ++ waits job message ∷ [] }
     ensures len { deque_len waiting.new ≡ deque_len waiting.old + 1 }

@@ -1,15 +1,15 @@
 //! Groups on one thread: what became of a few messages, and each refusal.
 
 use bytes::Bytes;
-use group_jobs::{Envelope, Fate, Message, MessageProperties, Stamp};
+use group_jobs::{Envelope, Fate, Message, MessageProperties, SharedMessage, Stamp};
 use local_group::{LocalGroup, OfferError, TakeError};
 use mqtt_topic::Share;
 use mqtt_wire::{Text, UserProperties};
 use std::alloc::Global;
 use std::test::Fail;
 
-// A message of this payload.
-fn message(alloc: Global, payload: &'static [u8]) -> Option<Message> {
+/// A message of this payload.
+pub fn message(alloc: Global, payload: &'static [u8]) -> Option<SharedMessage> {
     let topic = Text::parse(Bytes::from_static(b"job"))?;
     let properties = MessageProperties {
         payload_format_indicator: None,
@@ -18,11 +18,12 @@ fn message(alloc: Global, payload: &'static [u8]) -> Option<Message> {
         correlation_data: None,
         user_properties: UserProperties::new(alloc),
     };
-    Some(Message {
+    let message = Message {
         topic,
         properties,
         payload: Bytes::from_static(payload),
-    })
+    };
+    SharedMessage::new(alloc, message).ok()
 }
 
 // Offers a message through a port, and tells its number or the number of the refusal.

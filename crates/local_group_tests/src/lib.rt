@@ -3,3 +3,5 @@
 
 #[cfg(test)]
 mod groups;
+#[cfg(test)]
+mod refusals;

@@ -10,7 +10,7 @@ use Rattle.local_server.specs.Servers.{ServerState}
 -- one list of hand-outs, each a place and the message that it was handed, tells both what clients were sent and what happened in the groups
 pub record HandsOutWhatIsSaid (server : ServerState) (said : List Said) : Type 0 where
   pub hand_outs : List HandOut
-  -- the messages that went out with DUP 0 are those that were handed out, in that order: each once, and no other (3.3.1.1)
+  -- the messages that went out with DUP 0 are those that were handed out, in that order: each as often as it was handed out (3.3.1.1)
   pub sent : fresh_said said ≡ messages_of hand_outs
   -- the hand-outs among a group's events, first and later ones, are those to its places, in that order
   pub handed : (slot : ℕ) (group : Group) → slice_get server.broker.groups slot ≡ Some group → handed_in_all group.events ≡ seen_by_group slot hand_outs

@@ -47,7 +47,8 @@ pub fn running_law()
 
 /// **What is handed out is what is sent**, in every run: the messages of the PUBLISH packets with DUP 0 that the clients are told of are,
 /// in order, those that places were handed, and the hand-outs that a group's events tell are those to its places, in the same order. So
-/// no message goes out for the first time that was not handed out, none is handed out and not sent, and none is sent twice with DUP 0.
+/// each goes out with DUP 0 as often as it was handed out: once, and once more for each time that it was given back and handed out again.
+/// The runs are those in which memory was not wanted.
 pub fn hand_out_law()
     ensures { (setup : Setup) (events : List TimedEvent) (said : List Said) (first last : ServerState) →
         IsNewServer setup first → HappensAll first events said last → HandsOutWhatIsSaid last said }

@@ -14,6 +14,6 @@ each old other new room a r enough Refused = omega (arith, r, enough Acknowledge
 pub returns-clause-ok : goal.returns-clause-ok
 returns-clause-ok c =
     each c.args.self.now c.args.other.now c.reserve.new.self c.in-Some.room
-    (omega (arith, c.spare.ensures.value, c.max.ensures, c.in-Some.ensures, c.in_ok-acknowledged.ensures))
-    (omega (arith, c.spare.ensures.value, c.max.ensures, c.in-Some.ensures, c.in_ok-refused.ensures))
+    (omega (arith, c.spare.ensures.value, c.max.ensures, c.in-Some.ensures, c.run_count-acknowledged.ensures))
+    (omega (arith, c.spare.ensures.value, c.max.ensures, c.in-Some.ensures, c.run_count-refused.ensures))
     c.in_ok-reserve.ensures.ok
