@@ -14,7 +14,8 @@ ghost use Rattle.drive.specs.Forms.{script_as, lines_as};
 use crate::form::Form;
 use crate::script::read_script;
 use crate::stream::read_stream;
-use crate::transcript::{report, tell};
+use crate::transcript::Transcript;
+use client_table::Said;
 use line_io::{RunError, read_all, write_all};
 use local_server::{Server, Setup, TimedEvent};
 use std::alloc::Global;
@@ -139,12 +140,13 @@ fn play(
         × (text.items ≡ flat_map (lines_as form) said ++ reports) × ReportsFirst (length server.new.broker.routes) server.new.broker reports) }
     ensures err { IfErr result (λ error. error ≡ Memory) }
 {
-    let mut text = Vec::new(alloc);
+    let mut transcript = Transcript::new(alloc);
+    let mut said = Vec::new(alloc);
     for event in events {
-        happen(alloc, form, server, event, &mut text)?;
+        happen(alloc, form, server, event, &mut said, &mut transcript)?;
     }
-    report(alloc, &mut text, server)?;
-    Ok(text)
+    transcript.report(alloc, server)?;
+    Ok(transcript.into_text())
 }
 
 /// An event, and what is said in it.
@@ -153,15 +155,16 @@ fn happen(
     form: Form,
     server: &mut Server,
     event: &TimedEvent,
-    text: &mut Vec<u8>,
+    said: &mut Vec<Said>,
+    transcript: &mut Transcript,
 ) -> Result<(), RunError>
-    ensures ok { OnOk result ((said : List Words) × Happens server.old event.now.moment event.now.event said (Ok tt) server.new
-        × (text.new.items ≡ text.old.items ++ flat_map (lines_as form) said)) }
+    ensures ok { OnOk result ((words : List Words) × Happens server.old event.now.moment event.now.event words (Ok tt) server.new
+        × (transcript.new ≡ transcript.old ++ flat_map (lines_as form) words)) }
     ensures err { IfErr result (λ error. error ≡ Memory) }
 {
-    let mut said = Vec::new(alloc);
-    match server.happen(event.moment, &event.event, &mut said) {
-        Ok(()) => tell(alloc, form, text, &said),
+    said.clear();
+    match server.happen(event.moment, &event.event, said) {
+        Ok(()) => transcript.tell(alloc, form, said),
         Err(_) => Err(RunError::Memory),
     }
 }

@@ -1,9 +1,10 @@
 //! What is written of a run.
-ghost use Rattle.std.specs.Prelude.{◌≡◌, ◌<◌, ◌++◌, List, ℕ, length, IfErr, OnOk};
+ghost use Rattle.std.specs.Prelude.{◌≡◌, ◌<◌, ◌++◌, [], List, ℕ, length, IfErr, OnOk};
 ghost use Rattle.local_broker.specs.Reporting.{TellsLine};
 ghost use Rattle.line_io.specs.declared.error.RunError.TheVariants.{Memory};
 ghost use Rattle.std.specs.List.{flat_map};
-ghost use Rattle.drive.specs.Transcripts.{packet_line, next_line, lines_said, client_line, client_lines, ReportsFirst};
+ghost use Rattle.hex.specs.Hex.{encode_lower};
+ghost use Rattle.drive.specs.Transcripts.{packet_line, next_line, lines_said, client_line, ReportsFirst};
 ghost use Rattle.drive.specs.Forms.{lines_as};
 
 use crate::form::Form;
@@ -11,122 +12,173 @@ use client_table::Said;
 use conn_engine::Then;
 use line_io::RunError;
 use local_server::Server;
-use mqtt_wire::{Packet, encode};
+use mqtt_wire::{Packet, encode_into};
 use std::alloc::Global;
+use std::marker::Model;
 
-/// Adds what was said to a text.
-#[tactic(auto, using(crate::proofs::Texts::one_more))]
-pub(crate) fn tell(
-    alloc: Global,
-    form: Form,
-    text: &mut Vec<u8>,
-    said: &[Said],
-) -> Result<(), RunError>
-    ensures ok { OnOk result (text.new.items ≡ text.old.items ++ flat_map (lines_as form) said.now) }
-    ensures err { IfErr result (λ error. error ≡ Memory) }
-{
-    for words in said {
-        match form {
-            Form::Events => tell_step(alloc, text, words)?,
-            Form::Client => tell_client(alloc, text, words.packets())?,
+/// What is written of a run, as it grows. Contracts see it as its bytes.
+#[derive(Drop)]
+pub(crate) struct Transcript {
+    text: Vec<u8>,
+    // The bytes of the packet that is told; their room serves the next one.
+    packet: Vec<u8>,
+}
+
+impl Model for Transcript {
+    ghost use Rattle.std.specs.Prelude.{List, ℕ};
+
+    ghost Value = { List ℕ };
+
+    ghost view = { λ t. t.text.items };
+}
+
+impl Transcript {
+    /// Nothing yet.
+    pub(crate) fn new(alloc: Global) -> Transcript
+        ensures { result ≡ [] }
+    {
+        Transcript {
+            text: Vec::new(alloc),
+            packet: Vec::new(alloc),
         }
     }
-    Ok(())
-}
 
-/// Adds what one step of a connection wrote.
-fn tell_step(alloc: Global, text: &mut Vec<u8>, said: &Said) -> Result<(), RunError>
-    ensures ok { OnOk result (text.new.items ≡ text.old.items ++ lines_said said.now) }
-    ensures err { IfErr result (λ error. error ≡ Memory) }
-{
-    let connection = said.connection();
-    for packet in said.packets() {
-        tell_packet(alloc, text, connection, packet)?;
+    /// The bytes.
+    pub(crate) fn into_text(self) -> Vec<u8>
+        ensures { result.items ≡ self }
+    {
+        self.text
     }
-    tell_next(alloc, text, connection, said.next())
-}
 
-/// Adds what the one client is sent.
-#[tactic(auto, using(crate::proofs::Texts::one_more))]
-fn tell_client(alloc: Global, text: &mut Vec<u8>, packets: &[Packet]) -> Result<(), RunError>
-    ensures ok { OnOk result (text.new.items ≡ text.old.items ++ flat_map client_line packets.now) }
-    ensures err { IfErr result (λ error. error ≡ Memory) }
-{
-    for packet in packets {
-        tell_bytes(alloc, text, packet)?;
+    /// Adds what was said.
+    #[tactic(auto, using(crate::proofs::Texts::one_more))]
+    pub(crate) fn tell(&mut self, alloc: Global, form: Form, said: &[Said]) -> Result<(), RunError>
+        ensures ok { OnOk result (self.new ≡ self.old ++ flat_map (lines_as form) said.now) }
+        ensures err { IfErr result (λ error. error ≡ Memory) }
+    {
+        for words in said {
+            match form {
+                Form::Events => self.tell_step(alloc, words)?,
+                Form::Client => self.tell_client(words.packets())?,
+            }
+        }
+        Ok(())
     }
-    Ok(())
+
+    /// Adds what one step of a connection wrote.
+    fn tell_step(&mut self, alloc: Global, said: &Said) -> Result<(), RunError>
+        ensures ok { OnOk result (self.new ≡ self.old ++ lines_said said.now) }
+        ensures err { IfErr result (λ error. error ≡ Memory) }
+    {
+        let connection = said.connection();
+        for packet in said.packets() {
+            self.tell_packet(alloc, connection, packet)?;
+        }
+        self.tell_next(alloc, connection, said.next())
+    }
+
+    /// Adds what the one client is sent.
+    #[tactic(auto, using(crate::proofs::Texts::one_more))]
+    fn tell_client(&mut self, packets: &[Packet]) -> Result<(), RunError>
+        ensures ok { OnOk result (self.new ≡ self.old ++ flat_map client_line packets.now) }
+        ensures err { IfErr result (λ error. error ≡ Memory) }
+    {
+        for packet in packets {
+            self.tell_bytes(packet)?;
+        }
+        Ok(())
+    }
+
+    /// Adds the line of a packet.
+    fn tell_packet(
+        &mut self,
+        alloc: Global,
+        connection: u8,
+        packet: &Packet,
+    ) -> Result<(), RunError>
+        ensures ok { OnOk result (self.new ≡ self.old ++ packet_line connection packet.now) }
+        ensures err { IfErr result (λ error. error ≡ Memory) }
+    {
+        let number = connection.to_string(alloc)?;
+        self.text.extend_from_slice(number.as_bytes())?;
+        self.text.push(b' ')?;
+        self.tell_bytes(packet)
+    }
+
+    /// Adds the bytes of a packet.
+    fn tell_bytes(&mut self, packet: &Packet) -> Result<(), RunError>
+        ensures ok { OnOk result (self.new ≡ self.old ++ client_line packet.now) }
+        ensures err { IfErr result (λ error. error ≡ Memory) }
+    {
+        self.packet.clear();
+        encode_into(&mut self.packet, packet)?;
+        add_digits(&mut self.text, &self.packet)?;
+        self.text.push(b'\n')?;
+        Ok(())
+    }
+
+    /// Adds a line where a connection has ended.
+    fn tell_next(&mut self, alloc: Global, connection: u8, next: Then) -> Result<(), RunError>
+        ensures ok { OnOk result (self.new ≡ self.old ++ next_line connection next) }
+        ensures err { IfErr result (λ error. error ≡ Memory) }
+    {
+        let word = match next {
+            Then::Go => return Ok(()),
+            Then::Close => " close\n",
+            Then::Kicked => " kicked\n",
+        };
+        let number = connection.to_string(alloc)?;
+        self.text.extend_from_slice(number.as_bytes())?;
+        self.text.extend_from_slice(word.as_bytes())?;
+        Ok(())
+    }
+
+    /// Adds the lines of the reports, in the order of the slots.
+    #[tactic(auto, using(crate::proofs::Texts::one_report))]
+    pub(crate) fn report(&mut self, alloc: Global, server: &Server) -> Result<(), RunError>
+        ensures ok { OnOk result ((reports : List ℕ) × (self.new ≡ self.old ++ reports)
+            × ReportsFirst (length server.now.broker.routes) server.now.broker reports) }
+        ensures err { IfErr result (λ error. error ≡ Memory) }
+    {
+        'slots: for slot in 0..server.shares().len() {
+            self.report_of(alloc, server, slot as u8)?;
+        }
+        Ok(())
+    }
+
+    /// Adds the line of the report of the share that is bound to this slot.
+    fn report_of(&mut self, alloc: Global, server: &Server, slot: u8) -> Result<(), RunError>
+        requires { slot < length server.now.broker.routes }
+        ensures ok { OnOk result ((line : List ℕ) × TellsLine server.now.broker slot line × (self.new ≡ self.old ++ line)) }
+        ensures err { IfErr result (λ error. error ≡ Memory) }
+    {
+        match server.line(alloc, slot) {
+            Ok(Some(line)) => {
+                self.text.extend_from_slice(&line)?;
+                Ok(())
+            }
+            Ok(None) => Ok(()),
+            Err(_) => Err(RunError::Memory),
+        }
+    }
 }
 
-/// Adds the line of a packet.
-fn tell_packet(
-    alloc: Global,
-    text: &mut Vec<u8>,
-    connection: u8,
-    packet: &Packet,
-) -> Result<(), RunError>
-    ensures ok { OnOk result (text.new.items ≡ text.old.items ++ packet_line connection packet.now) }
+/// Adds these bytes in lower case hex digits.
+fn add_digits(text: &mut Vec<u8>, bytes: &[u8]) -> Result<(), RunError>
+    ensures ok { OnOk result (text.new.items ≡ text.old.items ++ encode_lower bytes.now) }
     ensures err { IfErr result (λ error. error ≡ Memory) }
 {
-    let number = connection.to_string(alloc)?;
-    text.extend_from_slice(number.as_bytes())?;
-    text.push(b' ')?;
-    tell_bytes(alloc, text, packet)
-}
-
-/// Adds the bytes of a packet.
-fn tell_bytes(alloc: Global, text: &mut Vec<u8>, packet: &Packet) -> Result<(), RunError>
-    ensures ok { OnOk result (text.new.items ≡ text.old.items ++ client_line packet.now) }
-    ensures err { IfErr result (λ error. error ≡ Memory) }
-{
-    let bytes = encode(alloc, packet)?;
-    let digits = hex::encode(alloc, &bytes)?;
-    text.extend_from_slice(digits.as_bytes())?;
-    text.push(b'\n')?;
-    Ok(())
-}
-
-/// Adds a line where a connection has ended.
-fn tell_next(alloc: Global, text: &mut Vec<u8>, connection: u8, next: Then) -> Result<(), RunError>
-    ensures ok { OnOk result (text.new.items ≡ text.old.items ++ next_line connection next) }
-    ensures err { IfErr result (λ error. error ≡ Memory) }
-{
-    let word = match next {
-        Then::Go => return Ok(()),
-        Then::Close => " close\n",
-        Then::Kicked => " kicked\n",
+    let start = text.len();
+    let Some(end) = bytes
+        .len()
+        .checked_mul(2)
+        .and_then(|digits| start.checked_add(digits))
+    else {
+        return Err(RunError::Memory);
     };
-    let number = connection.to_string(alloc)?;
-    text.extend_from_slice(number.as_bytes())?;
-    text.extend_from_slice(word.as_bytes())?;
-    Ok(())
-}
-
-/// Adds the lines of the reports, in the order of the slots.
-#[tactic(auto, using(crate::proofs::Texts::one_report))]
-pub(crate) fn report(alloc: Global, text: &mut Vec<u8>, server: &Server) -> Result<(), RunError>
-    ensures ok { OnOk result ((reports : List ℕ) × (text.new.items ≡ text.old.items ++ reports)
-        × ReportsFirst (length server.now.broker.routes) server.now.broker reports) }
-    ensures err { IfErr result (λ error. error ≡ Memory) }
-{
-    'slots: for slot in 0..server.shares().len() {
-        report_of(alloc, text, server, slot as u8)?;
-    }
-    Ok(())
-}
-
-/// Adds the line of the report of the share that is bound to this slot.
-fn report_of(alloc: Global, text: &mut Vec<u8>, server: &Server, slot: u8) -> Result<(), RunError>
-    requires { slot < length server.now.broker.routes }
-    ensures ok { OnOk result ((line : List ℕ) × TellsLine server.now.broker slot line × (text.new.items ≡ text.old.items ++ line)) }
-    ensures err { IfErr result (λ error. error ≡ Memory) }
-{
-    match server.line(alloc, slot) {
-        Ok(Some(line)) => {
-            text.extend_from_slice(&line)?;
-            Ok(())
-        }
-        Ok(None) => Ok(()),
-        Err(_) => Err(RunError::Memory),
+    text.resize(end, 0)?;
+    match hex::encode_to_slice(bytes, &mut text[start..]) {
+        Ok(()) => Ok(()),
+        Err(_) => unreachable!(),
     }
 }

@@ -223,6 +223,49 @@ fn two_groups(rt: HostRuntime) -> Result<(), Fail> {
     Ok(())
 }
 
+// Eight groups have names: each takes the job, a ninth gets none, and a member of the eighth is handed it.
+#[test]
+fn eight_groups(rt: HostRuntime) -> Result<(), Fail> {
+    let shares = [
+        "$share/a/job",
+        "$share/b/job",
+        "$share/c/job",
+        "$share/d/job",
+        "$share/e/job",
+        "$share/f/job",
+        "$share/g/job",
+        "$share/h/job",
+    ];
+    play(
+        &rt,
+        rt.alloc(),
+        1_024,
+        &shares,
+        "0 open 0
+        0 bytes 0 100F00044D5154540502003C0000027731
+        > 0 200e00000b2401250027000100002900
+        0 bytes 0 320900036A6F6200070041
+        > 0 40020007
+        0 bytes 0 8212000100000C2473686172652F692F6A6F6201
+        > 0 900400010097
+        0 bytes 0 8212000200000C2473686172652F682F6A6F6201
+        > 0 900400020001
+        > 0 320900036a6f6200010041
+        0 bytes 0 40020001
+        0 end 0
+        > 0 close
+        > $share/a/job accepted 1 acknowledged 0 refused 0 held 0 queued 1 returned 0
+        > $share/b/job accepted 1 acknowledged 0 refused 0 held 0 queued 1 returned 0
+        > $share/c/job accepted 1 acknowledged 0 refused 0 held 0 queued 1 returned 0
+        > $share/d/job accepted 1 acknowledged 0 refused 0 held 0 queued 1 returned 0
+        > $share/e/job accepted 1 acknowledged 0 refused 0 held 0 queued 1 returned 0
+        > $share/f/job accepted 1 acknowledged 0 refused 0 held 0 queued 1 returned 0
+        > $share/g/job accepted 1 acknowledged 0 refused 0 held 0 queued 1 returned 0
+        > $share/h/job accepted 1 acknowledged 1 refused 0 held 0 queued 0 returned 0",
+    );
+    Ok(())
+}
+
 // A client that leaves its group keeps what it holds, and is handed nothing fresh; the group stays.
 #[test]
 fn unsubscribe(rt: HostRuntime) -> Result<(), Fail> {

@@ -7,5 +7,5 @@ use Rattle.drive.proofs.driving.play.Goals as goal
 pub loop-event-preserved : goal.loop-event-preserved
 loop-event-preserved c =
     let happened = c.in_ok-happen.ensures.ok in
-    more_told (lines_as c.args.form) c.args.events.now c.loop-event.event-index _ c.args.server.now c.loop-event.server c.happen.new.server c.loop-event.text.items c.happen.new.text.items happened.0
+    more_told (lines_as c.args.form) c.args.events.now c.loop-event.event-index _ c.args.server.now c.loop-event.server c.happen.new.server c.loop-event.transcript c.happen.new.transcript happened.0
     (omega arith) c.event-item.is c.loop-event.invariant happened.1 happened.2

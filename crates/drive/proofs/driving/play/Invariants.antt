@@ -5,4 +5,4 @@ use Rattle.drive.proofs.Playing.{IsTold}
 use Rattle.drive.proofs.driving.play.Given as goal
 
 abbrev pub invariant-loop-event : goal.invariant-loop-event
-invariant-loop-event l = IsTold (lines_as l.form) l.fn.server (take l.event-index l.events) l.text.items l.server
+invariant-loop-event l = IsTold (lines_as l.form) l.fn.server (take l.event-index l.events) l.transcript l.server

@@ -2,7 +2,7 @@
 use Rattle.std.proofs.Common.{◌≡◌, ◌++◌, take}
 use Rattle.std.specs.List.{flat_map}
 use Rattle.drive.specs.Forms.{lines_as}
-use Rattle.drive.proofs.transcript.tell.Given as goal
+use Rattle.drive.proofs.transcript.Transcript.tell.Given as goal
 
 abbrev pub invariant-loop-words : goal.invariant-loop-words
-invariant-loop-words l = l.text.items ≡ l.fn.text.items ++ flat_map (lines_as l.form) (take l.words-index l.said)
+invariant-loop-words l = l.self ≡ l.fn.self ++ flat_map (lines_as l.form) (take l.words-index l.said)

@@ -2,7 +2,7 @@
 use Rattle.std.proofs.Common.{◌≡◌, ◌++◌, take}
 use Rattle.std.specs.List.{flat_map}
 use Rattle.drive.specs.Transcripts.{client_line}
-use Rattle.drive.proofs.transcript.tell_client.Given as goal
+use Rattle.drive.proofs.transcript.Transcript.tell_client.Given as goal
 
 abbrev pub invariant-loop-packet : goal.invariant-loop-packet
-invariant-loop-packet l = l.text.items ≡ l.fn.text.items ++ flat_map client_line (take l.packet-index l.packets)
+invariant-loop-packet l = l.self ≡ l.fn.self ++ flat_map client_line (take l.packet-index l.packets)

@@ -1,9 +1,0 @@
--- The line of one share more.
-use Rattle.drive.proofs.Texts.{one_report}
-use Rattle.drive.proofs.transcript.report.Goals as goal
-
-pub slots-preserved : goal.slots-preserved
-slots-preserved c =
-    let line = c.in_ok-report_of.ensures.ok in
-    let so_far = c.slots.invariant in
-    one_report c.slots.slot c.args.server.now.broker c.args.text.now.items c.slots.text.items c.report_of.new.text.items so_far.0 line.0 so_far.1 so_far.2 line.1 line.2
