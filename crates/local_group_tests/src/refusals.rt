@@ -98,7 +98,7 @@ fn row(alloc: Global) -> Option<Report> {
 #[test]
 fn refused_calls_made_again(rt: HostRuntime) -> Result<(), Fail> {
     let report = row(rt.alloc()).ok_or("a report")?;
-    assert_eq!(rt; report.accepted[..1], [4][..]);
+    assert_eq!(rt; report.accepted.first(), Some(&4));
     assert_eq!(rt; report.settled.acknowledged.len(), 1);
     assert!(rt;
         report
