@@ -21,6 +21,7 @@
 //! ```
 #![tactic(auto)]
 
+mod digits;
 mod driving;
 mod form;
 pub mod laws;

@@ -5,9 +5,11 @@ ghost use Rattle.line_io.specs.declared.error.RunError.TheVariants.{Memory};
 ghost use Rattle.drive.specs.Words.{words_of, connection_of};
 ghost use Rattle.drive.specs.Scripts.{of_server, of_connection, of_piece, event_of, timed_event_of, is_passed_over, script_of, NamesBadLine};
 
+use crate::digits::decode;
 use crate::numbers::{connection, number};
 use crate::words::Words;
-use bytes::Bytes;
+use bytes::BytesMut;
+use hex::FromHexError;
 use line_io::{RunError, split_line};
 use local_server::{Event, TimedEvent};
 use std::alloc::Global;
@@ -17,18 +19,20 @@ use std::alloc::Global;
 /// # Errors
 ///
 /// [`RunError::Line`] for the first line that spells none, and [`RunError::Memory`].
+#[tactic(auto, using(crate::proofs::Lines::one_event))]
 pub(crate) fn read_script(alloc: Global, input: &[u8]) -> Result<Vec<TimedEvent>, RunError>
     ensures ok { IfOk result (λ events. script_of input.now ≡ Ok events.items) }
     ensures err { IfErr result (NamesBadLine (script_of input.now)) }
 {
     let mut events = Vec::new(alloc);
+    let mut buffer = BytesMut::with_capacity(alloc, input.len() / 2)?;
     let mut rest = input;
     let mut number = 0;
     while !rest.is_empty() {
         let (line, others) = split_line(rest);
         number += 1;
         if !is_passed_over(line) {
-            match timed_event(alloc, line)? {
+            match timed_event(&mut buffer, line)? {
                 Some(event) => events.push(event)?,
                 None => return Err(RunError::Line(number)),
             }
@@ -49,7 +53,7 @@ fn is_passed_over(line: &[u8]) -> bool
 }
 
 /// The event that a line spells.
-fn timed_event(alloc: Global, line: &[u8]) -> Result<Option<TimedEvent>, RunError>
+fn timed_event(buffer: &mut BytesMut, line: &[u8]) -> Result<Option<TimedEvent>, RunError>
     ensures ok { IfOk result (λ found. found ≡ timed_event_of (words_of line.now)) }
     ensures err { IfErr result (λ error. error ≡ Memory) }
 {
@@ -60,21 +64,21 @@ fn timed_event(alloc: Global, line: &[u8]) -> Result<Option<TimedEvent>, RunErro
     let Some(moment) = number(moment) else {
         return Ok(None);
     };
-    match event(alloc, &mut words)? {
+    match event(buffer, &mut words)? {
         Some(event) => Ok(Some(TimedEvent { moment, event })),
         None => Ok(None),
     }
 }
 
 /// The event that the words behind a moment spell.
-fn event(alloc: Global, words: &mut Words) -> Result<Option<Event>, RunError>
+fn event(buffer: &mut BytesMut, words: &mut Words) -> Result<Option<Event>, RunError>
     ensures ok { IfOk result (λ found. found ≡ event_of words.old) }
     ensures err { IfErr result (λ error. error ≡ Memory) }
 {
     match (words.next(), words.next(), words.next(), words.next()) {
         (Some(word), None, None, None) => Ok(of_server(word)),
         (Some(word), Some(number), None, None) => Ok(of_connection(word, number)),
-        (Some(word), Some(number), Some(digits), None) => of_piece(alloc, word, number, digits),
+        (Some(word), Some(number), Some(digits), None) => of_piece(buffer, word, number, digits),
         _ => Ok(None),
     }
 }
@@ -104,7 +108,7 @@ fn of_connection(word: &[u8], number: &[u8]) -> Option<Event>
 
 /// `bytes`, with the number of a connection and the piece that the digits spell.
 fn of_piece(
-    alloc: Global,
+    buffer: &mut BytesMut,
     word: &[u8],
     number: &[u8],
     digits: &[u8],
@@ -115,13 +119,10 @@ fn of_piece(
     let Some(number) = connection(number) else {
         return Ok(None);
     };
-    match hex::decode(alloc, digits) {
-        Ok(piece) if word == b"bytes".as_slice() => Ok(Some(Event::Bytes(
-            number,
-            Bytes::from_vec(piece)?,
-        ))),
+    match decode(buffer, digits) {
+        Ok(piece) if word == b"bytes".as_slice() => Ok(Some(Event::Bytes(number, piece))),
         Ok(_) => Ok(None),
-        Err(hex::FromHexError::OutOfMemory) => Err(RunError::Memory),
+        Err(FromHexError::OutOfMemory) => Err(RunError::Memory),
         Err(_) => Ok(None),
     }
 }

@@ -5,7 +5,9 @@ ghost use Rattle.line_io.specs.declared.error.RunError.TheVariants.{Memory};
 ghost use Rattle.drive.specs.Scripts.{NamesBadLine};
 ghost use Rattle.drive.specs.Streams.{at_once, piece_of, client_script_of};
 
-use bytes::Bytes;
+use crate::digits::decode;
+use bytes::BytesMut;
+use hex::FromHexError;
 use line_io::{RunError, split_line};
 use local_server::{ConnectionNumber, Event, TimedEvent};
 use std::alloc::Global;
@@ -20,13 +22,14 @@ pub(crate) fn read_stream(alloc: Global, input: &[u8]) -> Result<Vec<TimedEvent>
     ensures err { IfErr result (NamesBadLine (client_script_of input.now)) }
 {
     let mut events = Vec::new(alloc);
+    let mut buffer = BytesMut::with_capacity(alloc, input.len() / 2)?;
     events.push(at_once(Event::Open(ConnectionNumber::FIRST)))?;
     let mut rest = input;
     let mut number = 0;
     while !rest.is_empty() {
         let (line, others) = split_line(rest);
         number += 1;
-        match piece(alloc, line)? {
+        match piece(&mut buffer, line)? {
             Some(event) => events.push(event)?,
             None => return Err(RunError::Line(number)),
         }
@@ -44,16 +47,13 @@ fn at_once(event: Event) -> TimedEvent
 }
 
 /// The piece that a line spells.
-fn piece(alloc: Global, line: &[u8]) -> Result<Option<TimedEvent>, RunError>
+fn piece(buffer: &mut BytesMut, line: &[u8]) -> Result<Option<TimedEvent>, RunError>
     ensures ok { IfOk result (λ found. found ≡ piece_of (decode_of line.now)) }
     ensures err { IfErr result (λ error. error ≡ Memory) }
 {
-    match hex::decode(alloc, line) {
-        Ok(piece) => Ok(Some(at_once(Event::Bytes(
-            ConnectionNumber::FIRST,
-            Bytes::from_vec(piece)?,
-        )))),
-        Err(hex::FromHexError::OutOfMemory) => Err(RunError::Memory),
+    match decode(buffer, line) {
+        Ok(piece) => Ok(Some(at_once(Event::Bytes(ConnectionNumber::FIRST, piece)))),
+        Err(FromHexError::OutOfMemory) => Err(RunError::Memory),
         Err(_) => Ok(None),
     }
 }
