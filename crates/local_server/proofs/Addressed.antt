@@ -143,17 +143,15 @@ ended : (number : ℕ) (old new : Broker) (clients clients' : Clients) (now : �
 ended number old new clients clients' now said result all ends =
     in_cell clients clients' number _ ends all (ends_for result ends.before number old new now inputs.Closing said ends.after (at ends.before clients number all ends.has) ends.becomes).0
 
-first_ended : (number : ℕ) (old new : Broker) (clients clients' : Clients) (now : ℕ) (said : List Said) → AreNumbered clients → EndsFirst number old clients now said clients' new → AreNumbered clients'
-first_ended zero old new clients clients' now said all ends = subst AreNumbered (sym ends.1) all
-first_ended (suc number) old new clients clients' now said all ends =
-    ended number ends.0 new ends.1 clients' now ends.3 (Ok tt) (first_ended number old ends.0 clients ends.1 now ends.2 all ends.4) ends.5
+first_ended : (number : ℕ) (old new : Broker) (clients clients' : Clients) (now : ℕ) (said : List Said) (result : Result (Unit {0}) NoMemory)
+    → AreNumbered clients → EndsFirst number old clients now said result clients' new → AreNumbered clients'
+first_ended zero old new clients clients' now said result all ends = subst AreNumbered (sym ends.2) all
+first_ended (suc number) old new clients clients' now said result all ends =
+    ended number ends.0 new ends.1 clients' now ends.3 ends.5 (first_ended number old ends.0 clients ends.1 now ends.2 ends.4 all ends.6) ends.7
 
 closed : (result : Result (Unit {0}) NoMemory) (old new : Broker) (clients clients' : Clients) (now : ℕ) (said : List Said)
     → AreNumbered clients → ClosesAll old clients now said result clients' new → AreNumbered clients'
-closed (Ok done) old new clients clients' now said all closes = first_ended closes.2 closes.0 new clients clients' now said all closes.4
-closed (Err refusal) old new clients clients' now said all closes =
-    let fails = closes.3 in
-    ended closes.2 fails.0 new fails.1 clients' now fails.3 (Err refusal) (first_ended closes.2 closes.0 fails.0 clients fails.1 now fails.2 all fails.4) fails.5
+closed result old new clients clients' now said all closes = first_ended closes.2 closes.0 new clients clients' now said result all closes.4
 
 -- an event: those that are open keep their numbers, and it is answered
 does : (event : Event) (old new : Broker) (clients clients' : Clients) (now : ℕ) (said : List Said) (result : Result (Unit {0}) NoMemory)

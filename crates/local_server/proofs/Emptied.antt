@@ -1,14 +1,15 @@
 -- A close ends every connection.
-use Rattle.std.proofs.Common.{◌≡◌, ◌≢◌, ℕ, zero, suc, Bool, true, false, List, Option, Some, None, Ok, sym, ap, subst, ◌∙◌, ⊎_elim, slice_get, slice_set, arith}
+use Rattle.std.proofs.Common.{◌≡◌, ◌≢◌, ℕ, zero, suc, Bool, true, false, List, Option, Some, None, Result, Ok, Err, ◌⊎◌, sym, ap, subst, ◌∙◌, ⊎_elim, slice_get, slice_set, arith}
 use Rattle.std.proofs.lemmas.Bool.{cases_eq}
 use Rattle.std.proofs.lemmas.Option.{slice_get_within}
 use Rattle.dispatch_core.proofs.Spots.{slice_get-set_same, slice_get-set_other}
 use Rattle.conn_engine.specs.declared.input.Input.TheVariants as inputs
+use Rattle.conn_engine.specs.declared.supply.NoMemory.{NoMemory}
 use Rattle.conn_engine.specs.declared.standing.Standing.{Standing}
 use Rattle.conn_engine.specs.declared.standing.Standing.TheVariants.{Ended}
 use Rattle.conn_laws.proofs.Ended.{ends_by}
 use Rattle.client_table.specs.Cells.{kept_as, EndsFor}
-use Rattle.client_table.specs.Clients.{ClientState, Said}
+use Rattle.client_table.specs.Clients.{ClientState, Said, Moves, FailsToMove, IsGivenUp}
 use Rattle.local_broker.specs.Places.{GroupPlace}
 use Rattle.local_broker.specs.Broker.{Broker, is_open}
 use Rattle.local_broker.specs.Calls.{Calls}
@@ -20,13 +21,25 @@ gone_as : (standing : Standing GroupPlace) (client : ClientState GroupPlace) →
 gone_as standing client over = ap (λ s. kept_as s client) over
 
 -- a connection that is told of the close has ended
-gone : (before : Option (ClientState GroupPlace)) (old new : Broker) (now : ℕ) (said : List Said) (after : Option (ClientState GroupPlace))
-    → EndsFor Calls slot_of old before now inputs.Closing said (Ok tt) after new → after ≡ None
-gone None old new now said after ends = ends.1
-gone (Some client) old new now said after ends =
-    let stepped = ends.1.2.stepped in
-    let over = ends_by Calls slot_of old new client.conn.number now client.conn.standing ends.0.conn.standing inputs.Closing ends.1.0.packets ends.1.0.next stepped tt in
-    ends.2 ∙ gone_as ends.0.conn.standing ends.0 over
+has_ended : (client client' : ClientState GroupPlace) (old new : Broker) (now : ℕ) (said : Said) → Moves Calls slot_of old client now inputs.Closing said client' new
+    → client'.conn.standing ≡ Ended
+has_ended client client' old new now said moved =
+    ends_by Calls slot_of old new client.conn.number now client.conn.standing client'.conn.standing inputs.Closing said.packets said.next moved.stepped tt
+
+was_given_up : (client client' : ClientState GroupPlace) (old new : Broker) (now : ℕ) → IsGivenUp Calls slot_of old client now inputs.Closing client' new
+    → client'.conn.standing ≡ Ended
+was_given_up client client' old new now is =
+    ⊎_elim
+    (λ (moved : (said : Said) × Moves Calls slot_of old client now inputs.Closing said client' new). has_ended client client' old new now moved.0 moved.1)
+    (λ (failed : FailsToMove Calls slot_of old client now inputs.Closing client' new). failed.over)
+    is
+
+gone : (before : Option (ClientState GroupPlace)) (old new : Broker) (now : ℕ) (said : List Said) (result : Result (Unit {0}) NoMemory) (after : Option (ClientState GroupPlace))
+    → EndsFor Calls slot_of old before now inputs.Closing said result after new → after ≡ None
+gone None old new now said (Ok done) after ends = ends.1
+gone (Some client) old new now said (Ok done) after ends = ends.2 ∙ gone_as ends.0.conn.standing ends.0 (has_ended client ends.0 old new now ends.1.0 ends.1.2)
+gone None old new now said (Err error) after ends = absurd ends
+gone (Some client) old new now said (Err error) after ends = ends.2 ∙ gone_as ends.0.conn.standing ends.0 (was_given_up client ends.0 old new now ends.1.1)
 
 one_more_gone : (number : ℕ) (clients : Clients) (before : Option (ClientState GroupPlace)) → slice_get clients number ≡ Some before → HasNoneBelow number clients
     → HasNoneBelow (suc number) (slice_set clients number None)
@@ -36,17 +49,20 @@ one_more_gone number clients before there below each less =
     (λ (other : each ≢ number). slice_get-set_other clients number each None other ∙ below each (omega arith))
     (cases_eq each number)
 
-gone_below : (number : ℕ) (old new : Broker) (clients clients' : Clients) (now : ℕ) (said : List Said) → EndsFirst number old clients now said clients' new → HasNoneBelow number clients'
-gone_below zero old new clients clients' now said ends = λ each less. absurd (omega (arith, less))
-gone_below (suc number) old new clients clients' now said ends =
-    let cell = ends.5 in
-    let none = gone cell.before ends.0 new now ends.3 cell.after cell.becomes in
+gone_below : (number : ℕ) (old new : Broker) (clients clients' : Clients) (now : ℕ) (said : List Said) (result : Result (Unit {0}) NoMemory)
+    → EndsFirst number old clients now said result clients' new → HasNoneBelow number clients'
+gone_below zero old new clients clients' now said result ends = λ each less. absurd (omega (arith, less))
+gone_below (suc number) old new clients clients' now said result ends =
+    let cell = ends.7 in
+    let none = gone cell.before ends.0 new now ends.3 ends.5 cell.after cell.becomes in
     subst (HasNoneBelow (suc number)) (sym (cell.is ∙ ap (slice_set ends.1 number) none))
-    (one_more_gone number ends.1 cell.before cell.has (gone_below number old ends.0 clients ends.1 now ends.2 ends.4))
+    (one_more_gone number ends.1 cell.before cell.has (gone_below number old ends.0 clients ends.1 now ends.2 ends.4 ends.6))
 
-emptied_if : (going : Bool) (old new : ServerState) (said : List Said) → going ≡ true → DoesIf going events.Close old.broker old.clients new.clock said (Ok tt) new.clients new.broker → HasNoneBelow 64 new.clients
-emptied_if true old new said is closes = subst (λ n. HasNoneBelow n new.clients) closes.3 (gone_below closes.2 closes.0 new.broker old.clients new.clients new.clock said closes.4)
-emptied_if false old new said is closes = absurd (cc)
+emptied_if : (going : Bool) (old new : ServerState) (said : List Said) (result : Result (Unit {0}) NoMemory) → going ≡ true
+    → DoesIf going events.Close old.broker old.clients new.clock said result new.clients new.broker → HasNoneBelow 64 new.clients
+emptied_if true old new said result is closes = subst (λ n. HasNoneBelow n new.clients) closes.3 (gone_below closes.2 closes.0 new.broker old.clients new.clients new.clock said result closes.4)
+emptied_if false old new said result is closes = absurd (cc)
 
-pub emptied : (moment : ℕ) (said : List Said) (old new : ServerState) → is_open old.broker ≡ true → Happens old moment events.Close said (Ok tt) new → HasNoneBelow 64 new.clients
-emptied moment said old new opens happens = emptied_if (is_open old.broker) old new said opens happens.does
+pub emptied : (moment : ℕ) (said : List Said) (result : Result (Unit {0}) NoMemory) (old new : ServerState)
+    → is_open old.broker ≡ true → Happens old moment events.Close said result new → HasNoneBelow 64 new.clients
+emptied moment said result old new opens happens = emptied_if (is_open old.broker) old new said result opens happens.does

@@ -1,5 +1,6 @@
 -- What becomes of a broker in a run of its server.
 use Rattle.std.proofs.Common.{◌≡◌, ℕ, zero, suc, Bool, true, false, List, [], ◌∷◌, ◌++◌, map, Option, Ok, Err, IsOk, Result, refl, sym, ap, subst, ◌∙◌}
+use Rattle.std.specs.Result.{result_and}
 use Rattle.std.specs.List.{cons_option}
 use Rattle.std.proofs.lemmas.Bool.{false≢true}
 use Rattle.std.proofs.lemmas.List.{map-append}
@@ -52,12 +53,21 @@ told_behind said more happenings others these those =
     fresh_said-append said more ∙ (λ i. these i ++ those i)
     ∙ sym (ap messages_of (filter_map-append handed_by happenings others) ∙ map-append (λ (h : HandOut). h.1.message) (handed_by_all happenings) (handed_by_all others))
 
-behind : (result : Result (Unit {0}) NoMemory) (old mid new : Broker) (said more all : List Said) → all ≡ said ++ more → Ran (Ok tt) old said mid → Ran result mid more new → Ran result old all new
-behind result old mid new said more all is these those =
+first_ok : (first then : Result (Unit {0}) NoMemory) → IsOk (result_and first then) → IsOk first
+first_ok (Ok done) then ok = refl
+first_ok (Err error) then ok = ok
+
+then_ok : (first then : Result (Unit {0}) NoMemory) → IsOk (result_and first then) → IsOk then
+then_ok (Ok done) then ok = ok
+then_ok (Err error) then ok = absurd (false≢true ok)
+
+behind : (first then : Result (Unit {0}) NoMemory) (old mid new : Broker) (said more all : List Said) → all ≡ said ++ more → Ran first old said mid → Ran then mid more new
+    → Ran (result_and first then) old all new
+behind first then old mid new said more all is these those =
     record {
       happenings = these.happenings ++ those.happenings;
       led = joins these.happenings those.happenings old mid new these.led those.led;
-      told = λ ok. ap fresh_said is ∙ told_behind said more these.happenings those.happenings (these.told refl) (those.told ok);
+      told = λ ok. ap fresh_said is ∙ told_behind said more these.happenings those.happenings (these.told (first_ok first then ok)) (those.told (then_ok first then ok));
     }
 
 -- calls of connections
@@ -97,23 +107,20 @@ ended_at : (number : ℕ) (result : Result (Unit {0}) NoMemory) (old new : Broke
     → EndsAt number old clients now said result clients' new → Ran result old said new
 ended_at number result old new clients clients' now said ends = ended result old new ends.before ends.after now inputs.Closing said ends.becomes
 
-first_ended : (number : ℕ) (old new : Broker) (clients clients' : Clients) (now : ℕ) (said : List Said) → EndsFirst number old clients now said clients' new → Ran (Ok tt) old said new
-first_ended zero old new clients clients' now said ends = still (Ok tt) old new said ends.0 ends.2
-first_ended (suc number) old new clients clients' now said ends =
-    behind (Ok tt) old ends.0 new ends.2 ends.3 said ends.6 (first_ended number old ends.0 clients ends.1 now ends.2 ends.4) (ended_at number (Ok tt) ends.0 new ends.1 clients' now ends.3 ends.5)
+first_ended : (number : ℕ) (old new : Broker) (clients clients' : Clients) (now : ℕ) (said : List Said) (result : Result (Unit {0}) NoMemory)
+    → EndsFirst number old clients now said result clients' new → Ran result old said new
+first_ended zero old new clients clients' now said result ends = still result old new said ends.0 ends.3
+first_ended (suc number) old new clients clients' now said result ends =
+    subst (λ r. Ran r old said new) (sym ends.9)
+    (behind ends.4 ends.5 old ends.0 new ends.2 ends.3 said ends.8 (first_ended number old ends.0 clients ends.1 now ends.2 ends.4 ends.6) (ended_at number ends.5 ends.0 new ends.1 clients' now ends.3 ends.7))
 
 all_closed : (old closed : Broker) → Closes old closed → Ran (Ok tt) old [] closed
 all_closed old closed closes = record { happenings = Closed ∷ []; led = (closed, closes, refl); told = λ ok. refl }
 
 closed : (result : Result (Unit {0}) NoMemory) (old new : Broker) (clients clients' : Clients) (now : ℕ) (said : List Said)
     → ClosesAll old clients now said result clients' new → Ran result old said new
-closed (Ok done) old new clients clients' now said closes =
-    behind (Ok done) old closes.0 new [] said said refl (all_closed old closes.0 closes.1) (first_ended closes.2 closes.0 new clients clients' now said closes.4)
-closed (Err refusal) old new clients clients' now said closes =
-    let fails = closes.3 in
-    behind (Err refusal) old closes.0 new [] said said refl (all_closed old closes.0 closes.1)
-    (behind (Err refusal) closes.0 fails.0 new fails.2 fails.3 said fails.6 (first_ended closes.2 closes.0 fails.0 clients fails.1 now fails.2 fails.4)
-    (ended_at closes.2 (Err refusal) fails.0 new fails.1 clients' now fails.3 fails.5))
+closed result old new clients clients' now said closes =
+    behind (Ok tt) result old closes.0 new [] said said refl (all_closed old closes.0 closes.1) (first_ended closes.2 closes.0 new clients clients' now said result closes.4)
 
 does : (event : Event) (old new : Broker) (clients clients' : Clients) (now : ℕ) (said : List Said) (result : Result (Unit {0}) NoMemory)
     → Does event old clients now said result clients' new → Ran result old said new
@@ -137,7 +144,7 @@ happened moment event said result old new happens = let run = ran moment event s
 all_ran : (events : List TimedEvent) (said : List Said) (old new : ServerState) → HappensAll old events said new → Ran (Ok tt) old.broker said new.broker
 all_ran [] said old new all = still (Ok tt) old.broker new.broker said all.0 (ap (λ s. s.broker) all.1)
 all_ran (first ∷ others) said old new all =
-    behind (Ok tt) old.broker all.0.broker new.broker all.1 all.2 said all.5 (ran first.moment first.event all.1 (Ok tt) old all.0 all.3) (all_ran others all.2 all.0 new all.4)
+    behind (Ok tt) (Ok tt) old.broker all.0.broker new.broker all.1 all.2 said all.5 (ran first.moment first.event all.1 (Ok tt) old all.0 all.3) (all_ran others all.2 all.0 new all.4)
 
 pub all_happened : (events : List TimedEvent) (said : List Said) (old new : ServerState) → HappensAll old events said new → HaveLed old.broker new.broker
 all_happened events said old new all = let run = all_ran events said old new all in (run.happenings, run.led)

@@ -1,7 +1,9 @@
 -- A run of a server has one outcome.
-use Rattle.std.proofs.Common.{◌≡◌, ℕ, zero, suc, max, Bool, true, false, List, [], ◌∷◌, ◌++◌, Ok, sym, ap, ◌∙◌, subst}
+use Rattle.std.proofs.Common.{◌≡◌, ℕ, zero, suc, max, Bool, true, false, List, [], ◌∷◌, ◌++◌, Result, Ok, Err, refl, sym, ap, ◌∙◌, subst}
+use Rattle.std.specs.Result.{result_and}
 use Rattle.session_desk.specs.Hands.{DeskLaw}
 use Rattle.conn_engine.specs.declared.input.Input.TheVariants as inputs
+use Rattle.conn_engine.specs.declared.supply.NoMemory.{NoMemory}
 use Rattle.client_table.specs.Clients.{Said}
 use Rattle.client_table.specs.Cells.{Opens, Receives, TicksFor, EndsFor}
 use Rattle.client_table.proofs.OneCell.{in_cell, opens, received, ticked_for, ended_for}
@@ -28,18 +30,34 @@ ended_at number a a' b b' clients c d now xs ys alike h k =
     in_cell clients c d number (λ before after. EndsFor Calls slot_of a before now inputs.Closing xs (Ok tt) after a') (λ before after. EndsFor Calls slot_of b before now inputs.Closing ys (Ok tt) after b')
     (λ before after then does also. ended_for Calls AreLawful answers slot_of before a a' b b' now inputs.Closing xs ys after then tt alike does also) h k
 
+first_done : (first then : Result (Unit {0}) NoMemory) → result_and first then ≡ Ok tt → first ≡ Ok tt
+first_done (Ok done) then is = refl
+first_done (Err error) then is = absurd (cc)
+
+then_done : (first then : Result (Unit {0}) NoMemory) → result_and first then ≡ Ok tt → then ≡ Ok tt
+then_done (Ok done) then is = is
+then_done (Err error) then is = absurd (cc)
+
+-- so many connections are told, and memory is wanted for none
+abbrev FirstDone : ℕ → Broker → Clients → ℕ → List Said → Clients → Broker → Type 0
+FirstDone number old clients now said clients' new = EndsFirst number old clients now said (Ok tt) clients' new
+
 ended_first : (number : ℕ) (a a' b b' : Broker) (clients c d : Clients) (now : ℕ) (xs ys : List Said) → AreLawful a b
-    → EndsFirst number a clients now xs c a' → EndsFirst number b clients now ys d b' → AreOne xs ys c d a' b'
-ended_first zero a a' b b' clients c d now xs ys alike h k = (h.1 ∙ sym k.1, (h.0 ∙ sym k.0, subst (λ s. AreLawful s b') (sym h.2) (subst (AreLawful a) (sym k.2) alike)))
+    → FirstDone number a clients now xs c a' → FirstDone number b clients now ys d b' → AreOne xs ys c d a' b'
+ended_first zero a a' b b' clients c d now xs ys alike h k = (h.2 ∙ sym k.2, (h.0 ∙ sym k.0, subst (λ s. AreLawful s b') (sym h.3) (subst (AreLawful a) (sym k.3) alike)))
 ended_first (suc number) a a' b b' clients c d now xs ys alike h k =
-    let one = ended_first number a h.0 b k.0 clients h.1 k.1 now h.2 k.2 alike h.4 k.4 in
-    let last = ended_at number h.0 a' k.0 b' h.1 c d now h.3 k.3 one.1.1 h.5 (subst (λ z. EndsAt number k.0 z now k.3 (Ok tt) d b') (sym one.0) k.5) in
-    (last.0, (h.6 ∙ (λ i. one.1.0 i ++ last.1.0 i) ∙ sym k.6, last.1.1))
+    let these = subst (λ r. EndsFirst number a clients now h.2 r h.1 h.0) (first_done h.4 h.5 (sym h.9)) h.6 in
+    let those = subst (λ r. EndsFirst number b clients now k.2 r k.1 k.0) (first_done k.4 k.5 (sym k.9)) k.6 in
+    let one = ended_first number a h.0 b k.0 clients h.1 k.1 now h.2 k.2 alike these those in
+    let this = subst (λ r. EndsAt number h.0 h.1 now h.3 r c a') (then_done h.4 h.5 (sym h.9)) h.7 in
+    let that = subst (λ r. EndsAt number k.0 k.1 now k.3 r d b') (then_done k.4 k.5 (sym k.9)) k.7 in
+    let last = ended_at number h.0 a' k.0 b' h.1 c d now h.3 k.3 one.1.1 this (subst (λ z. EndsAt number k.0 z now k.3 (Ok tt) d b') (sym one.0) that) in
+    (last.0, (h.8 ∙ (λ i. one.1.0 i ++ last.1.0 i) ∙ sym k.8, last.1.1))
 
 closed : (a a' b b' : Broker) (clients c d : Clients) (now : ℕ) (xs ys : List Said) → AreLawful a b
     → ClosesAll a clients now xs (Ok tt) c a' → ClosesAll b clients now ys (Ok tt) d b' → AreOne xs ys c d a' b'
 closed a a' b b' clients c d now xs ys alike h k =
-    ended_first h.2 h.0 a' k.0 b' clients c d now xs ys (closes a b h.0 k.0 alike h.1 k.1) h.4 (subst (λ many. EndsFirst many k.0 clients now ys d b') (k.3 ∙ sym h.3) k.4)
+    ended_first h.2 h.0 a' k.0 b' clients c d now xs ys (closes a b h.0 k.0 alike h.1 k.1) h.4 (subst (λ many. FirstDone many k.0 clients now ys d b') (k.3 ∙ sym h.3) k.4)
 
 done : (event : Event) (a a' b b' : Broker) (clients c d : Clients) (now : ℕ) (xs ys : List Said) → AreLawful a b
     → Does event a clients now xs (Ok tt) c a' → Does event b clients now ys (Ok tt) d b' → AreOne xs ys c d a' b'

@@ -47,18 +47,15 @@ ended : (number : ℕ) (old new : Broker) (clients clients' : Clients) (now : �
 ended number old new clients clients' now said result ends all =
     in_cell clients clients' number _ (λ before after is within. ends_for Calls slot_of result before old new now inputs.Closing said after is within) ends all
 
-first_ended : (number : ℕ) (old new : Broker) (clients clients' : Clients) (now : ℕ) (said : List Said) → EndsFirst number old clients now said clients' new
-    → AllWithinQuota clients → AllWithinQuota clients'
-first_ended zero old new clients clients' now said ends all = subst AllWithinQuota (sym ends.1) all
-first_ended (suc number) old new clients clients' now said ends all =
-    ended number ends.0 new ends.1 clients' now ends.3 (Ok tt) ends.5 (first_ended number old ends.0 clients ends.1 now ends.2 ends.4 all)
+first_ended : (number : ℕ) (old new : Broker) (clients clients' : Clients) (now : ℕ) (said : List Said) (result : Result (Unit {0}) NoMemory)
+    → EndsFirst number old clients now said result clients' new → AllWithinQuota clients → AllWithinQuota clients'
+first_ended zero old new clients clients' now said result ends all = subst AllWithinQuota (sym ends.2) all
+first_ended (suc number) old new clients clients' now said result ends all =
+    ended number ends.0 new ends.1 clients' now ends.3 ends.5 ends.7 (first_ended number old ends.0 clients ends.1 now ends.2 ends.4 ends.6 all)
 
 closed : (old new : Broker) (clients clients' : Clients) (now : ℕ) (said : List Said) (result : Result (Unit {0}) NoMemory) → ClosesAll old clients now said result clients' new
     → AllWithinQuota clients → AllWithinQuota clients'
-closed old new clients clients' now said (Ok done) closes all = first_ended closes.2 closes.0 new clients clients' now said closes.4 all
-closed old new clients clients' now said (Err refusal) closes all =
-    let fails = closes.3 in
-    ended closes.2 fails.0 new fails.1 clients' now fails.3 (Err refusal) fails.5 (first_ended closes.2 closes.0 fails.0 clients fails.1 now fails.2 fails.4 all)
+closed old new clients clients' now said result closes all = first_ended closes.2 closes.0 new clients clients' now said result closes.4 all
 
 does : (event : Event) (old new : Broker) (clients clients' : Clients) (now : ℕ) (said : List Said) (result : Result (Unit {0}) NoMemory)
     → Does event old clients now said result clients' new → AllWithinQuota clients → AllWithinQuota clients'

@@ -1,5 +1,6 @@
 -- What an event makes of a server on one thread, and what is said in it.
 use Rattle.std.specs.Prelude.{◌≡◌, ℕ, zero, suc, max, Bool, true, false, List, [], ◌∷◌, ◌++◌, Result, Ok, Err}
+use Rattle.std.specs.Result.{result_and}
 use Rattle.conn_engine.specs.declared.input.Input.TheVariants as inputs
 use Rattle.conn_engine.specs.declared.supply.NoMemory.{NoMemory}
 use Rattle.client_table.specs.Clients.{Said}
@@ -21,25 +22,19 @@ abbrev pub EndsAt : ℕ → Broker → Clients → ℕ → List Said → Result 
 EndsAt number old clients now said result clients' new =
     InCell clients number (λ before after. EndsFor Calls slot_of old before now inputs.Closing said result after new) clients'
 
--- so many connections end one after the other, that of the least number first
-abbrev pub EndsFirst : ℕ → Broker → Clients → ℕ → List Said → Clients → Broker → Type 0
-EndsFirst zero old clients now said clients' new = (said ≡ []) × (clients' ≡ clients) × (new ≡ old)
-EndsFirst (suc number) old clients now said clients' new =
-    (mid : Broker) × (between : Clients) × (earlier last : List Said)
-    × EndsFirst number old clients now earlier between mid × EndsAt number mid between now last (Ok tt) clients' new × (said ≡ earlier ++ last)
-
--- memory was wanted where the connection of this number was to end
-abbrev pub FailsToEnd : ℕ → Broker → Clients → ℕ → List Said → NoMemory → Clients → Broker → Type 0
-FailsToEnd number old clients now said refusal clients' new =
-    (mid : Broker) × (between : Clients) × (earlier last : List Said)
-    × EndsFirst number old clients now earlier between mid × EndsAt number mid between now last (Err refusal) clients' new × (said ≡ earlier ++ last)
+-- So many connections are told one after the other, that of the least number first, and end; where memory was wanted for one, the next is
+-- told all the same.
+abbrev pub EndsFirst : ℕ → Broker → Clients → ℕ → List Said → Result (Unit {0}) NoMemory → Clients → Broker → Type 0
+EndsFirst zero old clients now said result clients' new = (said ≡ []) × (result ≡ Ok tt) × (clients' ≡ clients) × (new ≡ old)
+EndsFirst (suc number) old clients now said result clients' new =
+    (mid : Broker) × (between : Clients) × (earlier last : List Said) × (before then : Result (Unit {0}) NoMemory)
+    × EndsFirst number old clients now earlier before between mid × EndsAt number mid between now last then clients' new
+    × (said ≡ earlier ++ last) × (result ≡ result_and before then)
 
 -- the close: the groups first, and then each of the 64 connections
 abbrev pub ClosesAll : Broker → Clients → ℕ → List Said → Result (Unit {0}) NoMemory → Clients → Broker → Type 0
-ClosesAll old clients now said (Ok done) clients' new =
-    (closed : Broker) × Closes old closed × (many : ℕ) × (many ≡ 64) × EndsFirst many closed clients now said clients' new
-ClosesAll old clients now said (Err refusal) clients' new =
-    (closed : Broker) × Closes old closed × (number : ℕ) × FailsToEnd number closed clients now said refusal clients' new
+ClosesAll old clients now said result clients' new =
+    (closed : Broker) × Closes old closed × (many : ℕ) × (many ≡ 64) × EndsFirst many closed clients now said result clients' new
 
 -- an event, at this moment, of a server that is open: what is said, and what becomes of the server; or memory was wanted
 abbrev pub Does : Event → Broker → Clients → ℕ → List Said → Result (Unit {0}) NoMemory → Clients → Broker → Type 0

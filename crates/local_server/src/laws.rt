@@ -77,10 +77,10 @@ pub fn addressing_law()
         IsNewServer setup first → HappensAll first events earlier old → Happens old moment event said result new → Answers event said }
 {}
 
-/// **A close ends every connection**, where memory was not wanted: none of the 64 is open behind it.
+/// **A close ends every connection**, whether memory was wanted or not: none of the 64 is open behind it.
 pub fn emptying_law()
-    ensures { (moment : ℕ) (said : List Said) (old new : ServerState) →
-        is_open old.broker ≡ true → Happens old moment events.Close said (Ok tt) new → HasNoneBelow 64 new.clients }
+    ensures { (moment : ℕ) (said : List Said) (result : Result (Unit {0}) NoMemory) (old new : ServerState) →
+        is_open old.broker ≡ true → Happens old moment events.Close said result new → HasNoneBelow 64 new.clients }
 {}
 
 /// **Behind the close** nothing happens any more, and nothing is said.

@@ -66,8 +66,7 @@ impl Server {
     /// # Errors
     ///
     /// 803 [`NoMemory`]: the connection has ended, and its session is parked or ending, with all that it holds; what was said
-    /// before stays. In [`Event::Close`] it is the connection whose turn it was; those of greater numbers are told nothing any
-    /// more, and end with the server.
+    /// before stays. In [`Event::Close`] that may befall several connections; the others are told all the same.
     pub fn happen(
         &mut self,
         moment: u64,
@@ -137,7 +136,8 @@ fn serve(
     }
 }
 
-/// The server closes: the groups first, and then each connection ends, that of the least number first.
+/// The server closes: the groups first, and then each connection ends, that of the least number first; memory that was wanted for one
+/// keeps no other from being told.
 #[tactic(auto, using(crate::proofs::Closing::none_ended))]
 fn close(
     supply: &mut LocalSupply,
@@ -149,11 +149,9 @@ fn close(
         × ClosesAll supply.old clients.old now more result clients.new supply.new }
 {
     supply.close();
+    let mut ended = Ok(());
     'numbers: for number in 0..CLIENTS as u8 {
-        match clients.closing(supply, number, now, said) {
-            Ok(()) => {}
-            Err(refused) => return Err(refused),
-        }
+        ended = ended.and(clients.closing(supply, number, now, said));
     }
-    Ok(())
+    ended
 }

@@ -1,21 +1,15 @@
 -- One connection more.
 use Rattle.std.proofs.Common.{rules}
-use Rattle.local_server.proofs.Closing.{more_ended, all_ended, fails_to_end}
+use Rattle.local_server.proofs.Closing.{more_ended, all_ended}
 use Rattle.local_server.proofs.server.close.Goals as goal
-
-pub returns-in-Err : goal.returns-in-Err
-returns-in-Err c =
-    let told = c.closing.ensures in
-    fails_to_end c.numbers.number c.args.supply.now c.close.new.self c.numbers.supply c.closing.new.supply c.args.clients.now c.numbers.clients c.closing.new.self c.args.now
-    c.args.said.now.items c.numbers.said.items c.closing.new.said.items told.0 c.closing.result c.in-Err.refused c.in-Err.is c.close.ensures.closes c.numbers.invariant told.1 told.2
 
 pub numbers-preserved : goal.numbers-preserved
 numbers-preserved c =
     let told = c.closing.ensures in
     more_ended c.numbers.number c.close.new.self c.numbers.supply c.closing.new.supply c.args.clients.now c.numbers.clients c.closing.new.self c.args.now
-    c.args.said.now.items c.numbers.said.items c.closing.new.said.items told.0 c.closing.result c.in-Ok.is c.numbers.invariant told.1 told.2
+    c.args.said.now.items c.numbers.said.items c.closing.new.said.items told.0 c.numbers.ended c.closing.result c.and-ended.result c.numbers.invariant told.1 told.2 c.and-ended.ensures
 
 pub returns : goal.returns
 returns c =
     all_ended c.numbers.number c.args.supply.now c.close.new.self c.numbers.supply c.args.clients.now c.numbers.clients c.args.now c.args.said.now.items c.numbers.said.items
-    c.close.ensures.closes (search rules) c.numbers.invariant
+    c.numbers.ended c.close.ensures.closes (search rules) c.numbers.invariant
