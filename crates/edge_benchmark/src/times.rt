@@ -1,0 +1,46 @@
+//! How long calls took.
+
+use std::alloc::Global;
+use std::time::Duration;
+
+/// Nanoseconds of many calls.
+#[derive(Drop)]
+pub(crate) struct Times {
+    each: Vec<u64>,
+}
+
+/// The median and the 99th percentile, in nanoseconds.
+#[derive(Clone, Copy, Debug)]
+pub(crate) struct Summary {
+    pub(crate) median: u64,
+    pub(crate) most: u64,
+}
+
+impl Times {
+    /// None yet.
+    pub(crate) fn new(alloc: Global) -> Times {
+        Times {
+            each: Vec::new(alloc),
+        }
+    }
+
+    /// How many they are.
+    pub(crate) fn len(&self) -> usize {
+        self.each.len()
+    }
+
+    /// Puts one down; `None` where there is no memory.
+    pub(crate) fn put_down(&mut self, took: Duration) -> Option<()> {
+        let nanoseconds = u64::try_from(took.as_nanos()).ok()?;
+        self.each.push(nanoseconds).ok()
+    }
+
+    /// Their median and 99th percentile; `None` where there are none.
+    pub(crate) fn summary(self) -> Option<Summary> {
+        let Times { mut each } = self;
+        each.sort_unstable();
+        let median = *each.get(each.len() / 2)?;
+        let most = *each.get(each.len() - each.len() / 100 - 1)?;
+        Some(Summary { median, most })
+    }
+}

@@ -1,0 +1,45 @@
+//! The run that the words of the command line ask for.
+
+use crate::echo::Load;
+use std::rt::Env;
+use std::{env, io};
+
+/// What is to be run: an echo, so many rounds of wake-ups, or one after the other.
+#[derive(Clone, Copy, Debug)]
+pub(crate) struct Run {
+    pub(crate) echo: Option<Load>,
+    pub(crate) wakes: Option<usize>,
+}
+
+/// The run that the words behind the program's name ask for; `None` where they ask for none.
+pub(crate) fn run_in_words(rt: &(impl Env + Alloc)) -> io::Result<Option<Run>> {
+    let mut words = env::args(rt)?;
+    let _name = words.next();
+    let run = words.next();
+    let mut number = || words.next().and_then(|word| word.as_str().parse::<usize>().ok());
+    let (first, second, third) = (number(), number(), number());
+    let Some(run) = run else {
+        return Ok(None);
+    };
+    Ok(match (run.as_str(), first, second, third) {
+        ("echo", Some(connections), Some(packets), None) => Some(Run {
+            echo: Some(Load {
+                connections,
+                packets,
+            }),
+            wakes: None,
+        }),
+        ("wake", Some(rounds), None, None) => Some(Run {
+            echo: None,
+            wakes: Some(rounds),
+        }),
+        ("both", Some(connections), Some(packets), Some(rounds)) => Some(Run {
+            echo: Some(Load {
+                connections,
+                packets,
+            }),
+            wakes: Some(rounds),
+        }),
+        _ => None,
+    })
+}
