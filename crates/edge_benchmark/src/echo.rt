@@ -30,7 +30,7 @@ pub(crate) struct Echoed {
 }
 
 /// Has a worker send back such a load; `None` where memory or the system refused.
-pub(crate) fn echoed<R>(rt: &R, alloc: Global, load: Load) -> Option<Echoed>
+pub(crate) fn send_back<R>(rt: &R, alloc: Global, load: Load) -> Option<Echoed>
 where
     R: Clock + CpuClock + Net<Listener = TcpListener, Stream = TcpStream> + Threads + Wait + Sync,
 {
@@ -38,11 +38,7 @@ where
     let mut peers = Peers::new(alloc);
     connect_all(rt, alloc, &mut worker, &mut peers, load.connections)?;
     let start = Instant::now(rt).ok()?;
-    let (served, back) = thread::join(
-        rt,
-        || serve(rt, worker),
-        || send(peers, load.packets),
-    );
+    let (served, back) = thread::join(rt, || serve(rt, worker), || send(peers, load.packets));
     let (waits, worker_nanoseconds) = served?;
     Some(Echoed {
         back: back?,

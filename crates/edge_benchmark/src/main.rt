@@ -56,9 +56,15 @@ fn main(rt: HostRuntime) -> ExitCode {
 /// So many connections send so many packets each, and get them back.
 fn echo_done<R>(rt: &R, load: Load) -> Option<()>
 where
-    R: Runtime + AllocGlobal + CpuClock + Net<Listener = TcpListener, Stream = TcpStream> + Threads + Wait + Sync,
+    R: Runtime
+        + AllocGlobal
+        + CpuClock
+        + Net<Listener = TcpListener, Stream = TcpStream>
+        + Threads
+        + Wait
+        + Sync,
 {
-    let echoed = echo::echoed(rt, rt.alloc(), load)?;
+    let echoed = echo::send_back(rt, rt.alloc(), load)?;
     let (connections, packets, back) = (load.connections, load.packets, echoed.back);
     let _ = println!(rt; "{connections} connections, {packets} packets each: {back} came back");
     let waits = echoed.waits;
@@ -78,9 +84,14 @@ where
 /// So many rounds of packets and of rings that wake a worker.
 fn wake_done<R>(rt: &R, rounds: usize) -> Option<()>
 where
-    R: Runtime + AllocGlobal + Net<Listener = TcpListener, Stream = TcpStream> + Threads + Wait + Sync,
+    R: Runtime
+        + AllocGlobal
+        + Net<Listener = TcpListener, Stream = TcpStream>
+        + Threads
+        + Wait
+        + Sync,
 {
-    let woken = wake::woken(rt, rt.alloc(), rounds)?;
+    let woken = wake::wake_both(rt, rt.alloc(), rounds)?;
     let (packets, rings) = (woken.reactor.packets.len(), woken.reactor.rings.len());
     let _ = println!(rt; "at a reactor {packets} packets and {rings} rings were answered");
     let (packets, rings) = (woken.bare.packets.len(), woken.bare.rings.len());
@@ -91,8 +102,13 @@ where
 /// How long the answers took.
 fn tell_times<R: Eprint>(rt: &R, woken: Woken) -> Option<()> {
     let (reactor, bare) = (woken.reactor_waits, woken.bare_waits);
-    let _ = eprintln!(rt; "the worker at the reactor waited {reactor} times, that of the bare loop {bare} times");
-    let packet = (woken.reactor.packets.summary()?, woken.bare.packets.summary()?);
+    let _ = eprintln!(rt;
+        "the worker at the reactor waited {reactor} times, that of the bare loop {bare} times"
+    );
+    let packet = (
+        woken.reactor.packets.summary()?,
+        woken.bare.packets.summary()?,
+    );
     let ring = (woken.reactor.rings.summary()?, woken.bare.rings.summary()?);
     for (name, (reactor, bare)) in [("a packet", packet), ("a ring", ring)] {
         let (median, most) = (reactor.median, reactor.most);

@@ -40,7 +40,8 @@ impl Times {
         let Times { mut each } = self;
         each.sort_unstable();
         let median = *each.get(each.len() / 2)?;
-        let most = *each.get(each.len() - each.len() / 100 - 1)?;
+        let rest = each.len() / 100;
+        let most = *each.iter().rev().nth(rest)?;
         Some(Summary { median, most })
     }
 }

@@ -16,7 +16,9 @@ pub(crate) fn run_in_words(rt: &(impl Env + Alloc)) -> io::Result<Option<Run>> {
     let mut words = env::args(rt)?;
     let _name = words.next();
     let run = words.next();
-    let mut number = || words.next().and_then(|word| word.as_str().parse::<usize>().ok());
+    let mut number = || words
+        .next()
+        .and_then(|word| word.as_str().parse::<usize>().ok());
     let (first, second, third) = (number(), number(), number());
     let Some(run) = run else {
         return Ok(None);
