@@ -1,4 +1,6 @@
 //! A connection as a worker serves it: what comes is sent back.
+ghost use Rattle.std.specs.Prelude.{IsTrue};
+ghost use Rattle.transport.specs.Counting.{MayGoOn};
 
 use mio::net::TcpStream;
 use std::alloc::Global;
@@ -39,8 +41,10 @@ impl Connection {
         socket
     }
 
-    // Whether it may be called: it neither failed nor ended too often.
-    fn goes_on(&self) -> bool {
+    /// Whether it may be called: it neither failed nor ended too often.
+    fn goes_on(&self) -> bool
+        ensures { IsTrue result → MayGoOn self.now.transport.below.counts }
+    {
         self.transport.failures() < u64::MAX && self.transport.ends() < u64::MAX
     }
 

@@ -16,6 +16,7 @@ mod words;
 mod worker;
 
 use crate::echo::Load;
+use crate::times::Summary;
 use crate::wake::Woken;
 use crate::words::run_in_words;
 use std::net::{Net, TcpListener, TcpStream};
@@ -91,32 +92,36 @@ where
         + Wait
         + Sync,
 {
-    let woken = wake::wake_both(rt, rt.alloc(), rounds)?;
+    let mut woken = wake::wake_both(rt, rt.alloc(), rounds)?;
     let (packets, rings) = (woken.reactor.packets.len(), woken.reactor.rings.len());
     let _ = println!(rt; "at a reactor {packets} packets and {rings} rings were answered");
     let (packets, rings) = (woken.bare.packets.len(), woken.bare.rings.len());
     let _ = println!(rt; "by the bare loop {packets} packets and {rings} rings were answered");
-    tell_times(rt, woken)
+    tell_times(rt, &mut woken)
 }
 
 /// How long the answers took.
-fn tell_times<R: Eprint>(rt: &R, woken: Woken) -> Option<()> {
+fn tell_times<R: Eprint>(rt: &R, woken: &mut Woken) -> Option<()> {
     let (reactor, bare) = (woken.reactor_waits, woken.bare_waits);
     let _ = eprintln!(rt;
         "the worker at the reactor waited {reactor} times, that of the bare loop {bare} times"
     );
-    let packet = (
+    let (reactor, bare) = (
         woken.reactor.packets.summary()?,
         woken.bare.packets.summary()?,
     );
-    let ring = (woken.reactor.rings.summary()?, woken.bare.rings.summary()?);
-    for (name, (reactor, bare)) in [("a packet", packet), ("a ring", ring)] {
-        let (median, most) = (reactor.median, reactor.most);
-        let (bare_median, bare_most) = (bare.median, bare.most);
-        let hundredths = median.saturating_mul(100).checked_div(bare_median)?;
-        let _ = eprintln!(rt;
-            "{name}: nanoseconds, median {median}, 99th percentile {most}; bare {bare_median}, {bare_most}; median by the bare one's in hundredths {hundredths}"
-        );
-    }
+    tell(rt, "a packet", reactor, bare)?;
+    let (reactor, bare) = (woken.reactor.rings.summary()?, woken.bare.rings.summary()?);
+    tell(rt, "a ring", reactor, bare)
+}
+
+/// How long the answers to one kind of call took, of the worker at the reactor and of the bare loop.
+fn tell<R: Eprint>(rt: &R, call: &str, reactor: Summary, bare: Summary) -> Option<()> {
+    let (median, most) = (reactor.median, reactor.most);
+    let (bare_median, bare_most) = (bare.median, bare.most);
+    let share = median.saturating_mul(100).checked_div(bare_median)?;
+    let _ = eprintln!(rt;
+        "{call}: median {median} nanoseconds, 99th percentile {most}; bare {bare_median}, {bare_most}; {share} in a hundred"
+    );
     Some(())
 }

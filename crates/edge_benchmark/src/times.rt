@@ -35,13 +35,12 @@ impl Times {
         self.each.push(nanoseconds).ok()
     }
 
-    /// Their median and 99th percentile; `None` where there are none.
-    pub(crate) fn summary(self) -> Option<Summary> {
-        let Times { mut each } = self;
-        each.sort_unstable();
-        let median = *each.get(each.len() / 2)?;
-        let rest = each.len() / 100;
-        let most = *each.iter().rev().nth(rest)?;
+    /// Sorts them, and tells their median and 99th percentile; `None` where there are none.
+    pub(crate) fn summary(&mut self) -> Option<Summary> {
+        self.each.sort_unstable();
+        let median = *self.each.get(self.each.len() / 2)?;
+        let above = self.each.len() / 100;
+        let most = *self.each.iter().rev().nth(above)?;
         Some(Summary { median, most })
     }
 }
