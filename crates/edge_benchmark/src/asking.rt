@@ -11,11 +11,15 @@ use std::io::{Read, Write};
 use std::net::TcpStream;
 use std::rt::Clock;
 use std::sync::atomic::{AtomicU64, Ordering};
-use std::time::Instant;
+use std::thread;
+use std::time::{Duration, Instant};
 use tcp_edge::Alarm;
 
 /// How many rounds one worker has in a row.
 const BLOCK: usize = 1_000;
+
+/// How many microseconds at least a worker has to fall asleep before it is asked.
+const PAUSE: u64 = 50;
 
 /// Who asks one worker, which answers by a packet.
 pub(crate) trait Asker {
@@ -123,16 +127,18 @@ fn ask_block<R: Clock, A: Asker>(
     Some(())
 }
 
-/// Sends a packet, and waits until it comes back.
+/// Sends a packet to a worker that fell asleep, and waits until it comes back.
 fn send_one<R: Clock, A: Asker>(rt: &R, asker: &mut A, times: &mut Times) -> Option<()> {
+    thread::sleep(rt, Duration::from_micros(PAUSE));
     let start = Instant::now(rt).ok()?;
     asker.stream().write_all(&PACKET).ok()?;
     hear(asker.stream())?;
     times.put_down(start.elapsed(rt).ok()?)
 }
 
-/// Rings, and waits until the worker's packet comes.
+/// Rings for a worker that fell asleep, and waits until its packet comes.
 fn ring_once<R: Clock, A: Asker>(rt: &R, asker: &mut A, times: &mut Times) -> Option<()> {
+    thread::sleep(rt, Duration::from_micros(PAUSE));
     let start = Instant::now(rt).ok()?;
     asker.ring();
     hear(asker.stream())?;
