@@ -13,7 +13,7 @@ use tcp_edge::TcpSource;
 use transport::{Arrival, Source};
 
 /// So many connections, and so many packets on each.
-#[derive(Clone, Copy, Debug)]
+#[derive(Clone, Copy)]
 pub(crate) struct Load {
     pub(crate) connections: usize,
     pub(crate) packets: usize,
@@ -21,7 +21,7 @@ pub(crate) struct Load {
 
 /// What came of it: how many packets came back, how often the worker waited, and how many nanoseconds that took, of the clock
 /// and of the worker's processor.
-#[derive(Clone, Copy, Debug)]
+#[derive(Clone, Copy)]
 pub(crate) struct Echoed {
     pub(crate) back: u64,
     pub(crate) waits: u64,
@@ -36,8 +36,7 @@ where
 {
     let mut worker = Worker::open(rt, alloc, load.connections)?;
     let mut peers = Peers::new(alloc);
-    connect_all(rt, alloc, &mut worker, &mut peers, load.connections)?;
-    let start = Instant::now(rt).ok()?;
+    let start = connect_all(rt, alloc, &mut worker, &mut peers, load.connections)?;
     let (served, back) = thread::join(rt, || serve(rt, worker), || send(peers, load.packets));
     let (waits, worker_nanoseconds) = served?;
     Some(Echoed {
@@ -48,20 +47,20 @@ where
     })
 }
 
-/// Connects so many peers to the worker.
-fn connect_all<R: Net<Listener = TcpListener, Stream = TcpStream>>(
+/// Connects so many peers to the worker. The moment when all are connected.
+fn connect_all<R: Clock + Net<Listener = TcpListener, Stream = TcpStream>>(
     rt: &R,
     alloc: Global,
     worker: &mut Worker,
     peers: &mut Peers,
     count: usize,
-) -> Option<()> {
+) -> Option<Instant> {
     let mut source = TcpSource::open(rt, 0).ok()?;
     for _ in 0..count {
         peers.take_in(connected(rt, source.port())?)?;
         worker.take_in(alloc, accepted(&mut source)?)?;
     }
-    Some(())
+    Instant::now(rt).ok()
 }
 
 /// The connection that waits.

@@ -97,7 +97,9 @@ where
     let _ = println!(rt; "at a reactor {packets} packets and {rings} rings were answered");
     let (packets, rings) = (woken.bare.packets.len(), woken.bare.rings.len());
     let _ = println!(rt; "by the bare loop {packets} packets and {rings} rings were answered");
-    tell_times(rt, &mut woken)
+    let told = tell_times(rt, &mut woken);
+    drop(woken);
+    told
 }
 
 /// How long the answers took.

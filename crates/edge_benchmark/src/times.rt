@@ -10,7 +10,7 @@ pub(crate) struct Times {
 }
 
 /// The median and the 99th percentile, in nanoseconds.
-#[derive(Clone, Copy, Debug)]
+#[derive(Clone, Copy)]
 pub(crate) struct Summary {
     pub(crate) median: u64,
     pub(crate) most: u64,
