@@ -1,0 +1,90 @@
+-- How the program ends: its status, and what then stands in its output and on its error output (profile).
+use Rattle.std.specs.Prelude.{◌≡◌, ℕ, codes, List, ◌++◌, Option, Result, Ok, Err, IfSome, string_bytes}
+use Rattle.std.specs.Fmt.{decimal}
+use Rattle.std.specs.Io.KnownBytes.{Appends, Keeps}
+use Rattle.local_server.specs.declared.event.TimedEvent.{TimedEvent}
+use Rattle.arguments.specs.declared.command.Request.{Request}
+use Rattle.arguments.specs.declared.command.Request.TheVariants.{Solo, Drive}
+use Rattle.line_io.specs.declared.error.RunError.{RunError}
+use Rattle.line_io.specs.declared.error.RunError.TheVariants.{Device, Memory, Line}
+use Rattle.line_io.specs.Status.{status_of}
+use Rattle.line_io.specs.Passing.{Begins}
+use Rattle.drive.specs.Scripts.{script_of}
+use Rattle.drive.specs.Streams.{client_script_of}
+use Rattle.drive.specs.Transcripts.{IsDriveOutput, IsSoloOutput, Writes, BeginsTo}
+use Rattle.program.specs.declared.asking.Asked.{Asked}
+use Rattle.program.specs.declared.asking.Asked.TheVariants.{Run, Show, Refuse}
+
+-- What is known of the bytes that are left to read, of those in the output, and of those on the error output.
+pub record Streams : Type 0 where
+  pub input : Option (List ℕ)
+  pub output : Option (List ℕ)
+  pub errors : Option (List ℕ)
+
+-- 0 where all was done, and else the status of the error: 3, 4 or 5
+abbrev pub status_at : Result (Unit {0}) RunError → ℕ
+status_at (Ok done) = 0
+status_at (Err error) = status_of error
+
+-- the line that is said of an error
+abbrev pub error_line : RunError → List ℕ
+error_line Device = codes "device\n"
+error_line Memory = codes "memory\n"
+error_line (Line number) = codes "input line " ++ decimal number ++ codes "\n"
+
+-- on the error output nothing where all was done, and else the line of the error, or a beginning of it
+abbrev pub Tells : Result (Unit {0}) RunError → Option (List ℕ) → Option (List ℕ) → Type 0
+Tells (Ok done) old new = Keeps old new
+Tells (Err error) old new = Begins old new (error_line error)
+
+-- the events that an input spells for a command, or the number, from 1, of the first line that the command does not take
+abbrev pub events_for : Request → List ℕ → Result (List TimedEvent) ℕ
+events_for (Solo setup) input = client_script_of input
+events_for (Drive setup) input = script_of input
+
+-- the output of a command for an input
+abbrev pub IsOutputFor : Request → List ℕ → List ℕ → Type 0
+IsOutputFor (Solo setup) input output = IsSoloOutput setup input output
+IsOutputFor (Drive setup) input output = IsDriveOutput setup input output
+
+-- What a command wrote for an input: its output where it came to its end, nothing where it names the first line that it does not take, and at
+-- every other error a beginning of its output, or nothing.
+abbrev pub Wrote : Request → List ℕ → Result (Unit {0}) RunError → Option (List ℕ) → Option (List ℕ) → Type 0
+Wrote request input (Ok done) old new = Writes (IsOutputFor request input) old new
+Wrote request input (Err Device) old new = BeginsTo (IsOutputFor request input) old new
+Wrote request input (Err Memory) old new = BeginsTo (IsOutputFor request input) old new
+Wrote request input (Err (Line number)) old new = (events_for request input ≡ Err number) × Keeps old new
+
+-- A command came to its end, or to an error.
+pub record RunEnds (request : Request) (old new : Streams) (status : ℕ) : Type 0 where
+  pub ended : Result (Unit {0}) RunError
+  pub wrote : IfSome old.input (λ input. Wrote request input ended old.output new.output)
+  pub told : Tells ended old.errors new.errors
+  pub status : status ≡ status_at ended
+
+-- a text is shown: all of it, or a beginning
+abbrev pub Shown : List ℕ → Result (Unit {0}) RunError → Option (List ℕ) → Option (List ℕ) → Type 0
+Shown text (Ok done) old new = Appends old new text
+Shown text (Err error) old new = (error ≡ Device) × Begins old new text
+
+-- A text was shown, or the output failed; nothing was read.
+pub record ShowEnds (text : List ℕ) (old new : Streams) (status : ℕ) : Type 0 where
+  pub ended : Result (Unit {0}) RunError
+  pub read : Keeps old.input new.input
+  pub shown : Shown text ended old.output new.output
+  pub told : Tells ended old.errors new.errors
+  pub status : status ≡ status_at ended
+
+-- Nothing was read and nothing written but this text, or a beginning of it, on the error output.
+pub record NothingBut (text : List ℕ) (old new : Streams) : Type 0 where
+  pub read : Keeps old.input new.input
+  pub written : Keeps old.output new.output
+  pub said : Begins old.errors new.errors text
+
+-- The program ends as its words say: a command is run, a text is shown, wrong words are refused with status 2; and where memory was refused
+-- before anything was known of them, it says so.
+abbrev pub Ends : Result Asked RunError → Streams → Streams → ℕ → Type 0
+Ends (Ok (Run request)) old new status = RunEnds request old new status
+Ends (Ok (Show text)) old new status = ShowEnds (string_bytes text) old new status
+Ends (Ok (Refuse text)) old new status = NothingBut (string_bytes text) old new × (status ≡ 2)
+Ends (Err error) old new status = NothingBut (error_line error) old new × (status ≡ status_of error)

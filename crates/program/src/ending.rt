@@ -1,0 +1,120 @@
+//! The words, what they ask for, and the status.
+ghost use Rattle.std.specs.Prelude.{◌≡◌, Result, Err, OnOk, OnErr, IfErr, IfSome};
+ghost use Rattle.std.specs.Io.KnownBytes.{Appends};
+ghost use Rattle.line_io.specs.Passing.{Begins};
+ghost use Rattle.line_io.specs.declared.error.RunError.{RunError as Stop};
+ghost use Rattle.program.specs.declared.asking.Asked.{Asked as Wish};
+ghost use Rattle.program.specs.Ending.{Ends, Streams, Tells, Wrote, error_line, status_at};
+
+use crate::asking::{Asked, asked_by};
+use arguments::Request;
+use drive::{drive, solo};
+use line_io::{RunError, write_all};
+use std::alloc::Global;
+use std::io;
+use std::io::{Read, Write};
+
+/// The status that the program ends with where its words are wrong.
+const USAGE: u8 = 2;
+
+/// The program: does what its words ask for, its own name in front, and gives the status that it ends with.
+///
+/// | Status | |
+/// |---|---|
+/// | 0 | all was written, or the help or the version was |
+/// | 2 | the words are wrong, which is said on the error output; nothing was read |
+/// | 3 | the reader or the output failed, or 2^20 reads did not reach the input's end |
+/// | 4 | memory was refused |
+/// | 5 | a line of the input is none that the command takes; nothing was run |
+///
+/// At 3, 4 and 5 the error output has `device`, `memory` or `input line N`, on a line. Where it fails, or memory for that line is
+/// refused, it has a beginning of that.
+///
+/// The words are an error where one of them is no UTF-8 text, which ends as wrong words do, or where memory was refused for them.
+pub fn run<R: Read, W: Write, E: Write>(
+    alloc: Global,
+    words: io::Result<Vec<String>>,
+    reader: &mut R,
+    output: &mut W,
+    errors: &mut E,
+) -> u8
+    // It ends as what the words ask for ends.
+    ensures ends { (wish : Result Wish Stop) × Ends wish
+        (record { input = R.remaining reader.old; output = W.contents output.old; errors = E.contents errors.old })
+        (record { input = R.remaining reader.new; output = W.contents output.new; errors = E.contents errors.new }) result }
+{
+    perform(alloc, asked_by(alloc, words), reader, output, errors)
+}
+
+/// Does what was asked for, and gives the status that the program ends with, as [`run`].
+pub fn perform<R: Read, W: Write, E: Write>(
+    alloc: Global,
+    asked: Result<Asked, RunError>,
+    reader: &mut R,
+    output: &mut W,
+    errors: &mut E,
+) -> u8
+    ensures ends { Ends asked
+        (record { input = R.remaining reader.old; output = W.contents output.old; errors = E.contents errors.old })
+        (record { input = R.remaining reader.new; output = W.contents output.new; errors = E.contents errors.new }) result }
+{
+    match asked {
+        Ok(Asked::Run(request)) => {
+            let ended = command(alloc, request, reader, output);
+            status(alloc, ended, errors)
+        }
+        Ok(Asked::Show(text)) => {
+            let ended = write_all(output, text.as_bytes());
+            status(alloc, ended, errors)
+        }
+        Ok(Asked::Refuse(text)) => {
+            let _ = write_all(errors, text.as_bytes());
+            USAGE
+        }
+        Err(error) => status(alloc, Err(error), errors),
+    }
+}
+
+/// Runs a command.
+fn command<R: Read, W: Write>(
+    alloc: Global,
+    request: Request,
+    reader: &mut R,
+    output: &mut W,
+) -> Result<(), RunError>
+    ensures { IfSome (R.remaining reader.old) (λ input. Wrote request input result (W.contents output.old) (W.contents output.new)) }
+{
+    match request {
+        Request::Solo(setup) => solo(alloc, setup, reader, output),
+        Request::Drive(setup) => drive(alloc, setup, reader, output),
+    }
+}
+
+/// The status of what came to an end so, once an error is told.
+fn status<E: Write>(alloc: Global, ended: Result<(), RunError>, errors: &mut E) -> u8
+    ensures status { result ≡ status_at ended }
+    ensures told { Tells ended (E.contents errors.old) (E.contents errors.new) }
+{
+    match ended {
+        Ok(()) => 0,
+        Err(error) => {
+            let _ = tell(alloc, error, errors);
+            error.status()
+        }
+    }
+}
+
+/// Writes the line of an error.
+fn tell<E: Write>(alloc: Global, error: RunError, errors: &mut E) -> Result<(), RunError>
+    ensures ok { OnOk result (Appends (E.contents errors.old) (E.contents errors.new) (error_line error)) }
+    ensures err { OnErr result (Begins (E.contents errors.old) (E.contents errors.new) (error_line error)) }
+{
+    match error {
+        RunError::Device => write_all(errors, b"device\n"),
+        RunError::Memory => write_all(errors, b"memory\n"),
+        RunError::Line(number) => {
+            let line = format!(in alloc; "input line {number}\n")?;
+            write_all(errors, line.as_bytes())
+        }
+    }
+}
