@@ -1,0 +1,192 @@
+//! Each status once, and what then stands in the output and on the error output.
+use crate::devices::{Broken, Narrow};
+use program::run;
+use std::alloc::{AllocError, Global};
+use std::io;
+use std::io::{ErrorKind, Read};
+use std::test::Fail;
+
+/// A CONNECT.
+const CONNECTED: &[u8] = b"100F00044D5154540502003C0000027731\n";
+
+/// The answer to it: a CONNACK with Maximum QoS 1, no retained messages, Maximum Packet Size 65,536 and no subscription identifiers.
+const CONNACK: &str = "200e00000b2401250027000100002900\n";
+
+/// The words of a line, cut at each blank.
+fn words_of(alloc: Global, line: &str) -> Result<Vec<String>, AllocError> {
+    let mut words = Vec::new(alloc);
+    for word in line.split(' ') {
+        words.push(String::from_str(alloc, word)?)?;
+    }
+    Ok(words)
+}
+
+/// How the program ended.
+#[derive(Drop)]
+struct Ended {
+    status: u8,
+    output: Vec<u8>,
+    errors: Vec<u8>,
+}
+
+/// The program, run with these words on this input.
+fn ran<R: Read>(alloc: Global, line: &str, reader: &mut R) -> Result<Ended, AllocError> {
+    let words = words_of(alloc, line)?;
+    let mut output = Vec::new(alloc);
+    let mut errors = Vec::new(alloc);
+    let status = run(alloc, Ok(words), reader, &mut output, &mut errors);
+    Ok(Ended {
+        status,
+        output,
+        errors,
+    })
+}
+
+/// Whether a text has this part.
+fn has(text: &[u8], part: &str) -> bool {
+    text.windows(part.len()).any(|window| window == part.as_bytes())
+}
+
+#[test]
+fn ended(rt: HostRuntime) -> Result<(), Fail> {
+    let ended = ran(rt.alloc(), "share_broker solo", &mut &CONNECTED[..])?;
+    assert_eq!(rt; ended.status, 0);
+    assert_eq!(rt; ended.output.as_slice(), CONNACK.as_bytes());
+    assert_eq!(rt; ended.errors.len(), 0);
+    let events: &[u8] = b"0 open 7\n0 bytes 7 100F00044D5154540502003C0000027731\n0 end 7\n";
+    let ended = ran(rt.alloc(), "share_broker drive", &mut &events[..])?;
+    let output = format!(in rt.alloc(); "7 {CONNACK}7 close\n")?;
+    assert_eq!(rt; ended.status, 0);
+    assert_eq!(rt; ended.output.as_slice(), output.as_bytes());
+    assert_eq!(rt; ended.errors.len(), 0);
+    Ok(())
+}
+
+#[test]
+fn texts_are_shown(rt: HostRuntime) -> Result<(), Fail> {
+    let help = ran(rt.alloc(), "share_broker --help", &mut Broken)?;
+    assert_eq!(rt; help.status, 0);
+    assert!(rt; has(&help.output, "Usage: share_broker <COMMAND>"));
+    assert_eq!(rt; help.errors.len(), 0);
+    let version = ran(rt.alloc(), "share_broker --version", &mut Broken)?;
+    assert_eq!(rt; version.status, 0);
+    assert_eq!(rt; version.output.as_slice(), "share_broker 0.1.0\n".as_bytes());
+    assert_eq!(rt; version.errors.len(), 0);
+    Ok(())
+}
+
+#[test]
+fn wrong_words(rt: HostRuntime) -> Result<(), Fail> {
+    let rows = [
+        ("share_broker serve", "unrecognized subcommand 'serve'"),
+        ("share_broker drive --group job", "a group is NAME:FILTER"),
+        ("share_broker solo --capacity 0", "invalid value '0'"),
+    ];
+    for (line, text) in rows.iter() {
+        let mut reader = CONNECTED;
+        let ended = ran(rt.alloc(), line, &mut reader)?;
+        assert_eq!(rt; ended.status, 2);
+        assert_eq!(rt; reader.len(), CONNECTED.len());
+        assert_eq!(rt; ended.output.len(), 0);
+        assert!(rt; ended.errors.starts_with(b"error: "));
+        assert!(rt; has(&ended.errors, text));
+    }
+    Ok(())
+}
+
+/// Words that could not be read: one is no text, or memory was refused.
+#[test]
+fn no_words(rt: HostRuntime) -> Result<(), Fail> {
+    let rows = [
+        (
+            ErrorKind::InvalidData,
+            2,
+            "error: a word is no UTF-8 text\n",
+        ),
+        (ErrorKind::OutOfMemory, 4, "memory\n"),
+    ];
+    for (kind, status, text) in rows.iter() {
+        let mut output = Vec::new(rt.alloc());
+        let mut errors = Vec::new(rt.alloc());
+        let words = Err(io::Error::from(*kind));
+        let ended = run(rt.alloc(), words, &mut Broken, &mut output, &mut errors);
+        assert_eq!(rt; ended, *status);
+        assert_eq!(rt; output.len(), 0);
+        assert_eq!(rt; errors.as_slice(), text.as_bytes());
+    }
+    Ok(())
+}
+
+#[test]
+fn reader_fails(rt: HostRuntime) -> Result<(), Fail> {
+    let ended = ran(rt.alloc(), "share_broker solo", &mut Broken)?;
+    assert_eq!(rt; ended.status, 3);
+    assert_eq!(rt; ended.output.len(), 0);
+    assert_eq!(rt; ended.errors.as_slice(), "device\n".as_bytes());
+    Ok(())
+}
+
+/// The output takes so much and then fails, of a command and of a text that is shown.
+#[test]
+fn output_fails(rt: HostRuntime) -> Result<(), Fail> {
+    for room in 0..CONNACK.len() {
+        let mut output = Narrow {
+            taken: Vec::new(rt.alloc()),
+            room,
+        };
+        let mut errors = Vec::new(rt.alloc());
+        let words = words_of(rt.alloc(), "share_broker solo")?;
+        let status = run(rt.alloc(), Ok(words), &mut &CONNECTED[..], &mut output, &mut errors);
+        assert_eq!(rt; status, 3);
+        assert_eq!(rt; output.taken.as_slice(), &CONNACK.as_bytes()[..room]);
+        assert_eq!(rt; errors.as_slice(), "device\n".as_bytes());
+    }
+    let mut output = Narrow {
+        taken: Vec::new(rt.alloc()),
+        room: 12,
+    };
+    let mut errors = Vec::new(rt.alloc());
+    let words = words_of(rt.alloc(), "share_broker --version")?;
+    let status = run(rt.alloc(), Ok(words), &mut Broken, &mut output, &mut errors);
+    assert_eq!(rt; status, 3);
+    assert_eq!(rt; output.taken.as_slice(), "share_broker".as_bytes());
+    assert_eq!(rt; errors.as_slice(), "device\n".as_bytes());
+    Ok(())
+}
+
+/// Where the error output fails, the status is still told.
+#[test]
+fn error_output_fails(rt: HostRuntime) -> Result<(), Fail> {
+    let rows = [
+        ("share_broker solo", 5, "input"),
+        ("share_broker serve", 2, "error"),
+    ];
+    for (line, status, text) in rows.iter() {
+        let mut output = Vec::new(rt.alloc());
+        let mut errors = Narrow {
+            taken: Vec::new(rt.alloc()),
+            room: 5,
+        };
+        let words = words_of(rt.alloc(), line)?;
+        let ended = run(rt.alloc(), Ok(words), &mut &b"0"[..], &mut output, &mut errors);
+        assert_eq!(rt; ended, *status);
+        assert_eq!(rt; output.len(), 0);
+        assert_eq!(rt; errors.taken.as_slice(), text.as_bytes());
+    }
+    Ok(())
+}
+
+#[test]
+fn bad_line(rt: HostRuntime) -> Result<(), Fail> {
+    let input: &[u8] = b"100F00044D5154540502003C0000027731\n\n0x\n";
+    let ended = ran(rt.alloc(), "share_broker solo", &mut &input[..])?;
+    assert_eq!(rt; ended.status, 5);
+    assert_eq!(rt; ended.output.len(), 0);
+    assert_eq!(rt; ended.errors.as_slice(), "input line 3\n".as_bytes());
+    let events: &[u8] = b"0 open 0\n0 open 64\n";
+    let ended = ran(rt.alloc(), "share_broker drive", &mut &events[..])?;
+    assert_eq!(rt; ended.status, 5);
+    assert_eq!(rt; ended.output.len(), 0);
+    assert_eq!(rt; ended.errors.as_slice(), "input line 2\n".as_bytes());
+    Ok(())
+}
