@@ -26,14 +26,6 @@ fn bad_input(rt: HostRuntime) -> Result<(), Fail> {
     Ok(())
 }
 
-#[test]
-fn texts_of_errors(rt: HostRuntime) -> Result<(), Fail> {
-    let line = RunError::Line(1);
-    let text = format!(in rt.alloc(); "{}, {}, {line}", RunError::Device, RunError::Memory)?;
-    assert_eq!(rt; text.as_str(), "device, memory, input line 1");
-    Ok(())
-}
-
 /// A reader that gives some bytes and then fails.
 #[derive(Drop)]
 struct FailingReader<'a>(&'a [u8]);

@@ -6,19 +6,15 @@ ghost use Rattle.line_io.specs.declared.error.RunError.TheVariants.{Device, Memo
 use mqtt_wire::Fault;
 use std::alloc::{AllocError, AllocFailed};
 use std::io;
-use thiserror::Error;
 
-/// Why a run did not end. The text is what the program writes to standard error, and the number the status that it ends with.
-#[derive(Clone, Copy, Debug, PartialEq, Eq, Drop, Error)]
+/// Why a run did not end, and the status that the program ends with.
+#[derive(Clone, Copy, Debug, PartialEq, Eq, Drop)]
 pub enum RunError {
     /// 3: the reader or the writer failed, or 2^20 reads did not reach the input's end.
-    #[error("device")]
     Device,
-    /// 4: an allocation was refused.
-    #[error("memory")]
+    /// 4: an allocation was refused, or a packet to be written is longer than MQTT can say (2.1.4).
     Memory,
     /// 5: this line of the input, counted from 1, is none that the program takes.
-    #[error("input line {0}")]
     Line(u64),
 }
 
@@ -62,7 +58,7 @@ impl<T: Drop> From<AllocFailed<T>> for RunError {
 impl From<Fault> for RunError {
     ghost from_gives = { λ _ e. e ≡ Memory };
 
-    /// A packet that was read has at most 65,536 bytes, so what is sent is never too large.
+    /// A packet whose Remaining Length would be over 268,435,455 has no room, as one for which memory is refused.
     fn from(_: Fault) -> RunError {
         RunError::Memory
     }

@@ -10,7 +10,9 @@
 mod error;
 mod input;
 mod output;
+mod telling;
 
 pub use error::RunError;
 pub use input::{read_all, split_line};
 pub use output::write_all;
+pub use telling::tell;

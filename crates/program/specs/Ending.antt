@@ -1,13 +1,12 @@
 -- How the program ends: its status, and what then stands in its output and on its error output (profile).
-use Rattle.std.specs.Prelude.{◌≡◌, ℕ, codes, List, ◌++◌, Option, Result, Ok, Err, IfSome, string_bytes}
-use Rattle.std.specs.Fmt.{decimal}
+use Rattle.std.specs.Prelude.{◌≡◌, ℕ, List, Option, Result, Ok, Err, IfSome, string_bytes}
 use Rattle.std.specs.Io.KnownBytes.{Appends, Keeps}
 use Rattle.local_server.specs.declared.event.TimedEvent.{TimedEvent}
 use Rattle.arguments.specs.declared.command.Request.{Request}
 use Rattle.arguments.specs.declared.command.Request.TheVariants.{Solo, Drive}
 use Rattle.line_io.specs.declared.error.RunError.{RunError}
 use Rattle.line_io.specs.declared.error.RunError.TheVariants.{Device, Memory, Line}
-use Rattle.line_io.specs.Status.{status_of}
+use Rattle.line_io.specs.Status.{status_of, error_line}
 use Rattle.line_io.specs.Passing.{Begins}
 use Rattle.drive.specs.Scripts.{script_of}
 use Rattle.drive.specs.Streams.{client_script_of}
@@ -25,12 +24,6 @@ pub record Streams : Type 0 where
 abbrev pub status_at : Result (Unit {0}) RunError → ℕ
 status_at (Ok done) = 0
 status_at (Err error) = status_of error
-
--- the line that is said of an error
-abbrev pub error_line : RunError → List ℕ
-error_line Device = codes "device\n"
-error_line Memory = codes "memory\n"
-error_line (Line number) = codes "input line " ++ decimal number ++ codes "\n"
 
 -- on the error output nothing where all was done, and else the line of the error, or a beginning of it
 abbrev pub Tells : Result (Unit {0}) RunError → Option (List ℕ) → Option (List ℕ) → Type 0

@@ -1,15 +1,13 @@
 //! The words, what they ask for, and the status.
-ghost use Rattle.std.specs.Prelude.{◌≡◌, Result, Err, OnOk, OnErr, IfErr, IfSome};
-ghost use Rattle.std.specs.Io.KnownBytes.{Appends};
-ghost use Rattle.line_io.specs.Passing.{Begins};
+ghost use Rattle.std.specs.Prelude.{◌≡◌, Result, IfSome};
 ghost use Rattle.line_io.specs.declared.error.RunError.{RunError as Stop};
 ghost use Rattle.program.specs.declared.asking.Asked.{Asked as Wish};
-ghost use Rattle.program.specs.Ending.{Ends, Streams, Tells, Wrote, error_line, status_at};
+ghost use Rattle.program.specs.Ending.{Ends, Streams, Tells, Wrote, status_at};
 
 use crate::asking::{Asked, asked_by};
 use arguments::Request;
 use drive::{drive, solo};
-use line_io::{RunError, write_all};
+use line_io::{RunError, tell, write_all};
 use std::alloc::Global;
 use std::io;
 use std::io::{Read, Write};
@@ -100,21 +98,6 @@ fn status<E: Write>(alloc: Global, ended: Result<(), RunError>, errors: &mut E) 
         Err(error) => {
             let _ = tell(alloc, error, errors);
             error.status()
-        }
-    }
-}
-
-/// Writes the line of an error.
-fn tell<E: Write>(alloc: Global, error: RunError, errors: &mut E) -> Result<(), RunError>
-    ensures ok { OnOk result (Appends (E.contents errors.old) (E.contents errors.new) (error_line error)) }
-    ensures err { OnErr result (Begins (E.contents errors.old) (E.contents errors.new) (error_line error)) }
-{
-    match error {
-        RunError::Device => write_all(errors, b"device\n"),
-        RunError::Memory => write_all(errors, b"memory\n"),
-        RunError::Line(number) => {
-            let line = format!(in alloc; "input line {number}\n")?;
-            write_all(errors, line.as_bytes())
         }
     }
 }

@@ -1,0 +1,29 @@
+//! What is said of an error.
+ghost use Rattle.std.specs.Prelude.{◌≡◌, OnOk, OnErr};
+ghost use Rattle.std.specs.Io.KnownBytes.{Appends};
+ghost use Rattle.line_io.specs.Passing.{Begins};
+ghost use Rattle.line_io.specs.Status.{error_line};
+
+use crate::error::RunError;
+use crate::output::write_all;
+use std::alloc::Global;
+use std::io::Write;
+
+/// Writes the line of an error: `device`, `memory`, or `input line N`. At a failure the writer has a beginning of it.
+///
+/// # Errors
+///
+/// [`RunError::Device`], and [`RunError::Memory`] at the line of a [`RunError::Line`].
+pub fn tell<W: Write>(alloc: Global, error: RunError, writer: &mut W) -> Result<(), RunError>
+    ensures ok { OnOk result (Appends (W.contents writer.old) (W.contents writer.new) (error_line error)) }
+    ensures err { OnErr result (Begins (W.contents writer.old) (W.contents writer.new) (error_line error)) }
+{
+    match error {
+        RunError::Device => write_all(writer, b"device\n"),
+        RunError::Memory => write_all(writer, b"memory\n"),
+        RunError::Line(number) => {
+            let line = format!(in alloc; "input line {number}\n")?;
+            write_all(writer, line.as_bytes())
+        }
+    }
+}
