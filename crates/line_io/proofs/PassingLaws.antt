@@ -1,5 +1,5 @@
 -- Writes one after another.
-use Rattle.std.proofs.Common.{◌≡◌, ℕ, List, [], ◌++◌, take, drop, take-append-drop, subst, refl, ap, sym, ◌∙◌, Option, Some, None, append_assoc, append-nil, IfSome}
+use Rattle.std.proofs.Common.{◌≡◌, ℕ, List, [], ◌++◌, take, drop, take-append-drop, subst, refl, ap, sym, ◌∙◌, Option, Some, None, Result, Ok, Err, OnErr, append_assoc, append-nil, IfSome}
 use Rattle.std.specs.Io.KnownBytes.{Appends, Keeps, Consumes, IsAtEnd}
 use Rattle.line_io.specs.Passing.{Passes, Begins}
 
@@ -61,3 +61,11 @@ Keeps-refl (Some xs) = refl
 
 pub Passes-nothing : (known : Option (List ℕ)) → Passes known known [] [] []
 Passes-nothing known = record { part = []; written = Appends-nothing known known (Keeps-refl known); whole = refl }
+
+-- Nothing was written.
+pub Begins-nothing : (known : Option (List ℕ)) (text : List ℕ) → Begins known known text
+Begins-nothing known text = record { part = []; rest = text; written = Appends-nothing known known (Keeps-refl known); whole = refl }
+
+pub Begins-nothing-at : {T E : Type 0} (result : Result T E) (known : Option (List ℕ)) (text : List ℕ) → OnErr result (Begins known known text)
+Begins-nothing-at (Ok value) known text = tt
+Begins-nothing-at (Err error) known text = Begins-nothing known text
