@@ -53,7 +53,7 @@ pub record RunEnds (request : Request) (old new : Streams) (status : ℕ) : Type
   pub ended : Result (Unit {0}) RunError
   pub wrote : IfSome old.input (λ input. Wrote request input ended old.output new.output)
   pub told : Tells ended old.errors new.errors
-  pub status : status ≡ status_at ended
+  pub ends_with : status ≡ status_at ended
 
 -- a text is shown: all of it, or a beginning
 abbrev pub Shown : List ℕ → Result (Unit {0}) RunError → Option (List ℕ) → Option (List ℕ) → Type 0
@@ -66,7 +66,7 @@ pub record ShowEnds (text : List ℕ) (old new : Streams) (status : ℕ) : Type 
   pub read : Keeps old.input new.input
   pub shown : Shown text ended old.output new.output
   pub told : Tells ended old.errors new.errors
-  pub status : status ≡ status_at ended
+  pub ends_with : status ≡ status_at ended
 
 -- Nothing was read and nothing written but this text, or a beginning of it, on the error output.
 pub record NothingBut (text : List ℕ) (old new : Streams) : Type 0 where
