@@ -44,11 +44,14 @@ fn ran<R: Read>(alloc: Global, line: &str, reader: &mut R) -> Result<Ended, Allo
 
 /// Whether a text has this part.
 fn has(text: &[u8], part: &str) -> bool {
-    text.windows(part.len()).any(|window| window == part.as_bytes())
+    match std::str::from_utf8(text) {
+        Ok(text) => text.contains(part),
+        Err(_) => false,
+    }
 }
 
 #[test]
-fn ended(rt: HostRuntime) -> Result<(), Fail> {
+fn commands_that_end(rt: HostRuntime) -> Result<(), Fail> {
     let ended = ran(rt.alloc(), "share_broker solo", &mut &CONNECTED[..])?;
     assert_eq!(rt; ended.status, 0);
     assert_eq!(rt; ended.output.as_slice(), CONNACK.as_bytes());
@@ -70,7 +73,10 @@ fn texts_are_shown(rt: HostRuntime) -> Result<(), Fail> {
     assert_eq!(rt; help.errors.len(), 0);
     let version = ran(rt.alloc(), "share_broker --version", &mut Broken)?;
     assert_eq!(rt; version.status, 0);
-    assert_eq!(rt; version.output.as_slice(), "share_broker 0.1.0\n".as_bytes());
+    assert_eq!(rt;
+        version.output.as_slice(),
+        "share_broker 0.1.0\n".as_bytes()
+    );
     assert_eq!(rt; version.errors.len(), 0);
     Ok(())
 }
@@ -136,7 +142,13 @@ fn output_fails(rt: HostRuntime) -> Result<(), Fail> {
         };
         let mut errors = Vec::new(rt.alloc());
         let words = words_of(rt.alloc(), "share_broker solo")?;
-        let status = run(rt.alloc(), Ok(words), &mut &CONNECTED[..], &mut output, &mut errors);
+        let status = run(
+            rt.alloc(),
+            Ok(words),
+            &mut &CONNECTED[..],
+            &mut output,
+            &mut errors,
+        );
         assert_eq!(rt; status, 3);
         assert_eq!(rt; output.taken.as_slice(), &CONNACK.as_bytes()[..room]);
         assert_eq!(rt; errors.as_slice(), "device\n".as_bytes());
@@ -168,7 +180,13 @@ fn error_output_fails(rt: HostRuntime) -> Result<(), Fail> {
             room: 5,
         };
         let words = words_of(rt.alloc(), line)?;
-        let ended = run(rt.alloc(), Ok(words), &mut &b"0"[..], &mut output, &mut errors);
+        let ended = run(
+            rt.alloc(),
+            Ok(words),
+            &mut &b"0"[..],
+            &mut output,
+            &mut errors,
+        );
         assert_eq!(rt; ended, *status);
         assert_eq!(rt; output.len(), 0);
         assert_eq!(rt; errors.taken.as_slice(), text.as_bytes());
