@@ -5,11 +5,4 @@ pub mod Law
 pub mod View
 pub mod Kept
 pub mod Bits
-pub mod Places
-pub mod Parts
-pub mod UpTo
-pub mod Moved
-pub mod Orders
-pub mod Steps
-pub mod Taken
-pub mod Opened
+pub mod Order

@@ -88,7 +88,7 @@ sound_resend w entry rest s has first =
 pub ack_held : {T : Type 0} (k : ℕ) (xs ys : List (ℕ × T)) → entries_without k xs ++ entries_without k ys ≡ entries_without k (xs ++ ys)
 ack_held k xs ys = sym (filter-append _ xs ys)
 
-entries_fewer : {T : Type 0} (k : ℕ) (es : List (ℕ × T)) → AreEntries es → AreEntries (entries_without k es)
+pub entries_fewer : {T : Type 0} (k : ℕ) (es : List (ℕ × T)) → AreEntries es → AreEntries (entries_without k es)
 entries_fewer {T} k es s =
     let fewer = length-entries_without k es in
     record {

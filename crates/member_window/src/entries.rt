@@ -1,60 +1,49 @@
-//! The entries of a window, in order of first sending: an ordered map from identifier to state, with a row of items
-//! and a row of free identifiers beside it.
-ghost use Rattle.std.specs.Prelude.{◌≡◌, ℕ, ◌+◌, ◌-◌, ◌<◌, ◌≤◌, [], ◌∷◌, ◌++◌, length, slice_get, slice_set, nat_lt, if◌then◌else◌, None, Some, Contains, MatchOption, IfOk, replicate, All};
-ghost use Rattle.std.specs.List.{remove, HoldsAt};
-ghost use Rattle.indexmap.specs.IndexMap.{index_map_len, set_value_at, move_index};
+//! The entries of a window, in order of first sending, and the identifiers that none of them has.
+ghost use Rattle.std.specs.Prelude.{◌≡◌, ℕ, ◌+◌, ◌-◌, ◌<◌, ◌≤◌, [], ◌∷◌, ◌++◌, length, slice_get, nat_lt, ◌==◌, if◌then◌else◌, Some, Contains, MatchOption, IfOk};
+ghost use Rattle.std.specs.List.{remove, position, HoldsAt};
 ghost use Rattle.member_window.specs.Identifiers.{identifiers, IsLeastFree};
 ghost use Rattle.member_window.specs.Calls.{lent_entry};
 
 use crate::free::FreeIdentifiers;
-use crate::rows::{drop_vacant, entry_at, lay, lift, no_items, shift, vacant_order};
-use crate::state::{State, owes};
-use indexmap::IndexMap;
+use crate::window::CAPACITY;
 use std::alloc::{AllocError, Global};
+use std::collections::VecDeque;
 use std::marker::Model;
 
 /// Up to 256 items, in order of first sending, each under an identifier of its own; the first of them are owed.
 #[derive(Drop)]
 pub(crate) struct Entries<T> {
-    // All identifiers, each with its state, for good: first what is owed, then what waits, both in order of first
-    // sending, and then what is vacant.
-    order: IndexMap<u16, State>,
-    // The item under each identifier, one place before its number.
-    items: Vec<Option<T>>,
-    // Which identifiers are vacant.
+    // In order of first sending, with room for all from the start.
+    held: VecDeque<(u16, T)>,
+    // Which identifiers none of these has.
     free: FreeIdentifiers,
-    // How many items there are.
-    len: usize,
-    // How many of these are owed.
+    // How many of these, from the oldest on, are owed.
     owed: usize,
 }
 
 impl<T> Model for Entries<T> {
-    ghost use Rattle.member_window.specs.Order.{Held, held_code, held_in, IsLaidOut};
+    ghost use Rattle.std.specs.VecDeque.{deque_capacity};
+    ghost use Rattle.member_window.specs.Order.{Held, held_code, IsOrder};
 
     ghost Value = { Held T };
 
     ghost coded = { held_code T.code };
 
-    ghost view = { λ e. held_in e.order.entries e.items.items e.len e.owed };
+    ghost view = { λ e. record { all = e.held.items; owed = e.owed } };
 
-    ghost invariant = { λ e. IsLaidOut e.order.entries e.items.items e.free.words e.len e.owed };
+    ghost invariant = { λ e. IsOrder e.held.items e.free.words e.owed (deque_capacity e.held) };
 }
 
 impl<T> Entries<T> {
     ghost use Rattle.member_window.specs.Order.{Held};
 
-    /// None. Takes the memory for all identifiers and for 256 items.
+    /// None. Takes the memory for 256.
     pub(crate) fn new(alloc: Global) -> Result<Entries<T>, AllocError>
         ensures { IfOk result (λ entries. (entries.all ≡ []) × (entries.owed ≡ 0)) }
     {
-        let order = vacant_order(alloc)?;
-        let items = no_items(alloc)?;
         Ok(Entries {
-            order,
-            items,
+            held: VecDeque::with_capacity(alloc, CAPACITY)?,
             free: FreeIdentifiers::all(),
-            len: 0,
             owed: 0,
         })
     }
@@ -63,7 +52,7 @@ impl<T> Entries<T> {
     pub(crate) fn len(&self) -> usize
         ensures { result ≡ length self.now.all }
     {
-        self.len
+        self.held.len()
     }
 
     /// How many of these are owed.
@@ -80,8 +69,7 @@ impl<T> Entries<T> {
             (λ place. (place < length self.now.all)
             × HoldsAt (λ entry. entry.0 ≡ identifier) self.now.all place) }
     {
-        let place = self.order.get_index_of(&identifier)?;
-        if place < self.len { Some(place) } else { None }
+        place_in(&self.held, identifier)
     }
 
     /// Puts an item behind the others, which are all owed, under the least free identifier, and owes it.
@@ -93,13 +81,8 @@ impl<T> Entries<T> {
         ensures owed { self.new.owed ≡ self.old.owed + 1 }
     {
         let identifier = self.free.least();
-        let Some(from) = self.order.get_index_of(&identifier) else {
-            unreachable!()
-        };
-        shift(&mut self.order, from, self.len, State::Owed);
-        lay(&mut self.items, identifier, item);
+        self.held.push_back_reserved((identifier, item));
         self.free.take(identifier);
-        self.len += 1;
         self.owed += 1;
         identifier
     }
@@ -113,13 +96,8 @@ impl<T> Entries<T> {
         ensures all { self.new.all ≡ (identifier, item) ∷ self.old.all }
         ensures owed { self.new.owed ≡ self.old.owed }
     {
-        let Some(from) = self.order.get_index_of(&identifier) else {
-            unreachable!()
-        };
-        shift(&mut self.order, from, 0, State::Waiting);
-        lay(&mut self.items, identifier, item);
+        self.held.push_front_reserved((identifier, item));
         self.free.take(identifier);
-        self.len += 1;
     }
 
     /// Takes the entry at this place out.
@@ -129,12 +107,11 @@ impl<T> Entries<T> {
         ensures all { self.new.all ≡ remove self.old.all place }
         ensures owed { self.new.owed ≡ self.old.owed - (if nat_lt place self.old.owed then 1 else 0) }
     {
-        let (identifier, state) = entry_at(&self.order, place);
-        let item = lift(&mut self.items, identifier);
-        shift(&mut self.order, place, self.len - 1, State::Vacant);
+        let Some((identifier, item)) = self.held.remove(place) else {
+            unreachable!()
+        };
         self.free.give(identifier);
-        self.len -= 1;
-        self.owed -= owes(state);
+        self.owed -= usize::from(place < self.owed);
         (identifier, item)
     }
 
@@ -142,14 +119,8 @@ impl<T> Entries<T> {
     pub(crate) fn get(&self, place: usize) -> Option<(u16, &T)>
         ensures { lent_entry result ≡ slice_get self.now.all place }
     {
-        if place >= self.len {
-            return None;
-        }
-        let (identifier, _) = entry_at(&self.order, place);
-        match &self.items[usize::from(identifier) - 1] {
-            Some(item) => Some((identifier, item)),
-            None => unreachable!(),
-        }
+        let (identifier, item) = self.held.get(place)?;
+        Some((*identifier, item))
     }
 
     /// Owes the first of those that wait.
@@ -157,7 +128,6 @@ impl<T> Entries<T> {
         requires { self.old.owed < length self.old.all }
         ensures { self.new ≡ record { all = self.old.all; owed = self.old.owed + 1 } }
     {
-        self.order[self.owed] = State::Owed;
         self.owed += 1;
     }
 
@@ -165,18 +135,7 @@ impl<T> Entries<T> {
     pub(crate) fn wait(&mut self)
         ensures { self.new ≡ record { all = self.old.all; owed = 0 } }
     {
-        'owed: while self.owed() > 0 {
-            self.wait_last();
-        }
-    }
-
-    /// Lets the last of those that are owed wait.
-    fn wait_last(&mut self)
-        requires { 0 < self.old.owed }
-        ensures { self.new ≡ record { all = self.old.all; owed = self.old.owed - 1 } }
-    {
-        self.owed -= 1;
-        self.order[self.owed] = State::Waiting;
+        self.owed = 0;
     }
 
     /// Ends it where there are none.
@@ -184,12 +143,17 @@ impl<T> Entries<T> {
         requires { self.all ≡ [] }
     {
         let Entries {
-            order: _,
-            items,
+            held,
             free: _,
-            len: _,
             owed: _,
         } = self;
-        drop_vacant(items);
+        held.destroy_empty();
     }
+}
+
+/// The place of the first entry with this identifier, if there is one.
+fn place_in<T>(held: &VecDeque<(u16, T)>, identifier: u16) -> Option<usize>
+    ensures { result ≡ position (λ entry. entry.0 == identifier) held.now.items }
+{
+    held.iter().position(|entry| entry.0 == identifier)
 }

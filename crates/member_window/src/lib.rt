@@ -26,8 +26,6 @@ mod entries;
 mod error;
 mod free;
 pub mod laws;
-mod rows;
-mod state;
 mod window;
 
 pub use error::WindowError;
