@@ -2,8 +2,8 @@
 use Rattle.std.proofs.Common.{◌≡◌, ◌≢◌, ◌⊎◌, ℕ, zero, suc, ◌+◌, ◌-◌, ◌<◌, ◌≤◌, ◌==◌, not, cond, List, [], ◌∷◌, ◌++◌, length, Option, Some, None, MatchOption, Contains, sym, ap, ◌∙◌, subst, inl, inr, ⊎_elim, arith, eq-eqb, ltb, ne_eqb, lt-ltb, le-ltb, get_or, slice_index_or, length-append, Bool, ◌/◌, ◌%◌}
 use Rattle.std.proofs.lemmas.Bool.{cases_eq, cases_lt, eqb-true}
 use Rattle.std.specs.Int.{from_bool}
-use Rattle.std.proofs.lemmas.List.{length-map, map_push, get_or_default}
-use Rattle.std.proofs.lemmas.List.Elements.{All-cons, Contains-append_left, Contains-push, Contains-push_cases}
+use Rattle.std.proofs.lemmas.List.{length-map, map_push, map-append, get_or_default, get_or_append_left, get_or-append-add}
+use Rattle.std.proofs.lemmas.List.Elements.{All-cons, Contains-append_left, Contains-push, Contains-append_cases, Contains-push_cases}
 use Rattle.std.proofs.lemmas.List.Edits.{length-remove}
 use Rattle.std.proofs.lemmas.List.Sums.{passes_at_first}
 use Rattle.std.proofs.lemmas.Nat.Bits.{bit_at-lt}
@@ -141,7 +141,7 @@ absent {T} k (e ∷ es) le =
     λ has. ⊎_elim (λ (same : e.0 ≡ k). other same) (absent k es (omega arith)) (contains_cons_cases e.0 (identifiers es) k has))
     (cases_eq e.0 k)
 
-pub found : {T : Type 0} (k : ℕ) (es : List (ℕ × T)) (answer : Option ℕ) → answer ≡ position (λ e. e.0 == k) es
+found : {T : Type 0} (k : ℕ) (es : List (ℕ × T)) (answer : Option ℕ) → answer ≡ position (λ e. e.0 == k) es
     → MatchOption answer (¬ Contains (identifiers es) k) (λ place. (place < length es) × HoldsAt (λ entry. entry.0 ≡ k) es place)
 found {T} k es answer is =
     let here : ℕ × T → Bool = λ e. e.0 == k in
@@ -152,3 +152,20 @@ found {T} k es answer is =
     subst Says (sym (is ∙ ap (λ b. cond b (Some n) None) (lt-ltb n (length es) lt))) (lt, λ d. eqb-true (get_or es n d).0 k (passes_at_first here es d lt)))
     (λ (le : length es ≤ n). subst Says (sym (is ∙ ap (λ b. cond b (Some n) None) (le-ltb n (length es) le))) (absent k es le))
     (cases_lt n (length es))
+
+-- the same of two lists, one behind the other
+module _ {T : Type 0} (k : ℕ) (front back : List (ℕ × T)) where
+  pub found_in_front : (place : ℕ) → Some place ≡ position (λ e. e.0 == k) front → (place < length (front ++ back)) × HoldsAt (λ entry. entry.0 ≡ k) (front ++ back) place
+  found_in_front place is =
+      let there = found k front (Some place) is in
+      (omega (arith, there.0, length-append front back), λ d. ap (λ (e : ℕ × T). e.0) (get_or_append_left front back d place there.0) ∙ there.1 d)
+
+  pub found_in_back : (place : ℕ) → Some place ≡ position (λ e. e.0 == k) back → (length front + place < length (front ++ back)) × HoldsAt (λ entry. entry.0 ≡ k) (front ++ back) (length front + place)
+  found_in_back place is =
+      let there = found k back (Some place) is in
+      (omega (arith, there.0, length-append front back), λ d. ap (λ (e : ℕ × T). e.0) (get_or-append-add front back place d) ∙ there.1 d)
+
+  pub found_in_neither : None ≡ position (λ e. e.0 == k) front → None ≡ position (λ e. e.0 == k) back → ¬ Contains (identifiers (front ++ back)) k
+  found_in_neither ahead behind has =
+      ⊎_elim (found k front None ahead) (found k back None behind)
+      (Contains-append_cases (identifiers front) (identifiers back) k (subst (λ ks. Contains ks k) (map-append (λ (e : ℕ × T). e.0) front back) has))

@@ -69,7 +69,12 @@ impl<T> Entries<T> {
             (λ place. (place < length self.now.all)
             × HoldsAt (λ entry. entry.0 ≡ identifier) self.now.all place) }
     {
-        place_in(&self.held, identifier)
+        let (front, back) = self.held.as_slices();
+        if let Some(place) = place_in(front, identifier) {
+            return Some(place);
+        }
+        let place = place_in(back, identifier)?;
+        Some(front.len() + place)
     }
 
     /// Puts an item behind the others, which are all owed, under the least free identifier, and owes it.
@@ -151,9 +156,9 @@ impl<T> Entries<T> {
     }
 }
 
-/// The place of the first entry with this identifier, if there is one.
-fn place_in<T>(held: &VecDeque<(u16, T)>, identifier: u16) -> Option<usize>
-    ensures { result ≡ position (λ entry. entry.0 == identifier) held.now.items }
+/// The place of the first of these entries with this identifier, if there is one.
+fn place_in<T>(entries: &[(u16, T)], identifier: u16) -> Option<usize>
+    ensures { result ≡ position (λ entry. entry.0 == identifier) entries.now }
 {
-    held.iter().position(|entry| entry.0 == identifier)
+    entries.iter().position(|entry| entry.0 == identifier)
 }
