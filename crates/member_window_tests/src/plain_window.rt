@@ -1,4 +1,4 @@
-//! The window as a plain list, which the window over an ordered map is compared with.
+//! The window as a plain list with no row of free identifiers, which the window is compared with.
 use std::alloc::{AllocError, Global};
 use std::collections::VecDeque;
 
