@@ -1,4 +1,4 @@
-use Rattle.std.proofs.Common.{◌≡◌, ◌+◌, ◌<◌, ◌++◌, length, Contains, sym, ap, ◌∙◌, subst}
+use Rattle.std.proofs.Common.{◌≡◌, ◌+◌, ◌<◌, length, Contains, sym, ap, ◌∙◌, subst}
 use Rattle.std.specs.List.{HoldsAt}
 use Rattle.member_window.specs.Identifiers.{identifiers}
 use Rattle.member_window.proofs.Order.{found_in_front, found_in_back, found_in_neither}
