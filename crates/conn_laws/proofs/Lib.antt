@@ -5,6 +5,7 @@ pub mod Replying
 pub mod Calling
 pub mod Stepping
 pub mod Failing
+pub mod Publishers
 pub mod OneCall
 pub mod OneEnding
 pub mod OneConnecting

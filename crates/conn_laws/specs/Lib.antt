@@ -2,3 +2,4 @@ pub mod Asking
 pub mod Calls
 pub mod Behind
 pub mod Quotas
+pub mod Publishers

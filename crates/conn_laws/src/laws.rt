@@ -10,6 +10,7 @@ ghost use Rattle.conn_engine.specs.declared.standing.Standing.TheVariants as sta
 ghost use Rattle.conn_laws.specs.Asking.{OneAnswer};
 ghost use Rattle.conn_laws.specs.Calls.{StepCalls, FailedCalls};
 ghost use Rattle.conn_laws.specs.Behind.{IsLast, IsAllHandedOut};
+ghost use Rattle.conn_laws.specs.Publishers.{CallsFrom};
 ghost use Rattle.conn_laws.specs.Quotas.{IsWithinQuota};
 ghost use Rattle.conn_engine.specs.Step.{Steps, FailsToStep};
 
@@ -59,6 +60,15 @@ pub fn calls_law<P: Place, S: Supply<P>>()
     ensures failed { (number now : ℕ) (standing : Standing P) (input : Input) (old new : S) →
         FailsToStep S.call P.slot_of old number standing now input new →
         FailedCalls S.call old number standing input new }
+{}
+
+/// **A connection publishes as itself**: whatever a step offers to a group, it offers it from the number of its connection, and so does one that
+/// wants memory (`failed`).
+pub fn publisher_law<P: Place, S: Supply<P>>()
+    ensures stepped { (number now : ℕ) (standing standing' : Standing P) (input : Input) (packets : List Packet) (next : Then) (old new : S) →
+        Steps S.call P.slot_of old number standing now input packets next standing' new → CallsFrom S.call number old new }
+    ensures failed { (number now : ℕ) (standing : Standing P) (input : Input) (old new : S) →
+        FailsToStep S.call P.slot_of old number standing now input new → CallsFrom S.call number old new }
 {}
 
 /// **A step has one outcome** where each call of its supply has one answer, memory aside: the same packets, the same that becomes of

@@ -5,4 +5,4 @@
 
 mod laws;
 
-pub use laws::{calls_law, eager_law, ended_law, one_step_law, quota_law};
+pub use laws::{calls_law, eager_law, ended_law, one_step_law, publisher_law, quota_law};
