@@ -7,5 +7,6 @@ pub mod Over
 pub mod Leaving
 pub mod Calling
 pub mod Quotas
+pub mod Publishers
 pub mod OneReading
 pub mod OneCell

@@ -3,3 +3,4 @@ pub mod Streams
 pub mod Cells
 pub mod Deliveries
 pub mod Quotas
+pub mod Numbers

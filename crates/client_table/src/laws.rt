@@ -7,9 +7,11 @@ ghost use Rattle.conn_engine.specs.declared.supply.NoMemory.{NoMemory};
 ghost use Rattle.conn_laws.specs.Asking.{OneAnswer};
 ghost use Rattle.conn_laws.specs.Behind.{IsLast};
 ghost use Rattle.conn_laws.specs.Calls.{CallsLead};
+ghost use Rattle.conn_laws.specs.Publishers.{CallsFrom};
 ghost use Rattle.client_table.specs.Cells.{Opens, Receives, TicksFor, EndsFor, AbandonsEach};
 ghost use Rattle.client_table.specs.Clients.{ClientState, Said, Moves, IsGivenUp};
 ghost use Rattle.client_table.specs.Deliveries.{Delivers};
+ghost use Rattle.client_table.specs.Numbers.{IsNumbered};
 ghost use Rattle.client_table.specs.Quotas.{IsCellWithinQuota};
 ghost use Rattle.client_table.specs.Streams.{Reads, FailsToRead, Ticks, FailsToTick};
 
@@ -54,6 +56,17 @@ pub fn hand_out_law<P: Place, S: Supply<P>>()
         TicksFor S.call P.slot_of old before now more (Ok tt) after new → Delivers S.call old more new }
     ensures ends { (now : ℕ) (input : Input) (more : List Said) (before after : Option (ClientState P)) (old new : S) →
         EndsFor S.call P.slot_of old before now input more (Ok tt) after new → Delivers S.call old more new }
+{}
+
+/// **A client publishes as its connection**, whatever happens to the client in a cell, with memory and without: whatever is offered for it to a group
+/// is offered from the number of its connection.
+pub fn publisher_law<P: Place, S: Supply<P>>()
+    ensures receives { (number now : ℕ) (piece : List ℕ) (more : List Said) (result : Result (Unit {0}) NoMemory) (before after : Option (ClientState P)) (old new : S) →
+        IsNumbered number before → Receives S.call P.slot_of old before now piece more result after new → CallsFrom S.call number old new }
+    ensures ticks { (number now : ℕ) (more : List Said) (result : Result (Unit {0}) NoMemory) (before after : Option (ClientState P)) (old new : S) →
+        IsNumbered number before → TicksFor S.call P.slot_of old before now more result after new → CallsFrom S.call number old new }
+    ensures ends { (number now : ℕ) (input : Input) (more : List Said) (result : Result (Unit {0}) NoMemory) (before after : Option (ClientState P)) (old new : S) →
+        IsNumbered number before → EndsFor S.call P.slot_of old before now input more result after new → CallsFrom S.call number old new }
 {}
 
 /// **The quota is kept** (section 4.9), whatever happens to the client in a cell, with memory and without: of the PUBLISH packets that it was
