@@ -4,6 +4,7 @@ pub mod Closed
 pub mod Events
 pub mod Happened
 pub mod HandedOut
+pub mod Publishers
 pub mod Holding
 pub mod Outs
 pub mod OneGroup

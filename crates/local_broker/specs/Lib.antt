@@ -6,3 +6,4 @@ pub mod Calls
 pub mod Reporting
 pub mod Histories
 pub mod HandOuts
+pub mod Publishers

@@ -11,9 +11,11 @@ ghost use Rattle.local_broker.specs.Histories.{Happening, HappensAll, AreRunning
 ghost use Rattle.conn_engine.specs.Facts.{Fact};
 ghost use Rattle.conn_engine.specs.Facts.Fact.{Take, TakeBack};
 ghost use Rattle.conn_laws.specs.Asking.{IsSameQuestion, HadMemory};
+ghost use Rattle.conn_laws.specs.Publishers.{CallsFrom};
 ghost use Rattle.local_broker.specs.Alike.{AreAlike};
 ghost use Rattle.local_broker.specs.Calls.{Calls, Closes};
 ghost use Rattle.local_broker.specs.Places.{GroupPlace};
+ghost use Rattle.local_broker.specs.Publishers.{AcceptsThrough, AcceptsNothing, AllAddOnly};
 ghost use Rattle.local_broker.specs.Reporting.{TellsLine};
 
 /// **The desk law holds always**, whatever calls are made of a new broker: at most 256 sessions, no two of one client that are lent
@@ -58,6 +60,14 @@ pub fn hand_out_law()
         IsNewBroker capacity shares first → HappensAll first happenings b →
         (slot : ℕ) (group : Group) → slice_get b.groups slot ≡ Some group →
         handed_in_all group.events ≡ seen_by_group slot (handed_by_all happenings) }
+{}
+
+/// **A connection publishes through the port of its number**: whatever a group accepts by the calls of a connection, it accepts through that port. And
+/// nothing is accepted by the close, nor behind it (`close`).
+pub fn publisher_law()
+    ensures calls { (number : ℕ) (old new : Broker) → CallsFrom Calls number old new → AllAddOnly (AcceptsThrough number) old new }
+    ensures close { (happenings : List Happening) (old closed new : Broker) →
+        Closes old closed → HappensAll closed happenings new → AllAddOnly AcceptsNothing old new }
 {}
 
 /// **A broker answers each question in one way**, memory aside: of two brokers that are alike and keep the desk law, each answers a call
