@@ -10,6 +10,7 @@ use Rattle.conn_engine.specs.declared.supply.NoMemory.{NoMemory}
 use Rattle.conn_engine.specs.declared.standing.Standing.{Standing}
 use Rattle.conn_engine.specs.declared.standing.Standing.TheVariants.{Unconnected, Waiting, Connected, Ended}
 use Rattle.client_table.specs.Clients.{ClientState, Said, IsGivenUp}
+use Rattle.client_table.specs.Numbers.{IsNumbered}
 use Rattle.client_table.specs.Streams.{fed, Reads, FailsToReadOne, FailsToRead, Ticks, FailsToTick}
 use Rattle.client_table.specs.Cells.{kept_as, kept, InCell, Opens, Receives, TicksFor, EndsFor}
 use Rattle.local_broker.specs.Places.{GroupPlace}
@@ -68,11 +69,6 @@ fails_to_tick [] number old new client after now is fails = (fails_at_tick numbe
 fails_to_tick (said ∷ rest) number old new client after now is fails =
     let later = fails_to_read rest number fails.1 new fails.0 after now (fails.2.same ∙ is) fails.4 in (later.0, (fails.2.told ∙ is, later.1))
 
--- what is in a cell has its number
-abbrev IsNumbered : ℕ → Option (ClientState GroupPlace) → Type 0
-IsNumbered number None = ⊤
-IsNumbered number (Some client) = client.conn.number ≡ number
-
 stays : (standing : Standing GroupPlace) (number : ℕ) (client : ClientState GroupPlace) → client.conn.number ≡ number → IsNumbered number (kept_as standing client)
 stays (Unconnected opened) number client is = is
 stays (Waiting request count) number client is = is
@@ -122,7 +118,7 @@ ends_for (Err error) (Some client) number old new now input more after is does =
     becomes number more does.0 after does.2 (given_up number old new client does.0 now input is does.1.1, subst (AreSaidTo number) (sym does.1.0) tt)
 
 -- a cell among the others
-at : (cell : Option (ClientState GroupPlace)) (clients : Clients) (number : ℕ) → AreNumbered clients → slice_get clients number ≡ Some cell → IsNumbered number cell
+pub at : (cell : Option (ClientState GroupPlace)) (clients : Clients) (number : ℕ) → AreNumbered clients → slice_get clients number ≡ Some cell → IsNumbered number cell
 at None clients number all has = tt
 at (Some client) clients number all has = all number client has
 

@@ -114,6 +114,10 @@ first_ended (suc number) old new clients clients' now said result ends =
     subst (λ r. Ran r old said new) (sym ends.9)
     (behind ends.4 ends.5 old ends.0 new ends.2 ends.3 said ends.8 (first_ended number old ends.0 clients ends.1 now ends.2 ends.4 ends.6) (ended_at number ends.5 ends.0 new ends.1 clients' now ends.3 ends.7))
 
+pub each_ended : (number : ℕ) (old new : Broker) (clients clients' : Clients) (now : ℕ) (said : List Said) (result : Result (Unit {0}) NoMemory)
+    → EndsFirst number old clients now said result clients' new → HaveLed old new
+each_ended number old new clients clients' now said result ends = let run = first_ended number old new clients clients' now said result ends in (run.happenings, run.led)
+
 all_closed : (old closed : Broker) → Closes old closed → Ran (Ok tt) old [] closed
 all_closed old closed closes = record { happenings = Closed ∷ []; led = (closed, closes, refl); told = λ ok. refl }
 

@@ -4,5 +4,6 @@ pub mod Happened
 pub mod Quotas
 pub mod Headline
 pub mod Addressed
+pub mod Publishers
 pub mod Emptied
 pub mod OneRun

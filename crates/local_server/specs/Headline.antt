@@ -19,7 +19,8 @@ pub record IsOneFirst (events : List Event) (member : ℕ) (job : Job) : Type 0 
   pub once : StandsOnce (firsts_in events member) job
   pub no_other : (other : ℕ) → other ≢ member → ¬ Contains (firsts_in events other) job
 
--- what holds of a group. A job is a message that was accepted: the port is its publisher's connection, the number its place there
+-- what holds of a group. A job is a message that was accepted: the port is its publisher's connection, as `publisher_law` has it, the number its
+-- place there
 pub record KeepsPromises (group : Group) : Type 0 where
   -- each accepted message is first handed to at most one member, once
   pub one_member : (member : ℕ) (job : Job) → Contains (firsts_in group.events member) job → IsOneFirst group.events member job

@@ -6,3 +6,4 @@ pub mod Runs
 pub mod Quotas
 pub mod Headline
 pub mod Addressed
+pub mod Publishers

@@ -17,6 +17,7 @@ ghost use Rattle.local_server.specs.Headline.{HoldsTheHeadline};
 ghost use Rattle.local_server.specs.Quotas.{AllWithinQuota};
 ghost use Rattle.local_server.specs.Runs.{HaveLed, AllRunLawfully};
 ghost use Rattle.local_server.specs.Addressed.{Answers};
+ghost use Rattle.local_server.specs.Publishers.{AcceptsFrom};
 
 /// **The headline on one thread**, whatever events happen to a server, over however many connections and in whatever order: each accepted
 /// message is first handed to at most one member, once; each member's first hand-outs from a publisher keep that publisher's order; no
@@ -75,6 +76,14 @@ pub fn addressing_law()
     ensures { (setup : Setup) (events : List TimedEvent) (earlier said : List Said) (moment : ℕ) (event : Event) (result : Result (Unit {0}) NoMemory)
         (first old new : ServerState) →
         IsNewServer setup first → HappensAll first events earlier old → Happens old moment event said result new → Answers event said }
+{}
+
+/// **A port is its publisher's connection**: whatever a group accepts in an event of a connection, it accepts through the port of that connection's number, and
+/// in a close it accepts nothing; behind whatever events, and whether memory was wanted or not.
+pub fn publisher_law()
+    ensures { (setup : Setup) (events : List TimedEvent) (earlier said : List Said) (moment : ℕ) (event : Event) (result : Result (Unit {0}) NoMemory)
+        (first old new : ServerState) →
+        IsNewServer setup first → HappensAll first events earlier old → Happens old moment event said result new → AcceptsFrom event old.broker new.broker }
 {}
 
 /// **A close ends every connection**, whether memory was wanted or not: none of the 64 is open behind it.
