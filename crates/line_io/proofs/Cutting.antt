@@ -1,8 +1,6 @@
 -- Where pieces are cut.
-use Rattle.std.proofs.Common.{◌≡◌, ℕ, ◌+◌, ◌<◌, ◌≤◌, suc, zero, not, ltb-false, Bool, true, false, cond, eqb, List, [], ◌∷◌, length, get_or, take, drop, refl, ap, sym, arith, Some, None, add-one}
-use Rattle.std.proofs.lemmas.List.Sums.{prefix_len_passes}
-use Rattle.std.proofs.lemmas.List.Quantifiers.{position-Some}
-use Rattle.std.specs.List.{position, position_or_len}
+use Rattle.std.proofs.Common.{◌≡◌, ℕ, ◌+◌, ◌<◌, suc, zero, Bool, true, false, eqb, List, [], ◌∷◌, length, get_or, take, drop, refl, ap, arith, Some, None, add-one}
+use Rattle.memchr.specs.Find.{IsFirstByte}
 use Rattle.line_io.specs.Lines.{cut_at, onto_first}
 
 module _ (separator : ℕ) (last : List (List ℕ)) where
@@ -16,11 +14,13 @@ module _ (separator : ℕ) (last : List (List ℕ)) where
   cut_here (x ∷ xs) (suc end) within here before =
       rw (before 0 (omega arith)) (ap (onto_first x) (cut_here xs end (omega arith) here (λ k h. before (suc k) (omega arith))))
 
+  is_other : (b : Bool) → ¬ (b ≡ true) → b ≡ false
+  is_other true differs = absurd (differs refl)
+  is_other false differs = refl
+
   -- the first piece ends at the first separator
-  pub cut_first : (xs : List ℕ) (end : ℕ) → position ends xs ≡ Some end → cut_at separator last xs ≡ take end xs ∷ cut_at separator last (drop (end + 1) xs)
-  cut_first xs end found =
-      let at = position-Some ends xs end 0 found in
-      rw add-one (cut_here xs end at.0 at.1 at.2)
+  pub cut_first : (xs : List ℕ) (end : ℕ) → IsFirstByte ends xs (Some end) → cut_at separator last xs ≡ take end xs ∷ cut_at separator last (drop (end + 1) xs)
+  cut_first xs end found = rw add-one (cut_here xs end found.0.high found.1 (λ k h. is_other _ (found.0.before k (omega arith) h)))
 
   -- where no separator is, there is one piece
   cut_without : ((x : ℕ) → onto_first x last ≡ (x ∷ []) ∷ []) → (x : ℕ) (xs : List ℕ) → ((k : ℕ) → k < length (x ∷ xs) → ends (get_or (x ∷ xs) k 0) ≡ false)
@@ -29,16 +29,6 @@ module _ (separator : ℕ) (last : List (List ℕ)) where
   cut_without one x (y ∷ ys) none =
       rw (none 0 (omega arith)) (ap (onto_first x) (cut_without one y ys (λ k h. none (suc k) (omega arith))))
 
-  false_from_none : (b : Bool) (n : ℕ) → cond b (Some n) None ≡ None → b ≡ false
-  false_from_none true n e = cc
-  false_from_none false n e = refl
-
-  not_from_true : (b : Bool) → not b ≡ true → b ≡ false
-  not_from_true true e = sym e
-  not_from_true false e = refl
-
-  pub cut_none : ((x : ℕ) → onto_first x last ≡ (x ∷ []) ∷ []) → (xs : List ℕ) → 0 < length xs → position ends xs ≡ None → cut_at separator last xs ≡ xs ∷ []
+  pub cut_none : ((x : ℕ) → onto_first x last ≡ (x ∷ []) ∷ []) → (xs : List ℕ) → 0 < length xs → IsFirstByte ends xs None → cut_at separator last xs ≡ xs ∷ []
   cut_none one [] some none = absurd (omega arith)
-  cut_none one (x ∷ xs) some none =
-      let past : length (x ∷ xs) ≤ position_or_len ends (x ∷ xs) = ltb-false _ _ (false_from_none _ _ none) in
-      cut_without one x xs (λ k h. not_from_true _ (prefix_len_passes (λ b. not (ends b)) (x ∷ xs) k 0 (omega arith)))
+  cut_none one (x ∷ xs) some none = cut_without one x xs (λ k h. is_other _ (none k (omega arith) h))

@@ -1,8 +1,9 @@
 //! All of an input, and its lines.
-ghost use Rattle.std.specs.Prelude.{◌≡◌, ◌<◌, ◌==◌, ◌∷◌, length, vec_len, position, IfOk, IfErr, IfSome};
+ghost use Rattle.std.specs.Prelude.{◌≡◌, ◌<◌, ◌∷◌, length, vec_len, IfOk, IfErr, IfSome};
 ghost use Rattle.line_io.specs.Lines.{lines_of, IsNoLine};
 
 use crate::error::RunError;
+use memchr::memchr;
 use std::alloc::{AllocError, Global};
 use std::io::{ErrorKind, Read};
 
@@ -41,20 +42,13 @@ pub fn read_all<R: Read>(alloc: Global, reader: &mut R) -> Result<Vec<u8>, RunEr
     Err(RunError::Device)
 }
 
-/// Where the first byte 0A stands.
-fn end_of_line(input: &[u8]) -> Option<usize>
-    ensures { result ≡ position (λ byte. byte == 10) input.now }
-{
-    input.iter().position(|byte| *byte == b'\n')
-}
-
 /// The first line of an input that is not empty, without the 0A that ends it, and what follows.
 pub fn split_line(input: &[u8]) -> (&[u8], &[u8])
     requires { 0 < length input.now }
     ensures lines { lines_of input.now ≡ result.0.now ∷ lines_of result.1.now }
     ensures fewer { length result.1.now < length input.now }
 {
-    match end_of_line(input) {
+    match memchr(b'\n', input) {
         Some(end) => (&input[..end], &input[end + 1..]),
         None => (input, &[]),
     }
