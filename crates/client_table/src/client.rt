@@ -8,10 +8,11 @@ ghost use Rattle.client_table.specs.Streams.{fed, reading_behind, ReadsAs, Fails
 
 use crate::said::Said;
 use conn_engine::{Conn, Input, NoMemory, Supply, Then};
-use mqtt_wire::{Fault, Splitter};
+use mqtt_wire::{Fault, Packet, Splitter};
 use session_desk::Place;
 use std::alloc::Global;
 use std::marker::Model;
+use std::mem;
 
 /// What came of reading once.
 enum Reading {
@@ -42,6 +43,8 @@ pub struct Client<P> {
     number: u8,
     conn: Conn<P>,
     stream: Splitter,
+    // The packets of a step. Where it writes none, their room serves the next one.
+    packets: Vec<Packet>,
     alloc: Global,
 }
 
@@ -65,6 +68,7 @@ impl<P> Client<P> {
             number,
             conn: Conn::open(alloc, u16::from(number), now),
             stream: Splitter::new(alloc),
+            packets: Vec::new(alloc),
             alloc,
         }
     }
@@ -84,6 +88,7 @@ impl<P> Client<P> {
             number: _,
             conn,
             stream: _,
+            packets: _,
             alloc: _,
         } = self;
         conn.end();
@@ -193,9 +198,9 @@ impl<P: Place> Client<P> {
             (λ _. (said.new ≡ said.old) × FailsToMove S.call P.slot_of supply.old self.old now input self.new supply.new) }
         ensures unread { self.new.unread ≡ self.old.unread }
     {
-        let mut packets = Vec::new(self.alloc);
-        match self.conn.step(supply, now, input, &mut packets) {
+        match self.conn.step(supply, now, input, &mut self.packets) {
             Ok(next) => {
+                let packets = take_all(self.alloc, &mut self.packets);
                 said.push_reserved(Said::new(self.number, packets, next));
                 Ok(next)
             }
@@ -305,4 +310,14 @@ impl<P: Place> Client<P> {
             Err(NoMemory) => Err(NoMemory),
         }
     }
+}
+
+/// Takes the packets out of a list. Where it has none, it keeps its room.
+fn take_all(alloc: Global, packets: &mut Vec<Packet>) -> Vec<Packet>
+    ensures { result.items ≡ packets.old.items }
+{
+    if packets.is_empty() {
+        return Vec::new(alloc);
+    }
+    mem::replace(packets, Vec::new(alloc))
 }

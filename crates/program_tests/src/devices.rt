@@ -1,4 +1,5 @@
 //! A reader and a writer that fail.
+use std::alloc::Global;
 use std::io;
 use std::io::{ErrorKind, Read, Write};
 
@@ -16,7 +17,17 @@ impl Read for Broken {
 #[derive(Drop)]
 pub(crate) struct Narrow {
     pub(crate) taken: Vec<u8>,
-    pub(crate) room: usize,
+    room: usize,
+}
+
+impl Narrow {
+    /// One that has taken nothing, and has room for so many bytes.
+    pub(crate) fn new(alloc: Global, room: usize) -> Narrow {
+        Narrow {
+            taken: Vec::new(alloc),
+            room,
+        }
+    }
 }
 
 impl Write for Narrow {
