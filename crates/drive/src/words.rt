@@ -1,7 +1,8 @@
 //! The words of a line.
-ghost use Rattle.std.specs.Prelude.{◌≡◌, ◌==◌, ◌∷◌, [], MatchOption, position};
+ghost use Rattle.std.specs.Prelude.{◌≡◌, ◌∷◌, [], MatchOption};
 ghost use Rattle.drive.specs.Words.{words_of};
 
+use memchr::memchr;
 use std::marker::Model;
 
 /// The words of a line that are left: it is cut at each blank.
@@ -40,7 +41,7 @@ impl<'a> Words<'a> {
             return None;
         }
         let line = self.rest;
-        match first_blank(line) {
+        match memchr(b' ', line) {
             Some(end) => {
                 self.rest = &line[end + 1..];
                 Some(&line[..end])
@@ -51,11 +52,4 @@ impl<'a> Words<'a> {
             }
         }
     }
-}
-
-/// Where the first blank stands.
-fn first_blank(line: &[u8]) -> Option<usize>
-    ensures { result ≡ position (λ byte. byte == 32) line.now }
-{
-    line.iter().position(|byte| *byte == b' ')
 }

@@ -1,5 +1,4 @@
 //! A reader and a writer that fail.
-use std::alloc::Global;
 use std::io;
 use std::io::{ErrorKind, Read, Write};
 
@@ -17,17 +16,7 @@ impl Read for Broken {
 #[derive(Drop)]
 pub(crate) struct Narrow {
     pub(crate) taken: Vec<u8>,
-    room: usize,
-}
-
-impl Narrow {
-    /// One that has taken nothing, and has room for so many bytes.
-    pub(crate) fn new(alloc: Global, room: usize) -> Narrow {
-        Narrow {
-            taken: Vec::new(alloc),
-            room,
-        }
-    }
+    pub(crate) room: usize,
 }
 
 impl Write for Narrow {

@@ -2,18 +2,15 @@
 use crate::devices::{Broken, Narrow};
 use program::run;
 use std::alloc::{AllocError, Global};
+use std::io;
 use std::io::{ErrorKind, Read};
 use std::test::Fail;
-use std::{io, str};
 
 /// A CONNECT.
 const CONNECTED: &[u8] = b"100F00044D5154540502003C0000027731\n";
 
 /// The answer to it: a CONNACK with Maximum QoS 1, no retained messages, Maximum Packet Size 65,536 and no subscription identifiers.
 const CONNACK: &str = "200e00000b2401250027000100002900\n";
-
-/// Room for all that is written.
-const ENOUGH: usize = 4096;
 
 /// The words of a line, cut at each blank.
 fn words_of(alloc: Global, line: &str) -> Result<Vec<String>, AllocError> {
@@ -24,67 +21,66 @@ fn words_of(alloc: Global, line: &str) -> Result<Vec<String>, AllocError> {
     Ok(words)
 }
 
-/// What a run leaves, as a text: its status, and on the lines behind it its output, and behind `!` its error output.
-fn as_text(alloc: Global, status: u8, output: &[u8], errors: &[u8]) -> Result<String, AllocError> {
-    match (str::from_utf8(output), str::from_utf8(errors)) {
-        (Ok(output), Ok(errors)) => format!(in alloc; "{status}\n{output}!{errors}"),
-        _ => String::from_str(alloc, "no text"),
+/// How the program ended.
+#[derive(Drop)]
+struct Ended {
+    status: u8,
+    output: Vec<u8>,
+    errors: Vec<u8>,
+}
+
+/// The program, run with these words on this input.
+fn ran<R: Read>(alloc: Global, line: &str, reader: &mut R) -> Result<Ended, AllocError> {
+    let words = words_of(alloc, line)?;
+    let mut output = Vec::new(alloc);
+    let mut errors = Vec::new(alloc);
+    let status = run(alloc, Ok(words), reader, &mut output, &mut errors);
+    Ok(Ended {
+        status,
+        output,
+        errors,
+    })
+}
+
+/// Whether a text has this part.
+fn has(text: &[u8], part: &str) -> bool {
+    match std::str::from_utf8(text) {
+        Ok(text) => text.contains(part),
+        Err(_) => false,
     }
 }
 
-/// What the program leaves of these words, where its outputs have so much room.
-fn left_of<R: Read>(
-    alloc: Global,
-    words: io::Result<Vec<String>>,
-    reader: &mut R,
-    output_room: usize,
-    errors_room: usize,
-) -> Result<String, AllocError> {
-    let mut output = Narrow::new(alloc, output_room);
-    let mut errors = Narrow::new(alloc, errors_room);
-    let status = run(alloc, words, reader, &mut output, &mut errors);
-    as_text(alloc, status, &output.taken, &errors.taken)
-}
-
-/// What the program leaves of the words of this line.
-fn left<R: Read>(alloc: Global, line: &str, reader: &mut R) -> Result<String, AllocError> {
-    left_of(alloc, Ok(words_of(alloc, line)?), reader, ENOUGH, ENOUGH)
-}
-
 #[test]
-fn solo_ends(rt: HostRuntime) -> Result<(), Fail> {
-    let left = left(rt.alloc(), "share_broker solo", &mut &CONNECTED[..])?;
-    let wanted = format!(in rt.alloc(); "0\n{CONNACK}!")?;
-    assert_eq!(rt; left.as_str(), wanted.as_str());
-    Ok(())
-}
-
-#[test]
-fn drive_ends(rt: HostRuntime) -> Result<(), Fail> {
+fn commands_that_end(rt: HostRuntime) -> Result<(), Fail> {
+    let ended = ran(rt.alloc(), "share_broker solo", &mut &CONNECTED[..])?;
+    assert_eq!(rt; ended.status, 0);
+    assert_eq!(rt; ended.output.as_slice(), CONNACK.as_bytes());
+    assert_eq!(rt; ended.errors.len(), 0);
     let events: &[u8] = b"0 open 7\n0 bytes 7 100F00044D5154540502003C0000027731\n0 end 7\n";
-    let left = left(rt.alloc(), "share_broker drive", &mut &events[..])?;
-    let wanted = format!(in rt.alloc(); "0\n7 {CONNACK}7 close\n!")?;
-    assert_eq!(rt; left.as_str(), wanted.as_str());
+    let ended = ran(rt.alloc(), "share_broker drive", &mut &events[..])?;
+    let output = format!(in rt.alloc(); "7 {CONNACK}7 close\n")?;
+    assert_eq!(rt; ended.status, 0);
+    assert_eq!(rt; ended.output.as_slice(), output.as_bytes());
+    assert_eq!(rt; ended.errors.len(), 0);
     Ok(())
 }
 
 #[test]
-fn help_is_shown(rt: HostRuntime) -> Result<(), Fail> {
-    let left = left(rt.alloc(), "share_broker --help", &mut Broken)?;
-    assert!(rt; left.starts_with("0\n"));
-    assert!(rt; left.contains("Usage: share_broker <COMMAND>"));
-    assert!(rt; left.ends_with("!"));
+fn texts_are_shown(rt: HostRuntime) -> Result<(), Fail> {
+    let help = ran(rt.alloc(), "share_broker --help", &mut Broken)?;
+    assert_eq!(rt; help.status, 0);
+    assert!(rt; has(&help.output, "Usage: share_broker <COMMAND>"));
+    assert_eq!(rt; help.errors.len(), 0);
+    let version = ran(rt.alloc(), "share_broker --version", &mut Broken)?;
+    assert_eq!(rt; version.status, 0);
+    assert_eq!(rt;
+        version.output.as_slice(),
+        "share_broker 0.1.0\n".as_bytes()
+    );
+    assert_eq!(rt; version.errors.len(), 0);
     Ok(())
 }
 
-#[test]
-fn version_is_shown(rt: HostRuntime) -> Result<(), Fail> {
-    let left = left(rt.alloc(), "share_broker --version", &mut Broken)?;
-    assert_eq!(rt; left.as_str(), "0\nshare_broker 0.1.0\n!");
-    Ok(())
-}
-
-/// Nothing is read where the words are wrong.
 #[test]
 fn wrong_words(rt: HostRuntime) -> Result<(), Fail> {
     let rows = [
@@ -94,10 +90,12 @@ fn wrong_words(rt: HostRuntime) -> Result<(), Fail> {
     ];
     for (line, text) in rows.iter() {
         let mut reader = CONNECTED;
-        let left = left(rt.alloc(), line, &mut reader)?;
-        assert!(rt; left.starts_with("2\n!error: "));
-        assert!(rt; left.contains(text));
+        let ended = ran(rt.alloc(), line, &mut reader)?;
+        assert_eq!(rt; ended.status, 2);
         assert_eq!(rt; reader.len(), CONNECTED.len());
+        assert_eq!(rt; ended.output.len(), 0);
+        assert!(rt; ended.errors.starts_with(b"error: "));
+        assert!(rt; has(&ended.errors, text));
     }
     Ok(())
 }
@@ -108,44 +106,63 @@ fn no_words(rt: HostRuntime) -> Result<(), Fail> {
     let rows = [
         (
             ErrorKind::InvalidData,
-            "2\n!error: a word is no UTF-8 text\n",
+            2,
+            "error: a word is no UTF-8 text\n",
         ),
-        (ErrorKind::OutOfMemory, "4\n!memory\n"),
+        (ErrorKind::OutOfMemory, 4, "memory\n"),
     ];
-    for (kind, wanted) in rows.iter() {
+    for (kind, status, text) in rows.iter() {
+        let mut output = Vec::new(rt.alloc());
+        let mut errors = Vec::new(rt.alloc());
         let words = Err(io::Error::from(*kind));
-        let left = left_of(rt.alloc(), words, &mut Broken, ENOUGH, ENOUGH)?;
-        assert_eq!(rt; left.as_str(), *wanted);
+        let ended = run(rt.alloc(), words, &mut Broken, &mut output, &mut errors);
+        assert_eq!(rt; ended, *status);
+        assert_eq!(rt; output.len(), 0);
+        assert_eq!(rt; errors.as_slice(), text.as_bytes());
     }
     Ok(())
 }
 
 #[test]
 fn reader_fails(rt: HostRuntime) -> Result<(), Fail> {
-    let left = left(rt.alloc(), "share_broker solo", &mut Broken)?;
-    assert_eq!(rt; left.as_str(), "3\n!device\n");
+    let ended = ran(rt.alloc(), "share_broker solo", &mut Broken)?;
+    assert_eq!(rt; ended.status, 3);
+    assert_eq!(rt; ended.output.len(), 0);
+    assert_eq!(rt; ended.errors.as_slice(), "device\n".as_bytes());
     Ok(())
 }
 
-/// The output takes so much of an answer and then fails.
+/// The output takes so much and then fails, of a command and of a text that is shown.
 #[test]
 fn output_fails(rt: HostRuntime) -> Result<(), Fail> {
     for room in 0..CONNACK.len() {
-        let words = Ok(words_of(rt.alloc(), "share_broker solo")?);
-        let left = left_of(rt.alloc(), words, &mut &CONNECTED[..], room, ENOUGH)?;
-        let begun = CONNACK.get(..room).unwrap_or("");
-        let wanted = format!(in rt.alloc(); "3\n{begun}!device\n")?;
-        assert_eq!(rt; left.as_str(), wanted.as_str());
+        let mut output = Narrow {
+            taken: Vec::new(rt.alloc()),
+            room,
+        };
+        let mut errors = Vec::new(rt.alloc());
+        let words = words_of(rt.alloc(), "share_broker solo")?;
+        let status = run(
+            rt.alloc(),
+            Ok(words),
+            &mut &CONNECTED[..],
+            &mut output,
+            &mut errors,
+        );
+        assert_eq!(rt; status, 3);
+        assert_eq!(rt; output.taken.as_slice(), &CONNACK.as_bytes()[..room]);
+        assert_eq!(rt; errors.as_slice(), "device\n".as_bytes());
     }
-    Ok(())
-}
-
-/// The output takes so much of a text that is shown and then fails.
-#[test]
-fn showing_fails(rt: HostRuntime) -> Result<(), Fail> {
-    let words = Ok(words_of(rt.alloc(), "share_broker --version")?);
-    let left = left_of(rt.alloc(), words, &mut Broken, 12, ENOUGH)?;
-    assert_eq!(rt; left.as_str(), "3\nshare_broker!device\n");
+    let mut output = Narrow {
+        taken: Vec::new(rt.alloc()),
+        room: 12,
+    };
+    let mut errors = Vec::new(rt.alloc());
+    let words = words_of(rt.alloc(), "share_broker --version")?;
+    let status = run(rt.alloc(), Ok(words), &mut Broken, &mut output, &mut errors);
+    assert_eq!(rt; status, 3);
+    assert_eq!(rt; output.taken.as_slice(), "share_broker".as_bytes());
+    assert_eq!(rt; errors.as_slice(), "device\n".as_bytes());
     Ok(())
 }
 
@@ -153,34 +170,41 @@ fn showing_fails(rt: HostRuntime) -> Result<(), Fail> {
 #[test]
 fn error_output_fails(rt: HostRuntime) -> Result<(), Fail> {
     let rows = [
-        ("share_broker solo", "5\n!input"),
-        ("share_broker serve", "2\n!error"),
+        ("share_broker solo", 5, "input"),
+        ("share_broker serve", 2, "error"),
     ];
-    for (line, wanted) in rows.iter() {
-        let words = Ok(words_of(rt.alloc(), line)?);
-        let left = left_of(rt.alloc(), words, &mut &b"0"[..], ENOUGH, 5)?;
-        assert_eq!(rt; left.as_str(), *wanted);
+    for (line, status, text) in rows.iter() {
+        let mut output = Vec::new(rt.alloc());
+        let mut errors = Narrow {
+            taken: Vec::new(rt.alloc()),
+            room: 5,
+        };
+        let words = words_of(rt.alloc(), line)?;
+        let ended = run(
+            rt.alloc(),
+            Ok(words),
+            &mut &b"0"[..],
+            &mut output,
+            &mut errors,
+        );
+        assert_eq!(rt; ended, *status);
+        assert_eq!(rt; output.len(), 0);
+        assert_eq!(rt; errors.taken.as_slice(), text.as_bytes());
     }
     Ok(())
 }
 
 #[test]
 fn bad_line(rt: HostRuntime) -> Result<(), Fail> {
-    let rows = [
-        (
-            "share_broker solo",
-            "100F00044D5154540502003C0000027731\n\n0x\n",
-            "5\n!input line 3\n",
-        ),
-        (
-            "share_broker drive",
-            "0 open 0\n0 open 64\n",
-            "5\n!input line 2\n",
-        ),
-    ];
-    for (line, input, wanted) in rows.iter() {
-        let left = left(rt.alloc(), line, &mut input.as_bytes())?;
-        assert_eq!(rt; left.as_str(), *wanted);
-    }
+    let input: &[u8] = b"100F00044D5154540502003C0000027731\n\n0x\n";
+    let ended = ran(rt.alloc(), "share_broker solo", &mut &input[..])?;
+    assert_eq!(rt; ended.status, 5);
+    assert_eq!(rt; ended.output.len(), 0);
+    assert_eq!(rt; ended.errors.as_slice(), "input line 3\n".as_bytes());
+    let events: &[u8] = b"0 open 0\n0 open 64\n";
+    let ended = ran(rt.alloc(), "share_broker drive", &mut &events[..])?;
+    assert_eq!(rt; ended.status, 5);
+    assert_eq!(rt; ended.output.len(), 0);
+    assert_eq!(rt; ended.errors.as_slice(), "input line 2\n".as_bytes());
     Ok(())
 }
