@@ -1,5 +1,5 @@
 -- Laws of matching.
-use Rattle.std.proofs.Common.{◌≡◌, ℕ, ◌<◌, Bool, true, false, not, ◌&&◌, ◌||◌, cond, eqb, List, [], ◌∷◌, ◌++◌, length, refl, sym, ap, ◌∙◌, arith, inl, inr}
+use Rattle.std.proofs.Common.{◌≡◌, ℕ, ◌<◌, Bool, true, false, not, ◌&&◌, ◌||◌, cond, eqb, List, [], ◌∷◌, ◌++◌, length, refl, sym, ap, subst, ◌∙◌, arith, inl, inr}
 use Rattle.std.specs.Prelude.{bytes_eq, ◌↔◌}
 use Rattle.std.specs.List.{list_any, join_with_byte}
 use Rattle.std.proofs.lemmas.Bool.{cases_Bool, and_parts, and_from, eqb-true, not-true}
@@ -20,6 +20,15 @@ or_true false = refl
 and_true : (b : Bool) → (b && true) ≡ b
 and_true true = refl
 and_true false = refl
+
+-- ---- a text and itself
+
+own_text : (levels : List (List ℕ)) → matches_levels levels levels ≡ true
+own_text [] = refl
+own_text (level ∷ levels) = rw (bytes_same level, or_true (bytes_eq level (43 ∷ [])), own_text levels) (or_true (is_multi_level level levels))
+
+pub very_name : (filter name : List ℕ) → bytes_eq filter name ≡ true → matches_levels (levels_of filter) (levels_of name) ≡ true
+very_name filter name same = subst (λ other. matches_levels (levels_of filter) (levels_of other) ≡ true) ((bytes_eq-Decides filter name).0 same) (own_text (levels_of filter))
 
 -- ---- `#`
 

@@ -35,7 +35,14 @@ pub(crate) fn has_wildcard(text: &[u8]) -> bool
 pub(crate) fn matches(filter: &[u8], name: &[u8]) -> bool
     ensures { result ≡ matches filter.now name.now }
 {
-    !is_hidden(filter, name) && match_levels(filter, name)
+    !is_hidden(filter, name) && match_texts(filter, name)
+}
+
+/// Whether the levels of the filter match those of the name. Most filters are the very name, which is seen without a look at the levels.
+fn match_texts(filter: &[u8], name: &[u8]) -> bool
+    ensures { result ≡ matches_levels (levels_of filter.now) (levels_of name.now) }
+{
+    filter == name || match_levels(filter, name)
 }
 
 /// Whether the filter begins with a wildcard and the name with `$`.

@@ -37,6 +37,14 @@ impl TopicName {
         }
     }
 
+    /// The topic name that a text is known to be. It is not looked at again.
+    pub fn known(text: Text) -> TopicName
+        requires { name_of text ≡ Ok text }
+        ensures { result ≡ text }
+    {
+        TopicName { text }
+    }
+
     /// The bytes of the name, as UTF-8.
     pub fn as_bytes(&self) -> &[u8]
         ensures bytes { result.now ≡ self.now }
