@@ -75,9 +75,7 @@ fn matching<P, S: Supply<P>>(supply: &mut S, topic: Text) -> (Slots, Text)
     ensures asked { S.call supply.old (Match topic result.0) supply.new }
     ensures topic { result.1 ≡ topic }
 {
-    let Ok(name) = TopicName::parse(topic) else {
-        unreachable!()
-    };
+    let name = TopicName::known(topic);
     let slots = supply.matching(&name);
     (slots, name.into_text())
 }
