@@ -1,0 +1,127 @@
+//! A broker with its clients, and what they are written.
+ghost use Rattle.std.specs.Prelude.{◌<◌};
+
+use crate::refusing::{Refused, Refusing};
+use client_table::{ClientTable, Said};
+use local_broker::LocalPlace;
+use mqtt_topic::Routes;
+use mqtt_wire::encode_into;
+use std::alloc::Global;
+use std::process::Abort;
+
+/// How many clients there are: two members and a publisher.
+const CLIENTS: u8 = 3;
+
+/// A broker with its clients, and what was said in the last event.
+pub(crate) struct Hall {
+    supply: Refusing,
+    clients: ClientTable<LocalPlace>,
+    said: Vec<Said>,
+    alloc: Global,
+}
+
+impl Hall {
+    /// A new broker, which refuses these calls, and three connections.
+    pub(crate) fn open(rt: &impl Abort, alloc: Global, refused: Refused) -> Hall {
+        let mut clients = ClientTable::new(alloc).expect(rt, "memory");
+        for number in 0..CLIENTS {
+            clients.open(number, 0);
+        }
+        Hall {
+            supply: Refusing::open(alloc, Routes::new(alloc), refused).expect(rt, "memory"),
+            clients,
+            said: Vec::new(alloc),
+            alloc,
+        }
+    }
+
+    /// A connection of this number is opened anew.
+    pub(crate) fn reopen(&mut self, number: u8)
+        requires { number < 64 }
+    {
+        self.clients.open(number, 0);
+    }
+
+    /// A piece of a client's stream comes, and these bytes are written.
+    pub(crate) fn bytes(&mut self, rt: &impl Abort, number: u8, piece: &[u8], written: &[&[u8]])
+        requires { number < 64 }
+    {
+        self.said.clear();
+        let received = self
+            .clients
+            .receive(&mut self.supply, number, 0, piece, &mut self.said);
+        assert!(rt; received.is_ok());
+        self.compare(rt, written);
+    }
+
+    /// A piece comes, and memory is wanted for one of its packets: these bytes are written of those before it.
+    pub(crate) fn bytes_refused(
+        &mut self,
+        rt: &impl Abort,
+        number: u8,
+        piece: &[u8],
+        written: &[&[u8]],
+    )
+        requires { number < 64 }
+    {
+        self.said.clear();
+        let received = self
+            .clients
+            .receive(&mut self.supply, number, 0, piece, &mut self.said);
+        assert!(rt; received.is_err());
+        self.compare(rt, written);
+    }
+
+    /// Time goes on for a connection, and these bytes are written.
+    pub(crate) fn tick(&mut self, rt: &impl Abort, number: u8, written: &[&[u8]])
+        requires { number < 64 }
+    {
+        self.said.clear();
+        let ticked = self
+            .clients
+            .tick(&mut self.supply, number, 0, &mut self.said);
+        assert!(rt; ticked.is_ok());
+        self.compare(rt, written);
+    }
+
+    /// Time goes on for a connection, and memory is wanted for what it is handed: nothing is written.
+    pub(crate) fn tick_refused(&mut self, rt: &impl Abort, number: u8)
+        requires { number < 64 }
+    {
+        self.said.clear();
+        let ticked = self
+            .clients
+            .tick(&mut self.supply, number, 0, &mut self.said);
+        assert!(rt; ticked.is_err());
+        self.compare(rt, &[]);
+    }
+
+    /// What was said in the last event is written as these bytes, one part after the other.
+    fn compare(&self, rt: &impl Abort, written: &[&[u8]]) {
+        let mut bytes = Vec::new(self.alloc);
+        for words in &self.said {
+            for packet in words.packets() {
+                encode_into(&mut bytes, packet).expect(rt, "memory");
+            }
+        }
+        let mut wanted = Vec::new(self.alloc);
+        for part in written {
+            wanted.extend_from_slice(part).expect(rt, "memory");
+        }
+        assert_eq!(rt; bytes.as_slice(), wanted.as_slice());
+    }
+
+    /// The report of the first share is this, and the broker is let go.
+    pub(crate) fn end(self, rt: &impl Abort, report: &str) {
+        let Hall {
+            mut supply,
+            clients,
+            said: _,
+            alloc,
+        } = self;
+        let line = supply.line(alloc, 0).expect(rt, "memory");
+        assert_eq!(rt; line.as_slice(), report.as_bytes());
+        clients.abandon(&mut supply, 0);
+        supply.end();
+    }
+}
