@@ -19,6 +19,9 @@ no_slots : (left slot : ℕ) → slots_in left slot 0 ≡ []
 no_slots zero slot = refl
 no_slots (suc left) slot = no_slots left (slot + 1)
 
+pub no_slots_of : (left slot byte : ℕ) → byte ≡ 0 → slots_in left slot byte ≡ []
+no_slots_of left slot byte none = ap (slots_in left slot) none ∙ no_slots left slot
+
 -- a byte of so many bits has the places of the bits that are set
 pub slots_of_byte : (left slot : ℕ) (slots : List Bool) → length slots ≤ left → slots_in left slot (byte_of slots) ≡ places_of slot slots
 slots_of_byte left slot [] h = no_slots left slot

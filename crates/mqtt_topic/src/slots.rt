@@ -89,6 +89,9 @@ impl Iterator for SlotIter {
 
     fn next(&mut self) -> Option<u8> {
         while self.slot < 8 {
+            if self.byte == 0 {
+                return None;
+            }
             let slot = self.slot;
             let is_in = self.byte % 2 == 1;
             self.slot += 1;
