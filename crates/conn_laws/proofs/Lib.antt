@@ -2,10 +2,15 @@ pub mod Ended
 pub mod Quotas
 pub mod Eager
 pub mod Replying
+pub mod Aside
+pub mod HandingOut
 pub mod Calling
 pub mod Stepping
 pub mod Failing
 pub mod Publishers
+pub mod Turning
+pub mod Reacting
+pub mod Transcripts
 pub mod OneCall
 pub mod OneEnding
 pub mod OneConnecting

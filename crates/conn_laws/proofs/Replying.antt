@@ -1,4 +1,4 @@
--- No reply brings a message for the first time: it is no PUBLISH.
+-- No reply is a PUBLISH, and so none brings a message for the first time.
 use Rattle.std.proofs.Common.{◌≡◌, ℕ, Bool, true, false, List, [], ◌++◌, Option, Some, None, Result, Ok, Err, refl, ap, ◌∙◌, nat_lt, not, ◌&&◌}
 use Rattle.std.proofs.lemmas.List.Elements.{filter_map-append}
 use Rattle.std.specs.Option.{option_to_list}
@@ -39,13 +39,20 @@ use Rattle.conn_engine.specs.Publishing.{AnswersPublish}
 use Rattle.conn_engine.specs.Step.{hearing, IsClosed, IsRefusedIf, WaitsForConnect, AnswersFirst, AnswersPacket, AnswersTick, AnswersUnlessKicked, IsHeard, Reacts}
 use Rattle.conn_engine.specs.Subscribing.{SubscribesAs, UnsubscribesAs}
 use Rattle.conn_laws.specs.Calls.{fresh_message, fresh_messages}
+use Rattle.conn_laws.specs.Transcripts.{publishes_in}
 
--- the packet of a reply, if there is one, brings no message
-abbrev BringsNone : Reply → Type 0
-BringsNone reply = fresh_messages (option_to_list reply.packet) ≡ []
+-- the packet of a reply, if there is one, is no PUBLISH
+abbrev pub BringsNone : Reply → Type 0
+BringsNone reply = publishes_in (option_to_list reply.packet) ≡ []
+
+-- no other packet brings a message
+none_fresh : (packet : Option Packet) → publishes_in (option_to_list packet) ≡ [] → fresh_messages (option_to_list packet) ≡ []
+none_fresh None is = refl
+none_fresh (Some (packets.Publish publish)) is = cc
+none_fresh (Some packet) is = refl
 
 told : (reply was : Reply) → reply ≡ was → BringsNone was → BringsNone reply
-told reply was is none = ap (λ r. fresh_messages (option_to_list r.packet)) is ∙ none
+told reply was is none = ap (λ r. publishes_in (option_to_list r.packet)) is ∙ none
 
 closes : {P : Type 0} (standing : Standing P) (reply : Reply) → IsClosed standing reply → BringsNone reply
 closes standing reply is = told reply _ is.told refl
@@ -145,7 +152,7 @@ module _ {S P : Type 0} (call : S → Fact P → S → Type 0) (slot_of : P → 
   unless_kicked true old new link now Does standing reply does is = told reply _ is.0 refl
   unless_kicked false old new link now Does standing reply does is = does is
 
-  replied : (standing : Standing P) (input : Input) (old new : S) (number now : ℕ) (between : Standing P) (reply : Reply)
+  pub replied : (standing : Standing P) (input : Input) (old new : S) (number now : ℕ) (between : Standing P) (reply : Reply)
       → Reacts call slot_of old number standing now input between reply new → BringsNone reply
   replied (Unconnected opened) (inputs.Packet packet) old new number now between reply is = answers_first (first_answer packet) old new number now packet between reply is
   replied (Unconnected opened) (inputs.Fault fault) old new number now between reply is = refused_if (fault_refusal fault) between reply is.0
@@ -174,4 +181,4 @@ module _ {S P : Type 0} (call : S → Fact P → S → Type 0) (slot_of : P → 
       → Reacts call slot_of old number standing now input between reply new → fresh_messages (option_to_list reply.packet ++ sent) ≡ fresh_messages sent
   replied_and_sent standing input old new number now between reply sent is =
       filter_map-append fresh_message (option_to_list reply.packet) sent
-      ∙ ap (λ (before : List Message). before ++ fresh_messages sent) (replied standing input old new number now between reply is)
+      ∙ ap (λ (before : List Message). before ++ fresh_messages sent) (none_fresh reply.packet (replied standing input old new number now between reply is))

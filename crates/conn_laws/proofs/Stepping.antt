@@ -6,8 +6,6 @@ use Rattle.mqtt_wire.specs.declared.packet.Packet.{Packet}
 use Rattle.mqtt_wire.specs.declared.packet.Packet.TheVariants as packets
 use Rattle.mqtt_wire.specs.declared.packet.Publish.{Publish}
 use Rattle.mqtt_wire.specs.declared.packet.Puback.{Puback}
-use Rattle.mqtt_wire.specs.declared.packet.Subscribe.{Subscribe}
-use Rattle.mqtt_wire.specs.declared.packet.Unsubscribe.{Unsubscribe}
 use Rattle.group_jobs.specs.declared.fate.Fate.{Fate}
 use Rattle.group_jobs.specs.declared.message.Message.{Message}
 use Rattle.group_jobs.specs.Stamps.{Held}
@@ -23,7 +21,6 @@ use Rattle.conn_rules.specs.declared.publishing.PublishAnswer.TheVariants as ans
 use Rattle.conn_rules.specs.Acknowledging.{fate_of}
 use Rattle.conn_rules.specs.Connecting.{first_answer}
 use Rattle.conn_rules.specs.Ending.{is_overdue}
-use Rattle.conn_rules.specs.declared.terms.Terms.{Terms}
 use Rattle.conn_rules.specs.Publishing.{publish_answer, message_of}
 use Rattle.conn_rules.specs.Subscribing.{subscribe_refusal, unsubscribe_refusal}
 use Rattle.conn_engine.specs.declared.input.Input.{Input}
@@ -42,9 +39,8 @@ use Rattle.conn_engine.specs.Connecting.{has_place}
 use Rattle.conn_laws.specs.Calls.{offer_of, match_of, settlement_of, hand_out_of, offered, matched, settled, handed, messages_of, fresh_messages, IsToBeOffered, Brings, Confirms, OffersToEach, OffersNone, SettlesOne, SettlesNone, MakesAll, StepCalls}
 use Rattle.conn_engine.specs.Publishing.{Offers, AnswersPublish}
 use Rattle.conn_engine.specs.Step.{hearing, AnswersFirst, Concludes, AnswersPacket, AnswersTick, IsHeard, IsKicked, AnswersUnlessKicked, Reacts, Hands, Steps}
-use Rattle.conn_engine.specs.Subscribing.{SubscribesAs, UnsubscribesAs}
 use Rattle.conn_laws.proofs.Replying.{replied_and_sent}
-use Rattle.conn_laws.proofs.Calling.{Plain, still, one, behind, joins, parted, swept, attached, tried_again, handed_out, entries_answered, all_left}
+use Rattle.conn_laws.proofs.Calling.{Plain, still, one, behind, joins, parted, swept, attached, tried_again, handed_out, subscribed_as, unsubscribed_as}
 
 -- nothing more is found behind or before
 pub none_behind : {P X : Type 0} (find : Fact P → Option X) (facts others : List (Fact P)) (xs : List X) → filter_map find facts ≡ xs → filter_map find others ≡ [] → filter_map find (facts ++ others) ≡ xs
@@ -211,17 +207,6 @@ module _ {S P : Type 0} (call : S → Fact P → S → Type 0) where
       settled_as does.1.found old new number link puback place does.0 window' next (ap has_place is) does.1.acked does.1.settled
 
   module _ (slot_of : P → ℕ) where
-    subscribed_as : (refusal : Option ℕ) (old new : S) (terms : Terms) (membership : Membership P) (subscribe : Subscribe) (reply : Reply) (membership' : Membership P)
-        → SubscribesAs call slot_of refusal terms old membership subscribe reply membership' new → Plain call [] old new
-    subscribed_as (Some code) old new terms membership subscribe reply membership' does = still call old new does.2
-    subscribed_as None old new terms membership subscribe reply membership' does =
-        entries_answered call slot_of subscribe.subscriptions _ terms old new membership does.0 membership' does.2
-
-    unsubscribed_as : (refusal : Option ℕ) (old new : S) (membership : Membership P) (unsubscribe : Unsubscribe) (reply : Reply) (membership' : Membership P)
-        → UnsubscribesAs call slot_of refusal old membership unsubscribe reply membership' new → Plain call [] old new
-    unsubscribed_as (Some code) old new membership unsubscribe reply membership' does = still call old new does.2
-    unsubscribed_as None old new membership unsubscribe reply membership' does = all_left call slot_of unsubscribe.filters old new membership does.0 membership' does.2
-
     -- the answer to a packet
     answered : (packet : Packet) (old new : S) (number now : ℕ) (link after : Link P) (reply : Reply) → Answers call slot_of old number (hearing link now) packet after reply new
         → Walked [] old number (Connected link) (inputs.Packet packet) reply.next new
@@ -229,10 +214,10 @@ module _ {S P : Type 0} (call : S → Fact P → S → Type 0) where
     answered (packets.Puback puback) old new number now link after reply answers =
         acknowledged_as link.session.membership old new number link puback _ _ reply.next refl answers.1.settles
     answered (packets.Subscribe subscribe) old new number now link after reply answers =
-        idle old new number (Connected link) _ reply.next (subscribed_as (subscribe_refusal subscribe) old new link.terms link.session.membership subscribe reply answers.0 answers.1)
+        idle old new number (Connected link) _ reply.next (subscribed_as call slot_of (subscribe_refusal subscribe) old new link.terms link.session.membership subscribe reply answers.0 answers.1)
         (λ p b. b, λ e f c. c)
     answered (packets.Unsubscribe unsubscribe) old new number now link after reply answers =
-        idle old new number (Connected link) _ reply.next (unsubscribed_as (unsubscribe_refusal unsubscribe) old new link.session.membership unsubscribe reply answers.0 answers.1)
+        idle old new number (Connected link) _ reply.next (unsubscribed_as call slot_of (unsubscribe_refusal unsubscribe) old new link.session.membership unsubscribe reply answers.0 answers.1)
         (λ p b. b, λ e f c. c)
     answered packets.Pingreq old new number now link after reply answers = idle old new number (Connected link) _ reply.next (still call old new answers.2) (λ p b. b, λ e f c. c)
     answered (packets.Disconnect disconnect) old new number now link after reply answers = idle old new number (Connected link) _ reply.next (still call old new answers.1) (λ p b. b, λ e f c. c)

@@ -3,3 +3,4 @@ pub mod Calls
 pub mod Behind
 pub mod Quotas
 pub mod Publishers
+pub mod Transcripts

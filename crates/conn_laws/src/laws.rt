@@ -12,6 +12,7 @@ ghost use Rattle.conn_laws.specs.Calls.{StepCalls, FailedCalls};
 ghost use Rattle.conn_laws.specs.Behind.{IsLast, IsAllHandedOut};
 ghost use Rattle.conn_laws.specs.Publishers.{CallsFrom};
 ghost use Rattle.conn_laws.specs.Quotas.{IsWithinQuota};
+ghost use Rattle.conn_laws.specs.Transcripts.{IsNotEnding, Transcribes};
 ghost use Rattle.conn_engine.specs.Step.{Steps, FailsToStep};
 
 use conn_engine::Supply;
@@ -79,4 +80,17 @@ pub fn one_step_law<P: Place, S: Supply<P>>()
         Steps S.call P.slot_of old number standing now input packets next one new →
         Steps S.call P.slot_of old number standing now input packets' next' other new' →
         (packets ≡ packets') × (next ≡ next') × (one ≡ other) × (new ≡ new') }
+{}
+
+/// **A step adds to the transcript of its connection's session** (sections 4.4 and 4.9), where that is not ending, as none is that a connection
+/// has: its PUBLISH packets are those of the marks that its calls make in the session's window, in their order.
+///
+/// - A connection that is given a session adds `Up` with the Receive Maximum of its CONNECT; from then on it has that session and no other, and
+///   adds `Down` where it ends, and hands the session in.
+/// - What is handed out is what is sent for the first time, in that order, each message to the place of this session.
+/// - What is acknowledged is settled, once, by the PUBACK that came, and nothing else is.
+pub fn transcript_law<P: Place, S: Supply<P>>()
+    ensures { (number now : ℕ) (standing standing' : Standing P) (input : Input) (packets : List Packet) (next : Then) (old new : S) →
+        Steps S.call P.slot_of old number standing now input packets next standing' new →
+        IsNotEnding standing → Transcribes S.call old number standing input packets standing' new }
 {}

@@ -1,0 +1,169 @@
+-- What a step adds to the transcript of its connection's session: what the input makes of it, and then what is handed out.
+use Rattle.std.proofs.Common.{◌≡◌, ℕ, List, [], ◌∷◌, ◌++◌, map, Option, Some, None, sym, ap, subst, ◌∙◌, append-nil, inl, inr}
+use Rattle.std.specs.List.{AllByRecursion}
+use Rattle.std.specs.Option.{option_to_list}
+use Rattle.std.proofs.lemmas.List.Elements.{filter_map-append}
+use Rattle.mqtt_wire.specs.declared.packet.Packet.{Packet}
+use Rattle.group_jobs.specs.Stamps.{Held}
+use Rattle.member_window.specs.Contents.{Contents, after_up}
+use Rattle.member_window.specs.Marks.{Mark, Up}
+use Rattle.member_window.specs.Calls.{Call}
+use Rattle.member_window.specs.Runs.{transcript_of}
+use Rattle.member_window.specs.Runs as windows
+use Rattle.member_window.proofs.Law.{made_append, transcript_append}
+use Rattle.session_desk.specs.declared.session.Membership.{Membership}
+use Rattle.session_desk.specs.declared.session.Membership.TheVariants.{Member}
+use Rattle.conn_engine.specs.declared.input.Input.{Input}
+use Rattle.conn_engine.specs.declared.input.Then.{Then}
+use Rattle.conn_engine.specs.declared.standing.Link.{Link}
+use Rattle.conn_engine.specs.declared.standing.Standing.{Standing}
+use Rattle.conn_engine.specs.declared.standing.Standing.TheVariants.{Unconnected, Waiting, Connected, Ended}
+use Rattle.conn_engine.specs.Facts.{Fact}
+use Rattle.conn_engine.specs.Step.{after_hand_out, Hands, Steps}
+use Rattle.conn_laws.specs.Calls.{settlement_of, hand_out_of, settled, handed}
+use Rattle.conn_laws.specs.Transcripts.{as_publish, publishes_in, publish_of, publishes_of, fresh_in, fresh_of, acknowledged_in, acknowledged_of, IsWithin, link_of, IsNotEnding, IsMemberAt, IsAside, LeadsAside, SessionTurns, Transcribes}
+use Rattle.conn_laws.proofs.Aside.{all_of_both, joins}
+use Rattle.conn_laws.proofs.HandingOut.{Handed, handed_out}
+use Rattle.conn_laws.proofs.Reacting.{SettlesAs, Turned, reacted}
+use Rattle.conn_laws.proofs.Replying.{replied}
+use Rattle.conn_laws.proofs.Stepping.{none_behind}
+
+-- the calls of a window, and of the one that comes of it
+within_both : (these those : List (Call Held)) → AllByRecursion IsWithin (transcript_of these) → AllByRecursion IsWithin (transcript_of those)
+    → AllByRecursion IsWithin (transcript_of (these ++ those))
+within_both these those within more = subst (AllByRecursion IsWithin) (sym (transcript_append these those)) (all_of_both IsWithin (transcript_of these) (transcript_of those) within more)
+
+-- nothing more is acknowledged
+none_more : (marks more : List (Mark Held)) (acked : List (ℕ × ℕ)) → acknowledged_of marks ≡ acked → acknowledged_of more ≡ [] → acknowledged_of (marks ++ more) ≡ acked
+none_more marks more acked these none = filter_map-append acknowledged_in marks more ∙ (λ i. these i ++ none i) ∙ append-nil acked
+
+module _ {S P : Type 0} (call : S → Fact P → S → Type 0) where
+  leads_on : (old mid new : S) → LeadsAside call old mid → LeadsAside call mid new → LeadsAside call old new
+  leads_on old mid new these those =
+      record {
+        facts = these.facts ++ those.facts;
+        made = joins call these.facts those.facts old mid new these.made those.made;
+        aside = all_of_both IsAside these.facts those.facts these.aside those.aside;
+      }
+
+  -- the session of a connection that begins or goes on, with what its window does behind that
+  session_turns_on : (before : Option (Link P)) (old mid new : S) (number : ℕ) (link : Link P) (membership : Membership P) (window : Contents Held) (marks : List (Mark Held))
+      (calls : List (Call Held)) → SessionTurns call old number before (Some link) marks mid → LeadsAside call mid new → windows.MakesAll link.session.window calls window
+      → AllByRecursion IsWithin (transcript_of calls) → SessionTurns call old number before (Some (after_hand_out link membership window)) (marks ++ transcript_of calls) new
+  session_turns_on None old mid new number link membership window marks calls begins later made within =
+      record {
+        answer = begins.answer;
+        session = begins.session;
+        mid = begins.mid;
+        asks = begins.asks;
+        given = begins.given;
+        aside = leads_on begins.mid mid new begins.aside later;
+        same = begins.same;
+        calls = begins.calls ++ calls;
+        made = made_append (after_up begins.session.window link.terms.receive_maximum) link.session.window window begins.calls calls begins.made made;
+        marks_are =
+            ap (λ (ms : List (Mark Held)). ms ++ transcript_of calls) begins.marks_are
+            ∙ ap (λ (ms : List (Mark Held)). Up link.terms.receive_maximum ∷ ms) (sym (transcript_append begins.calls calls));
+        within = within_both begins.calls calls begins.within within;
+      }
+  session_turns_on (Some earlier) old mid new number link membership window marks calls goes later made within =
+      record {
+        aside = leads_on old mid new goes.aside later;
+        same = goes.same;
+        calls = goes.calls ++ calls;
+        made = made_append earlier.session.window link.session.window window goes.calls calls goes.made made;
+        marks_are = ap (λ (ms : List (Mark Held)). ms ++ transcript_of calls) goes.marks_are ∙ sym (transcript_append goes.calls calls);
+        within = all_of_both IsWithin marks (transcript_of calls) goes.within within;
+      }
+
+  -- nothing is settled behind it, and nothing is acknowledged
+  settles_on : (standing : Standing P) (input : Input) (marks more : List (Mark Held)) (facts others : List (Fact P)) → SettlesAs call standing input marks facts
+      → acknowledged_of more ≡ [] → settled others ≡ [] → SettlesAs call standing input (marks ++ more) (facts ++ others)
+  settles_on standing input marks more facts others (inl only) none_acked none_settled =
+      let one = only.0 in
+      inl (
+        record {
+          envelope = one.envelope;
+          fate = one.fate;
+          confirmed = one.confirmed;
+          settles = none_behind settlement_of facts others _ one.settles none_settled;
+        },
+        (only.1.0, none_more marks more _ only.1.1 none_acked, only.1.2),
+      )
+  settles_on standing input marks more facts others (inr none) none_acked none_settled =
+      inr (none_behind settlement_of facts others _ none.0 none_settled, none_more marks more _ none.1 none_acked)
+
+  -- nothing is handed out
+  hands_none : (old new : S) (number : ℕ) (standing : Standing P) (input : Input) (standing' : Standing P) → Turned call old number standing input standing' new
+      → Transcribes call old number standing input [] standing' new
+  hands_none old new number standing input standing' turned =
+      record {
+        marks = turned.marks;
+        session = turned.session;
+        publishes = sym turned.no_publish;
+        facts = turned.facts;
+        made = turned.made;
+        hands = ap (map (λ (h : P × Held). h.1)) turned.hands ∙ sym turned.none_fresh;
+        own = λ keeps. subst (AllByRecursion (λ (h : P × Held). IsMemberAt (link_of standing') h.0)) (sym turned.hands) tt;
+        settles = turned.settles;
+      }
+
+  -- and where the standing, the packets and the supply are what they were
+  stays : (old mid new : S) (number : ℕ) (standing : Standing P) (input : Input) (sent : List Packet) (between standing' : Standing P) → Turned call old number standing input between mid
+      → sent ≡ [] → standing' ≡ between → new ≡ mid → Transcribes call old number standing input sent standing' new
+  stays old mid new number standing input sent between standing' turned none is same =
+      subst (λ packets. Transcribes call old number standing input packets standing' new) (sym none)
+      (subst (λ s. Transcribes call old number standing input [] s new) (sym is)
+      (subst (λ s. Transcribes call old number standing input [] between s) (sym same) (hands_none old mid number standing input between turned)))
+
+  -- this is handed out
+  hands : (old mid new : S) (number : ℕ) (standing : Standing P) (input : Input) (sent : List Packet) (link : Link P) (membership : Membership P) (window : Contents Held)
+      → Turned call old number standing input (Connected link) mid → Handed call mid link.session.window sent membership window new
+      → Transcribes call old number standing input sent (Connected (after_hand_out link membership window)) new
+  hands old mid new number standing input sent link membership window turned out =
+      let more : List (Mark Held) = transcript_of out.sends.calls in
+      let these : handed (turned.facts ++ out.calls.facts) ≡ out.given =
+      filter_map-append hand_out_of turned.facts out.calls.facts ∙ (λ i. turned.hands i ++ out.calls.hands i) in
+      record {
+        marks = turned.marks ++ more;
+        session =
+            session_turns_on (link_of standing) old mid new number link membership window turned.marks out.sends.calls turned.session
+            (record { facts = out.calls.facts; made = out.calls.made; aside = out.calls.aside }) out.sends.made out.sends.within;
+        publishes = out.sends.publishes ∙ sym (filter_map-append publish_of turned.marks more ∙ ap (λ (ps : List Packet). ps ++ publishes_of more) turned.no_publish);
+        facts = turned.facts ++ out.calls.facts;
+        made = joins call turned.facts out.calls.facts old mid new turned.made out.calls.made;
+        hands =
+            ap (map (λ (h : P × Held). h.1)) these ∙ out.sends.fresh_are
+            ∙ sym (filter_map-append fresh_in turned.marks more ∙ ap (λ (items : List Held). items ++ fresh_of more) turned.none_fresh);
+        own = λ keeps. subst (AllByRecursion (λ (h : P × Held). membership ≡ Member h.0)) (sym these) (out.own keeps);
+        settles = settles_on standing input turned.marks more turned.facts out.calls.facts turned.settles out.sends.none_acked out.calls.settles;
+      }
+
+  module _ (slot_of : P → ℕ) where
+    handed_behind : (between : Standing P) (old mid new : S) (number : ℕ) (standing : Standing P) (input : Input) (sent : List Packet) (standing' : Standing P)
+        → Turned call old number standing input between mid → Hands call slot_of mid between sent standing' new → Transcribes call old number standing input sent standing' new
+    handed_behind (Unconnected opened) old mid new number standing input sent standing' turned does = stays old mid new number standing input sent _ standing' turned does.0 does.1 does.2
+    handed_behind (Waiting request ticks) old mid new number standing input sent standing' turned does = stays old mid new number standing input sent _ standing' turned does.0 does.1 does.2
+    handed_behind (Connected link) old mid new number standing input sent standing' turned does =
+        subst (λ s. Transcribes call old number standing input sent s new) (sym does.3)
+        (hands old mid new number standing input sent link does.0 does.1 turned (handed_out call mid new link.session.membership link.session.window sent does.0 does.1 does.2))
+    handed_behind Ended old mid new number standing input sent standing' turned does = stays old mid new number standing input sent _ standing' turned does.0 does.1 does.2
+
+    pub transcribed : (old new : S) (number now : ℕ) (standing standing' : Standing P) (input : Input) (packets : List Packet) (next : Then)
+        → Steps call slot_of old number standing now input packets next standing' new → IsNotEnding standing → Transcribes call old number standing input packets standing' new
+    transcribed old new number now standing standing' input packets next steps sound =
+        let turned = reacted call slot_of standing input old steps.mid number now steps.between steps.reply sound steps.reacts in
+        let all = handed_behind steps.between old steps.mid new number standing input steps.sent standing' turned steps.hands in
+        record {
+          marks = all.marks;
+          session = all.session;
+          publishes =
+              ap publishes_in steps.written ∙ filter_map-append as_publish (option_to_list steps.reply.packet) steps.sent
+              ∙ ap (λ (ps : List Packet). ps ++ publishes_in steps.sent) (replied call slot_of standing input old steps.mid number now steps.between steps.reply steps.reacts)
+              ∙ all.publishes;
+          facts = all.facts;
+          made = all.made;
+          hands = all.hands;
+          own = all.own;
+          settles = all.settles;
+        }
