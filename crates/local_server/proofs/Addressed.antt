@@ -138,7 +138,7 @@ ended : (number : ℕ) (old new : Broker) (clients clients' : Clients) (now : �
 ended number old new clients clients' now said result all ends =
     in_cell clients clients' number _ ends all (ends_for result ends.before number old new now inputs.Closing said ends.after (at ends.before clients number all ends.has) ends.becomes).0
 
-first_ended : (number : ℕ) (old new : Broker) (clients clients' : Clients) (now : ℕ) (said : List Said) (result : Result (Unit {0}) NoMemory)
+pub first_ended : (number : ℕ) (old new : Broker) (clients clients' : Clients) (now : ℕ) (said : List Said) (result : Result (Unit {0}) NoMemory)
     → AreNumbered clients → EndsFirst number old clients now said result clients' new → AreNumbered clients'
 first_ended zero old new clients clients' now said result all ends = subst AreNumbered (sym ends.2) all
 first_ended (suc number) old new clients clients' now said result all ends =

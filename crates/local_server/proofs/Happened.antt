@@ -42,7 +42,7 @@ record Ran (result : Result (Unit {0}) NoMemory) (old : Broker) (said : List Sai
 still : (result : Result (Unit {0}) NoMemory) (old new : Broker) (said : List Said) → said ≡ [] → new ≡ old → Ran result old said new
 still result old new said none same = record { happenings = []; led = same; told = λ ok. ap fresh_said none }
 
-joins : (happenings others : List Happening) (old mid new : Broker) → HappensToBroker old happenings mid → HappensToBroker mid others new → HappensToBroker old (happenings ++ others) new
+pub joins : (happenings others : List Happening) (old mid new : Broker) → HappensToBroker old happenings mid → HappensToBroker mid others new → HappensToBroker old (happenings ++ others) new
 joins [] others old mid new these those = subst (λ b. HappensToBroker b others new) these those
 joins (happening ∷ happenings) others old mid new these those = (these.0, these.1, joins happenings others these.0 mid new these.2 those)
 
@@ -53,11 +53,11 @@ told_behind said more happenings others these those =
     fresh_said-append said more ∙ (λ i. these i ++ those i)
     ∙ sym (ap messages_of (filter_map-append handed_by happenings others) ∙ map-append (λ (h : HandOut). h.1.message) (handed_by_all happenings) (handed_by_all others))
 
-first_ok : (first then : Result (Unit {0}) NoMemory) → IsOk (result_and first then) → IsOk first
+pub first_ok : (first then : Result (Unit {0}) NoMemory) → IsOk (result_and first then) → IsOk first
 first_ok (Ok done) then ok = refl
 first_ok (Err error) then ok = ok
 
-then_ok : (first then : Result (Unit {0}) NoMemory) → IsOk (result_and first then) → IsOk then
+pub then_ok : (first then : Result (Unit {0}) NoMemory) → IsOk (result_and first then) → IsOk then
 then_ok (Ok done) then ok = ok
 then_ok (Err error) then ok = absurd (false≢true ok)
 
@@ -71,11 +71,11 @@ behind first then old mid new said more all is these those =
     }
 
 -- calls of connections
-called : (facts : List (Fact GroupPlace)) (old new : Broker) → MakesAll Calls old facts new → HappensToBroker old (map Called facts) new
+pub called : (facts : List (Fact GroupPlace)) (old new : Broker) → MakesAll Calls old facts new → HappensToBroker old (map Called facts) new
 called [] old new same = same
 called (fact ∷ facts) old new made = (made.0, made.1, called facts made.0 new made.2)
 
-handed_by_calls : (facts : List (Fact GroupPlace)) → handed_by_all (map Called facts) ≡ handed facts
+pub handed_by_calls : (facts : List (Fact GroupPlace)) → handed_by_all (map Called facts) ≡ handed facts
 handed_by_calls [] = refl
 handed_by_calls (fact ∷ facts) = ap (cons_option (hand_out_of fact)) (handed_by_calls facts)
 

@@ -7,3 +7,13 @@ pub mod Addressed
 pub mod Publishers
 pub mod Emptied
 pub mod OneRun
+pub mod Windows
+pub mod Turns
+pub mod Lent
+pub mod Given
+pub mod Sessions
+pub mod Asked
+pub mod Stepping
+pub mod HandOuts
+pub mod Turning
+pub mod Transcripts

@@ -7,3 +7,4 @@ pub mod Quotas
 pub mod Headline
 pub mod Addressed
 pub mod Publishers
+pub mod Transcripts

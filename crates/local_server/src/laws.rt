@@ -18,6 +18,7 @@ ghost use Rattle.local_server.specs.Quotas.{AllWithinQuota};
 ghost use Rattle.local_server.specs.Runs.{HaveLed, AllRunLawfully};
 ghost use Rattle.local_server.specs.Addressed.{Answers};
 ghost use Rattle.local_server.specs.Publishers.{AcceptsFrom};
+ghost use Rattle.local_server.specs.Transcripts.{KeepsTranscripts};
 
 /// **The headline on one thread**, whatever events happen to a server, over however many connections and in whatever order: each accepted
 /// message is first handed to at most one member, once; each member's first hand-outs from a publisher keep that publisher's order; no
@@ -53,6 +54,17 @@ pub fn running_law()
 pub fn hand_out_law()
     ensures { (setup : Setup) (events : List TimedEvent) (said : List Said) (first last : ServerState) →
         IsNewServer setup first → HappensAll first events said last → HandsOutWhatIsSaid last said }
+{}
+
+/// **The transcript of each session is legal, along every run** (sections 4.4 and 4.9), over however many connections the session is resumed
+/// and taken over: each step adds its marks to the transcript of its connection's session, and its PUBLISH packets are those of these marks. So at
+/// each moment no more is unacknowledged than the Receive Maximum; a message goes out with DUP 0 under the least identifier that is free, behind
+/// all that is sent again; what is sent again has its own identifier and its place in the order of first sending; and only what is held is
+/// acknowledged. A connection has one session from its CONNECT to its end. And the hand-outs that a group's events tell, first and later ones,
+/// are what is sent with DUP 0, in that order. The runs are those in which memory was not wanted.
+pub fn transcript_law()
+    ensures { (setup : Setup) (events : List TimedEvent) (said : List Said) (first last : ServerState) →
+        IsNewServer setup first → HappensAll first events said last → KeepsTranscripts said last }
 {}
 
 /// **A session is in one pair of hands, whatever happens to the server.**

@@ -1,0 +1,196 @@
+-- The transcripts of the sessions of a server, along every run.
+use Rattle.std.proofs.Common.{◌≡◌, ◌≢◌, ℕ, zero, suc, Bool, true, false, List, [], ◌∷◌, ◌++◌, map, Option, Some, None, Result, Ok, IsOk, slice_get, slice_set, replicate, refl, sym, ap, subst, ◌∙◌, ⊎_elim, append-nil}
+use Rattle.std.specs.Result.{result_and}
+use Rattle.std.specs.Ordering.{nat_cmp}
+use Rattle.std.specs.FinMap as map
+use Rattle.std.specs.FinMap.{get-empty}
+use Rattle.std.proofs.lemmas.Bool.{cases_eq}
+use Rattle.std.proofs.lemmas.Option.{slice_get_within}
+use Rattle.std.proofs.lemmas.List.Elements.{filter_map-append}
+use Rattle.dispatch_core.proofs.Spots.{slice_get-set_same, slice_get-set_other}
+use Rattle.group_jobs.specs.Stamps.{Held}
+use Rattle.session_desk.specs.declared.row.Row.{Row}
+use Rattle.session_desk.specs.Books.{Books}
+use Rattle.conn_engine.specs.declared.input.Input.TheVariants as inputs
+use Rattle.conn_engine.specs.declared.standing.Link.{Link}
+use Rattle.conn_engine.specs.declared.supply.NoMemory.{NoMemory}
+use Rattle.client_table.specs.Cells.{InCell, Opens}
+use Rattle.client_table.specs.Clients.{ClientState, Said}
+use Rattle.local_broker.specs.Places.{GroupPlace}
+use Rattle.local_broker.specs.Broker.{Broker, is_open}
+use Rattle.local_broker.specs.Calls.{Closes}
+use Rattle.local_broker.specs.HandOuts.{HandOut, handed_by, handed_by_all}
+use Rattle.local_broker.specs.Histories.{Closed}
+use Rattle.local_broker.proofs.Happened.{new_desk}
+use Rattle.local_server.specs.declared.event.Event.{Event}
+use Rattle.local_server.specs.declared.event.Event.TheVariants as events
+use Rattle.local_server.specs.declared.event.TimedEvent.{TimedEvent}
+use Rattle.local_server.specs.declared.setup.Setup.{Setup}
+use Rattle.local_server.specs.Servers.{Clients, ServerState, IsNewServer}
+use Rattle.local_server.specs.Addressed.{AreNumbered}
+use Rattle.local_server.specs.Happening.{EndsAt, EndsFirst, Does, DoesIf, HappensAll}
+use Rattle.local_server.specs.Transcripts.{Turn, link_in, link_at, session_of, StandsAsTold, KeepsTranscripts}
+use Rattle.local_server.proofs.Addressed as addressed
+use Rattle.local_server.proofs.Addressed.{at, answered, new_numbered}
+use Rattle.local_server.proofs.Happened.{joins, first_ok, then_ok}
+use Rattle.local_server.proofs.HandOuts.{handed}
+use Rattle.local_server.proofs.Sessions.{with_link, link_here, link_beside, with_same, KeepsSessions}
+use Rattle.local_server.proofs.Stepping.{Links}
+use Rattle.local_server.proofs.Turning.{Keeps, Says, silent, then_says, receives, ticks_for, ends_for}
+
+-- what the clients in these cells have
+abbrev links_at : Clients → Links
+links_at clients = λ connection. link_at clients connection
+
+-- one cell is written
+written_at : (clients clients' : Clients) (number : ℕ) (before after : Option (ClientState GroupPlace)) → slice_get clients number ≡ Some before
+    → clients' ≡ slice_set clients number after
+    → (each : ℕ) → with_link (links_at clients) number (link_in (Some after)) each ≡ links_at clients' each
+written_at clients clients' number before after has is each =
+    ⊎_elim
+    (λ (same : each ≡ number).
+    ap (with_link (links_at clients) number (link_in (Some after))) same ∙ link_here (links_at clients) number (link_in (Some after))
+    ∙ sym
+    (ap (links_at clients') same ∙ ap (λ (l : Clients). link_at l number) is
+    ∙ ap link_in (slice_get-set_same clients number after (slice_get_within clients number before has))))
+    (λ (other : each ≢ number).
+    link_beside (links_at clients) number each (link_in (Some after)) other
+    ∙ sym (ap (λ (l : Clients). link_at l each) is ∙ ap link_in (slice_get-set_other clients number each after other)))
+    (cases_eq each number)
+
+in_cell : (first : Broker) (turns : List Turn) (said : List Said) (clients clients' : Clients) (number : ℕ) (old new : Broker)
+    (Becomes : Option (ClientState GroupPlace) → Option (ClientState GroupPlace) → Type 0)
+    (cell : InCell clients number Becomes clients') → Keeps first turns (links_at clients) old
+    → (Keeps first turns (with_link (links_at clients) number (link_in (Some cell.before))) old
+    → Says first turns said (with_link (links_at clients) number (link_in (Some cell.after))) new)
+    → Says first turns said (links_at clients') new
+in_cell first turns said clients clients' number old new Becomes cell keeps does =
+    subst (λ (l : Links). Says first turns said l new) (λ i each. written_at clients clients' number cell.before cell.after cell.has cell.is each i)
+    (does (subst (λ (l : Links). Keeps first turns l old) (sym (with_same (links_at clients) number (link_in (Some cell.before)) (ap link_in cell.has))) keeps))
+
+-- a connection is opened: it has no session
+opened : (number now : ℕ) (before after : Option (ClientState GroupPlace)) → Opens number now before after → link_in (Some before) ≡ link_in (Some after)
+opened number now None after does = ap (λ (c : Option (ClientState GroupPlace)). link_in (Some c)) (sym does)
+opened number now (Some client) after does = ap (λ (c : Option (ClientState GroupPlace)). link_in (Some c)) (sym does)
+
+-- the close
+ended : (number : ℕ) (first : Broker) (turns : List Turn) (old new : Broker) (clients clients' : Clients) (now : ℕ) (said : List Said) (result : Result (Unit {0}) NoMemory)
+    → IsOk result → AreNumbered clients → Keeps first turns (links_at clients) old → EndsAt number old clients now said result clients' new
+    → Says first turns said (links_at clients') new
+ended number first turns old new clients clients' now said result ok all keeps ends =
+    in_cell first turns said clients clients' number old new _ ends keeps
+    (λ has.
+    ends_for result ends.before ends.after first turns (links_at clients) number old new now inputs.Closing said ok (at ends.before clients number all ends.has) has ends.becomes)
+
+first_ended : (number : ℕ) (first : Broker) (turns : List Turn) (old new : Broker) (clients clients' : Clients) (now : ℕ) (said : List Said) (result : Result (Unit {0}) NoMemory)
+    → IsOk result → AreNumbered clients → Keeps first turns (links_at clients) old → EndsFirst number old clients now said result clients' new
+    → Says first turns said (links_at clients') new
+first_ended zero first turns old new clients clients' now said result ok all keeps ends =
+    subst (λ (c : Clients). Says first turns said (links_at c) new) (sym ends.2) (silent first turns (links_at clients) old new said ends.0 ends.3 keeps)
+first_ended (suc number) first turns old new clients clients' now said result ok all keeps ends =
+    let both : IsOk (result_and ends.4 ends.5) = subst IsOk ends.9 ok in
+    subst (λ (s : List Said). Says first turns s (links_at clients') new) (sym ends.8)
+    (then_says first turns ends.2 ends.3 (links_at ends.1) (links_at clients') ends.0 new
+    (first_ended number first turns old ends.0 clients ends.1 now ends.2 ends.4 (first_ok ends.4 ends.5 both) all keeps ends.6)
+    (λ before kept.
+    ended number first before ends.0 new ends.1 clients' now ends.3 ends.5 (then_ok ends.4 ends.5 both)
+    (addressed.first_ended number old ends.0 clients ends.1 now ends.2 ends.4 all ends.6) kept ends.7))
+
+shut : (first : Broker) (turns : List Turn) (links : Links) (old closed : Broker) → Closes old closed → Keeps first turns links old → Keeps first turns links closed
+shut first turns links old closed closes keeps =
+    record {
+      happenings = keeps.happenings ++ Closed ∷ [];
+      led = joins keeps.happenings (Closed ∷ []) first old closed keeps.led (closed, closes, refl);
+      fresh =
+          keeps.fresh
+          ∙ ap (map (λ (h : HandOut). h.1)) (sym (filter_map-append handed_by keeps.happenings (Closed ∷ []) ∙ append-nil (handed_by_all keeps.happenings)));
+      sessions = subst (λ (desk : Books Held GroupPlace). KeepsSessions turns desk links) (sym closes.desk) keeps.sessions;
+    }
+
+-- an event, where memory was not wanted
+does : (event : Event) (first : Broker) (turns : List Turn) (old new : Broker) (clients clients' : Clients) (now : ℕ) (said : List Said) (result : Result (Unit {0}) NoMemory)
+    → IsOk result → AreNumbered clients → Keeps first turns (links_at clients) old → Does event old clients now said result clients' new
+    → Says first turns said (links_at clients') new
+does (events.Open number) first turns old new clients clients' now said result ok all keeps done =
+    let cell = done.0 in
+    in_cell first turns said clients clients' number old new _ cell keeps
+    (λ has.
+    subst (λ (l : Option (Link GroupPlace)). Says first turns said (with_link (links_at clients) number l) new) (opened number now cell.before cell.after cell.becomes)
+    (silent first turns (with_link (links_at clients) number (link_in (Some cell.before))) old new said done.2 done.1 has))
+does (events.Bytes number piece) first turns old new clients clients' now said result ok all keeps cell =
+    in_cell first turns said clients clients' number old new _ cell keeps
+    (λ has. receives result cell.before cell.after first turns (links_at clients) number old new now piece said ok (at cell.before clients number all cell.has) has cell.becomes)
+does (events.Tick number) first turns old new clients clients' now said result ok all keeps cell =
+    in_cell first turns said clients clients' number old new _ cell keeps
+    (λ has. ticks_for result cell.before cell.after first turns (links_at clients) number old new now said ok (at cell.before clients number all cell.has) has cell.becomes)
+does (events.End number) first turns old new clients clients' now said result ok all keeps cell =
+    in_cell first turns said clients clients' number old new _ cell keeps
+    (λ has.
+    ends_for result cell.before cell.after first turns (links_at clients) number old new now inputs.EndOfInput said ok (at cell.before clients number all cell.has) has cell.becomes)
+does events.Close first turns old new clients clients' now said result ok all keeps closes =
+    first_ended closes.2 first turns closes.0 new clients clients' now said result ok all (shut first turns (links_at clients) old closes.0 closes.1 keeps) closes.4
+
+does_if : (open? : Bool) (event : Event) (first : Broker) (turns : List Turn) (old new : Broker) (clients clients' : Clients) (now : ℕ) (said : List Said)
+    (result : Result (Unit {0}) NoMemory)
+    → IsOk result → AreNumbered clients → Keeps first turns (links_at clients) old → DoesIf open? event old clients now said result clients' new
+    → Says first turns said (links_at clients') new
+does_if true event first turns old new clients clients' now said result ok all keeps done = does event first turns old new clients clients' now said result ok all keeps done
+does_if false event first turns old new clients clients' now said result ok all keeps done =
+    subst (λ (c : Clients). Says first turns said (links_at c) new) (sym done.2) (silent first turns (links_at clients) old new said done.0 done.3 keeps)
+
+happened : (events : List TimedEvent) (first : Broker) (turns : List Turn) (said : List Said) (old new : ServerState) → AreNumbered old.clients
+    → Keeps first turns (links_at old.clients) old.broker
+    → HappensAll old events said new → Says first turns said (links_at new.clients) new.broker
+happened [] first turns said old new all keeps run =
+    subst (λ (s : ServerState). Says first turns said (links_at s.clients) s.broker) (sym run.1)
+    (silent first turns (links_at old.clients) old.broker old.broker said run.0 refl keeps)
+happened (event ∷ others) first turns said old new all keeps run =
+    let mid = run.0 in
+    subst (λ (s : List Said). Says first turns s (links_at new.clients) new.broker) (sym run.5)
+    (then_says first turns run.1 run.2 (links_at mid.clients) (links_at new.clients) mid.broker new.broker
+    (does_if (is_open old.broker) event.event first turns old.broker mid.broker old.clients mid.clients mid.clock run.1 (Ok tt) refl all keeps run.3.does)
+    (λ before kept. happened others first before run.2 mid new (answered event.moment event.event run.1 (Ok tt) old mid all run.3).0 kept run.4))
+
+-- a new server: no session, and nobody has one
+none_at : (count connection : ℕ) → link_in (slice_get (replicate {A = Option (ClientState GroupPlace)} count None) connection) ≡ None
+none_at zero connection = refl
+none_at (suc count) zero = refl
+none_at (suc count) (suc connection) = none_at count connection
+
+nobody : (setup : Setup) (server : ServerState) → IsNewServer setup server → (connection : ℕ) → link_at server.clients connection ≡ None
+nobody setup server new connection = ap (λ (l : Clients). link_at l connection) new.clients ∙ none_at 64 connection
+
+new_sessions : (setup : Setup) (server : ServerState) → IsNewServer setup server → KeepsSessions [] server.broker.desk (links_at server.clients)
+new_sessions setup server new =
+    let none = nobody setup server new in
+    record {
+      law = new_desk setup.capacity setup.groups server.broker new.broker;
+      linked = λ connection link is. absurd (let e = none connection in cc);
+      parked = λ number session is.
+          absurd
+          (let empty = ap (λ (b : Books Held GroupPlace). map.get b.rows number) new.broker.desk.books ∙ get-empty {X = Row Held GroupPlace} nat_cmp number in let has = is.has in cc);
+      later = λ number from. refl;
+      legal = λ number. tt;
+      own = λ connection. ap session_of (none connection);
+    }
+
+-- each open connection's session stands where it was told to
+stands : (turns : List Turn) (link : Option (Link GroupPlace)) (b : Broker) (links : Links) (connection : ℕ) → KeepsSessions turns b.desk links → links connection ≡ link
+    → StandsAsTold turns link
+stands turns None b links connection keeps is = tt
+stands turns (Some link) b links connection keeps is = (keeps.linked connection link is).leads.stands
+
+pub transcripts : (setup : Setup) (events : List TimedEvent) (said : List Said) (first last : ServerState) → IsNewServer setup first → HappensAll first events said last
+    → KeepsTranscripts said last
+transcripts setup events said first last new run =
+    let start : Keeps first.broker [] (links_at first.clients) first.broker = record { happenings = []; led = refl; fresh = refl; sessions = new_sessions setup first new } in
+    let says = happened events first.broker [] said first last (new_numbered setup first new) start run in
+    let sessions = says.keeps.sessions in
+    record {
+      turns = says.more;
+      told = says.told;
+      legal = sessions.legal;
+      own = sessions.own;
+      stands = λ connection. stands says.more (link_at last.clients connection) last.broker (links_at last.clients) connection sessions refl;
+      handed = handed setup.capacity setup.groups says.keeps.happenings first.broker last.broker _ new.broker says.keeps.led says.keeps.fresh;
+    }

@@ -1,0 +1,107 @@
+-- The transcripts of the sessions of a server, along a whole run (sections 4.4 and 4.9).
+use Rattle.std.specs.Prelude.{◌≡◌, ℕ, nat_eq, if◌then◌else◌, List, [], ◌∷◌, filter_map, Option, Some, None, slice_get, ⊤}
+use Rattle.std.specs.List.{AllByRecursion, filter, flat_map}
+use Rattle.dispatch_core.specs.declared.event.Job.{Job}
+use Rattle.group_jobs.specs.Stamps.{Held, job_of}
+use Rattle.local_group.specs.Groups.{Group}
+use Rattle.member_window.specs.Marks.{Mark, Up, Sent, Acked, Down, standing_down, standing_after_all}
+use Rattle.member_window.specs.Transcript.{IsLegal}
+use Rattle.member_window.specs.Runs.{standing_of}
+use Rattle.conn_engine.specs.declared.standing.Link.{Link}
+use Rattle.conn_laws.specs.Transcripts.{publishes_in, publishes_of, fresh_of, link_of, IsWithin}
+use Rattle.client_table.specs.Clients.{ClientState, Said}
+use Rattle.local_broker.specs.HandOuts.{handed_in_all}
+use Rattle.local_broker.specs.Places.{GroupPlace}
+use Rattle.local_server.specs.Servers.{Clients, ServerState}
+
+-- what one step of a connection added to the transcript of its session
+pub record Turn : Type 0 where
+  pub connection : ℕ
+  -- the number of the session, by the order in which sessions were new
+  pub session : ℕ
+  pub marks : List (Mark Held)
+
+-- a step wrote these PUBLISH packets, and no others
+pub record Tells (said : Said) (turn : Turn) : Type 0 where
+  pub whose : turn.connection ≡ said.connection
+  pub publishes : publishes_in said.packets ≡ publishes_of turn.marks
+
+-- each step has its turn
+abbrev pub AllTell : List Said → List Turn → Type 0
+AllTell [] [] = ⊤
+AllTell [] (turn ∷ turns) = ⊥
+AllTell (said ∷ others) [] = ⊥
+AllTell (said ∷ others) (turn ∷ turns) = Tells said turn × AllTell others turns
+
+-- the transcript of the session with this number: its marks, over however many connections
+abbrev pub marks_for : ℕ → Turn → List (Mark Held)
+marks_for number turn = if nat_eq turn.session number then turn.marks else []
+
+abbrev pub transcript_of : ℕ → List Turn → List (Mark Held)
+transcript_of number turns = flat_map (marks_for number) turns
+
+-- what a turn is that adds marks where its connection has this session, or none: a session is given with `Up`, and the connection stays with
+-- it until `Down`
+abbrev pub Begins : List (Mark Held) → Type 0
+Begins [] = ⊥
+Begins (Up receive_maximum ∷ others) = AllByRecursion IsWithin others
+Begins (Sent identifier dup envelope ∷ others) = ⊥
+Begins (Acked identifier code ∷ others) = ⊥
+Begins (Down ∷ others) = ⊥
+
+abbrev pub IsTurnOf : Option ℕ → Turn → Option ℕ → Type 0
+IsTurnOf None turn None = turn.marks ≡ []
+IsTurnOf None turn (Some session) = (turn.session ≡ session) × Begins turn.marks
+IsTurnOf (Some session) turn (Some session') = (turn.session ≡ session) × (session' ≡ session) × AllByRecursion IsWithin turn.marks
+IsTurnOf (Some session) turn None = (turn.session ≡ session) × (turn.marks ≡ Down ∷ [])
+
+-- the turns of one connection lead from the session that it has to the one that it has then
+abbrev pub AreTurnsOf : Option ℕ → List Turn → Option ℕ → Type 0
+AreTurnsOf before [] after = after ≡ before
+AreTurnsOf before (turn ∷ turns) after = (between : Option ℕ) × IsTurnOf before turn between × AreTurnsOf between turns after
+
+-- the turns of the connection with this number
+abbrev pub turns_of : ℕ → List Turn → List Turn
+turns_of connection turns = filter (λ turn. nat_eq turn.connection connection) turns
+
+-- what the connection of this number has, where it is open and its client has its session
+abbrev pub link_in : Option (Option (ClientState GroupPlace)) → Option (Link GroupPlace)
+link_in None = None
+link_in (Some None) = None
+link_in (Some (Some client)) = link_of client.conn.standing
+
+abbrev pub link_at : Clients → ℕ → Option (Link GroupPlace)
+link_at clients connection = link_in (slice_get clients connection)
+
+-- the number of its session
+abbrev pub session_of : {P : Type 0} → Option (Link P) → Option ℕ
+session_of None = None
+session_of (Some link) = Some link.session.identity.number
+
+-- the session of a connection stands where its transcript leads: what is held, what is owed, and the quota
+abbrev pub StandsAsTold : List Turn → Option (Link GroupPlace) → Type 0
+StandsAsTold turns None = ⊤
+StandsAsTold turns (Some link) =
+    standing_after_all (standing_down []) (transcript_of link.session.identity.number turns) ≡ standing_of link.session.window
+
+-- a message that is sent for the first time, as the group of this slot sees it: the place, and the job
+abbrev pub seen_by : ℕ → Held → Option (ℕ × Job)
+seen_by slot envelope = if nat_eq envelope.stamp.group slot then Some (envelope.place, job_of envelope.stamp) else None
+
+-- what all turns send for the first time, in their order
+abbrev pub all_fresh : List Turn → List Held
+all_fresh turns = flat_map (λ turn. fresh_of turn.marks) turns
+
+-- what holds of the transcripts of a run in which this was said
+pub record KeepsTranscripts (said : List Said) (last : ServerState) : Type 0 where
+  pub turns : List Turn
+  -- each step, with the PUBLISH packets that it wrote
+  pub told : AllTell said turns
+  -- the transcript of each session is legal (4.4, 4.9)
+  pub legal : (number : ℕ) → IsLegal [] (transcript_of number turns)
+  -- each connection has one session from the CONNECT that it was given with to its end, and adds to the transcript of that one alone
+  pub own : (connection : ℕ) → AreTurnsOf None (turns_of connection turns) (session_of (link_at last.clients connection))
+  -- where the transcripts lead, the sessions of the open connections are
+  pub stands : (connection : ℕ) → StandsAsTold turns (link_at last.clients connection)
+  -- the hand-outs among a group's events, first and later ones, are what is sent for the first time, in that order
+  pub handed : (slot : ℕ) (group : Group) → slice_get last.broker.groups slot ≡ Some group → handed_in_all group.events ≡ filter_map (seen_by slot) (all_fresh turns)
