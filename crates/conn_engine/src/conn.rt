@@ -20,8 +20,9 @@ use session_desk::Place;
 use std::alloc::Global;
 use std::marker::Model;
 
-/// How many packets there is room for from the start: most steps send a reply, a message, or both.
-const MOST_AT_ONCE: usize = 2;
+/// How many packets there is room for from the start: most steps send a reply, a message, or both, and there is room for one more before
+/// it is asked for.
+const MOST_AT_ONCE: usize = 3;
 
 /// A connection to a client. `P` is a place in a group.
 ///
