@@ -8,5 +8,6 @@ pub mod Leaving
 pub mod Calling
 pub mod Quotas
 pub mod Publishers
+pub mod ReturnedFirst
 pub mod OneReading
 pub mod OneCell

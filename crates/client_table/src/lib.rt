@@ -20,7 +20,8 @@ mod table;
 
 pub use client::Client;
 pub use laws::{
-    calls_law, hand_out_law, one_outcome_law, publisher_law, quota_law, table_calls_law,
+    calls_law, hand_out_law, one_outcome_law, publisher_law, quota_law, returned_first_law,
+    table_calls_law,
 };
 pub use said::Said;
 pub use table::{CLIENTS, ClientTable};

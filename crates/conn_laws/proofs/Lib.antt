@@ -8,6 +8,7 @@ pub mod Calling
 pub mod Stepping
 pub mod Failing
 pub mod Publishers
+pub mod ReturnedFirst
 pub mod Turning
 pub mod Reacting
 pub mod Transcripts

@@ -3,4 +3,5 @@ pub mod Calls
 pub mod Behind
 pub mod Quotas
 pub mod Publishers
+pub mod ReturnedFirst
 pub mod Transcripts

@@ -11,6 +11,7 @@ ghost use Rattle.conn_laws.specs.Asking.{OneAnswer};
 ghost use Rattle.conn_laws.specs.Calls.{StepCalls, FailedCalls};
 ghost use Rattle.conn_laws.specs.Behind.{IsLast, IsAllHandedOut};
 ghost use Rattle.conn_laws.specs.Publishers.{CallsFrom};
+ghost use Rattle.conn_laws.specs.ReturnedFirst.{CallsReturnedFirst};
 ghost use Rattle.conn_laws.specs.Quotas.{IsWithinQuota};
 ghost use Rattle.conn_laws.specs.Transcripts.{IsNotEnding, Transcribes};
 ghost use Rattle.conn_engine.specs.Step.{Steps, FailsToStep};
@@ -70,6 +71,13 @@ pub fn publisher_law<P: Place, S: Supply<P>>()
         Steps S.call P.slot_of old number standing now input packets next standing' new → CallsFrom S.call number old new }
     ensures failed { (number now : ℕ) (standing : Standing P) (input : Input) (old new : S) →
         FailsToStep S.call P.slot_of old number standing now input new → CallsFrom S.call number old new }
+{}
+
+/// **What was given back is handed out first**: a step hands a place a message of the queue only directly behind a call that asked for one that was
+/// given back, and found none.
+pub fn returned_first_law<P: Place, S: Supply<P>>()
+    ensures { (number now : ℕ) (standing standing' : Standing P) (input : Input) (packets : List Packet) (next : Then) (old new : S) →
+        Steps S.call P.slot_of old number standing now input packets next standing' new → CallsReturnedFirst S.call old new }
 {}
 
 /// **A step has one outcome** where each call of its supply has one answer, memory aside: the same packets, the same that becomes of

@@ -6,5 +6,6 @@
 mod laws;
 
 pub use laws::{
-    calls_law, eager_law, ended_law, one_step_law, publisher_law, quota_law, transcript_law,
+    calls_law, eager_law, ended_law, one_step_law, publisher_law, quota_law, returned_first_law,
+    transcript_law,
 };

@@ -5,6 +5,8 @@ pub mod Events
 pub mod Happened
 pub mod HandedOut
 pub mod Publishers
+pub mod ReturnedGroup
+pub mod ReturnedFirst
 pub mod Holding
 pub mod Outs
 pub mod OneGroup

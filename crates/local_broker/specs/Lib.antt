@@ -7,3 +7,4 @@ pub mod Reporting
 pub mod Histories
 pub mod HandOuts
 pub mod Publishers
+pub mod ReturnedFirst

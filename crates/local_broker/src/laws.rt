@@ -12,11 +12,13 @@ ghost use Rattle.conn_engine.specs.Facts.{Fact};
 ghost use Rattle.conn_engine.specs.Facts.Fact.{Take, TakeBack};
 ghost use Rattle.conn_laws.specs.Asking.{IsSameQuestion, HadMemory};
 ghost use Rattle.conn_laws.specs.Publishers.{CallsFrom};
+ghost use Rattle.conn_laws.specs.ReturnedFirst.{CallsReturnedFirst};
 ghost use Rattle.local_broker.specs.Alike.{AreAlike};
 ghost use Rattle.local_broker.specs.Calls.{Calls, Closes};
 ghost use Rattle.local_broker.specs.Places.{GroupPlace};
 ghost use Rattle.local_broker.specs.Publishers.{AcceptsThrough, AcceptsNothing, AllAddOnly};
 ghost use Rattle.local_broker.specs.Reporting.{TellsLine};
+ghost use Rattle.local_broker.specs.ReturnedFirst.{AllServeReturnedFirst};
 
 /// **The desk law holds always**, whatever calls are made of a new broker: at most 256 sessions, no two of one client that are lent
 /// or parked, each row's session its own, and none that is parked is ending.
@@ -68,6 +70,15 @@ pub fn publisher_law()
     ensures calls { (number : ℕ) (old new : Broker) → CallsFrom Calls number old new → AllAddOnly (AcceptsThrough number) old new }
     ensures close { (happenings : List Happening) (old closed new : Broker) →
         Closes old closed → HappensAll closed happenings new → AllAddOnly AcceptsNothing old new }
+{}
+
+/// **What was given back is handed out first** (profile): in each group, whenever a message is first handed out, none waits that was given back. It is
+/// so in a new broker (`new`); and it stays so, whatever is called of it, where each call that hands a place a message of the queue stands
+/// directly behind one that asked for a message that was given back, and found none (`calls`); and in the close (`close`).
+pub fn returned_first_law()
+    ensures new { (capacity : ℕ) (shares : List Share) (b : Broker) → IsNewBroker capacity shares b → AllServeReturnedFirst b }
+    ensures calls { (old new : Broker) → CallsReturnedFirst Calls old new → AllServeReturnedFirst old → AllServeReturnedFirst new }
+    ensures close { (old new : Broker) → Closes old new → AllServeReturnedFirst old → AllServeReturnedFirst new }
 {}
 
 /// **A broker answers each question in one way**, memory aside: of two brokers that are alike and keep the desk law, each answers a call

@@ -1,0 +1,120 @@
+-- What was given back is handed out first, among the calls of a step.
+use Rattle.std.proofs.Common.{◌≡◌, ℕ, List, [], ◌∷◌, ◌++◌, Option, Some, None, Ok, refl, inl, inr, ⊎_elim}
+use Rattle.std.specs.List.{cons_option}
+use Rattle.mqtt_wire.specs.declared.packet.Packet.{Packet}
+use Rattle.group_jobs.specs.Stamps.{Held}
+use Rattle.member_window.specs.Contents.{Contents, HasRoom}
+use Rattle.session_desk.specs.declared.session.Membership.{Membership}
+use Rattle.session_desk.specs.declared.session.Membership.TheVariants.{NotMember, Member, Leaving}
+use Rattle.conn_engine.specs.declared.input.Input.{Input}
+use Rattle.conn_engine.specs.declared.input.Then.{Then}
+use Rattle.conn_engine.specs.declared.standing.Standing.{Standing}
+use Rattle.conn_engine.specs.declared.standing.Standing.TheVariants.{Unconnected, Waiting, Connected, Ended}
+use Rattle.conn_engine.specs.Facts.{Fact}
+use Rattle.conn_engine.specs.Facts.Fact.{Take, TakeBack, TakePlace}
+use Rattle.conn_engine.specs.HandOuts.{AsksFor, SendsNone, SendsFresh, LeavesWith, HandsFresh}
+use Rattle.conn_engine.specs.Step.{Hands, Steps}
+use Rattle.conn_laws.specs.Calls.{hand_out_of, handed, messages_of}
+use Rattle.conn_laws.specs.ReturnedFirst.{MayFollow, FollowInOrder, CallsReturnedFirst}
+use Rattle.conn_laws.proofs.Calling.{joins}
+use Rattle.conn_laws.proofs.Stepping.{Walked, reacted}
+
+-- what may follow no call may follow any
+follows_any : {P : Type 0} (last : Option (Fact P)) (fact : Fact P) → MayFollow None fact → MayFollow last fact
+follows_any last (Take place place' (Ok (Some envelope))) may = let none = may.1 in absurd (cc)
+follows_any last other may = tt
+
+all_follow_any : {P : Type 0} (last : Option (Fact P)) (facts : List (Fact P)) → FollowInOrder None facts → FollowInOrder last facts
+all_follow_any last [] order = tt
+all_follow_any last (fact ∷ facts) order = (follows_any last fact order.0, order.1)
+
+both : {P : Type 0} (last : Option (Fact P)) (facts others : List (Fact P)) → FollowInOrder last facts → FollowInOrder None others → FollowInOrder last (facts ++ others)
+both last [] others these those = all_follow_any last others those
+both last (fact ∷ facts) others these those = (these.0, both (Some fact) facts others these.1 those)
+
+-- calls that hand nothing out
+hands_none : {P : Type 0} (last : Option (Fact P)) (fact : Fact P) → hand_out_of fact ≡ None → MayFollow last fact
+hands_none last (Take place place' (Ok (Some envelope))) none = absurd (cc)
+hands_none last other none = tt
+
+none_of : {A : Type 0} (found : Option A) (others : List A) → cons_option found others ≡ [] → (found ≡ None) × (others ≡ [])
+none_of None others none = (refl, none)
+none_of (Some one) others none = absurd (cc)
+
+all_hand_none : {P : Type 0} (last : Option (Fact P)) (facts : List (Fact P)) → handed facts ≡ [] → FollowInOrder last facts
+all_hand_none last [] none = tt
+all_hand_none last (fact ∷ facts) none =
+    let neither = none_of (hand_out_of fact) (handed facts) none in
+    (hands_none last fact neither.0, all_hand_none (Some fact) facts neither.1)
+
+no_message : {P : Type 0} (given : List (P × Held)) → messages_of given ≡ [] → given ≡ []
+no_message [] none = refl
+no_message (one ∷ others) none = absurd (cc)
+
+module _ {S P : Type 0} (call : S → Fact P → S → Type 0) where
+  pub none : (old new : S) → new ≡ old → CallsReturnedFirst call old new
+  none old new same = record { facts = []; made = same; order = tt }
+
+  pub behind : (old mid new : S) → CallsReturnedFirst call old mid → CallsReturnedFirst call mid new → CallsReturnedFirst call old new
+  behind old mid new these those =
+      record {
+        facts = these.facts ++ those.facts;
+        made = joins call these.facts those.facts old mid new these.made those.made;
+        order = both None these.facts those.facts these.order those.order;
+      }
+
+  -- a place asks for a message
+  found_or_not : (found : Option Held) (before between place' : P) → MayFollow (Some (TakeBack before between (Ok None))) (Take between place' (Ok found))
+  found_or_not None before between place' = tt
+  found_or_not (Some envelope) before between place' = (before, refl)
+
+  asked_for : (found : Option Held) (old new : S) (place place' : P) → AsksFor call old place found place' new → CallsReturnedFirst call old new
+  asked_for found old new place place' (inl back) = record { facts = TakeBack place place' (Ok (Some back.0)) ∷ []; made = (new, back.2, refl); order = (tt, tt) }
+  asked_for found old new place place' (inr queued) =
+      record {
+        facts = TakeBack place queued.0 (Ok None) ∷ Take queued.0 place' (Ok found) ∷ [];
+        made = (queued.1, queued.2, (new, queued.3, refl));
+        order = (tt, (found_or_not found place queued.0 place', tt));
+      }
+
+  sent_none : (old new : S) (place place' : P) (window window' : Contents Held) → SendsNone call old place window place' window' new → CallsReturnedFirst call old new
+  sent_none old new place place' window window' sends =
+      ⊎_elim
+      (λ (full : ¬ HasRoom window × (place' ≡ place) × (new ≡ old)). none old new full.2)
+      (λ (asked : HasRoom window × AsksFor call old place None place' new). asked_for None old new place place' asked.1)
+      sends.1
+
+  sent_fresh : (packets : List Packet) (old new : S) (place place' : P) (window window' : Contents Held) → SendsFresh call old place window packets place' window' new
+      → CallsReturnedFirst call old new
+  sent_fresh [] old new place place' window window' sends = sent_none old new place place' window window' sends
+  sent_fresh (packet ∷ packets) old new place place' window window' sends =
+      behind old sends.2 new (asked_for (Some sends.3.envelope) old sends.2 place sends.0 sends.3.asked) (sent_fresh packets sends.2 new sends.0 place' sends.1 window' sends.4)
+
+  left_with : (old new : S) (place : P) (window : Contents Held) (membership : Membership P) → LeavesWith call old place window membership new → CallsReturnedFirst call old new
+  left_with old new place window membership (inl gone) = record { facts = TakePlace place ∷ []; made = (new, gone.2, refl); order = (tt, tt) }
+  left_with old new place window membership (inr stays) = none old new stays.2
+
+  handed_fresh : (membership : Membership P) (old new : S) (window : Contents Held) (packets : List Packet) (membership' : Membership P) (window' : Contents Held)
+      → HandsFresh call old membership window packets membership' window' new → CallsReturnedFirst call old new
+  handed_fresh NotMember old new window packets membership' window' hands = none old new hands.3
+  handed_fresh (Member place) old new window packets membership' window' hands = sent_fresh packets old new place hands.0 window window' hands.2
+  handed_fresh (Leaving place) old new window packets membership' window' hands = left_with old new place window membership' hands.2
+
+  -- the reply hands nothing out
+  walked : (old new : S) (number : ℕ) (standing : Standing P) (input : Input) (next : Then) → Walked call [] old number standing input next new → CallsReturnedFirst call old new
+  walked old new number standing input next calls =
+      record { facts = calls.facts; made = calls.made; order = all_hand_none None calls.facts (no_message (handed calls.facts) calls.hands) }
+
+  module _ (slot_of : P → ℕ) where
+    hands : (between : Standing P) (old new : S) (sent : List Packet) (standing : Standing P) → Hands call slot_of old between sent standing new → CallsReturnedFirst call old new
+    hands (Unconnected opened) old new sent standing is = none old new is.2
+    hands (Waiting request ticks) old new sent standing is = none old new is.2
+    hands (Connected link) old new sent standing is = handed_fresh link.session.membership old new is.2.between is.2.fresh is.0 is.1 is.2.sent_fresh
+    hands Ended old new sent standing is = none old new is.2
+
+    pub stepped : (old new : S) (number now : ℕ) (standing standing' : Standing P) (input : Input) (packets : List Packet) (next : Then)
+        → Steps call slot_of old number standing now input packets next standing' new → CallsReturnedFirst call old new
+    stepped old new number now standing standing' input packets next steps =
+        behind old steps.mid new
+        (walked old steps.mid number standing input steps.reply.next (reacted call slot_of standing input old steps.mid number now steps.between steps.reply steps.reacts))
+        (hands steps.between steps.mid new steps.sent standing' steps.hands)
