@@ -6,6 +6,8 @@ pub mod Headline
 pub mod Addressed
 pub mod Publishers
 pub mod Emptied
+pub mod LastEvents
+pub mod Eager
 pub mod OneRun
 pub mod Windows
 pub mod Turns

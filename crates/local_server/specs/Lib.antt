@@ -5,6 +5,8 @@ pub mod Deliveries
 pub mod Runs
 pub mod Quotas
 pub mod Headline
+pub mod LastEvents
+pub mod Eager
 pub mod Addressed
 pub mod Publishers
 pub mod Transcripts

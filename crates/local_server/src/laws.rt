@@ -19,6 +19,8 @@ ghost use Rattle.local_server.specs.Runs.{HaveLed, AllRunLawfully};
 ghost use Rattle.local_server.specs.Addressed.{Answers};
 ghost use Rattle.local_server.specs.Publishers.{AcceptsFrom};
 ghost use Rattle.local_server.specs.Transcripts.{KeepsTranscripts};
+ghost use Rattle.local_server.specs.Eager.{AllHandReturnedFirst};
+ghost use Rattle.local_server.specs.LastEvents.{AllAddTheClose};
 
 /// **The headline on one thread**, whatever events happen to a server, over however many connections and in whatever order: each accepted
 /// message is first handed to at most one member, once; each member's first hand-outs from a publisher keep that publisher's order; no
@@ -67,6 +69,13 @@ pub fn transcript_law()
         IsNewServer setup first → HappensAll first events said last → KeepsTranscripts said last }
 {}
 
+/// **What was given back is handed out first**, in every run (profile): whenever a message is first handed out in a group, none of its messages
+/// waits that was given back. The runs are those in which memory was not wanted.
+pub fn eager_law()
+    ensures { (setup : Setup) (events : List TimedEvent) (said : List Said) (first last : ServerState) →
+        IsNewServer setup first → HappensAll first events said last → AllHandReturnedFirst last.broker }
+{}
+
 /// **A session is in one pair of hands, whatever happens to the server.**
 pub fn desk_law()
     ensures { (setup : Setup) (events : List TimedEvent) (said : List Said) (first last : ServerState) →
@@ -104,8 +113,11 @@ pub fn emptying_law()
         is_open old.broker ≡ true → Happens old moment events.Close said result new → HasNoneBelow 64 new.clients }
 {}
 
-/// **Behind the close** nothing happens any more, and nothing is said.
+/// **The close is what happens last in each group**: where it wants no memory, each group has behind it the events of before, the close, and
+/// no other (`last`). Behind it nothing happens any more, and nothing is said.
 pub fn closing_law()
+    ensures last { (moment : ℕ) (said : List Said) (old new : ServerState) →
+        is_open old.broker ≡ true → Happens old moment events.Close said (Ok tt) new → AllAddTheClose old.broker new.broker }
     ensures silent { (events : List TimedEvent) (said : List Said) (old new : ServerState) →
         is_open old.broker ≡ false → HappensAll old events said new → said ≡ [] }
     ensures still { (events : List TimedEvent) (said : List Said) (old new : ServerState) →

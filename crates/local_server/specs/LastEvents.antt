@@ -1,0 +1,15 @@
+-- The close is what happens last in each group.
+use Rattle.std.specs.Prelude.{◌≡◌, ℕ, [], ◌∷◌, ◌++◌, Some, slice_get}
+use Rattle.dispatch_core.specs.declared.event.Event.TheVariants.{Close}
+use Rattle.local_group.specs.Groups.{Group}
+use Rattle.local_broker.specs.Broker.{Broker}
+
+-- the group of this slot has its earlier events, and behind them the close alone
+pub record AddsTheClose (old : Broker) (slot : ℕ) (group : Group) : Type 0 where
+  pub before : Group
+  pub was : slice_get old.groups slot ≡ Some before
+  pub events : group.events ≡ before.events ++ Close ∷ []
+
+-- and so has each group
+abbrev pub AllAddTheClose : Broker → Broker → Type 0
+AllAddTheClose old new = (slot : ℕ) (group : Group) → slice_get new.groups slot ≡ Some group → AddsTheClose old slot group
