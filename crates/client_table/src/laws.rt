@@ -70,15 +70,15 @@ pub fn publisher_law<P: Place, S: Supply<P>>()
         IsNumbered number before → EndsFor S.call P.slot_of old before now input more result after new → CallsFrom S.call number old new }
 {}
 
-/// **What was given back is handed out first**, whatever happens to the client in a cell, where memory is not wanted: a place is handed a message
-/// of the queue only directly behind a call that asked for one that was given back, and found none.
+/// **What was given back is handed out first**, whatever happens to the client in a cell, with memory and without: a place is handed a message of
+/// the queue only directly behind a call that asked for one that was given back, and found none.
 pub fn returned_first_law<P: Place, S: Supply<P>>()
-    ensures receives { (now : ℕ) (piece : List ℕ) (more : List Said) (before after : Option (ClientState P)) (old new : S) →
-        Receives S.call P.slot_of old before now piece more (Ok tt) after new → CallsReturnedFirst S.call old new }
-    ensures ticks { (now : ℕ) (more : List Said) (before after : Option (ClientState P)) (old new : S) →
-        TicksFor S.call P.slot_of old before now more (Ok tt) after new → CallsReturnedFirst S.call old new }
-    ensures ends { (now : ℕ) (input : Input) (more : List Said) (before after : Option (ClientState P)) (old new : S) →
-        EndsFor S.call P.slot_of old before now input more (Ok tt) after new → CallsReturnedFirst S.call old new }
+    ensures receives { (now : ℕ) (piece : List ℕ) (more : List Said) (result : Result (Unit {0}) NoMemory) (before after : Option (ClientState P)) (old new : S) →
+        Receives S.call P.slot_of old before now piece more result after new → CallsReturnedFirst S.call old new }
+    ensures ticks { (now : ℕ) (more : List Said) (result : Result (Unit {0}) NoMemory) (before after : Option (ClientState P)) (old new : S) →
+        TicksFor S.call P.slot_of old before now more result after new → CallsReturnedFirst S.call old new }
+    ensures ends { (now : ℕ) (input : Input) (more : List Said) (result : Result (Unit {0}) NoMemory) (before after : Option (ClientState P)) (old new : S) →
+        EndsFor S.call P.slot_of old before now input more result after new → CallsReturnedFirst S.call old new }
 {}
 
 /// **The quota is kept** (section 4.9), whatever happens to the client in a cell, with memory and without: of the PUBLISH packets that it was

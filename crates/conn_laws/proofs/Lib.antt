@@ -9,6 +9,7 @@ pub mod Stepping
 pub mod Failing
 pub mod Publishers
 pub mod ReturnedFirst
+pub mod ReturnedFirstFailing
 pub mod Turning
 pub mod Reacting
 pub mod Transcripts

@@ -8,16 +8,17 @@ use Rattle.session_desk.specs.declared.session.Membership.{Membership}
 use Rattle.session_desk.specs.declared.session.Membership.TheVariants.{NotMember, Member, Leaving}
 use Rattle.conn_engine.specs.declared.input.Input.{Input}
 use Rattle.conn_engine.specs.declared.input.Then.{Then}
+use Rattle.conn_engine.specs.declared.reply.Reply.{Reply}
 use Rattle.conn_engine.specs.declared.standing.Standing.{Standing}
 use Rattle.conn_engine.specs.declared.standing.Standing.TheVariants.{Unconnected, Waiting, Connected, Ended}
 use Rattle.conn_engine.specs.Facts.{Fact}
 use Rattle.conn_engine.specs.Facts.Fact.{Take, TakeBack, TakePlace}
 use Rattle.conn_engine.specs.HandOuts.{AsksFor, SendsNone, SendsFresh, LeavesWith, HandsFresh}
-use Rattle.conn_engine.specs.Step.{Hands, Steps}
+use Rattle.conn_engine.specs.Step.{Reacts, Hands, Steps}
 use Rattle.conn_laws.specs.Calls.{hand_out_of, handed, messages_of}
 use Rattle.conn_laws.specs.ReturnedFirst.{MayFollow, FollowInOrder, CallsReturnedFirst}
-use Rattle.conn_laws.proofs.Calling.{joins}
-use Rattle.conn_laws.proofs.Stepping.{Walked, reacted}
+use Rattle.conn_laws.proofs.Calling.{Plain, joins}
+use Rattle.conn_laws.proofs.Stepping.{reacted}
 
 -- what may follow no call may follow any
 follows_any : {P : Type 0} (last : Option (Fact P)) (fact : Fact P) → MayFollow None fact → MayFollow last fact
@@ -55,6 +56,9 @@ module _ {S P : Type 0} (call : S → Fact P → S → Type 0) where
   pub none : (old new : S) → new ≡ old → CallsReturnedFirst call old new
   none old new same = record { facts = []; made = same; order = tt }
 
+  pub one : (old new : S) (fact : Fact P) → call old fact new → MayFollow None fact → CallsReturnedFirst call old new
+  one old new fact called may = record { facts = fact ∷ []; made = (new, called, refl); order = (may, tt) }
+
   pub behind : (old mid new : S) → CallsReturnedFirst call old mid → CallsReturnedFirst call mid new → CallsReturnedFirst call old new
   behind old mid new these those =
       record {
@@ -68,8 +72,8 @@ module _ {S P : Type 0} (call : S → Fact P → S → Type 0) where
   found_or_not None before between place' = tt
   found_or_not (Some envelope) before between place' = (before, refl)
 
-  asked_for : (found : Option Held) (old new : S) (place place' : P) → AsksFor call old place found place' new → CallsReturnedFirst call old new
-  asked_for found old new place place' (inl back) = record { facts = TakeBack place place' (Ok (Some back.0)) ∷ []; made = (new, back.2, refl); order = (tt, tt) }
+  pub asked_for : (found : Option Held) (old new : S) (place place' : P) → AsksFor call old place found place' new → CallsReturnedFirst call old new
+  asked_for found old new place place' (inl back) = one old new (TakeBack place place' (Ok (Some back.0))) back.2 tt
   asked_for found old new place place' (inr queued) =
       record {
         facts = TakeBack place queued.0 (Ok None) ∷ Take queued.0 place' (Ok found) ∷ [];
@@ -91,7 +95,7 @@ module _ {S P : Type 0} (call : S → Fact P → S → Type 0) where
       behind old sends.2 new (asked_for (Some sends.3.envelope) old sends.2 place sends.0 sends.3.asked) (sent_fresh packets sends.2 new sends.0 place' sends.1 window' sends.4)
 
   left_with : (old new : S) (place : P) (window : Contents Held) (membership : Membership P) → LeavesWith call old place window membership new → CallsReturnedFirst call old new
-  left_with old new place window membership (inl gone) = record { facts = TakePlace place ∷ []; made = (new, gone.2, refl); order = (tt, tt) }
+  left_with old new place window membership (inl gone) = one old new (TakePlace place) gone.2 tt
   left_with old new place window membership (inr stays) = none old new stays.2
 
   handed_fresh : (membership : Membership P) (old new : S) (window : Contents Held) (packets : List Packet) (membership' : Membership P) (window' : Contents Held)
@@ -100,12 +104,18 @@ module _ {S P : Type 0} (call : S → Fact P → S → Type 0) where
   handed_fresh (Member place) old new window packets membership' window' hands = sent_fresh packets old new place hands.0 window window' hands.2
   handed_fresh (Leaving place) old new window packets membership' window' hands = left_with old new place window membership' hands.2
 
-  -- the reply hands nothing out
-  walked : (old new : S) (number : ℕ) (standing : Standing P) (input : Input) (next : Then) → Walked call [] old number standing input next new → CallsReturnedFirst call old new
-  walked old new number standing input next calls =
-      record { facts = calls.facts; made = calls.made; order = all_hand_none None calls.facts (no_message (handed calls.facts) calls.hands) }
+  -- calls that hand nothing out
+  pub plain : (old new : S) → Plain call [] old new → CallsReturnedFirst call old new
+  plain old new calls = record { facts = calls.facts; made = calls.made; order = all_hand_none None calls.facts (no_message (handed calls.facts) calls.hands) }
 
   module _ (slot_of : P → ℕ) where
+    -- the reply hands nothing out
+    pub reacts : (standing : Standing P) (input : Input) (old new : S) (number now : ℕ) (between : Standing P) (reply : Reply)
+        → Reacts call slot_of old number standing now input between reply new → CallsReturnedFirst call old new
+    reacts standing input old new number now between reply is =
+        let calls = reacted call slot_of standing input old new number now between reply is in
+        record { facts = calls.facts; made = calls.made; order = all_hand_none None calls.facts (no_message (handed calls.facts) calls.hands) }
+
     hands : (between : Standing P) (old new : S) (sent : List Packet) (standing : Standing P) → Hands call slot_of old between sent standing new → CallsReturnedFirst call old new
     hands (Unconnected opened) old new sent standing is = none old new is.2
     hands (Waiting request ticks) old new sent standing is = none old new is.2
@@ -115,6 +125,5 @@ module _ {S P : Type 0} (call : S → Fact P → S → Type 0) where
     pub stepped : (old new : S) (number now : ℕ) (standing standing' : Standing P) (input : Input) (packets : List Packet) (next : Then)
         → Steps call slot_of old number standing now input packets next standing' new → CallsReturnedFirst call old new
     stepped old new number now standing standing' input packets next steps =
-        behind old steps.mid new
-        (walked old steps.mid number standing input steps.reply.next (reacted call slot_of standing input old steps.mid number now steps.between steps.reply steps.reacts))
+        behind old steps.mid new (reacts standing input old steps.mid number now steps.between steps.reply steps.reacts)
         (hands steps.between steps.mid new steps.sent standing' steps.hands)

@@ -74,10 +74,12 @@ pub fn publisher_law<P: Place, S: Supply<P>>()
 {}
 
 /// **What was given back is handed out first**: a step hands a place a message of the queue only directly behind a call that asked for one that was
-/// given back, and found none.
+/// given back, and found none; and so does one that wants memory (`failed`).
 pub fn returned_first_law<P: Place, S: Supply<P>>()
-    ensures { (number now : ℕ) (standing standing' : Standing P) (input : Input) (packets : List Packet) (next : Then) (old new : S) →
+    ensures stepped { (number now : ℕ) (standing standing' : Standing P) (input : Input) (packets : List Packet) (next : Then) (old new : S) →
         Steps S.call P.slot_of old number standing now input packets next standing' new → CallsReturnedFirst S.call old new }
+    ensures failed { (number now : ℕ) (standing : Standing P) (input : Input) (old new : S) →
+        FailsToStep S.call P.slot_of old number standing now input new → CallsReturnedFirst S.call old new }
 {}
 
 /// **A step has one outcome** where each call of its supply has one answer, memory aside: the same packets, the same that becomes of

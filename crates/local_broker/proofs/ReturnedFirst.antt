@@ -32,7 +32,9 @@ in_one old new at Does keeps does all slot group there =
     let set : slice_get (slice_set old.groups at does.after) slot ≡ Some group = ap (λ (l : List Group). slice_get l slot) (sym does.becomes) ∙ there in
     ⊎_elim
     (λ (is : slot ≡ at).
-    let same = same_Some does.after group (sym (slice_get-set_same old.groups at does.after (slice_get_within old.groups at does.before does.there)) ∙ ap (slice_get (slice_set old.groups at does.after)) (sym is) ∙ set) in
+    let at_place : slice_get (slice_set old.groups at does.after) at ≡ Some does.after =
+    slice_get-set_same old.groups at does.after (slice_get_within old.groups at does.before does.there) in
+    let same = same_Some does.after group (sym at_place ∙ ap (slice_get (slice_set old.groups at does.after)) (sym is) ∙ set) in
     subst ServesReturnedFirst same (keeps does.before does.after does.there does.does (all at does.before does.there)))
     (λ (other : slot ≢ at). all slot group (sym (slice_get-set_other old.groups at slot does.after other) ∙ set))
     (cases_eq slot at)
@@ -71,7 +73,8 @@ behind fact old new does place group found there =
     let is : fact ≡ TakeBack found.0 place (Ok None) = same_Some fact (TakeBack found.0 place (Ok None)) found.1 in
     found_none found.0 place old new group (subst (λ (f : Fact GroupPlace). Calls old f new) is does) there
 
-taken : (answer : Result (Option Held) NoMemory) (last : Option (Fact GroupPlace)) (place place' : GroupPlace) (old new : Broker) → IsBehind last old → MayFollow last (Take place place' answer)
+taken : (answer : Result (Option Held) NoMemory) (last : Option (Fact GroupPlace)) (place place' : GroupPlace) (old new : Broker) → IsBehind last old
+    → MayFollow last (Take place place' answer)
     → Calls old (Take place place' answer) new → AllServeReturnedFirst old → AllServeReturnedFirst new
 taken (Ok (Some envelope)) last place place' old new is may does all =
     in_one old new place.slot _ (λ before after there call. groups.handed (Ok (Some envelope)) before after place.number call (λ e same. is place before may there)) does.0 all

@@ -137,11 +137,13 @@ settles : (how : Fate) (old new : Group) (envelope : Envelope) → Settles old e
 settles fate.Acknowledged old new envelope does serves =
     let adds = does.event in
     grows old new _ serves adds
-    (keeps_list old new (job_of envelope.stamp) (Acked envelope.place) serves adds.step.made.0 does.returned (ap times_returned adds.step.may.ready) refl) (λ member job is. absurd (cc))
+    (keeps_list old new (job_of envelope.stamp) (Acked envelope.place) serves adds.step.made.0 does.returned (ap times_returned adds.step.may.ready) refl)
+    (λ member job is. absurd (cc))
 settles fate.Refused old new envelope does serves =
     let adds = does.event in
     grows old new _ serves adds
-    (keeps_list old new (job_of envelope.stamp) (Refused envelope.place) serves adds.step.made.0 does.returned (ap times_returned adds.step.may.ready) refl) (λ member job is. absurd (cc))
+    (keeps_list old new (job_of envelope.stamp) (Refused envelope.place) serves adds.step.made.0 does.returned (ap times_returned adds.step.may.ready) refl)
+    (λ member job is. absurd (cc))
 
 pub settled : (how : Fate) (old new : Group) (place : ℕ) (envelope : Envelope) → IsSettled old place envelope how new → ServesReturnedFirst old → ServesReturnedFirst new
 settled how old new place envelope does serves =
@@ -158,7 +160,8 @@ gives_back old new envelope does serves =
     ap jobs_in does.returned ∙ map-append (λ w. w.job) old.returned (waits job envelope.message ∷ []) in
     grows old new _ serves adds
     (λ other. ap (count_of other) jobs
-    ∙ lists_more times_returned old.state new.state job Returned adds.step.made.0 (jobs_in old.returned) (jobs_in old.returned ++ job ∷ []) (ap times_returned adds.step.may.ready) refl
+    ∙ lists_more times_returned old.state new.state job Returned adds.step.made.0 (jobs_in old.returned) (jobs_in old.returned ++ job ∷ [])
+    (ap times_returned adds.step.may.ready) refl
     (λ one. omega (arith, count_of-append one (jobs_in old.returned) (job ∷ []))) serves.returned other) (λ member other is. absurd (cc))
 
 pub given_back : (old new : Group) (place : ℕ) (envelope : Envelope) → IsGivenBack old place envelope new → ServesReturnedFirst old → ServesReturnedFirst new

@@ -1,9 +1,9 @@
 -- What was given back is handed out first, in every run of a server.
-use Rattle.std.proofs.Common.{◌≡◌, ℕ, Bool, true, false, List, [], ◌∷◌, Ok, refl, sym, ap, subst, ◌∙◌, slice_get}
+use Rattle.std.proofs.Common.{◌≡◌, ℕ, zero, suc, Bool, true, false, List, [], ◌∷◌, Ok, Result, sym, ap, subst}
 use Rattle.conn_engine.specs.declared.input.Input.TheVariants as inputs
+use Rattle.conn_engine.specs.declared.supply.NoMemory.{NoMemory}
 use Rattle.client_table.specs.Clients.{Said}
 use Rattle.client_table.proofs.ReturnedFirst.{receives, ticks_for, ends_for}
-use Rattle.local_group.specs.Groups.{Group}
 use Rattle.local_broker.specs.Broker.{Broker, is_open}
 use Rattle.local_broker.specs.Calls.{Calls}
 use Rattle.local_broker.specs.ReturnedFirst.{AllServeReturnedFirst}
@@ -13,40 +13,56 @@ use Rattle.local_server.specs.declared.event.Event.TheVariants as events
 use Rattle.local_server.specs.declared.event.TimedEvent.{TimedEvent}
 use Rattle.local_server.specs.declared.setup.Setup.{Setup}
 use Rattle.local_server.specs.Servers.{Clients, ServerState, IsNewServer}
-use Rattle.local_server.specs.Happening.{slot_of, Does, DoesIf, HappensAll}
+use Rattle.local_server.specs.Happening.{slot_of, EndsFirst, Does, DoesIf, Happens, HappensAll}
 use Rattle.local_server.specs.Eager.{AllHandReturnedFirst}
-use Rattle.local_server.proofs.LastEvents.{all_end}
 
 unchanged : (old new : Broker) → new ≡ old → AllServeReturnedFirst old → AllServeReturnedFirst new
 unchanged old new same all = subst AllServeReturnedFirst (sym same) all
 
-same_groups : (old new : Broker) → new.groups ≡ old.groups → AllServeReturnedFirst old → AllServeReturnedFirst new
-same_groups old new same all slot group there = all slot group (ap (λ (l : List Group). slice_get l slot) (sym same) ∙ there)
+-- one connection after another ends
+all_end : (number : ℕ) (old new : Broker) (clients clients' : Clients) (now : ℕ) (said : List Said) (result : Result (Unit {0}) NoMemory)
+    → EndsFirst number old clients now said result clients' new → AllServeReturnedFirst old → AllServeReturnedFirst new
+all_end zero old new clients clients' now said result ends all = unchanged old new ends.3 all
+all_end (suc number) old new clients clients' now said result ends all =
+    stays_first ends.0 new (ends_for Calls slot_of ends.5 ends.7.before ends.0 new now inputs.Closing ends.3 ends.7.after ends.7.becomes)
+    (all_end number old ends.0 clients ends.1 now ends.2 ends.4 ends.6 all)
 
-does : (event : Event) (old new : Broker) (clients clients' : Clients) (now : ℕ) (said : List Said) → Does event old clients now said (Ok tt) clients' new
-    → AllServeReturnedFirst old → AllServeReturnedFirst new
-does (events.Open number) old new clients clients' now said done all = unchanged old new done.1 all
-does (events.Bytes number piece) old new clients clients' now said done all =
-    stays_first old new (receives Calls slot_of done.before old new now piece said done.after done.becomes) all
-does (events.Tick number) old new clients clients' now said done all = stays_first old new (ticks_for Calls slot_of done.before old new now said done.after done.becomes) all
-does (events.End number) old new clients clients' now said done all =
-    stays_first old new (ends_for Calls slot_of done.before old new now inputs.EndOfInput said done.after done.becomes) all
-does events.Close old new clients clients' now said done all =
-    same_groups done.0 new (all_end done.2 done.0 new clients clients' now said (Ok tt) refl done.4) (stays_first_closed old done.0 done.1 all)
+does : (event : Event) (old new : Broker) (clients clients' : Clients) (now : ℕ) (said : List Said) (result : Result (Unit {0}) NoMemory)
+    → Does event old clients now said result clients' new → AllServeReturnedFirst old → AllServeReturnedFirst new
+does (events.Open number) old new clients clients' now said result done all = unchanged old new done.1 all
+does (events.Bytes number piece) old new clients clients' now said result done all =
+    stays_first old new (receives Calls slot_of result done.before old new now piece said done.after done.becomes) all
+does (events.Tick number) old new clients clients' now said result done all =
+    stays_first old new (ticks_for Calls slot_of result done.before old new now said done.after done.becomes) all
+does (events.End number) old new clients clients' now said result done all =
+    stays_first old new (ends_for Calls slot_of result done.before old new now inputs.EndOfInput said done.after done.becomes) all
+does events.Close old new clients clients' now said result done all =
+    all_end done.2 done.0 new clients clients' now said result done.4 (stays_first_closed old done.0 done.1 all)
 
-does_if : (going : Bool) (event : Event) (old new : Broker) (clients clients' : Clients) (now : ℕ) (said : List Said)
-    → DoesIf going event old clients now said (Ok tt) clients' new → AllServeReturnedFirst old → AllServeReturnedFirst new
-does_if true event old new clients clients' now said done all = does event old new clients clients' now said done all
-does_if false event old new clients clients' now said done all = unchanged old new done.3 all
+does_if : (going : Bool) (event : Event) (old new : Broker) (clients clients' : Clients) (now : ℕ) (said : List Said) (result : Result (Unit {0}) NoMemory)
+    → DoesIf going event old clients now said result clients' new → AllServeReturnedFirst old → AllServeReturnedFirst new
+does_if true event old new clients clients' now said result done all = does event old new clients clients' now said result done all
+does_if false event old new clients clients' now said result done all = unchanged old new done.3 all
+
+happens : (moment : ℕ) (event : Event) (said : List Said) (result : Result (Unit {0}) NoMemory) (old new : ServerState) → Happens old moment event said result new
+    → AllServeReturnedFirst old.broker → AllServeReturnedFirst new.broker
+happens moment event said result old new happened all =
+    does_if (is_open old.broker) event old.broker new.broker old.clients new.clients new.clock said result happened.does all
 
 stays : (events : List TimedEvent) (said : List Said) (old new : ServerState) → HappensAll old events said new → AllServeReturnedFirst old.broker → AllServeReturnedFirst new.broker
 stays [] said old new run all = unchanged old.broker new.broker (ap (λ s. s.broker) run.1) all
 stays (first ∷ others) said old new run all =
-    let happens = run.3 in
-    stays others run.2 run.0 new run.4
-    (does_if (is_open old.broker) first.event old.broker run.0.broker old.clients run.0.clients run.0.clock run.1 happens.does all)
+    stays others run.2 run.0 new run.4 (happens first.moment first.event run.1 (Ok tt) old run.0 run.3 all)
+
+served : (setup : Setup) (events : List TimedEvent) (said : List Said) (first last : ServerState) → IsNewServer setup first → HappensAll first events said last
+    → AllServeReturnedFirst last.broker
+served setup events said first last new run = stays events said first last run (begins_first setup.capacity setup.groups first.broker new.broker)
 
 pub eager : (setup : Setup) (events : List TimedEvent) (said : List Said) (first last : ServerState) → IsNewServer setup first → HappensAll first events said last
     → AllHandReturnedFirst last.broker
-eager setup events said first last new run slot group there =
-    (stays events said first last run (begins_first setup.capacity setup.groups first.broker new.broker) slot group there).first
+eager setup events said first last new run slot group there = (served setup events said first last new run slot group there).first
+
+pub eager_next : (setup : Setup) (events : List TimedEvent) (earlier said : List Said) (moment : ℕ) (event : Event) (result : Result (Unit {0}) NoMemory) (first old new : ServerState)
+    → IsNewServer setup first → HappensAll first events earlier old → Happens old moment event said result new → AllHandReturnedFirst new.broker
+eager_next setup events earlier said moment event result first old new begins run happened slot group there =
+    (happens moment event said result old new happened (served setup events earlier first old begins run) slot group there).first

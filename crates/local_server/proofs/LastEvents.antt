@@ -50,7 +50,7 @@ ends (Ok done) None old new now said after ok does = ap (λ b. b.groups) does.2
 ends (Ok done) (Some client) old new now said after ok does = moves client does.0 old new now does.1.0 does.1.2
 ends (Err error) before old new now said after ok does = absurd (false≢true ok)
 
-pub all_end : (number : ℕ) (old new : Broker) (clients clients' : Clients) (now : ℕ) (said : List Said) (result : Result (Unit {0}) NoMemory)
+all_end : (number : ℕ) (old new : Broker) (clients clients' : Clients) (now : ℕ) (said : List Said) (result : Result (Unit {0}) NoMemory)
     → IsOk result → EndsFirst number old clients now said result clients' new → Keep old new
 all_end zero old new clients clients' now said result ok all = ap (λ b. b.groups) all.3
 all_end (suc number) old new clients clients' now said result ok all =

@@ -70,9 +70,12 @@ pub fn transcript_law()
 {}
 
 /// **What was given back is handed out first**, in every run (profile): whenever a message is first handed out in a group, none of its messages
-/// waits that was given back. The runs are those in which memory was not wanted.
+/// waits that was given back (`all`). It is so behind whatever events, and behind one more, whether memory was wanted in that or not (`one`).
 pub fn eager_law()
-    ensures { (setup : Setup) (events : List TimedEvent) (said : List Said) (first last : ServerState) →
+    ensures one { (setup : Setup) (events : List TimedEvent) (earlier said : List Said) (moment : ℕ) (event : Event) (result : Result (Unit {0}) NoMemory)
+        (first old new : ServerState) →
+        IsNewServer setup first → HappensAll first events earlier old → Happens old moment event said result new → AllHandReturnedFirst new.broker }
+    ensures all { (setup : Setup) (events : List TimedEvent) (said : List Said) (first last : ServerState) →
         IsNewServer setup first → HappensAll first events said last → AllHandReturnedFirst last.broker }
 {}
 

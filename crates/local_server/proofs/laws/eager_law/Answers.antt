@@ -1,6 +1,10 @@
 -- What was given back is handed out first.
-use Rattle.local_server.proofs.Eager.{eager}
+use Rattle.local_server.proofs.Eager.{eager, eager_next}
 use Rattle.local_server.proofs.laws.eager_law.Goals as goal
 
-pub returns : goal.returns
-returns c setup events said first last new run = eager setup events said first last new run
+pub returns-clause-one : goal.returns-clause-one
+returns-clause-one c setup events earlier said moment event result first old new begins run happens =
+    eager_next setup events earlier said moment event result first old new begins run happens
+
+pub returns-clause-all : goal.returns-clause-all
+returns-clause-all c setup events said first last new run = eager setup events said first last new run
