@@ -19,3 +19,12 @@ pub mod Stepping
 pub mod HandOuts
 pub mod Turning
 pub mod Transcripts
+pub mod Settled
+pub mod Owning
+pub mod Retiring
+pub mod Leaving
+pub mod Sending
+pub mod Fresh
+pub mod Acting
+pub mod Acted
+pub mod Acknowledged

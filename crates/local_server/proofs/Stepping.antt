@@ -32,6 +32,7 @@ pub record AddsTurn (turns : List Turn) (links : Links) (number : ℕ) (marks : 
   pub turn : Turn
   pub whose : turn.connection ≡ number
   pub marks_are : turn.marks ≡ marks
+  pub session : (link : Link GroupPlace) → links number ≡ Some link → turn.session ≡ link.session.identity.number
   pub keeps : KeepsSessions (turns ++ turn ∷ []) new.desk (with_link links number after)
 
 -- the marks of the turn lead on from where the session was
@@ -94,6 +95,7 @@ begins turns old new links number link marks begin free was =
       turn = turn;
       whose = refl;
       marks_are = refl;
+      session = λ other has. absurd (cc);
       keeps = turned turns turn new.desk links (Some link) got.keeps got.in_hand.holds is_turn leads.legal (linked turns turn new link its got.in_hand.holds leads up.1);
     }
 
@@ -114,6 +116,7 @@ goes_on turns old new links number link link' marks goes has was =
       turn = turn;
       whose = refl;
       marks_are = refl;
+      session = λ other is. ap (λ (l : Link GroupPlace). l.session.identity.number) (same_Some link other (sym has ∙ is));
       keeps = turned turns turn new.desk links (Some link') keeps had.holds is_turn leads.legal (linked turns turn new link' its had.holds leads up);
     }
 
@@ -140,7 +143,13 @@ ends turns old new links number link marks end has was =
     } in
     let hands = handed_back end.before end.behind end.session end.handed_in rows.1 in
     let behind = handed_in more end.before.desk end.behind.desk (with_link links number None) number end.session hands.0 hands.1 in_hand (link_here links number None) before in
-    record { turn = turn; whose = refl; marks_are = refl; keeps = step_aside more end.behind new (with_link links number None) end.later behind }
+    record {
+      turn = turn;
+      whose = refl;
+      marks_are = refl;
+      session = λ other is. ap (λ (l : Link GroupPlace). l.session.identity.number) (same_Some link other (sym has ∙ is));
+      keeps = step_aside more end.behind new (with_link links number None) end.later behind;
+    }
 
 -- a connection has no session, and gets none
 returned : (turns : List Turn) (mid behind : Broker) (links : Links) (number : ℕ) (session : Session Held GroupPlace) → Calls mid (ParkAsIs (down session)) behind
@@ -184,6 +193,7 @@ nothing turns old new links number marks none free was =
       turn = turn;
       whose = refl;
       marks_are = refl;
+      session = λ other has. absurd (cc);
       keeps = subst (λ (l : Links). KeepsSessions (turns ++ turn ∷ []) new.desk l) (sym (with_same links number None free)) (quiet turns turn new.desk links none.0 free keeps);
     }
 

@@ -1,5 +1,5 @@
 -- The transcripts of the sessions of a server, along every run.
-use Rattle.std.proofs.Common.{◌≡◌, ◌≢◌, ℕ, zero, suc, Bool, true, false, List, [], ◌∷◌, ◌++◌, map, Option, Some, None, Result, Ok, IsOk, slice_get, slice_set, replicate, refl, sym, ap, subst, ◌∙◌, ⊎_elim, append-nil}
+use Rattle.std.proofs.Common.{◌≡◌, ◌≢◌, ℕ, zero, suc, Bool, true, false, List, [], ◌∷◌, ◌++◌, map, Option, Some, None, Result, Ok, IsOk, filter_map, slice_get, slice_set, replicate, refl, sym, ap, subst, ◌∙◌, ⊎_elim, append-nil}
 use Rattle.std.specs.Result.{result_and}
 use Rattle.std.specs.Ordering.{nat_cmp}
 use Rattle.std.specs.FinMap as map
@@ -9,6 +9,7 @@ use Rattle.std.proofs.lemmas.Option.{slice_get_within}
 use Rattle.std.proofs.lemmas.List.Elements.{filter_map-append}
 use Rattle.dispatch_core.proofs.Spots.{slice_get-set_same, slice_get-set_other}
 use Rattle.group_jobs.specs.Stamps.{Held}
+use Rattle.local_group.specs.Groups.{Group}
 use Rattle.session_desk.specs.declared.row.Row.{Row}
 use Rattle.session_desk.specs.Books.{Books}
 use Rattle.conn_engine.specs.declared.input.Input.TheVariants as inputs
@@ -30,6 +31,9 @@ use Rattle.local_server.specs.Servers.{Clients, ServerState, IsNewServer}
 use Rattle.local_server.specs.Addressed.{AreNumbered}
 use Rattle.local_server.specs.Happening.{EndsAt, EndsFirst, Does, DoesIf, HappensAll}
 use Rattle.local_server.specs.Transcripts.{Turn, link_in, link_at, session_of, StandsAsTold, KeepsTranscripts}
+use Rattle.local_server.specs.Settling.{Settlement, settled_in_all, settled_seen_by, HeldIsOut, SettlesWhatIsAcknowledged}
+use Rattle.local_server.proofs.Settled.{AddsIn, adds_nothing, adds_then, none_closed}
+use Rattle.local_server.proofs.Owning.{AtDesk, InHand, Owns, owns_closed, owns_new}
 use Rattle.local_server.proofs.Addressed as addressed
 use Rattle.local_server.proofs.Addressed.{at, answered, new_numbered}
 use Rattle.local_server.proofs.Happened.{joins, first_ok, then_ok}
@@ -105,6 +109,12 @@ shut first turns links old closed closes keeps =
           keeps.fresh
           ∙ ap (map (λ (h : HandOut). h.1)) (sym (filter_map-append handed_by keeps.happenings (Closed ∷ []) ∙ append-nil (handed_by_all keeps.happenings)));
       sessions = subst (λ (desk : Books Held GroupPlace). KeepsSessions turns desk links) (sym closes.desk) keeps.sessions;
+      owns = owns_closed links old closed closes keeps.owns;
+      settled = keeps.settled;
+      acknowledged = keeps.acknowledged;
+      adds =
+          subst (λ (settled : List Settlement). AddsIn first.groups settled closed.groups) (append-nil keeps.settled)
+          (adds_then keeps.settled [] first.groups old.groups closed.groups keeps.adds (none_closed old.groups closed.groups closes.groups));
     }
 
 -- an event, where memory was not wanted
@@ -126,7 +136,8 @@ does (events.Tick number) first turns old new clients clients' now said result o
 does (events.End number) first turns old new clients clients' now said result ok all keeps cell =
     in_cell first turns said clients clients' number old new _ cell keeps
     (λ has.
-    ends_for result cell.before cell.after first turns (links_at clients) number old new now inputs.EndOfInput said ok (at cell.before clients number all cell.has) has cell.becomes)
+    ends_for result cell.before cell.after first turns (links_at clients) number old new now inputs.EndOfInput said ok
+    (at cell.before clients number all cell.has) has cell.becomes)
 does events.Close first turns old new clients clients' now said result ok all keeps closes =
     first_ended closes.2 first turns closes.0 new clients clients' now said result ok all (shut first turns (links_at clients) old closes.0 closes.1 keeps) closes.4
 
@@ -168,7 +179,8 @@ new_sessions setup server new =
       linked = λ connection link is. absurd (let e = none connection in cc);
       parked = λ number session is.
           absurd
-          (let empty = ap (λ (b : Books Held GroupPlace). map.get b.rows number) new.broker.desk.books ∙ get-empty {X = Row Held GroupPlace} nat_cmp number in let has = is.has in cc);
+          (let empty = ap (λ (b : Books Held GroupPlace). map.get b.rows number) new.broker.desk.books
+          ∙ get-empty {X = Row Held GroupPlace} nat_cmp number in let has = is.has in cc);
       later = λ number from. refl;
       legal = λ number. tt;
       own = λ connection. ap session_of (none connection);
@@ -180,11 +192,24 @@ stands : (turns : List Turn) (link : Option (Link GroupPlace)) (b : Broker) (lin
 stands turns None b links connection keeps is = tt
 stands turns (Some link) b links connection keeps is = (keeps.linked connection link is).leads.stands
 
-pub transcripts : (setup : Setup) (events : List TimedEvent) (said : List Said) (first last : ServerState) → IsNewServer setup first → HappensAll first events said last
+whole : (setup : Setup) (events : List TimedEvent) (said : List Said) (first last : ServerState) → IsNewServer setup first → HappensAll first events said last
+    → Says first.broker [] said (links_at last.clients) last.broker
+whole setup events said first last new run =
+    let start : Keeps first.broker [] (links_at first.clients) first.broker = record {
+      happenings = [];
+      led = refl;
+      fresh = refl;
+      sessions = new_sessions setup first new;
+      owns = owns_new (links_at first.clients) setup.capacity setup.groups first.broker new.broker (nobody setup first new);
+      settled = [];
+      acknowledged = refl;
+      adds = adds_nothing first.broker first.broker refl;
+    } in
+    happened events first.broker [] said first last (new_numbered setup first new) start run
+
+told_in : (setup : Setup) (said : List Said) (first last : ServerState) → IsNewServer setup first → Says first.broker [] said (links_at last.clients) last.broker
     → KeepsTranscripts said last
-transcripts setup events said first last new run =
-    let start : Keeps first.broker [] (links_at first.clients) first.broker = record { happenings = []; led = refl; fresh = refl; sessions = new_sessions setup first new } in
-    let says = happened events first.broker [] said first last (new_numbered setup first new) start run in
+told_in setup said first last new says =
     let sessions = says.keeps.sessions in
     record {
       turns = says.more;
@@ -193,4 +218,34 @@ transcripts setup events said first last new run =
       own = sessions.own;
       stands = λ connection. stands says.more (link_at last.clients connection) last.broker (links_at last.clients) connection sessions refl;
       handed = handed setup.capacity setup.groups says.keeps.happenings first.broker last.broker _ new.broker says.keeps.led says.keeps.fresh;
+    }
+
+pub transcripts : (setup : Setup) (events : List TimedEvent) (said : List Said) (first last : ServerState) → IsNewServer setup first → HappensAll first events said last
+    → KeepsTranscripts said last
+transcripts setup events said first last new run = told_in setup said first last new (whole setup events said first last new run)
+
+-- a group that was new has nothing settled but that
+settled_since : (setup : Setup) (first : ServerState) (settled : List Settlement) (last : Broker) → IsNewServer setup first → AddsIn first.broker.groups settled last.groups
+    → (slot : ℕ) (group : Group) → slice_get last.groups slot ≡ Some group → settled_in_all group.events ≡ filter_map (settled_seen_by slot) settled
+settled_since setup first settled last new adds slot group there =
+    let since = adds slot group there in
+    since.ends ∙ ap (λ events. settled_in_all events ++ filter_map (settled_seen_by slot) settled) (new.broker.groups slot since.before since.was).fresh.events
+
+-- what each open connection's session holds is out at its place
+held_out : (link : Option (Link GroupPlace)) (b : Broker) (links : Links) (connection : ℕ) → Owns links b → links connection ≡ link → HeldIsOut b link
+held_out None b links connection owns is = tt
+held_out (Some link) b links connection owns is = owns.owned (InHand connection) link.session (record { link = link; has = is; its = refl })
+
+pub settlings : (setup : Setup) (events : List TimedEvent) (said : List Said) (first last : ServerState) → IsNewServer setup first → HappensAll first events said last
+    → SettlesWhatIsAcknowledged said last
+unfolding told_in
+settlings setup events said first last new run =
+    let says = whole setup events said first last new run in
+    record {
+      transcripts = told_in setup said first last new says;
+      settled = says.keeps.settled;
+      acknowledged = says.keeps.acknowledged;
+      fates = settled_since setup first says.keeps.settled last.broker new says.keeps.adds;
+      held_out = λ connection. held_out (link_at last.clients connection) last.broker (links_at last.clients) connection says.keeps.owns refl;
+      parked_out = λ number row session has stands. says.keeps.owns.owned (AtDesk number) session (record { row = row; has = has; stands = stands });
     }

@@ -27,19 +27,29 @@ use Rattle.local_broker.specs.Histories.{Happening, Called, HappensAll}
 use Rattle.local_server.specs.Happening.{slot_of}
 use Rattle.local_server.specs.Transcripts.{Turn, AllTell, all_fresh, link_in}
 use Rattle.local_server.proofs.Happened.{joins, called, handed_by_calls}
+use Rattle.local_server.specs.Settling.{Settlement, AllSettle}
 use Rattle.local_server.proofs.Turns.{more_fresh, told_on}
+use Rattle.local_server.proofs.Settled.{AddsIn, adds_then}
+use Rattle.local_server.proofs.Owning.{Owns}
+use Rattle.local_server.proofs.Acted.{Acts, acts}
+use Rattle.local_server.proofs.Acknowledged.{settled_on, settle_on}
 use Rattle.local_server.proofs.Sessions.{with_link, link_here, with_again, KeepsSessions}
 use Rattle.local_server.proofs.Stepping.{Links, adds_turn}
 
 abbrev messages : List Happening → List Held
 messages happenings = map (λ (h : HandOut). h.1) (handed_by_all happenings)
 
--- these turns led a broker from the first to this one, and what they send for the first time is what its calls handed out
+-- these turns led a broker from the first to this one, what they send for the first time is what its calls handed out, and what they
+-- acknowledge was settled in its groups
 pub record Keeps (first : Broker) (turns : List Turn) (links : Links) (b : Broker) : Type 0 where
   pub happenings : List Happening
   pub led : HappensAll first happenings b
   pub fresh : all_fresh turns ≡ messages happenings
   pub sessions : KeepsSessions turns b.desk links
+  pub owns : Owns links b
+  pub settled : List Settlement
+  pub acknowledged : AllSettle [] turns settled
+  pub adds : AddsIn first.groups settled b.groups
 
 -- what was said since is told by so many turns more
 pub record Says (first : Broker) (turns : List Turn) (said : List Said) (links : Links) (new : Broker) : Type 0 where
@@ -78,12 +88,17 @@ handed_on happenings facts =
     ∙ ap (λ (l : List HandOut). messages happenings ++ map (λ (h : HandOut). h.1) l) (handed_by_calls facts)
 
 stepped : (first : Broker) (turns : List Turn) (links : Links) (old new : Broker) (number : ℕ) (standing standing' : Standing GroupPlace) (input : Input) (said : Said)
-    → said.connection ≡ number → Transcribes Calls old number standing input said.packets standing' new → Keeps first turns (with_link links number (link_of standing)) old
+    → said.connection ≡ number → Transcribes Calls old number standing input said.packets standing' new → Acts links old number (link_of standing) input (link_of standing') new
+    → Keeps first turns (with_link links number (link_of standing)) old
     → Says first turns (said ∷ []) (with_link links number (link_of standing')) new
-stepped first turns links old new number standing standing' input said its step keeps =
+stepped first turns links old new number standing standing' input said its step acts keeps =
     let adds =
     adds_turn (link_of standing) (link_of standing') turns old new (with_link links number (link_of standing)) number step.marks step.session
     (link_here links number (link_of standing)) keeps.sessions in
+    let here : with_link links number (link_of standing) number ≡ link_of standing = link_here links number (link_of standing) in
+    let settles =
+    settled_on turns adds.turn old new number standing standing' input said.packets step adds.marks_are
+    (λ link has. (keeps.sessions.linked number link (here ∙ has)).leads) (λ link has. adds.session link (here ∙ has)) acts.settled acts.adds acts.tells in
     record {
       more = adds.turn ∷ [];
       told = (record { whose = adds.whose ∙ sym its; publishes = step.publishes ∙ ap publishes_of (sym adds.marks_are) }, tt);
@@ -93,6 +108,10 @@ stepped first turns links old new number standing standing' input said its step 
         fresh =
             more_fresh turns adds.turn ∙ (λ i. keeps.fresh i ++ (ap fresh_of adds.marks_are ∙ sym step.hands) i) ∙ sym (handed_on keeps.happenings step.facts);
         sessions = subst (KeepsSessions (turns ++ adds.turn ∷ []) new.desk) (with_again links number (link_of standing) (link_of standing')) adds.keeps;
+        owns = acts.owns;
+        settled = keeps.settled ++ settles.now;
+        acknowledged = settle_on [] turns adds.turn keeps.settled settles.now keeps.acknowledged settles.are;
+        adds = adds_then keeps.settled settles.now first.groups old.groups new.groups keeps.adds settles.adds;
       };
     }
 
@@ -103,7 +122,8 @@ moves first turns links old new number client after now input said is keeps move
     let steps = subst (λ (n : ℕ). Steps Calls slot_of old n client.conn.standing now input said.packets said.next after.conn.standing new) is moved.stepped in
     let sound = not_ending client.conn.standing (λ link has. (keeps.sessions.linked number link (link_here links number (link_of client.conn.standing) ∙ has)).leads.goes_on) in
     stepped first turns links old new number client.conn.standing after.conn.standing input said (moved.told ∙ is)
-    (transcribed Calls slot_of old new number now client.conn.standing after.conn.standing input said.packets said.next steps sound) keeps
+    (transcribed Calls slot_of old new number now client.conn.standing after.conn.standing input said.packets said.next steps sound)
+    (acts links old new number now client.conn.standing after.conn.standing input said.packets said.next steps keeps.owns) keeps
 
 -- what is read is stepped, packet by packet
 pub reads : (said : List Said) (first : Broker) (turns : List Turn) (links : Links) (old new : Broker) (number : ℕ) (client after : ClientState GroupPlace) (now : ℕ)

@@ -10,3 +10,4 @@ pub mod Eager
 pub mod Addressed
 pub mod Publishers
 pub mod Transcripts
+pub mod Settling

@@ -18,6 +18,7 @@ ghost use Rattle.local_server.specs.Quotas.{AllWithinQuota};
 ghost use Rattle.local_server.specs.Runs.{HaveLed, AllRunLawfully};
 ghost use Rattle.local_server.specs.Addressed.{Answers};
 ghost use Rattle.local_server.specs.Publishers.{AcceptsFrom};
+ghost use Rattle.local_server.specs.Settling.{SettlesWhatIsAcknowledged};
 ghost use Rattle.local_server.specs.Transcripts.{KeepsTranscripts};
 ghost use Rattle.local_server.specs.Eager.{AllHandReturnedFirst};
 ghost use Rattle.local_server.specs.LastEvents.{AllAddTheClose};
@@ -77,6 +78,16 @@ pub fn eager_law()
         IsNewServer setup first → HappensAll first events earlier old → Happens old moment event said result new → AllHandReturnedFirst new.broker }
     ensures all { (setup : Setup) (events : List TimedEvent) (said : List Said) (first last : ServerState) →
         IsNewServer setup first → HappensAll first events said last → AllHandReturnedFirst last.broker }
+{}
+
+/// **What is acknowledged is settled**, along every run (sections 3.4 and 4.3.2): the events of a group by which a message is acknowledged or refused
+/// are, in order, what the PUBACKs among the transcripts of the sessions acknowledge, each the message that its session held under the PUBACK's
+/// identifier, by the place that was handed it, acknowledged where the Reason Code is below 0x80, and refused else. And whatever a session holds, of an
+/// open connection or with the desk, is out at that session's place. So no PUBACK is lost between a client and its group, none settles what another
+/// session holds, and nothing is settled without one. The runs are those in which memory was not wanted.
+pub fn settling_law()
+    ensures { (setup : Setup) (events : List TimedEvent) (said : List Said) (first last : ServerState) →
+        IsNewServer setup first → HappensAll first events said last → SettlesWhatIsAcknowledged said last }
 {}
 
 /// **A session is in one pair of hands, whatever happens to the server.**

@@ -1,0 +1,90 @@
+-- What is settled in a run: as the PUBACKs of the sessions' transcripts have it, and as the events of the groups do (sections 3.4 and 4.3.2).
+use Rattle.std.specs.Prelude.{◌≡◌, ℕ, nat_eq, if◌then◌else◌, List, [], ◌∷◌, ◌++◌, filter_map, Option, Some, None, slice_get, Contains, ⊤}
+use Rattle.dispatch_core.specs.declared.event.Event.{Event}
+use Rattle.dispatch_core.specs.declared.event.Event.TheVariants.{Accept, First, Ack, Refuse, Back, Again, Close}
+use Rattle.dispatch_core.specs.declared.event.Job.{Job}
+use Rattle.group_jobs.specs.declared.fate.Fate.{Fate}
+use Rattle.group_jobs.specs.declared.fate.Fate.TheVariants as fate
+use Rattle.group_jobs.specs.Stamps.{Held, job_of}
+use Rattle.local_group.specs.Groups.{Group}
+use Rattle.member_window.specs.Contents.{held_of}
+use Rattle.member_window.specs.Marks.{held}
+use Rattle.session_desk.specs.declared.row.Row.{Row}
+use Rattle.session_desk.specs.declared.session.Session.{Session}
+use Rattle.session_desk.specs.declared.session.Membership.{Membership}
+use Rattle.session_desk.specs.declared.session.Membership.TheVariants.{NotMember, Member, Leaving}
+use Rattle.session_desk.specs.Rows.{HasRow, session_in}
+use Rattle.conn_rules.specs.Acknowledging.{fate_of}
+use Rattle.conn_engine.specs.declared.standing.Link.{Link}
+use Rattle.conn_laws.specs.Transcripts.{acknowledged_of}
+use Rattle.client_table.specs.Clients.{Said}
+use Rattle.local_broker.specs.Places.{GroupPlace}
+use Rattle.local_broker.specs.Broker.{Broker}
+use Rattle.local_broker.specs.Histories.{HasOut}
+use Rattle.local_server.specs.Servers.{ServerState}
+use Rattle.local_server.specs.Transcripts.{Turn, transcript_of, link_at, KeepsTranscripts}
+
+-- what is settled, and how
+abbrev pub Settlement : Type 0
+Settlement = Held × Fate
+
+-- which member settles which job in an event of a group, and how
+abbrev pub settled_in : Event → Option (ℕ × Job × Fate)
+settled_in (Accept port) = None
+settled_in (First member job) = None
+settled_in (Ack member job) = Some (member, job, fate.Acknowledged)
+settled_in (Refuse member job) = Some (member, job, fate.Refused)
+settled_in (Back member job) = None
+settled_in (Again member job) = None
+settled_in Close = None
+
+abbrev pub settled_in_all : List Event → List (ℕ × Job × Fate)
+settled_in_all events = filter_map settled_in events
+
+-- a settlement as the group of this slot sees it: the place, the job and the fate
+abbrev pub settled_seen_by : ℕ → Settlement → Option (ℕ × Job × Fate)
+settled_seen_by slot settlement = if nat_eq settlement.0.stamp.group slot then Some (settlement.0.place, job_of settlement.0.stamp, settlement.1) else None
+
+-- what is settled where a session that holds these messages acknowledges: by one PUBACK at most, and the message under its identifier, which is
+-- acknowledged where its Reason Code is below 0x80, and refused else
+abbrev pub AreSettled : List (ℕ × Held) → List (ℕ × ℕ) → List Settlement → Type 0
+AreSettled entries [] settled = settled ≡ []
+AreSettled entries (acked ∷ []) settled = (envelope : Held) × Contains entries (acked.0, envelope) × (settled ≡ (envelope, fate_of acked.1) ∷ [])
+AreSettled entries (acked ∷ another ∷ others) settled = ⊥
+
+-- what each of these turns settles, behind those before, in their order
+abbrev pub AllSettle : List Turn → List Turn → List Settlement → Type 0
+AllSettle before [] settled = settled ≡ []
+AllSettle before (turn ∷ turns) settled =
+    (now later : List Settlement) × AreSettled (held [] (transcript_of turn.session before)) (acknowledged_of turn.marks) now
+    × AllSettle (before ++ turn ∷ []) turns later × (settled ≡ now ++ later)
+
+-- these messages are out at a place: it was handed each, and has neither settled it nor given it back
+abbrev pub AreOut : Broker → GroupPlace → List (ℕ × Held) → Type 0
+AreOut b place entries = (identifier : ℕ) (envelope : Held) → Contains entries (identifier, envelope) → HasOut b place envelope
+
+-- what a session with this membership holds is out at its place, and who is no member holds nothing
+abbrev pub AreOutFor : Broker → Membership GroupPlace → List (ℕ × Held) → Type 0
+AreOutFor b NotMember entries = entries ≡ []
+AreOutFor b (Member place) entries = AreOut b place entries
+AreOutFor b (Leaving place) entries = AreOut b place entries
+
+-- so it is with the session of a connection
+abbrev pub HeldIsOut : Broker → Option (Link GroupPlace) → Type 0
+HeldIsOut b None = ⊤
+HeldIsOut b (Some link) = AreOutFor b link.session.membership (held_of link.session.window)
+
+-- what holds of a run in which this was said: what is acknowledged is settled
+pub record SettlesWhatIsAcknowledged (said : List Said) (last : ServerState) : Type 0 where
+  -- the transcripts of the sessions, with a turn for each step
+  pub transcripts : KeepsTranscripts said last
+  -- what the turns acknowledge, in their order: each the message that its session held under the PUBACK's identifier, with the fate of its Reason
+  -- Code
+  pub settled : List Settlement
+  pub acknowledged : AllSettle [] transcripts.turns settled
+  -- and the events of each group that end a hand-out by a fate are those, in that order
+  pub fates : (slot : ℕ) (group : Group) → slice_get last.broker.groups slot ≡ Some group → settled_in_all group.events ≡ filter_map (settled_seen_by slot) settled
+  -- what is not acknowledged yet is out at the place of its session, whose connection is open or has ended
+  pub held_out : (connection : ℕ) → HeldIsOut last.broker (link_at last.clients connection)
+  pub parked_out : (number : ℕ) (row : Row Held GroupPlace) (session : Session Held GroupPlace) → HasRow last.broker.desk.rows number row
+      → session_in row.standing ≡ Some session → AreOutFor last.broker session.membership (held_of session.window)
