@@ -1,5 +1,5 @@
 //! A broker on one thread that refuses memory where it is told to.
-ghost use Rattle.std.specs.Prelude.{◌≡◌, [], false, IfErr, IfSome, ⊤};
+ghost use Rattle.std.specs.Prelude.{◌≡◌, [], false, IfSome, ⊤};
 ghost use Rattle.member_window.specs.Contents.{held_of};
 
 use conn_engine::{BindRefusal, NoMemory, OfferRefusal, Supply};
@@ -107,7 +107,9 @@ impl Supply<LocalPlace> for Refusing {
         self.broker.park_as_is(session);
     }
 
-    fn keep(&mut self, session: Session<Envelope, LocalPlace>) {
+    fn keep(&mut self, session: Session<Envelope, LocalPlace>)
+        ensures { ⊤ }
+    {
         self.broker.keep(session);
     }
 

@@ -27,14 +27,21 @@ use Rattle.local_server.proofs.Acting.{Tells, IfUp}
 -- one more turn settles these besides
 pub settle_on : (before turns : List Turn) (turn : Turn) (settled now : List Settlement) → AllSettle before turns settled
     → AreSettled (held [] (transcript_of turn.session (before ++ turns))) (acknowledged_of turn.marks) now → AllSettle before (turns ++ turn ∷ []) (settled ++ now)
-settle_on before [] turn settled now all are =
-    (now, [], subst (λ (ts : List Turn). AreSettled (held [] (transcript_of turn.session ts)) (acknowledged_of turn.marks) now) (append-nil before) are, refl,
-    ap (λ (s : List Settlement). s ++ now) all ∙ sym (append-nil now))
-settle_on before (first ∷ others) turn settled now all are =
-    (all.0, all.1 ++ now, all.2,
-    settle_on (before ++ first ∷ []) others turn all.1 now all.3
-    (subst (λ (ts : List Turn). AreSettled (held [] (transcript_of turn.session ts)) (acknowledged_of turn.marks) now) (sym (append_assoc before (first ∷ []) others)) are),
-    ap (λ (s : List Settlement). s ++ now) all.4 ∙ append_assoc all.0 all.1 now)
+settle_on before [] turn settled now all are = (
+  now,
+  [],
+  subst (λ (ts : List Turn). AreSettled (held [] (transcript_of turn.session ts)) (acknowledged_of turn.marks) now) (append-nil before) are,
+  refl,
+  ap (λ (s : List Settlement). s ++ now) all ∙ sym (append-nil now),
+)
+settle_on before (first ∷ others) turn settled now all are = (
+  all.0,
+  all.1 ++ now,
+  all.2,
+  settle_on (before ++ first ∷ []) others turn all.1 now all.3
+      (subst (λ (ts : List Turn). AreSettled (held [] (transcript_of turn.session ts)) (acknowledged_of turn.marks) now) (sym (append_assoc before (first ∷ []) others)) are),
+  ap (λ (s : List Settlement). s ++ now) all.4 ∙ append_assoc all.0 all.1 now,
+)
 
 -- what a turn settles
 pub record Settles (turns : List Turn) (turn : Turn) (old new : Broker) : Type 0 where

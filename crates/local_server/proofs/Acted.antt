@@ -47,17 +47,18 @@ module _ (links : Links) (number : ℕ) where
       ⊎_elim
       (λ (same : connection ≡ number).
       absurd (let none = sym (link_here links number None) ∙ ap (with_link links number None) (sym same) in let some = has.has in cc))
-      (λ (other : connection ≢ number).
-      ((λ e. other (connections number connection e)),
-      record {
-        link = has.link;
-        has = link_beside links number connection (Some link) other ∙ sym (link_beside links number connection None other) ∙ has.has;
-        its = has.its;
-      }))
+      (λ (other : connection ≢ number). (
+        (λ e. other (connections number connection e)),
+        record {
+          link = has.link;
+          has = link_beside links number connection (Some link) other ∙ sym (link_beside links number connection None other) ∙ has.has;
+          its = has.its;
+        },
+      ))
       (cases_eq connection number)
-      where
-        connections : (a b : ℕ) → InHand a ≡ InHand b → b ≡ a
-        connections a b e = cc
+    where
+      connections : (a b : ℕ) → InHand a ≡ InHand b → b ≡ a
+      connections a b e = cc
 
   whose : (keeper : Keeper) (rows : Rows Held GroupPlace) (link : Link GroupPlace) (t : Kept) → Has (with_link links number (Some link)) rows keeper t
       → ((keeper ≡ InHand number) × (link.session ≡ t)) ⊎ Has (with_link links number None) rows keeper t
@@ -103,9 +104,10 @@ module _ (links : Links) (number : ℕ) where
     once_by : (one other : Keeper) (s t : Kept) (i j : ℕ) (e f : Held) → ((one ≡ InHand number) × (link.session ≡ s)) ⊎ Has (with_link links number None) b.desk.rows one s
         → ((other ≡ InHand number) × (link.session ≡ t)) ⊎ Has (with_link links number None) b.desk.rows other t
         → Contains (held_of s.window) (i, e) → Contains (held_of t.window) (j, f) → e.stamp ≡ f.stamp → (one ≡ other) × (i ≡ j)
-    once_by one other s t i j e f (inl is) (inl are) c d same =
-        (is.0 ∙ sym are.0,
-        was.mine.once i j e f (subst (λ (x : Kept). Contains (held_of x.window) (i, e)) (sym is.1) c) (subst (λ (x : Kept). Contains (held_of x.window) (j, f)) (sym are.1) d) same)
+    once_by one other s t i j e f (inl is) (inl are) c d same = (
+      is.0 ∙ sym are.0,
+      was.mine.once i j e f (subst (λ (x : Kept). Contains (held_of x.window) (i, e)) (sym is.1) c) (subst (λ (x : Kept). Contains (held_of x.window) (j, f)) (sym are.1) d) same,
+    )
     once_by one other s t i j e f (inl is) (inr has) c d same =
         absurd (was.mine.apart other t has i j e f (subst (λ (x : Kept). Contains (held_of x.window) (i, e)) (sym is.1) c) d same)
     once_by one other s t i j e f (inr has) (inl are) c d same =
@@ -245,17 +247,20 @@ handed : (between : Standing GroupPlace) (links : Links) (mid new : Broker) (sen
     → Hands Calls slot_of mid between sent standing' new
     → HoldsAs links mid (link_of between) → IfUp (link_of between) Says → Quiet links mid (link_of standing') new × IfUp (link_of standing') Says
 handed (Unconnected opened) links mid new sent standing' Says does was says =
-    let went_on = went links mid new (still mid new does.2) was in
-    (at_last links mid new standing' (Unconnected opened) does.1 (record { holds = went_on.owns; adds = went_on.adds }),
-    subst (λ (s : Standing GroupPlace). IfUp (link_of s) Says) (sym does.1) tt)
+    let went_on = went links mid new (still mid new does.2) was in (
+      at_last links mid new standing' (Unconnected opened) does.1 (record { holds = went_on.owns; adds = went_on.adds }),
+      subst (λ (s : Standing GroupPlace). IfUp (link_of s) Says) (sym does.1) tt,
+    )
 handed (Waiting request ticks) links mid new sent standing' Says does was says =
-    let went_on = went links mid new (still mid new does.2) was in
-    (at_last links mid new standing' (Waiting request ticks) does.1 (record { holds = went_on.owns; adds = went_on.adds }),
-    subst (λ (s : Standing GroupPlace). IfUp (link_of s) Says) (sym does.1) tt)
+    let went_on = went links mid new (still mid new does.2) was in (
+      at_last links mid new standing' (Waiting request ticks) does.1 (record { holds = went_on.owns; adds = went_on.adds }),
+      subst (λ (s : Standing GroupPlace). IfUp (link_of s) Says) (sym does.1) tt,
+    )
 handed (Connected link) links mid new sent standing' Says does was says =
-    let out = hands_out links mid new link.session.membership link.session.window sent does.0 does.1 does.2 was in
-    (at_last links mid new standing' (Connected (after_hand_out link does.0 does.1)) does.3 (record { holds = out.0; adds = out.1.adds }),
-    subst (λ (s : Standing GroupPlace). IfUp (link_of s) Says) (sym does.3) says)
+    let out = hands_out links mid new link.session.membership link.session.window sent does.0 does.1 does.2 was in (
+      at_last links mid new standing' (Connected (after_hand_out link does.0 does.1)) does.3 (record { holds = out.0; adds = out.1.adds }),
+      subst (λ (s : Standing GroupPlace). IfUp (link_of s) Says) (sym does.3) says,
+    )
 handed Ended links mid new sent standing' Says does was says =
     (stays_over links mid new standing' does.1 does.2 was, subst (λ (s : Standing GroupPlace). IfUp (link_of s) Says) (sym does.1) tt)
 

@@ -247,7 +247,7 @@ answered (packets.Subscribe subscribe) links old new number link link' reply doe
 answered (packets.Unsubscribe unsubscribe) links old new number link link' reply does was =
     let both = unsubscribed (unsubscribe_refusal unsubscribe) links old new link unsubscribe reply does.0 does.1 was in
     subst (λ (l : Link GroupPlace). Answered links old link (packets.Unsubscribe unsubscribe) l new) (sym does.2)
-        (record { holds = both.0; settled = []; adds = both.1; tells = tt })
+    (record { holds = both.0; settled = []; adds = both.1; tells = tt })
 answered packets.Pingreq links old new number link link' reply does was = calmly links old new link link' packets.Pingreq tt does.0 (still old new does.2) was
 answered (packets.Disconnect disconnect) links old new number link link' reply does was =
     let goes = still old new does.1 in

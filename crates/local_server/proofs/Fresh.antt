@@ -89,9 +89,10 @@ asked found old new place place' running (inr first) =
       goes = calm_then old mid new none (took place place' (Ok found) mid new then);
       new_one = λ envelope is.
           let took_it : Calls mid (Take place place' (Ok (Some envelope))) new = subst (λ (o : Option Held). Calls mid (Take place place' (Ok o)) new) is then in
-          let nobodys = take_fresh mid new place place' envelope (none.runs.running running) took_it in
-          (taken_out mid new place place' envelope took_it,
-          λ at other has. nobodys at other (none.runs.out at other has (λ j f c. absurd (contains_nil {X = ℕ × Held} (j, f) c))));
+          let nobodys = take_fresh mid new place place' envelope (none.runs.running running) took_it in (
+            taken_out mid new place place' envelope took_it,
+            λ at other has. nobodys at other (none.runs.out at other has (λ j f c. absurd (contains_nil {X = ℕ × Held} (j, f) c))),
+          );
     }
 
 owned_nobodys : (membership : Membership GroupPlace) (entries : Entries) (b : Broker) (envelope : Held) → AreOutFor b membership entries → IsNobodys b envelope
@@ -176,20 +177,26 @@ sends_fresh (packet ∷ packets) links old new place place' window window' sends
 leaves : (links : Links) (old new : Broker) (place : GroupPlace) (window : Contents Held) (membership : Membership GroupPlace) → LeavesWith Calls old place window membership new
     → Holds links old (Leaving place) (held_of window) → Handed links old membership window new
 leaves links old new place window membership (inl gone) was =
-    let goes = one (TakePlace place) old new (λ stamp spends. spends) refl gone.2 (same_rows old new (ap (λ b. b.rows) gone.2.1.makes.2)) in
-    (subst (λ (m : Membership GroupPlace). Holds links new m (held_of window)) (sym gone.1)
-    (calm links old new NotMember (held_of window) goes (less links old (Leaving place) NotMember (held_of window) (held_of window) (λ i e c. c) (λ owned. gone.0) was)), goes)
-leaves links old new place window membership (inr stays) was =
-    (subst (λ (m : Membership GroupPlace). Holds links new m (held_of window)) (sym stays.1)
-    (calm links old new (Leaving place) (held_of window) (still old new stays.2) was), still old new stays.2)
+    let goes = one (TakePlace place) old new (λ stamp spends. spends) refl gone.2 (same_rows old new (ap (λ b. b.rows) gone.2.1.makes.2)) in (
+      subst (λ (m : Membership GroupPlace). Holds links new m (held_of window)) (sym gone.1)
+          (calm links old new NotMember (held_of window) goes (less links old (Leaving place) NotMember (held_of window) (held_of window) (λ i e c. c) (λ owned. gone.0) was)),
+      goes,
+    )
+leaves links old new place window membership (inr stays) was = (
+  subst (λ (m : Membership GroupPlace). Holds links new m (held_of window)) (sym stays.1)
+      (calm links old new (Leaving place) (held_of window) (still old new stays.2) was),
+  still old new stays.2,
+)
 
 hands_fresh : (membership : Membership GroupPlace) (links : Links) (old new : Broker) (window : Contents Held) (packets : List Packet) (membership' : Membership GroupPlace)
     (window' : Contents Held)
     → HandsFresh Calls old membership window packets membership' window' new → Holds links old membership (held_of window) → Handed links old membership' window' new
 hands_fresh NotMember links old new window packets membership' window' does was =
-    let goes = still old new does.3 in
-    (subst (λ (m : Membership GroupPlace). Holds links new m (held_of window')) (sym does.1)
-    (subst (λ (w : Contents Held). Holds links new NotMember (held_of w)) (sym does.2) (calm links old new NotMember (held_of window) goes was)), goes)
+    let goes = still old new does.3 in (
+      subst (λ (m : Membership GroupPlace). Holds links new m (held_of window')) (sym does.1)
+          (subst (λ (w : Contents Held). Holds links new NotMember (held_of w)) (sym does.2) (calm links old new NotMember (held_of window) goes was)),
+      goes,
+    )
 hands_fresh (Member place) links old new window packets membership' window' does was =
     let sent = sends_fresh packets links old new place does.0 window window' does.2 was in
     (subst (λ (m : Membership GroupPlace). Holds links new m (held_of window')) (sym does.1) sent.0, sent.1)

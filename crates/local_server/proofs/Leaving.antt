@@ -55,9 +55,10 @@ module _ (links : Links) (old : Broker) (k : ℕ) (its : Kept) (was : Holds link
 
   once_then : (one other : Keeper) (s t : Kept) (i j : ℕ) (e f : Held) → Whose links old k its one s → Whose links old k its other t
       → Contains (held_of s.window) (i, e) → Contains (held_of t.window) (j, f) → e.stamp ≡ f.stamp → (one ≡ other) × (i ≡ j)
-  once_then one other s t i j e f (inl is) (inl are) c d same =
-      (is.0 ∙ sym are.0,
-      was.mine.once i j e f (subst (λ (x : Kept). Contains (held_of x.window) (i, e)) is.1 c) (subst (λ (x : Kept). Contains (held_of x.window) (j, f)) are.1 d) same)
+  once_then one other s t i j e f (inl is) (inl are) c d same = (
+    is.0 ∙ sym are.0,
+    was.mine.once i j e f (subst (λ (x : Kept). Contains (held_of x.window) (i, e)) is.1 c) (subst (λ (x : Kept). Contains (held_of x.window) (j, f)) are.1 d) same,
+  )
   once_then one other s t i j e f (inl is) (inr had) c d same =
       absurd (was.mine.apart other t had i j e f (subst (λ (x : Kept). Contains (held_of x.window) (i, e)) is.1 c) d same)
   once_then one other s t i j e f (inr had) (inl are) c d same =
@@ -162,12 +163,14 @@ found share answer old new does = one (Find share answer) old new (λ stamp spen
 joined : (membership : Membership GroupPlace) (old new : Broker) (share : Share) (code : ℕ) (membership' : Membership GroupPlace)
     → Joins Calls slot_of old membership share code membership' new → Moves membership membership' old new
 joined NotMember old new share code membership' does = (entered does.0 old new share code membership' does.1, λ b entries none. none_out membership' b entries none)
-joined (Member place) old new share code membership' does =
-    (found share does.0 old new does.1,
-    ⊎_elim (λ stays. same_member (Member place) membership' stays.2) (λ stays. same_member (Member place) membership' stays.2) does.2)
-joined (Leaving place) old new share code membership' does =
-    (found share does.0 old new does.1,
-    ⊎_elim (λ stays. λ b entries owned. same_member (Member place) membership' stays.2 b entries owned) (λ stays. same_member (Leaving place) membership' stays.2) does.2)
+joined (Member place) old new share code membership' does = (
+  found share does.0 old new does.1,
+  ⊎_elim (λ stays. same_member (Member place) membership' stays.2) (λ stays. same_member (Member place) membership' stays.2) does.2,
+)
+joined (Leaving place) old new share code membership' does = (
+  found share does.0 old new does.1,
+  ⊎_elim (λ stays. λ b entries owned. same_member (Member place) membership' stays.2 b entries owned) (λ stays. same_member (Leaving place) membership' stays.2) does.2,
+)
 
 entry_answered : (answer : EntryAnswer) (old new : Broker) (membership : Membership GroupPlace) (code : ℕ) (membership' : Membership GroupPlace)
     → AnswersEntry Calls slot_of old membership answer code membership' new → Moves membership membership' old new
@@ -186,9 +189,10 @@ entries_answered (entry ∷ others) identified terms old new membership codes me
 left : (membership : Membership GroupPlace) (parsed : Result Share TopicError) (old new : Broker) (code : ℕ) (membership' : Membership GroupPlace)
     → LeavesBy Calls slot_of old membership parsed code membership' new → Moves membership membership' old new
 left NotMember parsed old new code membership' leaves = (still old new leaves.2, same_member NotMember membership' leaves.1)
-left (Member place) (Ok share) old new code membership' leaves =
-    (found share leaves.0 old new leaves.1,
-    ⊎_elim (λ goes. λ b entries owned. same_member (Leaving place) membership' goes.2 b entries owned) (λ stays. same_member (Member place) membership' stays.2) leaves.2)
+left (Member place) (Ok share) old new code membership' leaves = (
+  found share leaves.0 old new leaves.1,
+  ⊎_elim (λ goes. λ b entries owned. same_member (Leaving place) membership' goes.2 b entries owned) (λ stays. same_member (Member place) membership' stays.2) leaves.2,
+)
 left (Member place) (Err error) old new code membership' leaves = (still old new leaves.2, same_member (Member place) membership' leaves.1)
 left (Leaving place) parsed old new code membership' leaves = (still old new leaves.2, same_member (Leaving place) membership' leaves.1)
 

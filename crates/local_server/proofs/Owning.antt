@@ -231,10 +231,10 @@ taken links old new k session at goes gone was =
         once = λ i j e f c d same. (was.once (AtDesk k) (AtDesk k) session session i j e f at at c d same).1;
       };
     }
-    where
-      other_keeper : (keeper : Keeper) (t : Kept) → Has links new.desk.rows keeper t → AtDesk k ≡ keeper → ⊥
-      other_keeper (AtDesk number) t has same = gone number t has (let e = same in cc)
-      other_keeper (InHand connection) t has same = cc
+  where
+    other_keeper : (keeper : Keeper) (t : Kept) → Has links new.desk.rows keeper t → AtDesk k ≡ keeper → ⊥
+    other_keeper (AtDesk number) t has same = gone number t has (let e = same in cc)
+    other_keeper (InHand connection) t has same = cc
 
 -- the close
 pub owns_closed : (links : Links) (old closed : Broker) → Closes old closed → Owns links old → Owns links closed

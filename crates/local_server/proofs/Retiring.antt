@@ -159,10 +159,11 @@ module _ (links : Links) (old new : Broker) (request : Request) (goes : Shrinks 
       let rows = map.insert old.desk.rows k (away does.row.client) in
       let first = written old.desk.rows rows k (away does.row.client) refl refl in
       let second = written rows new.desk.rows old.desk.made (new_row client request.connection) (ap (λ b. b.rows) does.after) refl in
-      let calls = goes (λ number t at. (first number t (second number t at).1).1) in
-      (taken links old new k ended (record { row = does.row; has = does.its.has; stands = ap session_in does.its.stands }) calls
-      (λ number t at. (first number t (second number t at).1).0) was,
-      fresh session _ (refl, refl) does.is_new.is)
+      let calls = goes (λ number t at. (first number t (second number t at).1).1) in (
+        taken links old new k ended (record { row = does.row; has = does.its.has; stands = ap session_in does.its.stands }) calls
+            (λ number t at. (first number t (second number t at).1).0) was,
+        fresh session _ (refl, refl) does.is_new.is,
+      )
   client_gives client (Ok (Resumed session)) does =
       let k = does.number in
       let rest = written old.desk.rows new.desk.rows k (with_standing does.row (Lent request.connection)) (ap (λ b. b.rows) does.after) refl in

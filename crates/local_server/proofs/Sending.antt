@@ -130,13 +130,13 @@ module _ (links : Links) (old new : Broker) (membership : Membership GroupPlace)
             (λ group there. subst (λ (g : Group). IsOutAt g place.number envelope) (same_Some out.group group (sym out.there ∙ there)) out.is_so) does;
         exact = λ other c. ap (λ (e : Held). (e, fate_of code) ∷ []) (same_under entries k envelope other distinct has c);
       }
-      where
-        part_owned : (m : Membership GroupPlace) → ((i : ℕ) (e : Held) → Contains (held_of (after_ack window k)) (i, e) → Contains (held_of window) (i, e))
-            → AreOutFor old m (held_of window)
-            → AreOutFor old m (held_of (after_ack window k))
-        part_owned NotMember part owned = no_entries (held_of (after_ack window k)) (λ i e c. contains_nil (i, e) (subst (λ (es : Entries). Contains es (i, e)) owned (part i e c)))
-        part_owned (Member at) part owned = λ i e c. owned i e (part i e c)
-        part_owned (Leaving at) part owned = λ i e c. owned i e (part i e c)
+    where
+      part_owned : (m : Membership GroupPlace) → ((i : ℕ) (e : Held) → Contains (held_of (after_ack window k)) (i, e) → Contains (held_of window) (i, e))
+          → AreOutFor old m (held_of window)
+          → AreOutFor old m (held_of (after_ack window k))
+      part_owned NotMember part owned = no_entries (held_of (after_ack window k)) (λ i e c. contains_nil (i, e) (subst (λ (es : Entries). Contains es (i, e)) owned (part i e c)))
+      part_owned (Member at) part owned = λ i e c. owned i e (part i e c)
+      part_owned (Leaving at) part owned = λ i e c. owned i e (part i e c)
 
   settles_in : (found : Option Held) (place' : GroupPlace) (window' : Contents Held) → (AreOutFor old membership (held_of window) → AreOut old place (held_of window))
       → AreDistinct (identifiers (held_of window)) → calls.Acks window k found window' → Settles Calls old place code found place' new → Holds links old membership (held_of window)
