@@ -111,16 +111,20 @@ impl Hall {
         assert_eq!(rt; bytes.as_slice(), wanted.as_slice());
     }
 
-    /// The report of the first share is this, and the broker is let go.
-    pub(crate) fn end(self, rt: &impl Abort, report: &str) {
+    /// The report of the first share is this.
+    pub(crate) fn report(&self, rt: &impl Abort, report: &str) {
+        let line = self.supply.line(self.alloc, 0).expect(rt, "memory");
+        assert_eq!(rt; line.as_slice(), report.as_bytes());
+    }
+
+    /// Lets go of the broker and its clients.
+    pub(crate) fn end(self) {
         let Hall {
             mut supply,
             clients,
             said: _,
-            alloc,
+            alloc: _,
         } = self;
-        let line = supply.line(alloc, 0).expect(rt, "memory");
-        assert_eq!(rt; line.as_slice(), report.as_bytes());
         clients.abandon(&mut supply, 0);
         supply.end();
     }

@@ -1,4 +1,4 @@
-//! Each call that may want memory refused in turn: nothing is lost, and nothing is doubled unseen.
+//! Memory refused in turn for each message that is offered, taken and given back: nothing is lost, and nothing is doubled unseen.
 use crate::acting::Hall;
 use crate::refusing::Refused;
 
@@ -54,12 +54,26 @@ const PINGRESP: &[u8] = b"\xD0\x00";
 const DISCONNECT: &[u8] = b"\xE0\x00";
 
 // w1 is handed three jobs and goes. Its session ends with its connection and gives them back, the oldest first; memory is refused for the n-th.
-// What is left is given back at the next Tick of another client, in the same order.
+// What is left is given back at the next Tick of another client, and no sooner, in the same order.
 #[test]
 fn each_give_back(rt: HostRuntime) {
-    for number in 1..=3 {
+    let rows = [
+        (
+            1,
+            "$share/g/job accepted 3 acknowledged 0 refused 0 held 3 queued 0 returned 0\n",
+        ),
+        (
+            2,
+            "$share/g/job accepted 3 acknowledged 0 refused 0 held 2 queued 0 returned 1\n",
+        ),
+        (
+            3,
+            "$share/g/job accepted 3 acknowledged 0 refused 0 held 1 queued 0 returned 2\n",
+        ),
+    ];
+    for (number, left) in rows.iter() {
         let refused = Refused {
-            give_back: number,
+            give_back: *number,
             ..Refused::NONE
         };
         let mut hall = Hall::open(&rt, rt.alloc(), refused);
@@ -69,24 +83,32 @@ fn each_give_back(rt: HostRuntime) {
         hall.bytes(&rt, 2, JOBS, &TAKEN);
         hall.tick(&rt, 0, &[FRESH]);
         hall.bytes(&rt, 0, DISCONNECT, &[]);
+        hall.report(&rt, left);
         hall.bytes(&rt, 1, W2, &[NEW]);
         hall.bytes(&rt, 2, PINGREQ, &[PINGRESP]);
+        hall.report(&rt, left);
         hall.tick(&rt, 2, &[]);
+        hall.report(
+            &rt,
+            "$share/g/job accepted 3 acknowledged 0 refused 0 held 0 queued 0 returned 3\n",
+        );
         hall.bytes(&rt, 1, SUBSCRIBE, &[SUBACK, FRESH]);
-        hall.end(
+        hall.report(
             &rt,
             "$share/g/job accepted 3 acknowledged 0 refused 0 held 3 queued 0 returned 0\n",
         );
+        hall.end();
     }
 }
 
 // w1, whose session is kept, is to be handed three jobs, and memory is refused for the n-th: nothing is written, and the connection has ended. When
-// it comes back, those that it was handed before are sent again, and the others for the first time.
+// it comes back, those that it was handed before are sent again, and the others for the first time. The first take of all, which finds nothing, is
+// that behind its SUBSCRIBE.
 #[test]
 fn each_take(rt: HostRuntime) {
-    for (number, again) in (1..=3).zip(AGAIN) {
+    for (take, again) in (2..=4).zip(AGAIN) {
         let refused = Refused {
-            take: number + 1,
+            take,
             ..Refused::NONE
         };
         let mut hall = Hall::open(&rt, rt.alloc(), refused);
@@ -97,10 +119,11 @@ fn each_take(rt: HostRuntime) {
         hall.tick_refused(&rt, 0);
         hall.reopen(0);
         hall.bytes(&rt, 0, KEPT_W1, &[RESUMED, again]);
-        hall.end(
+        hall.report(
             &rt,
             "$share/g/job accepted 3 acknowledged 0 refused 0 held 3 queued 0 returned 0\n",
         );
+        hall.end();
     }
 }
 
@@ -131,6 +154,7 @@ fn each_offer(rt: HostRuntime) {
         hall.bytes(&rt, 0, SUBSCRIBE, &[SUBACK]);
         hall.bytes(&rt, 2, P, &[NEW]);
         hall.bytes_refused(&rt, 2, JOBS, written);
-        hall.end(&rt, report);
+        hall.report(&rt, report);
+        hall.end();
     }
 }
