@@ -1,5 +1,5 @@
 -- The close is what happens last in each group: a connection that ends with the server makes no call of a group.
-use Rattle.std.proofs.Common.{◌≡◌, ℕ, zero, suc, Bool, true, false, not, List, Option, Some, None, Result, Ok, Err, IsOk, refl, sym, ap, subst, ◌∙◌, slice_get, get_or, ⊎_elim, arith}
+use Rattle.std.proofs.Common.{◌≡◌, ℕ, zero, suc, Bool, true, false, not, List, length, Option, Some, None, Result, Ok, Err, IsOk, refl, sym, ap, subst, ◌∙◌, slice_get, get_or, ⊎_elim, arith}
 use Rattle.std.specs.Result.{result_and}
 use Rattle.std.specs.List.{list_all}
 use Rattle.std.proofs.lemmas.Bool.{false≢true}
@@ -22,7 +22,7 @@ use Rattle.local_broker.proofs.Closed.{either}
 use Rattle.local_server.specs.declared.event.Event.TheVariants as events
 use Rattle.local_server.specs.Servers.{Clients, ServerState}
 use Rattle.local_server.specs.Happening.{slot_of, EndsFirst, DoesIf, Happens}
-use Rattle.local_server.specs.LastEvents.{AllAddTheClose}
+use Rattle.local_server.specs.LastEvents.{AddsTheClose, AllAddTheClose}
 use Rattle.local_server.proofs.Happened.{first_ok, then_ok}
 
 abbrev Keep : Broker → Broker → Type 0
@@ -70,8 +70,9 @@ each_open groups slot group all there =
     (λ (not_yet : group.state.closed ≡ false). not_yet)
     (either group.state.closed)
 
-closed_once : (old new : Broker) → is_open old ≡ true → ClosesEach old.groups new.groups → AllAddTheClose old new
-closed_once old new opens closes slot group there =
+adds_close : (old new : Broker) → is_open old ≡ true → ClosesEach old.groups new.groups → (slot : ℕ) (group : Group) → slice_get new.groups slot ≡ Some group
+    → AddsTheClose old slot group
+adds_close old new opens closes slot group there =
     let within = slice_get_within new.groups slot group there in
     let before = get_or old.groups slot group in
     let was = slice_get-get_or old.groups slot group (let as_many = closes.as_many in omega arith) in
@@ -83,8 +84,15 @@ closed_once old new opens closes slot group there =
       events = ap (λ (g : Group). g.events) (same_Some group has.group (sym there ∙ has.there)) ∙ adds.events;
     }
 
+closed_once : (old new : Broker) → is_open old ≡ true → ClosesEach old.groups new.groups → AllAddTheClose old new
+closed_once old new opens closes = record { as_many = closes.as_many; each = adds_close old new opens closes }
+
 added : (old mid new : Broker) → AllAddTheClose old mid → Keep mid new → AllAddTheClose old new
-added old mid new adds keeps slot group there = adds slot group (ap (λ (l : List Group). slice_get l slot) (sym keeps) ∙ there)
+added old mid new adds keeps =
+    record {
+      as_many = ap (λ (l : List Group). length l) keeps ∙ adds.as_many;
+      each = λ slot group there. adds.each slot group (ap (λ (l : List Group). slice_get l slot) (sym keeps) ∙ there);
+    }
 
 closes_if : (going : Bool) (old new : ServerState) (said : List Said) → going ≡ true → is_open old.broker ≡ true
     → DoesIf going events.Close old.broker old.clients new.clock said (Ok tt) new.clients new.broker → AllAddTheClose old.broker new.broker

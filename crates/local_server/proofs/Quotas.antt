@@ -1,9 +1,14 @@
 -- The quota of every connection, whatever happens.
-use Rattle.std.proofs.Common.{◌≡◌, ℕ, zero, suc, Bool, true, false, List, [], ◌∷◌, Option, Some, None, Ok, Result, sym, ap, subst, slice_get, slice_set, replicate}
+use Rattle.std.proofs.Common.{◌≡◌, ℕ, zero, suc, Bool, true, false, List, [], ◌∷◌, Option, Some, None, Ok, Result, refl, sym, ap, subst, slice_get, slice_set, replicate}
 use Rattle.std.proofs.lemmas.Option.{same_Some}
 use Rattle.std.specs.List.{AllByRecursion}
 use Rattle.conn_engine.specs.declared.input.Input.TheVariants as inputs
+use Rattle.conn_engine.specs.declared.standing.Link.{Link}
+use Rattle.conn_engine.specs.declared.standing.Standing.{Standing}
+use Rattle.conn_engine.specs.declared.standing.Standing.TheVariants.{Unconnected, Waiting, Connected, Ended}
 use Rattle.conn_engine.specs.declared.supply.NoMemory.{NoMemory}
+use Rattle.conn_laws.specs.Quotas.{quota_of, KeepsQuota, IsWithinQuota}
+use Rattle.conn_laws.specs.Transcripts.{link_of}
 use Rattle.client_table.specs.Cells.{InCell}
 use Rattle.client_table.specs.Clients.{ClientState, Said}
 use Rattle.client_table.specs.Quotas.{IsCellWithinQuota}
@@ -18,6 +23,7 @@ use Rattle.local_server.specs.declared.setup.Setup.{Setup}
 use Rattle.local_server.specs.Servers.{Clients, ServerState, IsNewServer}
 use Rattle.local_server.specs.Happening.{slot_of, EndsAt, EndsFirst, ClosesAll, Does, DoesIf, Happens, HappensAll}
 use Rattle.local_server.specs.Quotas.{AllWithinQuota}
+use Rattle.local_server.specs.Transcripts.{link_in, link_at}
 
 -- one cell of a row
 cell_of : {X : Type 0} (IsSo : X → Type 0) (cells : List X) (number : ℕ) (cell : X) → slice_get cells number ≡ Some cell → AllByRecursion IsSo cells → IsSo cell
@@ -82,6 +88,27 @@ all_happened : (events : List TimedEvent) (said : List Said) (old new : ServerSt
 all_happened [] said old new run all = subst AllWithinQuota (sym (ap (λ s. s.clients) run.1)) all
 all_happened (first ∷ others) said old new run all = all_happened others run.2 run.0 new run.4 (happened first.moment first.event run.1 (Ok tt) old run.0 run.3 all)
 
+pub new_within : (setup : Setup) (first : ServerState) → IsNewServer setup first → AllWithinQuota first.clients
+new_within setup first new = subst AllWithinQuota (sym new.clients) (all_of (IsCellWithinQuota {P = GroupPlace}) 64 None tt)
+
 pub within : (setup : Setup) (events : List TimedEvent) (said : List Said) (first last : ServerState) → IsNewServer setup first → HappensAll first events said last → AllWithinQuota last.clients
-within setup events said first last new run =
-    all_happened events said first last run (subst AllWithinQuota (sym new.clients) (all_of (IsCellWithinQuota {P = GroupPlace}) 64 None tt))
+within setup events said first last new run = all_happened events said first last run (new_within setup first new)
+
+-- so what a connection has keeps the quota of its CONNECT
+link_of_standing : (standing : Standing GroupPlace) (link : Link GroupPlace) → link_of standing ≡ Some link → IsWithinQuota standing
+    → KeepsQuota (quota_of link.terms) link.session.window
+link_of_standing (Unconnected opened) link is within = absurd (cc)
+link_of_standing (Waiting request ticks) link is within = absurd (cc)
+link_of_standing (Connected its) link is within = subst (λ (l : Link GroupPlace). KeepsQuota (quota_of l.terms) l.session.window) (same_Some its link is) within
+link_of_standing Ended link is within = absurd (cc)
+
+link_in_cell : (cell : Option (Option (ClientState GroupPlace))) (clients : Clients) (number : ℕ) (link : Link GroupPlace) → slice_get clients number ≡ cell
+    → link_in cell ≡ Some link → AllWithinQuota clients → KeepsQuota (quota_of link.terms) link.session.window
+link_in_cell None clients number link there is all = absurd (cc)
+link_in_cell (Some None) clients number link there is all = absurd (cc)
+link_in_cell (Some (Some client)) clients number link there is all =
+    link_of_standing client.conn.standing link is (cell_of IsCellWithinQuota clients number (Some client) there all)
+
+pub keeps_quota : (clients : Clients) (number : ℕ) (link : Link GroupPlace) → AllWithinQuota clients → link_at clients number ≡ Some link
+    → KeepsQuota (quota_of link.terms) link.session.window
+keeps_quota clients number link all is = link_in_cell (slice_get clients number) clients number link refl is all

@@ -10,7 +10,12 @@ use Rattle.std.proofs.lemmas.List.Elements.{filter_map-append}
 use Rattle.dispatch_core.proofs.Spots.{slice_get-set_same, slice_get-set_other}
 use Rattle.group_jobs.specs.Stamps.{Held}
 use Rattle.local_group.specs.Groups.{Group}
+use Rattle.member_window.specs.Marks.{standing_down, standing_after_all}
+use Rattle.member_window.specs.Runs.{standing_of}
 use Rattle.session_desk.specs.declared.row.Row.{Row}
+use Rattle.session_desk.specs.declared.row.Standing.TheVariants.{Parked}
+use Rattle.session_desk.specs.declared.session.Session.{Session}
+use Rattle.session_desk.specs.Rows.{HasRow, session_in}
 use Rattle.session_desk.specs.Books.{Books}
 use Rattle.conn_engine.specs.declared.input.Input.TheVariants as inputs
 use Rattle.conn_engine.specs.declared.standing.Link.{Link}
@@ -30,7 +35,8 @@ use Rattle.local_server.specs.declared.setup.Setup.{Setup}
 use Rattle.local_server.specs.Servers.{Clients, ServerState, IsNewServer}
 use Rattle.local_server.specs.Addressed.{AreNumbered}
 use Rattle.local_server.specs.Happening.{EndsAt, EndsFirst, Does, DoesIf, HappensAll}
-use Rattle.local_server.specs.Transcripts.{Turn, link_in, link_at, session_of, StandsAsTold, KeepsTranscripts}
+use Rattle.local_server.specs.Quotas.{AllWithinQuota}
+use Rattle.local_server.specs.Transcripts.{Turn, transcript_of, link_in, link_at, session_of, StandsAsTold, AccountFor, KeepsTranscripts, AccountAlong}
 use Rattle.local_server.specs.Settling.{Settlement, settled_in_all, settled_seen_by, HeldIsOut, SettlesWhatIsAcknowledged}
 use Rattle.local_server.proofs.Settled.{AddsIn, adds_nothing, adds_then, none_closed}
 use Rattle.local_server.proofs.Owning.{AtDesk, InHand, Owns, owns_closed, owns_new}
@@ -38,6 +44,9 @@ use Rattle.local_server.proofs.Addressed as addressed
 use Rattle.local_server.proofs.Addressed.{at, answered, new_numbered}
 use Rattle.local_server.proofs.Happened.{joins, first_ok, then_ok}
 use Rattle.local_server.proofs.HandOuts.{handed}
+use Rattle.local_server.proofs.Quotas as quotas
+use Rattle.local_server.proofs.Quotas.{keeps_quota}
+use Rattle.local_server.proofs.Lent.{IsLentTo, one_holder}
 use Rattle.local_server.proofs.Sessions.{with_link, link_here, link_beside, with_same, KeepsSessions}
 use Rattle.local_server.proofs.Stepping.{Links}
 use Rattle.local_server.proofs.Turning.{Keeps, Says, silent, then_says, receives, ticks_for, ends_for}
@@ -187,15 +196,14 @@ new_sessions setup server new =
     }
 
 -- each open connection's session stands where it was told to
-stands : (turns : List Turn) (link : Option (Link GroupPlace)) (b : Broker) (links : Links) (connection : ℕ) → KeepsSessions turns b.desk links → links connection ≡ link
-    → StandsAsTold turns link
-stands turns None b links connection keeps is = tt
-stands turns (Some link) b links connection keeps is = (keeps.linked connection link is).leads.stands
+stands : (turns : List Turn) (link : Option (Link GroupPlace)) (b : Broker) (clients : Clients) (connection : ℕ) → KeepsSessions turns b.desk (links_at clients)
+    → AllWithinQuota clients → link_at clients connection ≡ link → StandsAsTold turns link
+stands turns None b clients connection keeps within is = tt
+stands turns (Some link) b clients connection keeps within is = ((keeps.linked connection link is).leads.stands, keeps_quota clients connection link within is)
 
-whole : (setup : Setup) (events : List TimedEvent) (said : List Said) (first last : ServerState) → IsNewServer setup first → HappensAll first events said last
-    → Says first.broker [] said (links_at last.clients) last.broker
-whole setup events said first last new run =
-    let start : Keeps first.broker [] (links_at first.clients) first.broker = record {
+starts : (setup : Setup) (first : ServerState) → IsNewServer setup first → Keeps first.broker [] (links_at first.clients) first.broker
+starts setup first new =
+    record {
       happenings = [];
       led = refl;
       fresh = refl;
@@ -204,25 +212,71 @@ whole setup events said first last new run =
       settled = [];
       acknowledged = refl;
       adds = adds_nothing first.broker first.broker refl;
-    } in
-    happened events first.broker [] said first last (new_numbered setup first new) start run
+    }
 
-told_in : (setup : Setup) (said : List Said) (first last : ServerState) → IsNewServer setup first → Says first.broker [] said (links_at last.clients) last.broker
-    → KeepsTranscripts said last
-told_in setup said first last new says =
-    let sessions = says.keeps.sessions in
+whole : (setup : Setup) (events : List TimedEvent) (said : List Said) (first last : ServerState) → IsNewServer setup first → HappensAll first events said last
+    → Says first.broker [] said (links_at last.clients) last.broker
+whole setup events said first last new run = happened events first.broker [] said first last (new_numbered setup first new) (starts setup first new) run
+
+-- two connections that have one session are one
+alone : (turns : List Turn) (b : Broker) (links : Links) (one other : ℕ) (these those : Link GroupPlace) → KeepsSessions turns b.desk links
+    → links one ≡ Some these → links other ≡ Some those → these.session.identity.number ≡ those.session.identity.number → one ≡ other
+alone turns b links one other these those keeps is is' same =
+    one_holder b.desk.rows those.session.identity.number one other
+    (subst (λ (n : ℕ). IsLentTo b.desk.rows n one) same (keeps.linked one these is).holds)
+    (keeps.linked other those is').holds
+
+-- so does a session that the desk keeps parked
+parked : (turns : List Turn) (b : Broker) (links : Links) (number : ℕ) (row : Row Held GroupPlace) (session : Session Held GroupPlace) → KeepsSessions turns b.desk links
+    → HasRow b.desk.rows number row → row.standing ≡ Parked session
+    → standing_after_all (standing_down []) (transcript_of session.identity.number turns) ≡ standing_of session.window
+parked turns b links number row session keeps has is =
+    let its : session.identity.number ≡ number = ap (λ w. w.number) (keeps.law.own number row session has (ap session_in is)) in
+    ap (λ (n : ℕ). standing_after_all (standing_down []) (transcript_of n turns)) its
+    ∙ (keeps.parked number session (record { row = row; has = has; parked = is })).leads.stands
+
+account : (setup : Setup) (first : ServerState) (turns : List Turn) (server : ServerState) → IsNewServer setup first
+    → Keeps first.broker turns (links_at server.clients) server.broker → AllWithinQuota server.clients → AccountFor turns server
+account setup first turns server new keeps within =
+    let sessions = keeps.sessions in
+    let links = links_at server.clients in
     record {
-      turns = says.more;
-      told = says.told;
       legal = sessions.legal;
       own = sessions.own;
-      stands = λ connection. stands says.more (link_at last.clients connection) last.broker (links_at last.clients) connection sessions refl;
-      handed = handed setup.capacity setup.groups says.keeps.happenings first.broker last.broker _ new.broker says.keeps.led says.keeps.fresh;
+      alone = λ one other these those is is' same. alone turns server.broker links one other these those sessions is is' same;
+      stands = λ connection. stands turns (link_at server.clients connection) server.broker server.clients connection sessions within refl;
+      parked = λ number row session has is. parked turns server.broker links number row session sessions has is;
+      handed = handed setup.capacity setup.groups keeps.happenings first.broker server.broker _ new.broker keeps.led keeps.fresh;
     }
+
+told_in : (setup : Setup) (said : List Said) (first last : ServerState) → IsNewServer setup first → Says first.broker [] said (links_at last.clients) last.broker
+    → AllWithinQuota last.clients → KeepsTranscripts said last
+told_in setup said first last new says within = record { turns = says.more; told = says.told; account = account setup first says.more last new says.keeps within }
 
 pub transcripts : (setup : Setup) (events : List TimedEvent) (said : List Said) (first last : ServerState) → IsNewServer setup first → HappensAll first events said last
     → KeepsTranscripts said last
-transcripts setup events said first last new run = told_in setup said first last new (whole setup events said first last new run)
+transcripts setup events said first last new run =
+    told_in setup said first last new (whole setup events said first last new run) (quotas.within setup events said first last new run)
+
+-- at each moment of the run
+moments : (setup : Setup) (first : ServerState) (events : List TimedEvent) (turns : List Turn) (said : List Said) (old new : ServerState) → IsNewServer setup first
+    → AreNumbered old.clients → Keeps first.broker turns (links_at old.clients) old.broker → AllWithinQuota old.clients
+    → (run : HappensAll old events said new) → AccountAlong turns old events said new run
+moments setup first [] turns said old new is all keeps within run = account setup first turns old is keeps within
+moments setup first (event ∷ others) turns said old new is all keeps within run =
+    let mid = run.0 in
+    let says = does_if (is_open old.broker) event.event first.broker turns old.broker mid.broker old.clients mid.clients mid.clock run.1 (Ok tt) refl all keeps run.3.does in (
+      account setup first turns old is keeps within,
+      says.more,
+      says.told,
+      moments setup first others (turns ++ says.more) run.2 mid new is (answered event.moment event.event run.1 (Ok tt) old mid all run.3).0 says.keeps
+          (quotas.happened event.moment event.event run.1 (Ok tt) old mid run.3 within) run.4,
+    )
+
+pub along : (setup : Setup) (events : List TimedEvent) (said : List Said) (first last : ServerState) → IsNewServer setup first → (run : HappensAll first events said last)
+    → AccountAlong [] first events said last run
+along setup events said first last new run =
+    moments setup first events [] said first last new (new_numbered setup first new) (starts setup first new) (quotas.new_within setup first new) run
 
 -- a group that was new has nothing settled but that
 settled_since : (setup : Setup) (first : ServerState) (settled : List Settlement) (last : Broker) → IsNewServer setup first → AddsIn first.broker.groups settled last.groups
@@ -242,7 +296,7 @@ unfolding told_in
 settlings setup events said first last new run =
     let says = whole setup events said first last new run in
     record {
-      transcripts = told_in setup said first last new says;
+      transcripts = told_in setup said first last new says (quotas.within setup events said first last new run);
       settled = says.keeps.settled;
       acknowledged = says.keeps.acknowledged;
       fates = settled_since setup first says.keeps.settled last.broker new says.keeps.adds;

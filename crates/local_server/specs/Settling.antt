@@ -1,4 +1,4 @@
--- What is settled in a run: as the PUBACKs of the sessions' transcripts have it, and as the events of the groups do (sections 3.4 and 4.3.2).
+-- What is settled in a run: as the `Acked` marks of the sessions' transcripts have it, and as the events of the groups do (sections 3.4 and 4.3.2).
 use Rattle.std.specs.Prelude.{◌≡◌, ℕ, nat_eq, if◌then◌else◌, List, [], ◌∷◌, ◌++◌, filter_map, Option, Some, None, slice_get, Contains, ⊤}
 use Rattle.dispatch_core.specs.declared.event.Event.{Event}
 use Rattle.dispatch_core.specs.declared.event.Event.TheVariants.{Accept, First, Ack, Refuse, Back, Again, Close}
@@ -45,7 +45,7 @@ settled_in_all events = filter_map settled_in events
 abbrev pub settled_seen_by : ℕ → Settlement → Option (ℕ × Job × Fate)
 settled_seen_by slot settlement = if nat_eq settlement.0.stamp.group slot then Some (settlement.0.place, job_of settlement.0.stamp, settlement.1) else None
 
--- what is settled where a session that holds these messages acknowledges: by one PUBACK at most, and the message under its identifier, which is
+-- what is settled where a session that holds these messages acknowledges: by one `Acked` at most, and the message under its identifier, which is
 -- acknowledged where its Reason Code is below 0x80, and refused else
 abbrev pub AreSettled : List (ℕ × Held) → List (ℕ × ℕ) → List Settlement → Type 0
 AreSettled entries [] settled = settled ≡ []
@@ -78,13 +78,13 @@ HeldIsOut b (Some link) = AreOutFor b link.session.membership (held_of link.sess
 pub record SettlesWhatIsAcknowledged (said : List Said) (last : ServerState) : Type 0 where
   -- the transcripts of the sessions, with a turn for each step
   pub transcripts : KeepsTranscripts said last
-  -- what the turns acknowledge, in their order: each the message that its session held under the PUBACK's identifier, with the fate of its Reason
+  -- what the turns acknowledge, in their order: each the message that its session held under the mark's identifier, with the fate of its Reason
   -- Code
   pub settled : List Settlement
   pub acknowledged : AllSettle [] transcripts.turns settled
   -- and the events of each group that end a hand-out by a fate are those, in that order
   pub fates : (slot : ℕ) (group : Group) → slice_get last.broker.groups slot ≡ Some group → settled_in_all group.events ≡ filter_map (settled_seen_by slot) settled
-  -- what is not acknowledged yet is out at the place of its session, whose connection is open or has ended
+  -- what a session holds is out at the place of its session, whose connection is open or has ended
   pub held_out : (connection : ℕ) → HeldIsOut last.broker (link_at last.clients connection)
   pub parked_out : (number : ℕ) (row : Row Held GroupPlace) (session : Session Held GroupPlace) → HasRow last.broker.desk.rows number row
       → session_in row.standing ≡ Some session → AreOutFor last.broker session.membership (held_of session.window)

@@ -1,5 +1,5 @@
 -- The transcripts of the sessions of a server, along a whole run (sections 4.4 and 4.9).
-use Rattle.std.specs.Prelude.{◌≡◌, ℕ, nat_eq, if◌then◌else◌, List, [], ◌∷◌, filter_map, Option, Some, None, slice_get, ⊤}
+use Rattle.std.specs.Prelude.{◌≡◌, ℕ, nat_eq, if◌then◌else◌, List, [], ◌∷◌, ◌++◌, filter_map, Option, Some, None, slice_get, ⊤}
 use Rattle.std.specs.List.{AllByRecursion, filter, flat_map}
 use Rattle.dispatch_core.specs.declared.event.Job.{Job}
 use Rattle.group_jobs.specs.Stamps.{Held, job_of}
@@ -7,12 +7,19 @@ use Rattle.local_group.specs.Groups.{Group}
 use Rattle.member_window.specs.Marks.{Mark, Up, Sent, Acked, Down, standing_down, standing_after_all}
 use Rattle.member_window.specs.Transcript.{IsLegal}
 use Rattle.member_window.specs.Runs.{standing_of}
+use Rattle.session_desk.specs.declared.row.Row.{Row}
+use Rattle.session_desk.specs.declared.row.Standing.TheVariants.{Parked}
+use Rattle.session_desk.specs.declared.session.Session.{Session}
+use Rattle.session_desk.specs.Rows.{HasRow}
 use Rattle.conn_engine.specs.declared.standing.Link.{Link}
+use Rattle.conn_laws.specs.Quotas.{quota_of, KeepsQuota}
 use Rattle.conn_laws.specs.Transcripts.{publishes_in, publishes_of, fresh_of, link_of, IsWithin}
 use Rattle.client_table.specs.Clients.{ClientState, Said}
 use Rattle.local_broker.specs.HandOuts.{handed_in_all}
 use Rattle.local_broker.specs.Places.{GroupPlace}
+use Rattle.local_server.specs.declared.event.TimedEvent.{TimedEvent}
 use Rattle.local_server.specs.Servers.{Clients, ServerState}
+use Rattle.local_server.specs.Happening.{HappensAll}
 
 -- what one step of a connection added to the transcript of its session
 pub record Turn : Type 0 where
@@ -78,11 +85,13 @@ abbrev pub session_of : {P : Type 0} → Option (Link P) → Option ℕ
 session_of None = None
 session_of (Some link) = Some link.session.identity.number
 
--- the session of a connection stands where its transcript leads: what is held, what is owed, and the quota
+-- the session of a connection stands where its transcript leads: what is held, what is owed, and the quota, which is that of the CONNECT, and no
+-- more is owed
 abbrev pub StandsAsTold : List Turn → Option (Link GroupPlace) → Type 0
 StandsAsTold turns None = ⊤
 StandsAsTold turns (Some link) =
-    standing_after_all (standing_down []) (transcript_of link.session.identity.number turns) ≡ standing_of link.session.window
+    (standing_after_all (standing_down []) (transcript_of link.session.identity.number turns) ≡ standing_of link.session.window)
+    × KeepsQuota (quota_of link.terms) link.session.window
 
 -- a message that is sent for the first time, as the group of this slot sees it: the place, and the job
 abbrev pub seen_by : ℕ → Held → Option (ℕ × Job)
@@ -92,16 +101,39 @@ seen_by slot envelope = if nat_eq envelope.stamp.group slot then Some (envelope.
 abbrev pub all_fresh : List Turn → List Held
 all_fresh turns = flat_map (λ turn. fresh_of turn.marks) turns
 
+-- what holds at a moment of a run: these turns led the server to where it is
+pub record AccountFor (turns : List Turn) (server : ServerState) : Type 0 where
+  -- the transcript of each session is legal (4.4, 4.9)
+  pub legal : (number : ℕ) → IsLegal [] (transcript_of number turns)
+  -- each connection has one session from the CONNECT that it was given with to its end, and adds to the transcript of that one alone
+  pub own : (connection : ℕ) → AreTurnsOf None (turns_of connection turns) (session_of (link_at server.clients connection))
+  -- no two connections have one session
+  pub alone : (one other : ℕ) (these those : Link GroupPlace) → link_at server.clients one ≡ Some these → link_at server.clients other ≡ Some those
+      → these.session.identity.number ≡ those.session.identity.number → one ≡ other
+  -- where the transcripts lead, the sessions of the open connections are
+  pub stands : (connection : ℕ) → StandsAsTold turns (link_at server.clients connection)
+  -- and those that the desk keeps parked
+  pub parked : (number : ℕ) (row : Row Held GroupPlace) (session : Session Held GroupPlace) → HasRow server.broker.desk.rows number row
+      → row.standing ≡ Parked session
+      → standing_after_all (standing_down []) (transcript_of session.identity.number turns) ≡ standing_of session.window
+  -- the hand-outs among a group's events, first and later ones, are what is sent for the first time, in that order
+  pub handed : (slot : ℕ) (group : Group) → slice_get server.broker.groups slot ≡ Some group
+      → handed_in_all group.events ≡ filter_map (seen_by slot) (all_fresh turns)
+
 -- what holds of the transcripts of a run in which this was said
 pub record KeepsTranscripts (said : List Said) (last : ServerState) : Type 0 where
   pub turns : List Turn
   -- each step, with the PUBLISH packets that it wrote
   pub told : AllTell said turns
-  -- the transcript of each session is legal (4.4, 4.9)
-  pub legal : (number : ℕ) → IsLegal [] (transcript_of number turns)
-  -- each connection has one session from the CONNECT that it was given with to its end, and adds to the transcript of that one alone
-  pub own : (connection : ℕ) → AreTurnsOf None (turns_of connection turns) (session_of (link_at last.clients connection))
-  -- where the transcripts lead, the sessions of the open connections are
-  pub stands : (connection : ℕ) → StandsAsTold turns (link_at last.clients connection)
-  -- the hand-outs among a group's events, first and later ones, are what is sent for the first time, in that order
-  pub handed : (slot : ℕ) (group : Group) → slice_get last.broker.groups slot ≡ Some group → handed_in_all group.events ≡ filter_map (seen_by slot) (all_fresh turns)
+  -- and they led the server to where it is
+  pub account : AccountFor turns last
+
+-- Along a run, from a server that these turns led to where it is: each event adds the turns of its own steps behind those before, of which none
+-- is told anew; and at each moment, before the first event and behind each one, the turns till then led the server to where it is.
+abbrev pub AccountAlong : (turns : List Turn) (old : ServerState) (events : List TimedEvent) (said : List Said) (new : ServerState) → HappensAll old events said new → Type 0
+AccountAlong turns old [] said new run = AccountFor turns old
+AccountAlong turns old (first ∷ others) said new run =
+    let mid = run.0 in
+    let now = run.1 in
+    let later = run.2 in
+    AccountFor turns old × (more : List Turn) × AllTell now more × AccountAlong (turns ++ more) mid others later new run.4

@@ -19,7 +19,7 @@ ghost use Rattle.local_server.specs.Runs.{HaveLed, AllRunLawfully};
 ghost use Rattle.local_server.specs.Addressed.{Answers};
 ghost use Rattle.local_server.specs.Publishers.{AcceptsFrom};
 ghost use Rattle.local_server.specs.Settling.{SettlesWhatIsAcknowledged};
-ghost use Rattle.local_server.specs.Transcripts.{KeepsTranscripts};
+ghost use Rattle.local_server.specs.Transcripts.{KeepsTranscripts, AccountAlong};
 ghost use Rattle.local_server.specs.Eager.{AllHandReturnedFirst};
 ghost use Rattle.local_server.specs.LastEvents.{AllAddTheClose};
 
@@ -60,14 +60,19 @@ pub fn hand_out_law()
 {}
 
 /// **The transcript of each session is legal, along every run** (sections 4.4 and 4.9), over however many connections the session is resumed
-/// and taken over: each step adds its marks to the transcript of its connection's session, and its PUBLISH packets are those of these marks. So at
-/// each moment no more is unacknowledged than the Receive Maximum; a message goes out with DUP 0 under the least identifier that is free, behind
+/// and taken over: each step adds its marks to the transcript of its connection's session, and its PUBLISH packets are those of these marks
+/// (`whole`). It is so at each moment, before and behind each event, with one list of turns, to which each event adds behind those before (`along`).
+/// So at each moment no more is unacknowledged than the Receive Maximum; a message goes out with DUP 0 under the least identifier that is free, behind
 /// all that is sent again; what is sent again has its own identifier and its place in the order of first sending; and only what is held is
-/// acknowledged. A connection has one session from its CONNECT to its end. And the hand-outs that a group's events tell, first and later ones,
-/// are what is sent with DUP 0, in that order. The runs are those in which memory was not wanted.
+/// acknowledged. A connection has one session from its CONNECT to its end, and no other connection has it at that moment. What an open connection's
+/// session holds and owes is as its transcript has it, and so is its quota, which is the Receive Maximum of the CONNECT, and 256 at most; and what a
+/// parked session holds is as its transcript has it. And the hand-outs that a group's events tell, first and later ones, are what is sent with DUP 0,
+/// in that order. The runs are those in which memory was not wanted.
 pub fn transcript_law()
-    ensures { (setup : Setup) (events : List TimedEvent) (said : List Said) (first last : ServerState) →
+    ensures whole { (setup : Setup) (events : List TimedEvent) (said : List Said) (first last : ServerState) →
         IsNewServer setup first → HappensAll first events said last → KeepsTranscripts said last }
+    ensures along { (setup : Setup) (events : List TimedEvent) (said : List Said) (first last : ServerState) →
+        IsNewServer setup first → (run : HappensAll first events said last) → AccountAlong [] first events said last run }
 {}
 
 /// **What was given back is handed out first**, in every run (profile): whenever a message is first handed out in a group, none of its messages
@@ -81,10 +86,11 @@ pub fn eager_law()
 {}
 
 /// **What is acknowledged is settled**, along every run (sections 3.4 and 4.3.2): the events of a group by which a message is acknowledged or refused
-/// are, in order, what the PUBACKs among the transcripts of the sessions acknowledge, each the message that its session held under the PUBACK's
+/// are, in order, what the `Acked` marks among the transcripts of the sessions acknowledge, each the message that its session held under the mark's
 /// identifier, by the place that was handed it, acknowledged where the Reason Code is below 0x80, and refused else. And whatever a session holds, of an
-/// open connection or with the desk, is out at that session's place. So no PUBACK is lost between a client and its group, none settles what another
-/// session holds, and nothing is settled without one. The runs are those in which memory was not wanted.
+/// open connection or with the desk, is out at that session's place. So each `Acked` of a transcript is one settlement in its group, and no event of
+/// a group settles anything else. That an `Acked` is a PUBACK that came is a law of each step (`conn_laws`), and not yet one of a run. The runs are
+/// those in which memory was not wanted.
 pub fn settling_law()
     ensures { (setup : Setup) (events : List TimedEvent) (said : List Said) (first last : ServerState) →
         IsNewServer setup first → HappensAll first events said last → SettlesWhatIsAcknowledged said last }
