@@ -3,16 +3,17 @@ use crate::acting::Hall;
 use crate::refusing::Refused;
 
 /// A CONNECT of client `w1`, whose session ends with its connection.
-const W1: &[u8] = b"\x10\x0F\x00\x04MQTT\x05\x02\x00\x3C\x00\x00\x02w1";
+const MEMBER: &[u8] = b"\x10\x0F\x00\x04MQTT\x05\x02\x00\x3C\x00\x00\x02w1";
 
 /// A CONNECT of client `w1`, whose session is kept for an hour.
-const KEPT_W1: &[u8] = b"\x10\x14\x00\x04MQTT\x05\x00\x00\x3C\x05\x11\x00\x00\x0E\x10\x00\x02w1";
+const KEPT_MEMBER: &[u8] =
+    b"\x10\x14\x00\x04MQTT\x05\x00\x00\x3C\x05\x11\x00\x00\x0E\x10\x00\x02w1";
 
 /// A CONNECT of client `w2`.
-const W2: &[u8] = b"\x10\x0F\x00\x04MQTT\x05\x02\x00\x3C\x00\x00\x02w2";
+const OTHER_MEMBER: &[u8] = b"\x10\x0F\x00\x04MQTT\x05\x02\x00\x3C\x00\x00\x02w2";
 
 /// A CONNECT of client `p`.
-const P: &[u8] = b"\x10\x0E\x00\x04MQTT\x05\x02\x00\x3C\x00\x00\x01p";
+const PUBLISHER: &[u8] = b"\x10\x0E\x00\x04MQTT\x05\x02\x00\x3C\x00\x00\x01p";
 
 /// The CONNACK of a session that is new, and of one that is resumed (3.2.2.1.1).
 const NEW: &[u8] = b"\x20\x0E\x00\x00\x0B\x24\x01\x25\x00\x27\x00\x01\x00\x00\x29\x00";
@@ -77,14 +78,14 @@ fn each_give_back(rt: HostRuntime) {
             ..Refused::NONE
         };
         let mut hall = Hall::open(&rt, rt.alloc(), refused);
-        hall.bytes(&rt, 0, W1, &[NEW]);
+        hall.bytes(&rt, 0, MEMBER, &[NEW]);
         hall.bytes(&rt, 0, SUBSCRIBE, &[SUBACK]);
-        hall.bytes(&rt, 2, P, &[NEW]);
+        hall.bytes(&rt, 2, PUBLISHER, &[NEW]);
         hall.bytes(&rt, 2, JOBS, &TAKEN);
         hall.tick(&rt, 0, &[FRESH]);
         hall.bytes(&rt, 0, DISCONNECT, &[]);
         hall.report(&rt, left);
-        hall.bytes(&rt, 1, W2, &[NEW]);
+        hall.bytes(&rt, 1, OTHER_MEMBER, &[NEW]);
         hall.bytes(&rt, 2, PINGREQ, &[PINGRESP]);
         hall.report(&rt, left);
         hall.tick(&rt, 2, &[]);
@@ -112,13 +113,13 @@ fn each_take(rt: HostRuntime) {
             ..Refused::NONE
         };
         let mut hall = Hall::open(&rt, rt.alloc(), refused);
-        hall.bytes(&rt, 0, KEPT_W1, &[NEW]);
+        hall.bytes(&rt, 0, KEPT_MEMBER, &[NEW]);
         hall.bytes(&rt, 0, SUBSCRIBE, &[SUBACK]);
-        hall.bytes(&rt, 2, P, &[NEW]);
+        hall.bytes(&rt, 2, PUBLISHER, &[NEW]);
         hall.bytes(&rt, 2, JOBS, &TAKEN);
         hall.tick_refused(&rt, 0);
         hall.reopen(0);
-        hall.bytes(&rt, 0, KEPT_W1, &[RESUMED, again]);
+        hall.bytes(&rt, 0, KEPT_MEMBER, &[RESUMED, again]);
         hall.report(
             &rt,
             "$share/g/job accepted 3 acknowledged 0 refused 0 held 3 queued 0 returned 0\n",
@@ -150,9 +151,9 @@ fn each_offer(rt: HostRuntime) {
             ..Refused::NONE
         };
         let mut hall = Hall::open(&rt, rt.alloc(), refused);
-        hall.bytes(&rt, 0, W1, &[NEW]);
+        hall.bytes(&rt, 0, MEMBER, &[NEW]);
         hall.bytes(&rt, 0, SUBSCRIBE, &[SUBACK]);
-        hall.bytes(&rt, 2, P, &[NEW]);
+        hall.bytes(&rt, 2, PUBLISHER, &[NEW]);
         hall.bytes_refused(&rt, 2, JOBS, written);
         hall.report(&rt, report);
         hall.end();
