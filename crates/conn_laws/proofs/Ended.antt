@@ -1,5 +1,5 @@
 -- A connection is over exactly where its step says so.
-use Rattle.std.proofs.Common.{◌≡◌, ◌≢◌, ◌↔◌, ℕ, Bool, true, false, List, Option, Some, None, Result, Ok, Err, refl, sym, ap, ◌∙◌, nat_lt, not, ◌&&◌}
+use Rattle.std.proofs.Common.{◌≡◌, ◌≢◌, ◌↔◌, ℕ, Bool, true, false, List, Option, Some, None, Result, Ok, Err, refl, sym, ap, subst, ◌∙◌, nat_lt, not, ◌&&◌}
 use Rattle.mqtt_wire.specs.declared.packet.Packet.{Packet}
 use Rattle.mqtt_wire.specs.declared.packet.ConnectRefusal.{ConnectRefusal}
 use Rattle.group_jobs.specs.Stamps.{Held}
@@ -23,7 +23,7 @@ use Rattle.conn_engine.specs.declared.standing.Standing.{Standing}
 use Rattle.conn_engine.specs.declared.standing.Standing.TheVariants.{Unconnected, Waiting, Connected, Ended}
 use Rattle.conn_engine.specs.Facts.{Fact}
 use Rattle.conn_engine.specs.Connecting.{has_place, most_ticks, IsRefused, Accepts, WaitsAs, ResumesAs, AttachedAs}
-use Rattle.conn_laws.specs.Behind.{IsLast}
+use Rattle.conn_laws.specs.Behind.{IsLast, KeepsOrEnds}
 use Rattle.conn_engine.specs.Step.{IsClosed, IsRefusedIf, WaitsForConnect, AnswersFirst, Concludes, AnswersPacket, AnswersTick, AnswersUnlessKicked, IsHeard, Reacts, Hands, Steps}
 
 -- a connection has ended, or not
@@ -190,3 +190,42 @@ module _ {S P : Type 0} (call : S → Fact P → S → Type 0) (slot_of : P → 
   ends_by old new number now standing standing' input packets next steps last =
       let over = last_over standing input old steps.mid number now steps.between steps.reply last steps.reacts in
       let hands = rw over at steps.hands in hands.1
+
+  -- a connection that has its session has it behind a step, or has ended
+  concludes_keeping : (next : Then) (old new : S) (link : Link P) (now : ℕ) (standing : Standing P) → Concludes call slot_of old link now next standing new → KeepsOrEnds standing
+  concludes_keeping Go old new link now standing is = subst KeepsOrEnds (sym is.0) tt
+  concludes_keeping Close old new link now standing is = subst KeepsOrEnds (sym is.1) tt
+  concludes_keeping Kicked old new link now standing is = subst KeepsOrEnds (sym is.1) tt
+
+  heard_keeping : (overdue : Bool) (old new : S) (link : Link P) (now : ℕ) (standing : Standing P) (reply : Reply)
+      → IsHeard call slot_of overdue old link now standing reply new → KeepsOrEnds standing
+  heard_keeping true old new link now standing reply is = subst KeepsOrEnds (sym is.1.1) tt
+  heard_keeping false old new link now standing reply is = subst KeepsOrEnds (sym is.1) tt
+
+  unless_kicked_keeping : (kicked : Bool) (old new : S) (link : Link P) (now : ℕ) (Does : Standing P → Reply → S → Type 0) (standing : Standing P) (reply : Reply)
+      → (Does standing reply new → KeepsOrEnds standing) → AnswersUnlessKicked call slot_of kicked old link now Does standing reply new → KeepsOrEnds standing
+  unless_kicked_keeping true old new link now Does standing reply does is = subst KeepsOrEnds (sym is.1.1) tt
+  unless_kicked_keeping false old new link now Does standing reply does is = does is
+
+  reacts_keeping : (input : Input) (old new : S) (number now : ℕ) (link : Link P) (between : Standing P) (reply : Reply)
+      → Reacts call slot_of old number (Connected link) now input between reply new → KeepsOrEnds between
+  reacts_keeping (inputs.Packet packet) old new number now link between reply is =
+      unless_kicked_keeping is.0 is.1 new link now _ between reply (λ (does : AnswersPacket call slot_of is.1 number link now packet between reply new).
+      concludes_keeping reply.next does.1 new does.0 now between does.3) is.3
+  reacts_keeping (inputs.Fault fault) old new number now link between reply is = subst KeepsOrEnds (sym is.1.1) tt
+  reacts_keeping inputs.Tick old new number now link between reply is =
+      unless_kicked_keeping is.0 is.1 new link now _ between reply (λ (does : AnswersTick call slot_of is.1 link now between reply new).
+      heard_keeping _ does.0 new link now between reply does.2) is.3
+  reacts_keeping inputs.EndOfInput old new number now link between reply is = subst KeepsOrEnds (sym is.1.1) tt
+  reacts_keeping inputs.Closing old new number now link between reply is = subst KeepsOrEnds (sym is.2) tt
+
+  hands_keeping : (between : Standing P) (old new : S) (sent : List Packet) (standing : Standing P) → KeepsOrEnds between → Hands call slot_of old between sent standing new → KeepsOrEnds standing
+  hands_keeping (Unconnected opened) old new sent standing keeps is = absurd keeps
+  hands_keeping (Waiting request ticks) old new sent standing keeps is = absurd keeps
+  hands_keeping (Connected link) old new sent standing keeps is = subst KeepsOrEnds (sym is.3) tt
+  hands_keeping Ended old new sent standing keeps is = subst KeepsOrEnds (sym is.1) tt
+
+  pub keeping : (old new : S) (number now : ℕ) (link : Link P) (standing' : Standing P) (input : Input) (packets : List Packet) (next : Then)
+      → Steps call slot_of old number (Connected link) now input packets next standing' new → KeepsOrEnds standing'
+  keeping old new number now link standing' input packets next steps =
+      hands_keeping steps.between steps.mid new steps.sent standing' (reacts_keeping input old steps.mid number now link steps.between steps.reply steps.reacts) steps.hands

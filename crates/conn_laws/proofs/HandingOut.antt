@@ -16,7 +16,8 @@ use Rattle.conn_engine.specs.Facts.{Fact}
 use Rattle.conn_engine.specs.Facts.Fact.{TakeBack, Take}
 use Rattle.conn_engine.specs.HandOuts.{SendsAgain, AsksFor, SendsNone, SendsFresh, LeavesWith, HandsFresh, HandsOut}
 use Rattle.conn_laws.specs.Calls.{messages_of, fresh_message, fresh_messages}
-use Rattle.conn_laws.specs.Transcripts.{publishes_in, publishes_of, fresh_of, acknowledged_of, IsWithin, KeepsPlaces}
+use Rattle.conn_laws.specs.Marks.{publishes_in, publishes_of, fresh_of, acknowledged_of, IsWithin}
+use Rattle.conn_laws.specs.Transcripts.{KeepsPlaces}
 use Rattle.conn_laws.proofs.Aside.{Aside, still, hand, one, after, behind}
 
 -- calls of a window whose marks are these PUBLISH packets; these items go out for the first time

@@ -39,7 +39,7 @@ use Rattle.conn_engine.specs.Publishing.{AnswersPublish}
 use Rattle.conn_engine.specs.Step.{hearing, IsClosed, IsRefusedIf, WaitsForConnect, AnswersFirst, AnswersPacket, AnswersTick, AnswersUnlessKicked, IsHeard, Reacts}
 use Rattle.conn_engine.specs.Subscribing.{SubscribesAs, UnsubscribesAs}
 use Rattle.conn_laws.specs.Calls.{fresh_message, fresh_messages}
-use Rattle.conn_laws.specs.Transcripts.{publishes_in}
+use Rattle.conn_laws.specs.Marks.{publishes_in}
 
 -- the packet of a reply, if there is one, is no PUBLISH
 abbrev pub BringsNone : Reply → Type 0

@@ -21,7 +21,8 @@ use Rattle.conn_engine.specs.declared.standing.Standing.TheVariants.{Unconnected
 use Rattle.conn_engine.specs.Facts.{Fact}
 use Rattle.conn_engine.specs.Step.{after_hand_out, Hands, Steps}
 use Rattle.conn_laws.specs.Calls.{settlement_of, hand_out_of, settled, handed}
-use Rattle.conn_laws.specs.Transcripts.{as_publish, publishes_in, publish_of, publishes_of, fresh_in, fresh_of, acknowledged_in, acknowledged_of, IsWithin, link_of, IsNotEnding, IsMemberAt, IsAside, LeadsAside, SessionTurns, Transcribes}
+use Rattle.conn_laws.specs.Marks.{as_publish, publishes_in, publish_of, publishes_of, fresh_in, fresh_of, acknowledged_in, acknowledged_of, IsWithin}
+use Rattle.conn_laws.specs.Transcripts.{link_of, IsNotEnding, IsMemberAt, IsAside, LeadsAside, SessionTurns, Transcribes}
 use Rattle.conn_laws.proofs.Aside.{all_of_both, joins}
 use Rattle.conn_laws.proofs.HandingOut.{Handed, handed_out}
 use Rattle.conn_laws.proofs.Reacting.{SettlesAs, Turned, reacted}
@@ -77,9 +78,9 @@ module _ {S P : Type 0} (call : S → Fact P → S → Type 0) where
       }
 
   -- nothing is settled behind it, and nothing is acknowledged
-  settles_on : (standing : Standing P) (input : Input) (marks more : List (Mark Held)) (facts others : List (Fact P)) → SettlesAs call standing input marks facts
-      → acknowledged_of more ≡ [] → settled others ≡ [] → SettlesAs call standing input (marks ++ more) (facts ++ others)
-  settles_on standing input marks more facts others (inl only) none_acked none_settled =
+  settles_on : (standing : Standing P) (input : Input) (next : Then) (marks more : List (Mark Held)) (facts others : List (Fact P)) → SettlesAs call standing input next marks facts
+      → acknowledged_of more ≡ [] → settled others ≡ [] → SettlesAs call standing input next (marks ++ more) (facts ++ others)
+  settles_on standing input next marks more facts others (inl only) none_acked none_settled =
       let one = only.0 in
       inl (
         record {
@@ -90,13 +91,13 @@ module _ {S P : Type 0} (call : S → Fact P → S → Type 0) where
         },
         (only.1.0, none_more marks more _ only.1.1 none_acked, only.1.2),
       )
-  settles_on standing input marks more facts others (inr none) none_acked none_settled =
-      inr (none_behind settlement_of facts others _ none.0 none_settled, none_more marks more _ none.1 none_acked)
+  settles_on standing input next marks more facts others (inr none) none_acked none_settled =
+      inr (record { settles = none_behind settlement_of facts others _ none.0.settles none_settled; unless = none.0.unless }, none_more marks more _ none.1 none_acked)
 
   -- nothing is handed out
-  hands_none : (old new : S) (number : ℕ) (standing : Standing P) (input : Input) (standing' : Standing P) → Turned call old number standing input standing' new
-      → Transcribes call old number standing input [] standing' new
-  hands_none old new number standing input standing' turned =
+  hands_none : (old new : S) (number : ℕ) (standing : Standing P) (input : Input) (next : Then) (standing' : Standing P) → Turned call old number standing input next standing' new
+      → Transcribes call old number standing input [] next standing' new
+  hands_none old new number standing input next standing' turned =
       record {
         marks = turned.marks;
         session = turned.session;
@@ -109,18 +110,18 @@ module _ {S P : Type 0} (call : S → Fact P → S → Type 0) where
       }
 
   -- and where the standing, the packets and the supply are what they were
-  stays : (old mid new : S) (number : ℕ) (standing : Standing P) (input : Input) (sent : List Packet) (between standing' : Standing P) → Turned call old number standing input between mid
-      → sent ≡ [] → standing' ≡ between → new ≡ mid → Transcribes call old number standing input sent standing' new
-  stays old mid new number standing input sent between standing' turned none is same =
-      subst (λ packets. Transcribes call old number standing input packets standing' new) (sym none)
-      (subst (λ s. Transcribes call old number standing input [] s new) (sym is)
-      (subst (λ s. Transcribes call old number standing input [] between s) (sym same) (hands_none old mid number standing input between turned)))
+  stays : (old mid new : S) (number : ℕ) (standing : Standing P) (input : Input) (sent : List Packet) (next : Then) (between standing' : Standing P)
+      → Turned call old number standing input next between mid → sent ≡ [] → standing' ≡ between → new ≡ mid → Transcribes call old number standing input sent next standing' new
+  stays old mid new number standing input sent next between standing' turned none is same =
+      subst (λ packets. Transcribes call old number standing input packets next standing' new) (sym none)
+      (subst (λ s. Transcribes call old number standing input [] next s new) (sym is)
+      (subst (λ s. Transcribes call old number standing input [] next between s) (sym same) (hands_none old mid number standing input next between turned)))
 
   -- this is handed out
-  hands : (old mid new : S) (number : ℕ) (standing : Standing P) (input : Input) (sent : List Packet) (link : Link P) (membership : Membership P) (window : Contents Held)
-      → Turned call old number standing input (Connected link) mid → Handed call mid link.session.window sent membership window new
-      → Transcribes call old number standing input sent (Connected (after_hand_out link membership window)) new
-  hands old mid new number standing input sent link membership window turned out =
+  hands : (old mid new : S) (number : ℕ) (standing : Standing P) (input : Input) (sent : List Packet) (next : Then) (link : Link P) (membership : Membership P)
+      (window : Contents Held) → Turned call old number standing input next (Connected link) mid → Handed call mid link.session.window sent membership window new
+      → Transcribes call old number standing input sent next (Connected (after_hand_out link membership window)) new
+  hands old mid new number standing input sent next link membership window turned out =
       let more : List (Mark Held) = transcript_of out.sends.calls in
       let these : handed (turned.facts ++ out.calls.facts) ≡ out.given =
       filter_map-append hand_out_of turned.facts out.calls.facts ∙ (λ i. turned.hands i ++ out.calls.hands i) in
@@ -136,24 +137,26 @@ module _ {S P : Type 0} (call : S → Fact P → S → Type 0) where
             ap (map (λ (h : P × Held). h.1)) these ∙ out.sends.fresh_are
             ∙ sym (filter_map-append fresh_in turned.marks more ∙ ap (λ (items : List Held). items ++ fresh_of more) turned.none_fresh);
         own = λ keeps. subst (AllByRecursion (λ (h : P × Held). membership ≡ Member h.0)) (sym these) (out.own keeps);
-        settles = settles_on standing input turned.marks more turned.facts out.calls.facts turned.settles out.sends.none_acked out.calls.settles;
+        settles = settles_on standing input next turned.marks more turned.facts out.calls.facts turned.settles out.sends.none_acked out.calls.settles;
       }
 
   module _ (slot_of : P → ℕ) where
-    handed_behind : (between : Standing P) (old mid new : S) (number : ℕ) (standing : Standing P) (input : Input) (sent : List Packet) (standing' : Standing P)
-        → Turned call old number standing input between mid → Hands call slot_of mid between sent standing' new → Transcribes call old number standing input sent standing' new
-    handed_behind (Unconnected opened) old mid new number standing input sent standing' turned does = stays old mid new number standing input sent _ standing' turned does.0 does.1 does.2
-    handed_behind (Waiting request ticks) old mid new number standing input sent standing' turned does = stays old mid new number standing input sent _ standing' turned does.0 does.1 does.2
-    handed_behind (Connected link) old mid new number standing input sent standing' turned does =
-        subst (λ s. Transcribes call old number standing input sent s new) (sym does.3)
-        (hands old mid new number standing input sent link does.0 does.1 turned (handed_out call mid new link.session.membership link.session.window sent does.0 does.1 does.2))
-    handed_behind Ended old mid new number standing input sent standing' turned does = stays old mid new number standing input sent _ standing' turned does.0 does.1 does.2
+    handed_behind : (between : Standing P) (old mid new : S) (number : ℕ) (standing : Standing P) (input : Input) (sent : List Packet) (next : Then) (standing' : Standing P)
+        → Turned call old number standing input next between mid → Hands call slot_of mid between sent standing' new → Transcribes call old number standing input sent next standing' new
+    handed_behind (Unconnected opened) old mid new number standing input sent next standing' turned does = stays old mid new number standing input sent next _ standing' turned does.0 does.1 does.2
+    handed_behind (Waiting request ticks) old mid new number standing input sent next standing' turned does = stays old mid new number standing input sent next _ standing' turned does.0 does.1 does.2
+    handed_behind (Connected link) old mid new number standing input sent next standing' turned does =
+        subst (λ s. Transcribes call old number standing input sent next s new) (sym does.3)
+        (hands old mid new number standing input sent next link does.0 does.1 turned (handed_out call mid new link.session.membership link.session.window sent does.0 does.1 does.2))
+    handed_behind Ended old mid new number standing input sent next standing' turned does = stays old mid new number standing input sent next _ standing' turned does.0 does.1 does.2
 
     pub transcribed : (old new : S) (number now : ℕ) (standing standing' : Standing P) (input : Input) (packets : List Packet) (next : Then)
-        → Steps call slot_of old number standing now input packets next standing' new → IsNotEnding standing → Transcribes call old number standing input packets standing' new
+        → Steps call slot_of old number standing now input packets next standing' new → IsNotEnding standing → Transcribes call old number standing input packets next standing' new
     transcribed old new number now standing standing' input packets next steps sound =
-        let turned = reacted call slot_of standing input old steps.mid number now steps.between steps.reply sound steps.reacts in
-        let all = handed_behind steps.between old steps.mid new number standing input steps.sent standing' turned steps.hands in
+        let turned =
+        subst (λ (n : Then). Turned call old number standing input n steps.between steps.mid) (sym steps.followed)
+        (reacted call slot_of standing input old steps.mid number now steps.between steps.reply sound steps.reacts) in
+        let all = handed_behind steps.between old steps.mid new number standing input steps.sent next standing' turned steps.hands in
         record {
           marks = all.marks;
           session = all.session;

@@ -20,7 +20,8 @@ use Rattle.conn_engine.specs.Facts.Fact.{ParkAsIs}
 use Rattle.conn_engine.specs.Connecting.{has_place, most_ticks, Accepts, WaitsAs, ResumesAs, AttachedAs, Attaches}
 use Rattle.conn_engine.specs.Ending.{down, Parts}
 use Rattle.conn_laws.specs.Calls.{settlement_of, hand_out_of, settled, handed, MakesAll}
-use Rattle.conn_laws.specs.Transcripts.{publishes_of, fresh_of, acknowledged_of, link_of, session_given, IsAside, LeadsAside, AsksForOne, HandsIn, SessionTurns}
+use Rattle.conn_laws.specs.Marks.{publishes_of, fresh_of, acknowledged_of}
+use Rattle.conn_laws.specs.Transcripts.{link_of, session_given, IsAside, LeadsAside, AsksForOne, HandsIn, SessionTurns}
 use Rattle.conn_laws.proofs.Aside.{Aside, all_of_both, none_in_both, joins}
 use Rattle.conn_laws.proofs.Aside as asides
 

@@ -7,6 +7,8 @@ use Rattle.session_desk.specs.declared.session.Membership.TheVariants.{NotMember
 use Rattle.conn_engine.specs.declared.input.Input.{Input}
 use Rattle.conn_engine.specs.declared.input.Input.TheVariants as inputs
 use Rattle.conn_engine.specs.declared.standing.Link.{Link}
+use Rattle.conn_engine.specs.declared.standing.Standing.{Standing}
+use Rattle.conn_engine.specs.declared.standing.Standing.TheVariants.{Unconnected, Waiting, Connected, Ended}
 use Rattle.conn_engine.specs.Facts.{Fact}
 use Rattle.conn_engine.specs.Facts.Fact.{Take, TakeBack}
 
@@ -17,6 +19,13 @@ IsLast (inputs.Fault fault) = ⊤
 IsLast inputs.Tick = ⊥
 IsLast inputs.EndOfInput = ⊤
 IsLast inputs.Closing = ⊤
+
+-- a client has its session, or its connection has ended
+abbrev pub KeepsOrEnds : {P : Type 0} → Standing P → Type 0
+KeepsOrEnds (Unconnected opened) = ⊥
+KeepsOrEnds (Waiting request ticks) = ⊥
+KeepsOrEnds (Connected link) = ⊤
+KeepsOrEnds Ended = ⊤
 
 module _ {S P : Type 0} (call : S → Fact P → S → Type 0) where
   -- the place has no room for a message; or it was asked last whether one was given back, and then whether one is queued, and there was none

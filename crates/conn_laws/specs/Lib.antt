@@ -4,4 +4,5 @@ pub mod Behind
 pub mod Quotas
 pub mod Publishers
 pub mod ReturnedFirst
+pub mod Marks
 pub mod Transcripts

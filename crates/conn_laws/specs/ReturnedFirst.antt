@@ -4,7 +4,7 @@ use Rattle.conn_engine.specs.Facts.{Fact}
 use Rattle.conn_engine.specs.Facts.Fact.{Take, TakeBack}
 use Rattle.conn_laws.specs.Calls.{MakesAll}
 
--- the call before asked whether a message was given back, which left this place, and there was none
+-- the call before asked, for this place, whether a message was given back, and there was none
 abbrev pub FoundNone : {P : Type 0} → Option (Fact P) → P → Type 0
 FoundNone {P} last place = (before : P) × (last ≡ Some (TakeBack before place (Ok None)))
 

@@ -1,11 +1,10 @@
 -- What a step makes of the session of its connection, and what it adds to the transcript of that session (sections 4.4, 4.8.2 and 4.9).
-use Rattle.std.specs.Prelude.{◌≡◌, ◌⊎◌, ℕ, Bool, true, false, List, [], ◌∷◌, map, filter_map, Option, Some, None, Result, Ok, Err, ⊤}
+use Rattle.std.specs.Prelude.{◌≡◌, ◌⊎◌, ℕ, false, List, [], ◌∷◌, map, Option, Some, None, Result, Ok, Err, ⊤}
 use Rattle.std.specs.List.{AllByRecursion}
 use Rattle.mqtt_wire.specs.declared.packet.Packet.{Packet}
-use Rattle.mqtt_wire.specs.declared.packet.Packet.TheVariants as packets
 use Rattle.group_jobs.specs.Stamps.{Held}
 use Rattle.member_window.specs.Contents.{after_up, after_down}
-use Rattle.member_window.specs.Marks.{Mark, Up, Sent, Acked, Down}
+use Rattle.member_window.specs.Marks.{Mark, Up, Down}
 use Rattle.member_window.specs.Calls.{Call}
 use Rattle.member_window.specs.Runs.{transcript_of}
 use Rattle.member_window.specs.Runs as windows
@@ -15,70 +14,16 @@ use Rattle.session_desk.specs.declared.attached.Attached.TheVariants.{New, Resum
 use Rattle.session_desk.specs.declared.error.DeskError.{DeskError}
 use Rattle.session_desk.specs.declared.session.Session.{Session}
 use Rattle.session_desk.specs.declared.session.Membership.TheVariants.{Member}
-use Rattle.conn_rules.specs.Packets.{job}
 use Rattle.conn_engine.specs.declared.input.Input.{Input}
-use Rattle.conn_engine.specs.declared.input.Input.TheVariants as inputs
+use Rattle.conn_engine.specs.declared.input.Then.{Then}
 use Rattle.conn_engine.specs.declared.standing.Link.{Link}
 use Rattle.conn_engine.specs.declared.standing.Standing.{Standing}
 use Rattle.conn_engine.specs.declared.standing.Standing.TheVariants.{Unconnected, Waiting, Connected, Ended}
 use Rattle.conn_engine.specs.Facts.{Fact}
 use Rattle.conn_engine.specs.Facts.Fact.{Attach, Park, ParkAsIs, Take, TakeBack}
 use Rattle.conn_engine.specs.Ending.{down}
-use Rattle.conn_laws.specs.Calls.{MakesAll, handed, settled, SettlesOne}
-
--- the PUBLISH packets among these
-abbrev pub as_publish : Packet → Option Packet
-as_publish (packets.Publish publish) = Some (packets.Publish publish)
-as_publish other = None
-
-abbrev pub publishes_in : List Packet → List Packet
-publishes_in sent = filter_map as_publish sent
-
--- the PUBLISH packet that a mark stands for
-abbrev pub publish_of : Mark Held → Option Packet
-publish_of (Up receive_maximum) = None
-publish_of (Sent identifier dup envelope) = Some (job dup envelope.message identifier)
-publish_of (Acked identifier code) = None
-publish_of Down = None
-
-abbrev pub publishes_of : List (Mark Held) → List Packet
-publishes_of marks = filter_map publish_of marks
-
--- what is sent for the first time, with DUP 0
-abbrev pub fresh_if : Bool → Held → Option Held
-fresh_if true envelope = None
-fresh_if false envelope = Some envelope
-
-abbrev pub fresh_in : Mark Held → Option Held
-fresh_in (Up receive_maximum) = None
-fresh_in (Sent identifier dup envelope) = fresh_if dup envelope
-fresh_in (Acked identifier code) = None
-fresh_in Down = None
-
-abbrev pub fresh_of : List (Mark Held) → List Held
-fresh_of marks = filter_map fresh_in marks
-
--- which identifier is acknowledged, and with which Reason Code
-abbrev pub acknowledged_in : Mark Held → Option (ℕ × ℕ)
-acknowledged_in (Up receive_maximum) = None
-acknowledged_in (Sent identifier dup envelope) = None
-acknowledged_in (Acked identifier code) = Some (identifier, code)
-acknowledged_in Down = None
-
-abbrev pub acknowledged_of : List (Mark Held) → List (ℕ × ℕ)
-acknowledged_of marks = filter_map acknowledged_in marks
-
--- a mark between the beginning and the end of a connection
-abbrev pub IsWithin : Mark Held → Type 0
-IsWithin (Up receive_maximum) = ⊥
-IsWithin (Sent identifier dup envelope) = ⊤
-IsWithin (Acked identifier code) = ⊤
-IsWithin Down = ⊥
-
--- this PUBACK came
-abbrev pub IsAckedBy : Input → ℕ × ℕ → Type 0
-IsAckedBy (inputs.Packet (packets.Puback puback)) acked = acked ≡ (puback.packet_identifier, puback.reason_code)
-IsAckedBy input acked = ⊥
+use Rattle.conn_laws.specs.Calls.{MakesAll, handed, SettlesOne, SettlesNone}
+use Rattle.conn_laws.specs.Marks.{publishes_in, publishes_of, fresh_of, acknowledged_of, IsWithin, IsAckedBy}
 
 -- what a connection has, where its client has its session
 abbrev pub link_of : {P : Type 0} → Standing P → Option (Link P)
@@ -124,7 +69,7 @@ module _ {S P : Type 0} (call : S → Fact P → S → Type 0) where
   abbrev pub KeepsPlaces : Type 0
   KeepsPlaces = (old new : S) (fact : Fact P) → call old fact new → KeepsPlace fact
 
-  -- calls that leave alone which sessions connections have, and which they may have again
+  -- calls by which no session is asked for, and none is handed in that may be asked for again
   pub record LeadsAside (old new : S) : Type 0 where
     pub facts : List (Fact P)
     pub made : MakesAll call old facts new
@@ -142,7 +87,7 @@ module _ {S P : Type 0} (call : S → Fact P → S → Type 0) where
   abbrev pub HandsIn : S → Session Held P → S → Type 0
   HandsIn old session new = ((now : ℕ) × (answer : Option (Session Held P)) × call old (Park session now answer) new) ⊎ call old (ParkAsIs session) new
 
-  -- a session is given: its transcript goes on with `Up`, and this CONNECT's Receive Maximum
+  -- a session is given: its transcript goes on with `Up`, and the Receive Maximum of the connection's terms
   pub record SessionBegins (old : S) (number : ℕ) (link : Link P) (marks : List (Mark Held)) (new : S) : Type 0 where
     pub answer : Result (Attached Held P) DeskError
     pub session : Session Held P
@@ -193,7 +138,7 @@ module _ {S P : Type 0} (call : S → Fact P → S → Type 0) where
   SessionTurns old number (Some link) None marks new = SessionEnds old link marks new
 
   -- what a step adds to the transcript of the session that its connection has
-  pub record Transcribes (old : S) (number : ℕ) (standing : Standing P) (input : Input) (sent : List Packet) (standing' : Standing P) (new : S) : Type 0 where
+  pub record Transcribes (old : S) (number : ℕ) (standing : Standing P) (input : Input) (sent : List Packet) (next : Then) (standing' : Standing P) (new : S) : Type 0 where
     pub marks : List (Mark Held)
     pub session : SessionTurns old number (link_of standing) (link_of standing') marks new
     -- the PUBLISH packets of the step are those of its marks, in their order
@@ -204,6 +149,7 @@ module _ {S P : Type 0} (call : S → Fact P → S → Type 0) where
     -- the place of this session
     pub hands : map (λ (h : P × Held). h.1) (handed facts) ≡ fresh_of marks
     pub own : KeepsPlaces → AllByRecursion (λ (h : P × Held). IsMemberAt (link_of standing') h.0) (handed facts)
-    -- what is acknowledged is settled, by the PUBACK that came; and nothing else is
+    -- what is acknowledged is settled, by the PUBACK that came; and nothing else is. No PUBACK for what the session holds is passed over, unless
+    -- another connection took the session
     pub settles : (SettlesOne standing input facts × ((acked : ℕ × ℕ) × (acknowledged_of marks ≡ acked ∷ []) × IsAckedBy input acked))
-        ⊎ ((settled facts ≡ []) × (acknowledged_of marks ≡ []))
+        ⊎ (SettlesNone standing input facts next × (acknowledged_of marks ≡ []))

@@ -9,7 +9,7 @@ ghost use Rattle.conn_engine.specs.declared.standing.Standing.{Standing};
 ghost use Rattle.conn_engine.specs.declared.standing.Standing.TheVariants as standings;
 ghost use Rattle.conn_laws.specs.Asking.{OneAnswer};
 ghost use Rattle.conn_laws.specs.Calls.{StepCalls, FailedCalls};
-ghost use Rattle.conn_laws.specs.Behind.{IsLast, IsAllHandedOut};
+ghost use Rattle.conn_laws.specs.Behind.{IsLast, KeepsOrEnds, IsAllHandedOut};
 ghost use Rattle.conn_laws.specs.Publishers.{CallsFrom};
 ghost use Rattle.conn_laws.specs.ReturnedFirst.{CallsReturnedFirst};
 ghost use Rattle.conn_laws.specs.Quotas.{IsWithinQuota};
@@ -20,7 +20,8 @@ use conn_engine::Supply;
 use session_desk::Place;
 
 /// **A connection is over exactly where its step says so**: it has ended behind a step that does not go on, and behind no other.
-/// And it ends by a fault, by the end of its input, and by the broker's closing (`last`).
+/// And it ends by a fault, by the end of its input, and by the broker's closing (`last`). A connection whose client has its session has one behind
+/// each step until it ends (`keeps`).
 pub fn ended_law<P: Place, S: Supply<P>>()
     ensures told { (number now : ℕ) (standing standing' : Standing P) (input : Input) (packets : List Packet) (next : Then) (old new : S) →
         Steps S.call P.slot_of old number standing now input packets next standing' new →
@@ -28,6 +29,8 @@ pub fn ended_law<P: Place, S: Supply<P>>()
     ensures last { (number now : ℕ) (standing standing' : Standing P) (input : Input) (packets : List Packet) (next : Then) (old new : S) →
         Steps S.call P.slot_of old number standing now input packets next standing' new →
         IsLast input → standing' ≡ standings.Ended }
+    ensures keeps { (number now : ℕ) (link : Link P) (standing' : Standing P) (input : Input) (packets : List Packet) (next : Then) (old new : S) →
+        Steps S.call P.slot_of old number (standings.Connected link) now input packets next standing' new → KeepsOrEnds standing' }
 {}
 
 /// **Nothing is left to hand out** behind a step that leaves a client with its session: no message waits to be sent again that the
@@ -98,9 +101,10 @@ pub fn one_step_law<P: Place, S: Supply<P>>()
 /// - A connection that is given a session adds `Up` with the Receive Maximum of its CONNECT; from then on it has that session and no other, and
 ///   adds `Down` where it ends, and hands the session in.
 /// - What is handed out is what is sent for the first time, in that order, each message to the place of this session.
-/// - What is acknowledged is settled, once, by the PUBACK that came, and nothing else is.
+/// - What is acknowledged is settled, once, by the PUBACK that came, and nothing else is; and no PUBACK for what the session holds is passed over,
+///   unless another connection took the session.
 pub fn transcript_law<P: Place, S: Supply<P>>()
     ensures { (number now : ℕ) (standing standing' : Standing P) (input : Input) (packets : List Packet) (next : Then) (old new : S) →
         Steps S.call P.slot_of old number standing now input packets next standing' new →
-        IsNotEnding standing → Transcribes S.call old number standing input packets standing' new }
+        IsNotEnding standing → Transcribes S.call old number standing input packets next standing' new }
 {}

@@ -1,5 +1,5 @@
 -- A connection is over exactly where its step says so.
-use Rattle.conn_laws.proofs.Ended.{ends, ends_by}
+use Rattle.conn_laws.proofs.Ended.{ends, ends_by, keeping}
 use Rattle.conn_laws.proofs.laws.ended_law.Goals as goal
 
 pub returns-clause-told : goal.returns-clause-told
@@ -9,3 +9,7 @@ returns-clause-told g c number now standing standing' input packets next old new
 pub returns-clause-last : goal.returns-clause-last
 returns-clause-last g c number now standing standing' input packets next old new steps last =
     ends_by g.S.Supply.call g.P.Place.slot_of old new number now standing standing' input packets next steps last
+
+pub returns-clause-keeps : goal.returns-clause-keeps
+returns-clause-keeps g c number now link standing' input packets next old new steps =
+    keeping g.S.Supply.call g.P.Place.slot_of old new number now link standing' input packets next steps
