@@ -10,37 +10,41 @@ use Rattle.member_window.specs.Marks.{Mark, Standing as Led, held}
 use Rattle.conn_rules.specs.Acknowledging.{fate_of}
 use Rattle.conn_engine.specs.declared.input.Input.{Input}
 use Rattle.conn_engine.specs.declared.input.Input.TheVariants as inputs
+use Rattle.conn_engine.specs.declared.input.Then.{Then}
 use Rattle.conn_engine.specs.declared.standing.Link.{Link}
 use Rattle.conn_engine.specs.declared.standing.Standing.{Standing}
 use Rattle.conn_engine.specs.declared.standing.Standing.TheVariants.{Unconnected, Waiting, Connected, Ended}
-use Rattle.conn_laws.specs.Calls.{settled, SettlesOne, Confirms}
-use Rattle.conn_laws.specs.Transcripts.{acknowledged_of, link_of, IsAckedBy, SessionTurns, Transcribes}
+use Rattle.conn_laws.specs.Calls.{settled, SettlesOne, SettlesNone, Confirms}
+use Rattle.conn_laws.specs.Marks.{acknowledged_of, IsAckedBy}
+use Rattle.conn_laws.specs.Transcripts.{link_of, SessionTurns, Transcribes}
 use Rattle.local_broker.specs.Places.{GroupPlace}
 use Rattle.local_broker.specs.Broker.{Broker}
 use Rattle.local_broker.specs.Calls.{Calls}
-use Rattle.local_server.specs.Transcripts.{Turn, transcript_of}
-use Rattle.local_server.specs.Settling.{Settlement, AreSettled, AllSettle}
+use Rattle.local_server.specs.Turns.{Turn}
+use Rattle.local_server.specs.Transcripts.{transcript_of}
+use Rattle.local_server.specs.Settling.{Settlement, AreSettled, Hears, AllSettle}
 use Rattle.local_server.proofs.Windows.{Leads}
 use Rattle.local_server.proofs.Settled.{AddsIn, none_of_all}
 use Rattle.local_server.proofs.Acting.{Tells, IfUp}
 
 -- one more turn settles these besides
-pub settle_on : (before turns : List Turn) (turn : Turn) (settled now : List Settlement) → AllSettle before turns settled
-    → AreSettled (held [] (transcript_of turn.session (before ++ turns))) (acknowledged_of turn.marks) now → AllSettle before (turns ++ turn ∷ []) (settled ++ now)
-settle_on before [] turn settled now all are = (
-  now,
-  [],
-  subst (λ (ts : List Turn). AreSettled (held [] (transcript_of turn.session ts)) (acknowledged_of turn.marks) now) (append-nil before) are,
-  refl,
-  ap (λ (s : List Settlement). s ++ now) all ∙ sym (append-nil now),
-)
+abbrev SettlesBehind : Turn → List Settlement → List Turn → Type 0
+SettlesBehind turn now before =
+    let entries = held [] (transcript_of turn.session before) in
+    Hears turn entries × AreSettled entries (acknowledged_of turn.marks) now
+
+pub settle_on : (before turns : List Turn) (turn : Turn) (settled now : List Settlement) → AllSettle before turns settled → SettlesBehind turn now (before ++ turns)
+    → AllSettle before (turns ++ turn ∷ []) (settled ++ now)
+settle_on before [] turn settled now all are =
+    let here = subst (SettlesBehind turn now) (append-nil before) are in
+    (now, [], here.0, here.1, refl, ap (λ (s : List Settlement). s ++ now) all ∙ sym (append-nil now))
 settle_on before (first ∷ others) turn settled now all are = (
   all.0,
   all.1 ++ now,
   all.2,
-  settle_on (before ++ first ∷ []) others turn all.1 now all.3
-      (subst (λ (ts : List Turn). AreSettled (held [] (transcript_of turn.session ts)) (acknowledged_of turn.marks) now) (sym (append_assoc before (first ∷ []) others)) are),
-  ap (λ (s : List Settlement). s ++ now) all.4 ∙ append_assoc all.0 all.1 now,
+  all.3,
+  settle_on (before ++ first ∷ []) others turn all.1 now all.4 (subst (SettlesBehind turn now) (sym (append_assoc before (first ∷ []) others)) are),
+  ap (λ (s : List Settlement). s ++ now) all.5 ∙ append_assoc all.0 all.1 now,
 )
 
 -- what a turn settles
@@ -96,17 +100,18 @@ module _ (turns : List Turn) (turn : Turn) (old new : Broker) (number : ℕ) (ma
   settles_by (Connected link) input envelope fate confirms is session leads tells = absurd confirms
 
 pub settled_on : (turns : List Turn) (turn : Turn) (old new : Broker) (number : ℕ) (standing standing' : Standing GroupPlace) (input : Input) (sent : List Packet)
-    (step : Transcribes Calls old number standing input sent standing' new) → turn.marks ≡ step.marks
+    (next : Then)
+    (step : Transcribes Calls old number standing input sent next standing' new) → turn.marks ≡ step.marks
     → ((link : Link GroupPlace) → link_of standing ≡ Some link → Leads (transcript_of link.session.identity.number turns) link.session.window)
     → ((link : Link GroupPlace) → link_of standing ≡ Some link → turn.session ≡ link.session.identity.number)
     → (now : List Settlement) → AddsIn old.groups now new.groups → IfUp (link_of standing') (Tells (link_of standing) input now) → Settles turns turn old new
-settled_on turns turn old new number standing standing' input sent step same leads session now adds tells =
+settled_on turns turn old new number standing standing' input sent next step same leads session now adds tells =
     let its : (link : Link GroupPlace) → link_of standing ≡ Some link → Leads (transcript_of turn.session turns) link.session.window = λ link has.
     subst (λ (n : ℕ). Leads (transcript_of n turns) link.session.window) (sym (session link has)) (leads link has) in
     ⊎_elim
     (λ (one : SettlesOne standing input step.facts × ((acked : ℕ × ℕ) × (acknowledged_of step.marks ≡ acked ∷ []) × IsAckedBy input acked)).
     settles_by turns turn old new number step.marks
     (link_of standing') same one.1.0 one.1.1 now adds standing input one.0.envelope one.0.fate one.0.confirmed one.1.2 step.session its tells)
-    (λ (none : (settled step.facts ≡ []) × (acknowledged_of step.marks ≡ [])).
-    settles_none turns turn old new (ap acknowledged_of same ∙ none.1) (none_of_all step.facts old new none.0 step.made))
+    (λ (none : SettlesNone standing input step.facts next × (acknowledged_of step.marks ≡ [])).
+    settles_none turns turn old new (ap acknowledged_of same ∙ none.1) (none_of_all step.facts old new none.0.settles step.made))
     step.settles

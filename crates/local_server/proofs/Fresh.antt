@@ -6,16 +6,14 @@ use Rattle.mqtt_wire.specs.declared.packet.Packet.{Packet}
 use Rattle.dispatch_core.specs.declared.event.Spot.{Spot}
 use Rattle.dispatch_core.specs.declared.event.Spot.TheVariants as spot
 use Rattle.dispatch_core.specs.GroupState.{spot_of}
-use Rattle.group_jobs.specs.declared.message.Message.{Message}
 use Rattle.group_jobs.specs.declared.stamp.Stamp.{Stamp}
 use Rattle.group_jobs.specs.Stamps.{Held, job_of}
 use Rattle.member_window.specs.Contents.{Contents, held_of, after_put, after_resend}
 use Rattle.member_window.proofs.Lists.{contains_nil, contains_cons_cases}
 use Rattle.session_desk.specs.declared.session.Membership.{Membership}
 use Rattle.session_desk.specs.declared.session.Membership.TheVariants.{NotMember, Member, Leaving}
-use Rattle.conn_engine.specs.Publishing.{Offers}
 use Rattle.conn_engine.specs.HandOuts.{SendsAgain, AsksFor, SendsFresh, LeavesWith, HandsFresh, HandsOut}
-use Rattle.conn_engine.specs.Facts.Fact.{Take, TakeBack, TakePlace, Offer}
+use Rattle.conn_engine.specs.Facts.Fact.{Take, TakeBack, TakePlace}
 use Rattle.local_group.specs.declared.waiting.Waiting.{Waiting}
 use Rattle.local_group.specs.Groups.{Group, held_by}
 use Rattle.local_broker.specs.Places.{GroupPlace}
@@ -24,8 +22,9 @@ use Rattle.local_broker.specs.Calls.{Calls}
 use Rattle.local_broker.specs.Histories.{AreRunning, HasOut}
 use Rattle.local_broker.proofs.Outs.{taken_out, taken_out_again}
 use Rattle.local_server.specs.Settling.{AreOutFor}
-use Rattle.local_server.proofs.Stepping.{Links}
-use Rattle.local_server.proofs.Owning.{Entries, IsEntry, Kept, Keeper, Has, Holds, Goes, still, calm_then, one, same_rows, had, owns_calm, calm, less}
+use Rattle.local_server.proofs.Known.{Log, IsKnown, AllKnow}
+use Rattle.local_server.proofs.Accepting.{took_known, took_back_known}
+use Rattle.local_server.proofs.Owning.{Ledger, Entries, IsEntry, Kept, Keeper, Has, Holds, Goes, still, calm_then, one, same_rows, had, none_known, owns_calm, calm, less}
 
 -- a message that was handed out is no other that was out
 abbrev IsNobodys : Broker → Held → Type 0
@@ -57,28 +56,32 @@ take_back_fresh old new place place' envelope running does =
     not_out old place.slot place.number call.before call.does.0 spot.Returned envelope running call.there call.does.2 call.does.4.step.may.ready (λ member e. cc)
 
 took : (place place' : GroupPlace) (answer : _) (old new : Broker) → Calls old (Take place place' answer) new → Goes [] old new
-took place place' answer old new does = one (Take place place' answer) old new (λ stamp spends. spends) refl does (same_rows old new (ap (λ d. d.rows) does.2.desk))
+took place place' answer old new does = one (Take place place' answer) old new (λ stamp spends. spends) refl tt does (same_rows old new (ap (λ d. d.rows) does.2.desk))
 
 took_back : (place place' : GroupPlace) (answer : _) (old new : Broker) → Calls old (TakeBack place place' answer) new → Goes [] old new
-took_back place place' answer old new does = one (TakeBack place place' answer) old new (λ stamp spends. spends) refl does (same_rows old new (ap (λ d. d.rows) does.2.desk))
+took_back place place' answer old new does = one (TakeBack place place' answer) old new (λ stamp spends. spends) refl tt does (same_rows old new (ap (λ d. d.rows) does.2.desk))
 
 -- a place is handed a message, or none
-record Asked (old : Broker) (place : GroupPlace) (found : Option Held) (place' : GroupPlace) (new : Broker) : Type 0 where
+record Asked (log : Log) (old : Broker) (place : GroupPlace) (found : Option Held) (place' : GroupPlace) (new : Broker) : Type 0 where
   kept : place' ≡ place
   goes : Goes [] old new
-  new_one : (envelope : Held) → found ≡ Some envelope → HasOut new place envelope × IsNobodys old envelope
+  new_one : (envelope : Held) → found ≡ Some envelope → HasOut new place envelope × IsNobodys old envelope × IsKnown log envelope
 
-asked : (found : Option Held) (old new : Broker) (place place' : GroupPlace) → AreRunning old → AsksFor Calls old place found place' new → Asked old place found place' new
-asked found old new place place' running (inl again) =
+asked : (found : Option Held) (log : Log) (old new : Broker) (place place' : GroupPlace) → AreRunning old → AllKnow log old.groups → AsksFor Calls old place found place' new
+    → Asked log old place found place' new
+asked found log old new place place' running know (inl again) =
     record {
       kept = again.2.1;
       goes = took_back place place' (Ok (Some again.0)) old new again.2;
       new_one = λ envelope is.
           let same : again.0 ≡ envelope = same_Some again.0 envelope (sym again.1 ∙ is) in
-          subst (λ (e : Held). HasOut new place e × IsNobodys old e) same
-          (taken_out_again old new place place' again.0 again.2, take_back_fresh old new place place' again.0 running again.2);
+          subst (λ (e : Held). HasOut new place e × IsNobodys old e × IsKnown log e) same (
+            taken_out_again old new place place' again.0 again.2,
+            take_back_fresh old new place place' again.0 running again.2,
+            took_back_known place place' again.0 log old new again.2 running know,
+          );
     }
-asked found old new place place' running (inr first) =
+asked found log old new place place' running know (inr first) =
     let between = first.0 in
     let mid = first.1 in
     let same : between ≡ place = first.2.1 in
@@ -92,6 +95,7 @@ asked found old new place place' running (inr first) =
           let nobodys = take_fresh mid new place place' envelope (none.runs.running running) took_it in (
             taken_out mid new place place' envelope took_it,
             λ at other has. nobodys at other (none.runs.out at other has (λ j f c. absurd (contains_nil {X = ℕ × Held} (j, f) c))),
+            took_known place place' envelope log mid new took_it (none.runs.running running) (none.know log running (none_known log) know),
           );
     }
 
@@ -115,13 +119,17 @@ put_cases window k envelope j f c =
     (λ (late : Contains window.waiting (j, f)). inl (Contains-append_right window.owed window.waiting (j, f) late))
     (Contains-append_cases (window.owed ++ (k, envelope) ∷ []) window.waiting (j, f) c)
 
-module _ (links : Links) (old new : Broker) (place : GroupPlace) (window : Contents Held) (k : ℕ) (envelope : Held) (goes : Goes [] old new) (out : HasOut new place envelope)
-    (nobodys : IsNobodys old envelope) (was : Holds links old (Member place) (held_of window)) where
+module _ (ledger : Ledger) (old new : Broker) (place : GroupPlace) (window : Contents Held) (k : ℕ) (envelope : Held) (goes : Goes [] old new) (out : HasOut new place envelope)
+    (nobodys : IsNobodys old envelope) (is_known : IsKnown ledger.log envelope) (was : Holds ledger old (Member place) (held_of window)) where
+  now_known : (i : ℕ) (e : Held) → Contains (held_of window) (i, e) ⊎ IsEntry (k, envelope) (i, e) → IsKnown ledger.log e
+  now_known i e (inl had_it) = was.mine.known i e had_it
+  now_known i e (inr is) = subst (λ (x : ℕ × Held). IsKnown ledger.log x.1) is is_known
+
   now_out : (i : ℕ) (e : Held) → Contains (held_of window) (i, e) ⊎ IsEntry (k, envelope) (i, e) → HasOut new place e
   now_out i e (inl had_it) = goes.runs.out place e (was.mine.owned i e had_it) (λ j f c. absurd (contains_nil {X = ℕ × Held} (j, f) c))
   now_out i e (inr is) = subst (λ (x : ℕ × Held). HasOut new place x.1) is out
 
-  now_apart : (keeper : Keeper) (t : Kept) → Has links old.desk.rows keeper t → (i j : ℕ) (e f : Held) → Contains (held_of window) (i, e) ⊎ IsEntry (k, envelope) (i, e)
+  now_apart : (keeper : Keeper) (t : Kept) → Has ledger.links old.desk.rows keeper t → (i j : ℕ) (e f : Held) → Contains (held_of window) (i, e) ⊎ IsEntry (k, envelope) (i, e)
       → Contains (held_of t.window) (j, f) → e.stamp ≢ f.stamp
   now_apart keeper t has i j e f (inl had_it) d = was.mine.apart keeper t has i j e f had_it d
   now_apart keeper t has i j e f (inr is) d = λ same.
@@ -134,74 +142,75 @@ module _ (links : Links) (old new : Broker) (place : GroupPlace) (window : Conte
   now_once i j e f (inr is) (inl d) same = absurd (nobodys place f (was.mine.owned j f d) (sym same ∙ ap (λ (x : ℕ × Held). x.1.stamp) (sym is)))
   now_once i j e f (inr is) (inr are) same = ap (λ (x : ℕ × Held). x.0) (sym is ∙ are)
 
-  put : Holds links new (Member place) (held_of (after_put window k envelope))
+  put : Holds ledger new (Member place) (held_of (after_put window k envelope))
   put =
       record {
-        others = owns_calm links old new goes was.others;
+        others = owns_calm ledger old new goes was.others;
         mine = record {
           owned = λ i e c. now_out i e (put_cases window k envelope i e c);
-          apart = λ keeper t has i j e f c d. now_apart keeper t (had keeper links old new t goes.runs.desk has) i j e f (put_cases window k envelope i e c) d;
+          known = λ i e c. now_known i e (put_cases window k envelope i e c);
+          apart = λ keeper t has i j e f c d. now_apart keeper t (had keeper ledger.links old new t goes.runs.desk has) i j e f (put_cases window k envelope i e c) d;
           once = λ i j e f c d same. now_once i j e f (put_cases window k envelope i e c) (put_cases window k envelope j f d) same;
         };
       }
 
 -- what a session holds behind calls that settle nothing
-abbrev pub Handed : Links → Broker → Membership GroupPlace → Contents Held → Broker → Type 0
-Handed links old membership window new = Holds links new membership (held_of window) × Goes [] old new
+abbrev pub Handed : Ledger → Broker → Membership GroupPlace → Contents Held → Broker → Type 0
+Handed ledger old membership window new = Holds ledger new membership (held_of window) × Goes [] old new
 
-sends_fresh : (packets : List Packet) (links : Links) (old new : Broker) (place place' : GroupPlace) (window window' : Contents Held)
+sends_fresh : (packets : List Packet) (ledger : Ledger) (old new : Broker) (place place' : GroupPlace) (window window' : Contents Held)
     → SendsFresh Calls old place window packets place' window' new
-    → Holds links old (Member place) (held_of window) → Handed links old (Member place') window' new
-sends_fresh [] links old new place place' window window' sends was =
+    → Holds ledger old (Member place) (held_of window) → Handed ledger old (Member place') window' new
+sends_fresh [] ledger old new place place' window window' sends was =
     let moved : (place' ≡ place) × Goes [] old new =
     ⊎_elim (λ none. (none.1, still old new none.2))
-    (λ (some : _ × AsksFor Calls old place None place' new). (let a = asked None old new place place' was.others.running some.1 in (a.kept, a.goes))) sends.1 in
-    let same : Holds links old (Member place') (held_of window') =
-    subst (λ (p : GroupPlace). Holds links old (Member p) (held_of window')) (sym moved.0)
-    (subst (λ (w : Contents Held). Holds links old (Member place) (held_of w)) (sym sends.0) was) in
-    (calm links old new (Member place') (held_of window') moved.1 same, moved.1)
-sends_fresh (packet ∷ packets) links old new place place' window window' sends was =
+    (λ (some : _ × AsksFor Calls old place None place' new). (let a = asked None ledger.log old new place place' was.others.running was.others.know some.1 in (a.kept, a.goes))) sends.1 in
+    let same : Holds ledger old (Member place') (held_of window') =
+    subst (λ (p : GroupPlace). Holds ledger old (Member p) (held_of window')) (sym moved.0)
+    (subst (λ (w : Contents Held). Holds ledger old (Member place) (held_of w)) (sym sends.0) was) in
+    (calm ledger old new (Member place') (held_of window') moved.1 same, moved.1)
+sends_fresh (packet ∷ packets) ledger old new place place' window window' sends was =
     let between = sends.0 in
     let mid = sends.2 in
     let s = sends.3 in
-    let a = asked (Some s.envelope) old mid place between was.others.running s.asked in
+    let a = asked (Some s.envelope) ledger.log old mid place between was.others.running was.others.know s.asked in
     let n = a.new_one s.envelope refl in
-    let put_in : Holds links mid (Member place) (held_of (after_put window s.identifier s.envelope)) = put links old mid place window s.identifier s.envelope a.goes n.0 n.1 was in
-    let next : Holds links mid (Member between) (held_of sends.1) =
-    subst (λ (p : GroupPlace). Holds links mid (Member p) (held_of sends.1)) (sym a.kept)
-    (subst (λ (w : Contents Held). Holds links mid (Member place) (held_of w)) (sym s.put) put_in) in
-    let rest = sends_fresh packets links mid new between place' sends.1 window' sends.4 next in
+    let put_in : Holds ledger mid (Member place) (held_of (after_put window s.identifier s.envelope)) = put ledger old mid place window s.identifier s.envelope a.goes n.0 n.1 n.2 was in
+    let next : Holds ledger mid (Member between) (held_of sends.1) =
+    subst (λ (p : GroupPlace). Holds ledger mid (Member p) (held_of sends.1)) (sym a.kept)
+    (subst (λ (w : Contents Held). Holds ledger mid (Member place) (held_of w)) (sym s.put) put_in) in
+    let rest = sends_fresh packets ledger mid new between place' sends.1 window' sends.4 next in
     (rest.0, calm_then old mid new a.goes rest.1)
 
 -- who leaves
-leaves : (links : Links) (old new : Broker) (place : GroupPlace) (window : Contents Held) (membership : Membership GroupPlace) → LeavesWith Calls old place window membership new
-    → Holds links old (Leaving place) (held_of window) → Handed links old membership window new
-leaves links old new place window membership (inl gone) was =
-    let goes = one (TakePlace place) old new (λ stamp spends. spends) refl gone.2 (same_rows old new (ap (λ b. b.rows) gone.2.1.makes.2)) in (
-      subst (λ (m : Membership GroupPlace). Holds links new m (held_of window)) (sym gone.1)
-          (calm links old new NotMember (held_of window) goes (less links old (Leaving place) NotMember (held_of window) (held_of window) (λ i e c. c) (λ owned. gone.0) was)),
+leaves : (ledger : Ledger) (old new : Broker) (place : GroupPlace) (window : Contents Held) (membership : Membership GroupPlace) → LeavesWith Calls old place window membership new
+    → Holds ledger old (Leaving place) (held_of window) → Handed ledger old membership window new
+leaves ledger old new place window membership (inl gone) was =
+    let goes = one (TakePlace place) old new (λ stamp spends. spends) refl tt gone.2 (same_rows old new (ap (λ b. b.rows) gone.2.1.makes.2)) in (
+      subst (λ (m : Membership GroupPlace). Holds ledger new m (held_of window)) (sym gone.1)
+          (calm ledger old new NotMember (held_of window) goes (less ledger old (Leaving place) NotMember (held_of window) (held_of window) (λ i e c. c) (λ owned. gone.0) was)),
       goes,
     )
-leaves links old new place window membership (inr stays) was = (
-  subst (λ (m : Membership GroupPlace). Holds links new m (held_of window)) (sym stays.1)
-      (calm links old new (Leaving place) (held_of window) (still old new stays.2) was),
+leaves ledger old new place window membership (inr stays) was = (
+  subst (λ (m : Membership GroupPlace). Holds ledger new m (held_of window)) (sym stays.1)
+      (calm ledger old new (Leaving place) (held_of window) (still old new stays.2) was),
   still old new stays.2,
 )
 
-hands_fresh : (membership : Membership GroupPlace) (links : Links) (old new : Broker) (window : Contents Held) (packets : List Packet) (membership' : Membership GroupPlace)
+hands_fresh : (membership : Membership GroupPlace) (ledger : Ledger) (old new : Broker) (window : Contents Held) (packets : List Packet) (membership' : Membership GroupPlace)
     (window' : Contents Held)
-    → HandsFresh Calls old membership window packets membership' window' new → Holds links old membership (held_of window) → Handed links old membership' window' new
-hands_fresh NotMember links old new window packets membership' window' does was =
+    → HandsFresh Calls old membership window packets membership' window' new → Holds ledger old membership (held_of window) → Handed ledger old membership' window' new
+hands_fresh NotMember ledger old new window packets membership' window' does was =
     let goes = still old new does.3 in (
-      subst (λ (m : Membership GroupPlace). Holds links new m (held_of window')) (sym does.1)
-          (subst (λ (w : Contents Held). Holds links new NotMember (held_of w)) (sym does.2) (calm links old new NotMember (held_of window) goes was)),
+      subst (λ (m : Membership GroupPlace). Holds ledger new m (held_of window')) (sym does.1)
+          (subst (λ (w : Contents Held). Holds ledger new NotMember (held_of w)) (sym does.2) (calm ledger old new NotMember (held_of window) goes was)),
       goes,
     )
-hands_fresh (Member place) links old new window packets membership' window' does was =
-    let sent = sends_fresh packets links old new place does.0 window window' does.2 was in
-    (subst (λ (m : Membership GroupPlace). Holds links new m (held_of window')) (sym does.1) sent.0, sent.1)
-hands_fresh (Leaving place) links old new window packets membership' window' does was =
-    subst (λ (w : Contents Held). Handed links old membership' w new) (sym does.1) (leaves links old new place window membership' does.2 was)
+hands_fresh (Member place) ledger old new window packets membership' window' does was =
+    let sent = sends_fresh packets ledger old new place does.0 window window' does.2 was in
+    (subst (λ (m : Membership GroupPlace). Holds ledger new m (held_of window')) (sym does.1) sent.0, sent.1)
+hands_fresh (Leaving place) ledger old new window packets membership' window' does was =
+    subst (λ (w : Contents Held). Handed ledger old membership' w new) (sym does.1) (leaves ledger old new place window membership' does.2 was)
 
 -- what is sent again was held
 held_again : (packets : List Packet) (old new : Contents Held) → SendsAgain old packets new → held_of new ≡ held_of old
@@ -213,17 +222,9 @@ held_again (packet ∷ packets) old new sends =
     ∙ append_assoc old.owed (entry ∷ []) (drop 1 old.waiting)
     ∙ ap (λ (es : Entries). old.owed ++ es) (ap (λ (es : Entries). entry ∷ drop 1 es) next.1 ∙ sym next.1)
 
-pub hands_out : (links : Links) (old new : Broker) (membership : Membership GroupPlace) (window : Contents Held) (packets : List Packet) (membership' : Membership GroupPlace)
+pub hands_out : (ledger : Ledger) (old new : Broker) (membership : Membership GroupPlace) (window : Contents Held) (packets : List Packet) (membership' : Membership GroupPlace)
     (window' : Contents Held)
-    → HandsOut Calls old membership window packets membership' window' new → Holds links old membership (held_of window) → Handed links old membership' window' new
-hands_out links old new membership window packets membership' window' does was =
-    hands_fresh membership links old new does.between does.fresh membership' window' does.sent_fresh
-    (subst (λ (es : Entries). Holds links old membership es) (sym (held_again does.again window does.between does.sent_again)) was)
-
--- a message is offered
-pub offers : (slots : List ℕ) (old new : Broker) (connection : ℕ) (message : Message) (taken : ℕ) → Offers Calls old connection message slots taken new → Goes [] old new
-offers [] old new connection message taken does = still old new does.1
-offers (slot ∷ slots) old new connection message taken does =
-    calm_then old does.1 new
-    (one (Offer slot connection message does.0) old does.1 (λ stamp spends. spends) refl does.4 (same_rows old does.1 (ap (λ d. d.rows) does.4.1.desk)))
-    (offers slots does.1 new connection message does.3 does.6)
+    → HandsOut Calls old membership window packets membership' window' new → Holds ledger old membership (held_of window) → Handed ledger old membership' window' new
+hands_out ledger old new membership window packets membership' window' does was =
+    hands_fresh membership ledger old new does.between does.fresh membership' window' does.sent_fresh
+    (subst (λ (es : Entries). Holds ledger old membership es) (sym (held_again does.again window does.between does.sent_again)) was)

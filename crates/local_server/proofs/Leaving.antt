@@ -30,9 +30,10 @@ use Rattle.local_broker.proofs.Happened.{running_all}
 use Rattle.local_broker.proofs.Outs.{stays_all}
 use Rattle.local_server.specs.Happening.{slot_of}
 use Rattle.local_server.specs.Settling.{AreOutFor}
-use Rattle.local_server.proofs.Stepping.{Links}
 use Rattle.local_server.proofs.Settled.{none_settled}
-use Rattle.local_server.proofs.Owning.{Entries, Kept, Keeper, AtDesk, InHand, IsAtDesk, Has, Owns, Holds, Goes, Shrinks, still, calm_then, one, same_rows, written, put_in, owns_calm, calm}
+use Rattle.local_server.proofs.Known.{AllKnown}
+use Rattle.local_server.proofs.Accepting.{IsNoOffer, called_known}
+use Rattle.local_server.proofs.Owning.{Ledger, Entries, Kept, Keeper, AtDesk, InHand, IsAtDesk, Has, Owns, Holds, Goes, Shrinks, still, calm_then, one, same_rows, written, put_in, owns_calm, calm}
 use Rattle.local_server.proofs.Retiring.{Went, went, went_then, retired}
 
 -- the desk has the session then
@@ -40,20 +41,24 @@ abbrev Comes : Broker → ℕ → Kept → Broker → Type 0
 Comes old k its new = (number : ℕ) (t : Kept) → IsAtDesk new.desk.rows number t → ((number ≡ k) × (t ≡ its)) ⊎ IsAtDesk old.desk.rows number t
 
 -- a session has what the step had in its hands, or was there before
-abbrev Whose : Links → Broker → ℕ → Kept → Keeper → Kept → Type 0
-Whose links old k its keeper t = ((keeper ≡ AtDesk k) × (t ≡ its)) ⊎ Has links old.desk.rows keeper t
+abbrev Whose : Ledger → Broker → ℕ → Kept → Keeper → Kept → Type 0
+Whose ledger old k its keeper t = ((keeper ≡ AtDesk k) × (t ≡ its)) ⊎ Has ledger.links old.desk.rows keeper t
 
-whose : (keeper : Keeper) (links : Links) (old new : Broker) (k : ℕ) (its t : Kept) → Comes old k its new → Has links new.desk.rows keeper t → Whose links old k its keeper t
-whose (AtDesk number) links old new k its t comes has =
+whose : (keeper : Keeper) (ledger : Ledger) (old new : Broker) (k : ℕ) (its t : Kept) → Comes old k its new → Has ledger.links new.desk.rows keeper t → Whose ledger old k its keeper t
+whose (AtDesk number) ledger old new k its t comes has =
     ⊎_elim (λ (is : (number ≡ k) × (t ≡ its)). inl (ap AtDesk is.0, is.1)) (λ (was : IsAtDesk old.desk.rows number t). inr was) (comes number t has)
-whose (InHand connection) links old new k its t comes has = inr has
+whose (InHand connection) ledger old new k its t comes has = inr has
 
-module _ (links : Links) (old : Broker) (k : ℕ) (its : Kept) (was : Holds links old its.membership (held_of its.window)) where
-  owned_then : (keeper : Keeper) (t : Kept) → Whose links old k its keeper t → AreOutFor old t.membership (held_of t.window)
+module _ (ledger : Ledger) (old : Broker) (k : ℕ) (its : Kept) (was : Holds ledger old its.membership (held_of its.window)) where
+  owned_then : (keeper : Keeper) (t : Kept) → Whose ledger old k its keeper t → AreOutFor old t.membership (held_of t.window)
   owned_then keeper t (inl is) = subst (λ (s : Kept). AreOutFor old s.membership (held_of s.window)) (sym is.1) was.mine.owned
   owned_then keeper t (inr had) = was.others.owned keeper t had
 
-  once_then : (one other : Keeper) (s t : Kept) (i j : ℕ) (e f : Held) → Whose links old k its one s → Whose links old k its other t
+  known_then : (keeper : Keeper) (t : Kept) → Whose ledger old k its keeper t → AllKnown ledger.log (held_of t.window)
+  known_then keeper t (inl is) = subst (λ (s : Kept). AllKnown ledger.log (held_of s.window)) (sym is.1) was.mine.known
+  known_then keeper t (inr had) = was.others.known keeper t had
+
+  once_then : (one other : Keeper) (s t : Kept) (i j : ℕ) (e f : Held) → Whose ledger old k its one s → Whose ledger old k its other t
       → Contains (held_of s.window) (i, e) → Contains (held_of t.window) (j, f) → e.stamp ≡ f.stamp → (one ≡ other) × (i ≡ j)
   once_then one other s t i j e f (inl is) (inl are) c d same = (
     is.0 ∙ sym are.0,
@@ -73,58 +78,60 @@ owned_later NotMember entries old new fact does spends owned = owned
 owned_later (Member place) entries old new fact does spends owned = λ i e c. stays_all (Called fact ∷ []) old new place e (owned i e c) (new, does, refl) (spends e.stamp, tt)
 owned_later (Leaving place) entries old new fact does spends owned = λ i e c. stays_all (Called fact ∷ []) old new place e (owned i e c) (new, does, refl) (spends e.stamp, tt)
 
-shelved : (links : Links) (old new : Broker) (k : ℕ) (its : Kept) (fact : Fact GroupPlace) → Calls old fact new → ((stamp : Stamp) → ¬ Spends stamp (Called fact))
+shelved : (ledger : Ledger) (old new : Broker) (k : ℕ) (its : Kept) (fact : Fact GroupPlace) → Calls old fact new → ((stamp : Stamp) → ¬ Spends stamp (Called fact)) → IsNoOffer fact
     → Comes old k its new
-    → Holds links old its.membership (held_of its.window) → Owns links new
-shelved links old new k its fact does spends comes was =
+    → Holds ledger old its.membership (held_of its.window) → Owns ledger new
+shelved ledger old new k its fact does spends no_offer comes was =
     record {
       running = running_all (Called fact ∷ []) old new was.others.running (new, does, refl);
+      know = called_known fact ledger.log old new spends no_offer does was.others.know;
+      known = λ keeper t has. known_then ledger old k its was keeper t (whose keeper ledger old new k its t comes has);
       owned = λ keeper t has.
-          owned_later t.membership (held_of t.window) old new fact does spends (owned_then links old k its was keeper t (whose keeper links old new k its t comes has));
+          owned_later t.membership (held_of t.window) old new fact does spends (owned_then ledger old k its was keeper t (whose keeper ledger old new k its t comes has));
       once = λ one other s t i j e f has had c d same.
-          once_then links old k its was one other s t i j e f (whose one links old new k its s comes has) (whose other links old new k its t comes had) c d same;
+          once_then ledger old k its was one other s t i j e f (whose one ledger old new k its s comes has) (whose other ledger old new k its t comes had) c d same;
     }
 
 -- it is parked as it is, or let go
-parked_back : (back : Option Kept) (links : Links) (old new : Broker) (session : Kept) → Calls old (ParkAsIs session) new → ParksAsIs old.desk session back new.desk
-    → Holds links old session.membership (held_of session.window) → Owns links new
-parked_back None links old new session does parks was =
+parked_back : (back : Option Kept) (ledger : Ledger) (old new : Broker) (session : Kept) → Calls old (ParkAsIs session) new → ParksAsIs old.desk session back new.desk
+    → Holds ledger old session.membership (held_of session.window) → Owns ledger new
+parked_back None ledger old new session does parks was =
     let k = session.identity.number in
-    shelved links old new k session (ParkAsIs session) does (λ stamp spends. spends)
+    shelved ledger old new k session (ParkAsIs session) does (λ stamp spends. spends) tt
     (put_in old.desk.rows new.desk.rows k (with_standing parks.lent.row (Parked session)) session (ap (λ b. b.rows) parks.after) refl) was
-parked_back (Some back) links old new session does parks was =
-    owns_calm links old new (one (ParkAsIs session) old new (λ stamp spends. spends) refl does (same_rows old new (ap (λ b. b.rows) parks.2))) was.others
+parked_back (Some back) ledger old new session does parks was =
+    owns_calm ledger old new (one (ParkAsIs session) old new (λ stamp spends. spends) refl tt does (same_rows old new (ap (λ b. b.rows) parks.2))) was.others
 
-pub parked_as_is : (links : Links) (old new : Broker) (session : Kept) → Calls old (ParkAsIs session) new → Holds links old session.membership (held_of session.window)
-    → Went links old new
-parked_as_is links old new session does was =
-    record { owns = parked_back does.0 links old new session does does.1.makes was; adds = none_settled (ParkAsIs session) old new refl does }
+pub parked_as_is : (ledger : Ledger) (old new : Broker) (session : Kept) → Calls old (ParkAsIs session) new → Holds ledger old session.membership (held_of session.window)
+    → Went ledger old new
+parked_as_is ledger old new session does was =
+    record { owns = parked_back does.0 ledger old new session does does.1.makes was; adds = none_settled (ParkAsIs session) old new refl does }
 
 -- the connection has ended: its session is parked, or retired
-parted_as : (answer : Option Kept) (links : Links) (old mid new : Broker) (session : Kept) (now : ℕ) → Calls old (Park session now answer) mid
+parted_as : (answer : Option Kept) (ledger : Ledger) (old mid new : Broker) (session : Kept) (now : ℕ) → Calls old (Park session now answer) mid
     → Parks old.desk session now answer mid.desk
-    → PartsAs Calls mid answer new → Holds links old session.membership (held_of session.window) → Went links mid new
-parted_as None links old mid new session now does parks parts was =
+    → PartsAs Calls mid answer new → Holds ledger old session.membership (held_of session.window) → Went ledger mid new
+parted_as None ledger old mid new session now does parks parts was =
     let k = session.identity.number in
-    went links mid new (still mid new parts)
-    (shelved links old mid k (parked_at session now) (Park session now None) does (λ stamp spends. spends)
+    went ledger mid new (still mid new parts)
+    (shelved ledger old mid k (parked_at session now) (Park session now None) does (λ stamp spends. spends) tt
     (put_in old.desk.rows mid.desk.rows k (with_standing parks.lent.row (Parked (parked_at session now))) (parked_at session now) (ap (λ b. b.rows) parks.after) refl) was)
-parted_as (Some back) links old mid new session now does parks parts was =
+parted_as (Some back) ledger old mid new session now does parks parts was =
     let shrinks : Shrinks old mid =
     ⊎_elim
     (λ (over : EndsLent old.desk session mid.desk). λ number t at.
     (written old.desk.rows mid.desk.rows session.identity.number (away over.lent.row.client) (ap (λ b. b.rows) over.after) refl number t at).1)
     (λ stays. same_rows old mid (ap (λ b. b.rows) stays.1))
     parks.1 in
-    let goes = one (Park session now (Some back)) old mid (λ stamp spends. spends) refl does shrinks in
-    retired links mid new back parts.0 parts.1
-    (subst (λ (s : Kept). Holds links mid s.membership (held_of s.window)) (sym parks.0) (calm links old mid session.membership (held_of session.window) goes was))
+    let goes = one (Park session now (Some back)) old mid (λ stamp spends. spends) refl tt does shrinks in
+    retired ledger mid new back parts.0 parts.1
+    (subst (λ (s : Kept). Holds ledger mid s.membership (held_of s.window)) (sym parks.0) (calm ledger old mid session.membership (held_of session.window) goes was))
 
-pub parted : (links : Links) (old new : Broker) (session : Kept) (now : ℕ) → Parts Calls old session now new → Holds links old session.membership (held_of session.window)
-    → Went links old new
-parted links old new session now parts was =
-    went_then links old parts.1 new (none_settled (Park (down session) now parts.0) old parts.1 refl parts.2)
-    (parted_as parts.0 links old parts.1 new (down session) now parts.2 parts.2.makes parts.3 was)
+pub parted : (ledger : Ledger) (old new : Broker) (session : Kept) (now : ℕ) → Parts Calls old session now new → Holds ledger old session.membership (held_of session.window)
+    → Went ledger old new
+parted ledger old new session now parts was =
+    went_then ledger old parts.1 new (none_settled (Park (down session) now parts.0) old parts.1 refl parts.2)
+    (parted_as parts.0 ledger old parts.1 new (down session) now parts.2 parts.2.makes parts.3 was)
 
 -- a membership gives way to another through whose place all is out that was
 abbrev pub Follows : Membership GroupPlace → Membership GroupPlace → Type 0
@@ -144,21 +151,21 @@ Moves membership membership' old new = Goes [] old new × Follows membership mem
 
 lent : (place : Option GroupPlace) (old new : Broker) (slot code : ℕ) (membership : Membership GroupPlace) → IsLent Calls slot_of old slot place code membership new
     → Goes [] old new
-lent None old new slot code membership is = one (LendPlace slot None) old new (λ stamp spends. spends) refl is.0 (same_rows old new (ap (λ b. b.rows) is.0.makes.2))
-lent (Some place) old new slot code membership is = one (LendPlace slot (Some place)) old new (λ stamp spends. spends) refl is.0 (same_rows old new (ap (λ b. b.rows) is.0.makes.2))
+lent None old new slot code membership is = one (LendPlace slot None) old new (λ stamp spends. spends) refl tt is.0 (same_rows old new (ap (λ b. b.rows) is.0.makes.2))
+lent (Some place) old new slot code membership is = one (LendPlace slot (Some place)) old new (λ stamp spends. spends) refl tt is.0 (same_rows old new (ap (λ b. b.rows) is.0.makes.2))
 
 entered : (bound : Result ℕ BindRefusal) (old new : Broker) (share : Share) (code : ℕ) (membership : Membership GroupPlace)
     → EntersAs Calls slot_of old share bound code membership new → Goes [] old new
 entered (Ok slot) old new share code membership enters =
     calm_then old enters.0 new
-    (one (Bind share (Ok slot)) old enters.0 (λ stamp spends. spends) refl enters.2 (same_rows old enters.0 (ap (λ d. d.rows) enters.2.1.desk)))
+    (one (Bind share (Ok slot)) old enters.0 (λ stamp spends. spends) refl tt enters.2 (same_rows old enters.0 (ap (λ d. d.rows) enters.2.1.desk)))
     (lent enters.1 enters.0 new slot code membership enters.3)
 entered (Err refusal.NoSlot) old new share code membership enters =
-    one (Bind share (Err refusal.NoSlot)) old new (λ stamp spends. spends) refl enters.0 (same_rows old new (ap (λ d. d.rows) enters.0.1.desk))
+    one (Bind share (Err refusal.NoSlot)) old new (λ stamp spends. spends) refl tt enters.0 (same_rows old new (ap (λ d. d.rows) enters.0.1.desk))
 entered (Err refusal.Memory) old new share code membership enters = absurd enters
 
 found : (share : Share) (answer : Option ℕ) (old new : Broker) → Calls old (Find share answer) new → Goes [] old new
-found share answer old new does = one (Find share answer) old new (λ stamp spends. spends) refl does (same_rows old new (ap (λ b. b.desk.rows) does.1))
+found share answer old new does = one (Find share answer) old new (λ stamp spends. spends) refl tt does (same_rows old new (ap (λ b. b.desk.rows) does.1))
 
 joined : (membership : Membership GroupPlace) (old new : Broker) (share : Share) (code : ℕ) (membership' : Membership GroupPlace)
     → Joins Calls slot_of old membership share code membership' new → Moves membership membership' old new

@@ -9,6 +9,10 @@ pub mod Emptied
 pub mod LastEvents
 pub mod Eager
 pub mod OneRun
+pub mod Going
+pub mod Reading
+pub mod Unfaulted
+pub mod Heard
 pub mod Windows
 pub mod Turns
 pub mod Lent
@@ -28,3 +32,10 @@ pub mod Fresh
 pub mod Acting
 pub mod Acted
 pub mod Acknowledged
+pub mod Confirmed
+pub mod Known
+pub mod Accepting
+pub mod Sent
+pub mod SentAsAccepted
+pub mod Accepted
+pub mod Many

@@ -1,11 +1,12 @@
--- Who holds which message: each that a session holds is out at that session's place, and is held by one session, once.
-use Rattle.std.proofs.Common.{◌≡◌, ◌≢◌, ◌⊎◌, ℕ, List, [], ◌∷◌, ◌++◌, Some, None, Contains, refl, sym, ap, subst, ◌∙◌, inl, inr, ⊎_elim}
+-- Who holds which message: each that a session holds is out at that session's place, as it was accepted, and is held by one session, once.
+use Rattle.std.proofs.Common.{◌≡◌, ◌≢◌, ◌⊎◌, ℕ, List, [], ◌∷◌, ◌++◌, Option, Some, None, Contains, refl, sym, ap, subst, ◌∙◌, inl, inr, ⊎_elim}
 use Rattle.std.specs.Ordering.{nat_cmp}
 use Rattle.std.specs.FinMap as map
 use Rattle.std.specs.FinMap.{get-empty}
 use Rattle.std.proofs.lemmas.List.Elements.{Contains-append_left, Contains-append_right}
 use Rattle.std.proofs.lemmas.Option.{same_Some}
 use Rattle.mqtt_topic.specs.Names.{Share}
+use Rattle.group_jobs.specs.declared.message.Message.{Message}
 use Rattle.group_jobs.specs.declared.stamp.Stamp.{Stamp}
 use Rattle.group_jobs.specs.Stamps.{Held}
 use Rattle.member_window.specs.Contents.{held_of}
@@ -18,6 +19,8 @@ use Rattle.session_desk.specs.Rows.{Rows, HasRow, session_in}
 use Rattle.session_desk.proofs.Seen.{after_insert, after_remove}
 use Rattle.conn_engine.specs.declared.standing.Link.{Link}
 use Rattle.conn_engine.specs.Facts.{Fact}
+use Rattle.conn_engine.specs.Facts.Fact.{Offer}
+use Rattle.conn_engine.specs.Publishing.{Offers}
 use Rattle.conn_laws.specs.Calls.{settlement_of}
 use Rattle.local_broker.specs.Places.{GroupPlace}
 use Rattle.local_broker.specs.Broker.{Broker, IsNewBroker}
@@ -28,6 +31,9 @@ use Rattle.local_broker.proofs.Outs.{stays_all}
 use Rattle.local_server.specs.Settling.{AreOutFor}
 use Rattle.local_server.proofs.Stepping.{Links}
 use Rattle.local_server.proofs.Settled.{AddsIn, adds_nothing, adds_then, none_settled}
+use Rattle.local_server.proofs.Sessions.{with_link}
+use Rattle.local_server.proofs.Known.{Log, AllKnown, AllKnow, StaysKnown, same_log, closed_each, new_known}
+use Rattle.local_server.proofs.Accepting.{IsNoOffer, called_known}
 
 abbrev pub Entries : Type 0
 Entries = List (ℕ × Held)
@@ -37,6 +43,18 @@ IsEntry one other = one ≡ other
 
 abbrev pub Kept : Type 0
 Kept = Session Held GroupPlace
+
+-- what the connections have, and what was accepted till now
+pub record Ledger : Type 0 where
+  pub links : Links
+  pub log : Log
+
+-- a connection has this session then, or none
+abbrev pub with_hand : Ledger → ℕ → Option (Link GroupPlace) → Ledger
+with_hand ledger number link = record { links = with_link ledger.links number link; log = ledger.log }
+
+abbrev pub with_log : Ledger → Log → Ledger
+with_log ledger log = record { links = ledger.links; log = log }
 
 -- who has a session: the desk, by the number of its row, or a connection
 pub data Keeper : Type 0 where
@@ -61,22 +79,25 @@ Has links rows (InHand connection) session = IsLinkOf links connection session
 abbrev pub AreApart : Entries → Entries → Type 0
 AreApart these those = (i j : ℕ) (e f : Held) → Contains these (i, e) → Contains those (j, f) → e.stamp ≢ f.stamp
 
--- each session's messages are out at its place, and none is held twice
-pub record Owns (links : Links) (b : Broker) : Type 0 where
+-- each session's messages are out at its place, and none is held twice; and what is held and what waits is what was accepted
+pub record Owns (ledger : Ledger) (b : Broker) : Type 0 where
   pub running : AreRunning b
-  pub owned : (keeper : Keeper) (session : Kept) → Has links b.desk.rows keeper session → AreOutFor b session.membership (held_of session.window)
-  pub once : (one other : Keeper) (s t : Kept) (i j : ℕ) (e f : Held) → Has links b.desk.rows one s → Has links b.desk.rows other t
+  pub know : AllKnow ledger.log b.groups
+  pub known : (keeper : Keeper) (session : Kept) → Has ledger.links b.desk.rows keeper session → AllKnown ledger.log (held_of session.window)
+  pub owned : (keeper : Keeper) (session : Kept) → Has ledger.links b.desk.rows keeper session → AreOutFor b session.membership (held_of session.window)
+  pub once : (one other : Keeper) (s t : Kept) (i j : ℕ) (e f : Held) → Has ledger.links b.desk.rows one s → Has ledger.links b.desk.rows other t
       → Contains (held_of s.window) (i, e) → Contains (held_of t.window) (j, f) → e.stamp ≡ f.stamp → (one ≡ other) × (i ≡ j)
 
 -- a session in the hands of a step, with these messages
-pub record Mine (links : Links) (b : Broker) (membership : Membership GroupPlace) (entries : Entries) : Type 0 where
+pub record Mine (ledger : Ledger) (b : Broker) (membership : Membership GroupPlace) (entries : Entries) : Type 0 where
   pub owned : AreOutFor b membership entries
-  pub apart : (keeper : Keeper) (t : Kept) → Has links b.desk.rows keeper t → AreApart entries (held_of t.window)
+  pub known : AllKnown ledger.log entries
+  pub apart : (keeper : Keeper) (t : Kept) → Has ledger.links b.desk.rows keeper t → AreApart entries (held_of t.window)
   pub once : (i j : ℕ) (e f : Held) → Contains entries (i, e) → Contains entries (j, f) → e.stamp ≡ f.stamp → i ≡ j
 
-pub record Holds (links : Links) (b : Broker) (membership : Membership GroupPlace) (entries : Entries) : Type 0 where
-  pub others : Owns links b
-  pub mine : Mine links b membership entries
+pub record Holds (ledger : Ledger) (b : Broker) (membership : Membership GroupPlace) (entries : Entries) : Type 0 where
+  pub others : Owns ledger b
+  pub mine : Mine ledger b membership entries
 
 -- calls by which no session comes to the desk, and no message comes from where it is out but these
 pub record Runs (spent : Entries) (old new : Broker) : Type 0 where
@@ -84,9 +105,10 @@ pub record Runs (spent : Entries) (old new : Broker) : Type 0 where
   pub out : (place : GroupPlace) (envelope : Held) → HasOut old place envelope → ((j : ℕ) (f : Held) → Contains spent (j, f) → f.stamp ≢ envelope.stamp) → HasOut new place envelope
   pub desk : (number : ℕ) (session : Kept) → IsAtDesk new.desk.rows number session → IsAtDesk old.desk.rows number session
 
--- and nothing is settled
+-- and nothing is settled, and nothing accepted
 pub record Goes (spent : Entries) (old new : Broker) : Type 0 where
   pub runs : Runs spent old new
+  pub know : (log : Log) → AreRunning old → AllKnown log spent → AllKnow log old.groups → AllKnow log new.groups
   pub adds : AddsIn old.groups [] new.groups
 
 pub still : (old new : Broker) → new ≡ old → Goes [] old new
@@ -97,19 +119,27 @@ still old new same =
         out = λ place envelope has apart. subst (λ (b : Broker). HasOut b place envelope) (sym same) has;
         desk = λ number session is. subst (λ (b : Broker). IsAtDesk b.desk.rows number session) same is;
       };
+      know = λ log running all was. subst (λ (b : Broker). AllKnow log b.groups) (sym same) was;
       adds = adds_nothing old new same;
+    }
+
+pub runs_then : (spent more : Entries) (old mid new : Broker) → Runs spent old mid → Runs more mid new → Runs (spent ++ more) old new
+runs_then spent more old mid new these those =
+    record {
+      running = λ is. those.running (these.running is);
+      out = λ place envelope has apart.
+          those.out place envelope (these.out place envelope has (λ j f c. apart j f (Contains-append_left spent more (j, f) c)))
+          (λ j f c. apart j f (Contains-append_right spent more (j, f) c));
+      desk = λ number session is. these.desk number session (those.desk number session is);
     }
 
 pub goes_then : (spent more : Entries) (old mid new : Broker) → Goes spent old mid → Goes more mid new → Goes (spent ++ more) old new
 goes_then spent more old mid new these those =
     record {
-      runs = record {
-        running = λ is. those.runs.running (these.runs.running is);
-        out = λ place envelope has apart.
-            those.runs.out place envelope (these.runs.out place envelope has (λ j f c. apart j f (Contains-append_left spent more (j, f) c)))
-            (λ j f c. apart j f (Contains-append_right spent more (j, f) c));
-        desk = λ number session is. these.runs.desk number session (those.runs.desk number session is);
-      };
+      runs = runs_then spent more old mid new these.runs those.runs;
+      know = λ log running all was.
+          those.know log (these.runs.running running) (λ j f c. all j f (Contains-append_right spent more (j, f) c))
+          (these.know log running (λ j f c. all j f (Contains-append_left spent more (j, f) c)) was);
       adds = adds_then [] [] old.groups mid.groups new.groups these.adds those.adds;
     }
 
@@ -123,17 +153,33 @@ pub same_rows : (old new : Broker) → new.desk.rows ≡ old.desk.rows → Shrin
 same_rows old new same number session is = subst (λ (r : Rows Held GroupPlace). IsAtDesk r number session) same is
 
 -- one call
-pub one : (fact : Fact GroupPlace) (old new : Broker) → ((stamp : Stamp) → ¬ Spends stamp (Called fact)) → settlement_of fact ≡ None → Calls old fact new → Shrinks old new
-    → Goes [] old new
-one fact old new spends none does shrinks =
+pub one_runs : (fact : Fact GroupPlace) (old new : Broker) → ((stamp : Stamp) → ¬ Spends stamp (Called fact)) → Calls old fact new → Shrinks old new → Runs [] old new
+one_runs fact old new spends does shrinks =
     record {
-      runs = record {
-        running = λ is. running_all (Called fact ∷ []) old new is (new, does, refl);
-        out = λ place envelope has apart. stays_all (Called fact ∷ []) old new place envelope has (new, does, refl) (spends envelope.stamp, tt);
-        desk = shrinks;
-      };
+      running = λ is. running_all (Called fact ∷ []) old new is (new, does, refl);
+      out = λ place envelope has apart. stays_all (Called fact ∷ []) old new place envelope has (new, does, refl) (spends envelope.stamp, tt);
+      desk = shrinks;
+    }
+
+pub one : (fact : Fact GroupPlace) (old new : Broker) → ((stamp : Stamp) → ¬ Spends stamp (Called fact)) → settlement_of fact ≡ None → IsNoOffer fact → Calls old fact new
+    → Shrinks old new → Goes [] old new
+one fact old new spends none no_offer does shrinks =
+    record {
+      runs = one_runs fact old new spends does shrinks;
+      know = λ log running all was. called_known fact log old new spends no_offer does was;
       adds = none_settled fact old new none does;
     }
+
+-- a message is offered to groups
+pub offers_run : (slots : List ℕ) (old new : Broker) (connection : ℕ) (message : Message) (taken : ℕ) → Offers Calls old connection message slots taken new
+    → Runs [] old new × AddsIn old.groups [] new.groups
+offers_run [] old new connection message taken does = let goes = still old new does.1 in (goes.runs, goes.adds)
+offers_run (slot ∷ slots) old new connection message taken does =
+    let offer : Fact GroupPlace = Offer slot connection message does.0 in
+    let rest = offers_run slots does.1 new connection message does.3 does.6 in (
+      runs_then [] [] old does.1 new (one_runs offer old does.1 (λ stamp spends. spends) does.4 (same_rows old does.1 (ap (λ d. d.rows) does.4.1.desk))) rest.0,
+      adds_then [] [] old.groups does.1.groups new.groups (none_settled offer old does.1 refl does.4) rest.1,
+    )
 
 -- a row is written of which the desk has no session, or is no more
 pub written : (old new : Rows Held GroupPlace) (k : ℕ) (row : Row Held GroupPlace) → new ≡ map.insert old k row → session_in row.standing ≡ None
@@ -171,81 +217,92 @@ pub had : (keeper : Keeper) (links : Links) (old new : Broker) (session : Kept) 
 had (AtDesk number) links old new session shrinks has = shrinks number session has
 had (InHand connection) links old new session shrinks has = has
 
-none_apart : (entries : Entries) → AreApart [] entries
+pub none_apart : (entries : Entries) → AreApart [] entries
 none_apart entries i j e f c d = absurd (contains_nil (i, e) c)
 
-pub owns_on : (spent : Entries) (links : Links) (old new : Broker) → Runs spent old new
-    → ((keeper : Keeper) (t : Kept) → Has links new.desk.rows keeper t → AreApart spent (held_of t.window))
-    → Owns links old → Owns links new
-owns_on spent links old new goes apart was =
+pub none_known : (log : Log) → AllKnown log []
+none_known log i e c = absurd (contains_nil {X = ℕ × Held} (i, e) c)
+
+pub owns_on : (spent : Entries) (ledger : Ledger) (log' : Log) (old new : Broker) → Runs spent old new → AllKnow log' new.groups → StaysKnown ledger.log log'
+    → ((keeper : Keeper) (t : Kept) → Has ledger.links new.desk.rows keeper t → AreApart spent (held_of t.window))
+    → Owns ledger old → Owns (with_log ledger log') new
+owns_on spent ledger log' old new goes know stays apart was =
     record {
       running = goes.running was.running;
+      know = know;
+      known = λ keeper session has i e c. stays e.stamp e.message (was.known keeper session (had keeper ledger.links old new session goes.desk has) i e c);
       owned = λ keeper session has.
           owned_on session.membership spent (held_of session.window) old new goes (apart keeper session has)
-          (was.owned keeper session (had keeper links old new session goes.desk has));
+          (was.owned keeper session (had keeper ledger.links old new session goes.desk has));
       once = λ one other s t i j e f has its c d same.
-          was.once one other s t i j e f (had one links old new s goes.desk has) (had other links old new t goes.desk its) c d same;
+          was.once one other s t i j e f (had one ledger.links old new s goes.desk has) (had other ledger.links old new t goes.desk its) c d same;
     }
 
-pub owns_calm : (links : Links) (old new : Broker) → Goes [] old new → Owns links old → Owns links new
-owns_calm links old new goes was = owns_on [] links old new goes.runs (λ keeper t has. none_apart (held_of t.window)) was
+pub owns_calm : (ledger : Ledger) (old new : Broker) → Goes [] old new → Owns ledger old → Owns ledger new
+owns_calm ledger old new goes was =
+    owns_on [] ledger ledger.log old new goes.runs (goes.know ledger.log was.running (none_known ledger.log) was.know) (same_log ledger.log)
+    (λ keeper t has. none_apart (held_of t.window)) was
 
-pub mine_on : (spent : Entries) (links : Links) (old new : Broker) (membership : Membership GroupPlace) (entries : Entries) → Runs spent old new → AreApart spent entries
-    → Mine links old membership entries → Mine links new membership entries
-mine_on spent links old new membership entries goes apart was =
+pub mine_on : (spent : Entries) (ledger : Ledger) (log' : Log) (old new : Broker) (membership : Membership GroupPlace) (entries : Entries) → Runs spent old new
+    → StaysKnown ledger.log log' → AreApart spent entries
+    → Mine ledger old membership entries → Mine (with_log ledger log') new membership entries
+mine_on spent ledger log' old new membership entries goes stays apart was =
     record {
       owned = owned_on membership spent entries old new goes apart was.owned;
-      apart = λ keeper t has. was.apart keeper t (had keeper links old new t goes.desk has);
+      known = λ i e c. stays e.stamp e.message (was.known i e c);
+      apart = λ keeper t has. was.apart keeper t (had keeper ledger.links old new t goes.desk has);
       once = was.once;
     }
 
-pub calm : (links : Links) (old new : Broker) (membership : Membership GroupPlace) (entries : Entries) → Goes [] old new → Holds links old membership entries
-    → Holds links new membership entries
-calm links old new membership entries goes was =
-    record { others = owns_calm links old new goes was.others; mine = mine_on [] links old new membership entries goes.runs (none_apart entries) was.mine }
+pub calm : (ledger : Ledger) (old new : Broker) (membership : Membership GroupPlace) (entries : Entries) → Goes [] old new → Holds ledger old membership entries
+    → Holds ledger new membership entries
+calm ledger old new membership entries goes was =
+    record { others = owns_calm ledger old new goes was.others; mine = mine_on [] ledger ledger.log old new membership entries goes.runs (same_log ledger.log) (none_apart entries) was.mine }
 
 -- a session holds some of what it held, with another membership
-pub less : (links : Links) (b : Broker) (membership membership' : Membership GroupPlace) (entries entries' : Entries)
+pub less : (ledger : Ledger) (b : Broker) (membership membership' : Membership GroupPlace) (entries entries' : Entries)
     → ((i : ℕ) (e : Held) → Contains entries' (i, e) → Contains entries (i, e)) → (AreOutFor b membership entries → AreOutFor b membership' entries')
-    → Holds links b membership entries → Holds links b membership' entries'
-less links b membership membership' entries entries' part owned was =
+    → Holds ledger b membership entries → Holds ledger b membership' entries'
+less ledger b membership membership' entries entries' part owned was =
     record {
       others = was.others;
       mine = record {
         owned = owned was.mine.owned;
+        known = λ i e c. was.mine.known i e (part i e c);
         apart = λ keeper t has i j e f c d. was.mine.apart keeper t has i j e f (part i e c) d;
         once = λ i j e f c d same. was.mine.once i j e f (part i e c) (part j f d) same;
       };
     }
 
 -- the session of this row comes from the desk
-pub taken : (links : Links) (old new : Broker) (k : ℕ) (session : Kept) → IsAtDesk old.desk.rows k session → Goes [] old new
-    → ((number : ℕ) (t : Kept) → IsAtDesk new.desk.rows number t → number ≢ k) → Owns links old → Holds links new session.membership (held_of session.window)
-taken links old new k session at goes gone was =
+pub taken : (ledger : Ledger) (old new : Broker) (k : ℕ) (session : Kept) → IsAtDesk old.desk.rows k session → Goes [] old new
+    → ((number : ℕ) (t : Kept) → IsAtDesk new.desk.rows number t → number ≢ k) → Owns ledger old → Holds ledger new session.membership (held_of session.window)
+taken ledger old new k session at goes gone was =
     record {
-      others = owns_calm links old new goes was;
+      others = owns_calm ledger old new goes was;
       mine = record {
         owned = owned_on session.membership [] (held_of session.window) old new goes.runs (none_apart (held_of session.window)) (was.owned (AtDesk k) session at);
+        known = was.known (AtDesk k) session at;
         apart = λ keeper t has i j e f c d same.
-            other_keeper keeper t has (was.once (AtDesk k) keeper session t i j e f at (had keeper links old new t goes.runs.desk has) c d same).0;
+            other_keeper keeper t has (was.once (AtDesk k) keeper session t i j e f at (had keeper ledger.links old new t goes.runs.desk has) c d same).0;
         once = λ i j e f c d same. (was.once (AtDesk k) (AtDesk k) session session i j e f at at c d same).1;
       };
     }
   where
-    other_keeper : (keeper : Keeper) (t : Kept) → Has links new.desk.rows keeper t → AtDesk k ≡ keeper → ⊥
+    other_keeper : (keeper : Keeper) (t : Kept) → Has ledger.links new.desk.rows keeper t → AtDesk k ≡ keeper → ⊥
     other_keeper (AtDesk number) t has same = gone number t has (let e = same in cc)
     other_keeper (InHand connection) t has same = cc
 
 -- the close
-pub owns_closed : (links : Links) (old closed : Broker) → Closes old closed → Owns links old → Owns links closed
-owns_closed links old closed closes was =
-    owns_on [] links old closed
+pub owns_closed : (ledger : Ledger) (old closed : Broker) → Closes old closed → Owns ledger old → Owns ledger closed
+owns_closed ledger old closed closes was =
+    owns_on [] ledger ledger.log old closed
     (record {
       running = λ is. running_all (Closed ∷ []) old closed is (closed, closes, refl);
       out = λ place envelope has apart. stays_all (Closed ∷ []) old closed place envelope has (closed, closes, refl) ((λ spends. spends), tt);
       desk = same_rows old closed (ap (λ d. d.rows) closes.desk);
     })
-    (λ keeper t has. none_apart (held_of t.window)) was
+    (closed_each ledger.log old.groups closed.groups closes.groups was.know) (same_log ledger.log) (λ keeper t has. none_apart (held_of t.window)) was
 
 -- a new broker: there is no session
 nobody : (keeper : Keeper) (links : Links) (capacity : ℕ) (shares : List Share) (b : Broker) (t : Kept) → IsNewBroker capacity shares b
@@ -254,10 +311,18 @@ nobody (AtDesk number) links capacity shares b t new none has =
     let empty = ap (λ d. map.get d.rows number) new.desk.books ∙ get-empty {X = Row Held GroupPlace} nat_cmp number in let there = has.has in cc
 nobody (InHand connection) links capacity shares b t new none has = let nothing = none connection in let some = has.has in cc
 
-pub owns_new : (links : Links) (capacity : ℕ) (shares : List Share) (b : Broker) → IsNewBroker capacity shares b → ((connection : ℕ) → links connection ≡ None) → Owns links b
+abbrev pub first_ledger : Links → Ledger
+first_ledger links = record { links = links; log = [] }
+
+pub owns_new : (links : Links) (capacity : ℕ) (shares : List Share) (b : Broker) → IsNewBroker capacity shares b → ((connection : ℕ) → links connection ≡ None)
+    → Owns (first_ledger links) b
 owns_new links capacity shares b new none =
+    let nobodys : (keeper : Keeper) (t : Kept) → Has links b.desk.rows keeper t → ⊥ = λ keeper t has.
+    nobody keeper links capacity shares b t new none has in
     record {
       running = running_first capacity shares b new;
-      owned = λ keeper t has. absurd (nobody keeper links capacity shares b t new none has);
-      once = λ one other s t i j e f has had c d same. absurd (nobody one links capacity shares b s new none has);
+      know = new_known capacity b.groups new.groups;
+      known = λ keeper t has. absurd (nobodys keeper t has);
+      owned = λ keeper t has. absurd (nobodys keeper t has);
+      once = λ one other s t i j e f has had c d same. absurd (nobodys one s has);
     }

@@ -25,20 +25,21 @@ use Rattle.local_broker.specs.Calls.{Calls}
 use Rattle.local_broker.specs.Histories.{Called}
 use Rattle.local_broker.proofs.Happened.{running_all}
 use Rattle.local_broker.proofs.Outs.{stays_all}
-use Rattle.local_server.proofs.Stepping.{Links}
 use Rattle.local_server.proofs.Settled.{AddsIn, adds_then, none_settled}
-use Rattle.local_server.proofs.Owning.{Entries, Kept, IsAtDesk, Owns, Holds, Goes, Shrinks, still, goes_then, one, same_rows, written, removed, had, owns_on, owns_calm, taken}
+use Rattle.local_server.proofs.Known.{same_log}
+use Rattle.local_server.proofs.Accepting.{given_known}
+use Rattle.local_server.proofs.Owning.{Ledger, Entries, Kept, IsAtDesk, Owns, Holds, Goes, Shrinks, still, goes_then, one, same_rows, written, removed, had, owns_on, owns_calm, taken}
 
 -- what is held stays out, and nothing is settled
-pub record Went (links : Links) (old new : Broker) : Type 0 where
-  pub owns : Owns links new
+pub record Went (ledger : Ledger) (old new : Broker) : Type 0 where
+  pub owns : Owns ledger new
   pub adds : AddsIn old.groups [] new.groups
 
-pub went : (links : Links) (old new : Broker) → Goes [] old new → Owns links old → Went links old new
-went links old new goes was = record { owns = owns_calm links old new goes was; adds = goes.adds }
+pub went : (ledger : Ledger) (old new : Broker) → Goes [] old new → Owns ledger old → Went ledger old new
+went ledger old new goes was = record { owns = owns_calm ledger old new goes was; adds = goes.adds }
 
-pub went_then : (links : Links) (old mid new : Broker) → AddsIn old.groups [] mid.groups → Went links mid new → Went links old new
-went_then links old mid new adds those = record { owns = those.owns; adds = adds_then [] [] old.groups mid.groups new.groups adds those.adds }
+pub went_then : (ledger : Ledger) (old mid new : Broker) → AddsIn old.groups [] mid.groups → Went ledger mid new → Went ledger old new
+went_then ledger old mid new adds those = record { owns = those.owns; adds = adds_then [] [] old.groups mid.groups new.groups adds those.adds }
 
 -- messages are given back
 gives_one : (place place' : GroupPlace) (identifier : ℕ) (envelope : Held) (old new : Broker) → Calls old (GiveBack place place' envelope (Ok tt)) new
@@ -52,6 +53,8 @@ gives_one place place' identifier envelope old new does =
             (apart identifier envelope (contains_here (identifier, envelope) []), tt);
         desk = same_rows old new (ap (λ b. b.rows) does.2.desk);
       };
+      know = λ log running all was.
+          given_known place place' envelope log old new does running (all identifier envelope (contains_here (identifier, envelope) [])) was;
       adds = none_settled (GiveBack place place' envelope (Ok tt)) old new refl does;
     }
 
@@ -69,129 +72,130 @@ buried_rows None old new session does = λ number its is. (removed old.desk.rows
 buried_rows (Some back) old new session does = same_rows old new (ap (λ b. b.rows) does.2)
 
 buried : (old new : Broker) (session : Kept) → Calls old (Bury session) new → Goes [] old new
-buried old new session does = one (Bury session) old new (λ stamp spends. spends) refl does (buried_rows does.0 old new session does.1.makes)
+buried old new session does = one (Bury session) old new (λ stamp spends. spends) refl tt does (buried_rows does.0 old new session does.1.makes)
 
-ends : (links : Links) (old new : Broker) (session : Kept) (gone : Bool) → held_of session.window ≡ [] → Ends Calls old session gone new → Owns links old → Went links old new
-ends links old new session gone none (inl bury) was = went links old new (buried old new session bury.2) was
-ends links old new session gone none (inr keep) was = absurd (keep.0 none)
+ends : (ledger : Ledger) (old new : Broker) (session : Kept) (gone : Bool) → held_of session.window ≡ [] → Ends Calls old session gone new → Owns ledger old → Went ledger old new
+ends ledger old new session gone none (inl bury) was = went ledger old new (buried old new session bury.2) was
+ends ledger old new session gone none (inr keep) was = absurd (keep.0 none)
 
-retired_from : (links : Links) (old new : Broker) (session : Kept) (membership : Membership GroupPlace) (place : GroupPlace) (again : GroupPlace → Membership GroupPlace)
+retired_from : (ledger : Ledger) (old new : Broker) (session : Kept) (membership : Membership GroupPlace) (place : GroupPlace) (again : GroupPlace → Membership GroupPlace)
     (gone : Bool)
-    → RetiresFrom Calls old session place again gone new → Holds links old membership (held_of session.window) → Went links old new
-retired_from links old new session membership place again gone retires was =
+    → RetiresFrom Calls old session place again gone new → Holds ledger old membership (held_of session.window) → Went ledger old new
+retired_from ledger old new session membership place again gone retires was =
     let entries = held_of session.window in
     let given = given_back entries old retires.mid place retires.place' retires.left retires.given in
     let goes = given.0 in
-    let others = owns_on entries links old retires.mid goes.runs (λ keeper t has. was.mine.apart keeper t (had keeper links old retires.mid t goes.runs.desk has)) was.others in
-    went_then links old retires.mid new goes.adds (ends links retires.mid new (ending_session session (again retires.place') retires.left) gone given.1 retires.ended others)
+    let know = goes.know ledger.log was.others.running was.mine.known was.others.know in
+    let others = owns_on entries ledger ledger.log old retires.mid goes.runs know (same_log ledger.log) (λ keeper t has. was.mine.apart keeper t (had keeper ledger.links old retires.mid t goes.runs.desk has)) was.others in
+    went_then ledger old retires.mid new goes.adds (ends ledger retires.mid new (ending_session session (again retires.place') retires.left) gone given.1 retires.ended others)
 
-retired_as : (membership : Membership GroupPlace) (links : Links) (old new : Broker) (session : Kept) (gone : Bool) → RetiresAs Calls old session membership gone new
-    → Holds links old membership (held_of session.window) → Went links old new
-retired_as NotMember links old new session gone retires was = ends links old new (down session) gone was.mine.owned retires was.others
-retired_as (Member place) links old new session gone retires was = retired_from links old new session (Member place) place Member gone retires was
-retired_as (Leaving place) links old new session gone retires was = retired_from links old new session (Leaving place) place Leaving gone retires was
+retired_as : (membership : Membership GroupPlace) (ledger : Ledger) (old new : Broker) (session : Kept) (gone : Bool) → RetiresAs Calls old session membership gone new
+    → Holds ledger old membership (held_of session.window) → Went ledger old new
+retired_as NotMember ledger old new session gone retires was = ends ledger old new (down session) gone was.mine.owned retires was.others
+retired_as (Member place) ledger old new session gone retires was = retired_from ledger old new session (Member place) place Member gone retires was
+retired_as (Leaving place) ledger old new session gone retires was = retired_from ledger old new session (Leaving place) place Leaving gone retires was
 
-pub retired : (links : Links) (old new : Broker) (session : Kept) (gone : Bool) → Retires Calls old session gone new → Holds links old session.membership (held_of session.window)
-    → Went links old new
-retired links old new session gone retires was = retired_as session.membership links old new session gone retires was
+pub retired : (ledger : Ledger) (old new : Broker) (session : Kept) (gone : Bool) → Retires Calls old session gone new → Holds ledger old session.membership (held_of session.window)
+    → Went ledger old new
+retired ledger old new session gone retires was = retired_as session.membership ledger old new session gone retires was
 
 -- what is due is swept
-swept_row : (links : Links) (old mid : Broker) (now : ℕ) (session : Kept) (rows : Rows Held GroupPlace) (IsSo : Row Held GroupPlace → Type 0) (hands : Standing Held GroupPlace)
-    → session_in hands ≡ Some session → HandsOut old.desk.rows IsSo hands rows → mid.desk.rows ≡ rows → Calls old (Sweep now (Some session)) mid → Owns links old
-    → Holds links mid session.membership (held_of session.window) × AddsIn old.groups [] mid.groups
-swept_row links old mid now session rows IsSo hands its out same does was =
+swept_row : (ledger : Ledger) (old mid : Broker) (now : ℕ) (session : Kept) (rows : Rows Held GroupPlace) (IsSo : Row Held GroupPlace → Type 0) (hands : Standing Held GroupPlace)
+    → session_in hands ≡ Some session → HandsOut old.desk.rows IsSo hands rows → mid.desk.rows ≡ rows → Calls old (Sweep now (Some session)) mid → Owns ledger old
+    → Holds ledger mid session.membership (held_of session.window) × AddsIn old.groups [] mid.groups
+swept_row ledger old mid now session rows IsSo hands its out same does was =
     let at : IsAtDesk old.desk.rows out.number session = record { row = out.oldest.row; has = out.oldest.has; stands = ap session_in out.stood ∙ its } in
     let rest = written old.desk.rows mid.desk.rows out.number (away out.oldest.row.client) (same ∙ out.after) refl in
-    let goes = one (Sweep now (Some session)) old mid (λ stamp spends. spends) refl does (λ number t is. (rest number t is).1) in
-    (taken links old mid out.number session at goes (λ number t is. (rest number t is).0) was, goes.adds)
+    let goes = one (Sweep now (Some session)) old mid (λ stamp spends. spends) refl tt does (λ number t is. (rest number t is).1) in
+    (taken ledger old mid out.number session at goes (λ number t is. (rest number t is).0) was, goes.adds)
 
-swept_one : (links : Links) (old mid : Broker) (now : ℕ) (session : Kept) → Calls old (Sweep now (Some session)) mid → Owns links old
-    → Holds links mid session.membership (held_of session.window) × AddsIn old.groups [] mid.groups
-swept_one links old mid now session does was =
+swept_one : (ledger : Ledger) (old mid : Broker) (now : ℕ) (session : Kept) → Calls old (Sweep now (Some session)) mid → Owns ledger old
+    → Holds ledger mid session.membership (held_of session.window) × AddsIn old.groups [] mid.groups
+swept_one ledger old mid now session does was =
     let rows = does.makes.0 in
     let same : mid.desk.rows ≡ rows = ap (λ b. b.rows) does.makes.2 in
     ⊎_elim
-    (λ (kept : HandsOut old.desk.rows IsKept (KeptIn session) rows). swept_row links old mid now session rows IsKept (KeptIn session) refl kept same does was)
-    (λ parked. swept_row links old mid now session rows (IsOverdue now) (Parked session) refl parked.1 same does was)
+    (λ (kept : HandsOut old.desk.rows IsKept (KeptIn session) rows). swept_row ledger old mid now session rows IsKept (KeptIn session) refl kept same does was)
+    (λ parked. swept_row ledger old mid now session rows (IsOverdue now) (Parked session) refl parked.1 same does was)
     does.makes.1
 
-pub swept : (most : ℕ) (links : Links) (old new : Broker) (now : ℕ) → Sweeps Calls old now most new → Owns links old → Went links old new
-swept zero links old new now sweeps was = went links old new (still old new sweeps) was
-swept (suc most) links old new now (inl none) was =
-    went links old new
-    (one (Sweep now None) old new (λ stamp spends. spends) refl none (same_rows old new (ap (λ b. b.rows) none.makes.2 ∙ none.makes.1.2))) was
-swept (suc most) links old new now (inr sweeps) was =
-    let one_more = swept_one links old sweeps.1 now sweeps.0 sweeps.3 was in
-    went_then links old sweeps.1 new one_more.1 (
+pub swept : (most : ℕ) (ledger : Ledger) (old new : Broker) (now : ℕ) → Sweeps Calls old now most new → Owns ledger old → Went ledger old new
+swept zero ledger old new now sweeps was = went ledger old new (still old new sweeps) was
+swept (suc most) ledger old new now (inl none) was =
+    went ledger old new
+    (one (Sweep now None) old new (λ stamp spends. spends) refl tt none (same_rows old new (ap (λ b. b.rows) none.makes.2 ∙ none.makes.1.2))) was
+swept (suc most) ledger old new now (inr sweeps) was =
+    let one_more = swept_one ledger old sweeps.1 now sweeps.0 sweeps.3 was in
+    went_then ledger old sweeps.1 new one_more.1 (
     ⊎_elim
-    (λ (last : Retires Calls sweeps.1 sweeps.0 false new). retired links sweeps.1 new sweeps.0 false last one_more.0)
+    (λ (last : Retires Calls sweeps.1 sweeps.0 false new). retired ledger sweeps.1 new sweeps.0 false last one_more.0)
     (λ (more : Retires Calls sweeps.1 sweeps.0 true sweeps.2 × Sweeps Calls sweeps.2 now most new).
-    let gone = retired links sweeps.1 sweeps.2 sweeps.0 true more.0 one_more.0 in
-    went_then links sweeps.1 sweeps.2 new gone.adds (swept most links sweeps.2 new now more.1 gone.owns))
+    let gone = retired ledger sweeps.1 sweeps.2 sweeps.0 true more.0 one_more.0 in
+    went_then ledger sweeps.1 sweeps.2 new gone.adds (swept most ledger sweeps.2 new now more.1 gone.owns))
     sweeps.4)
 
 -- a session is asked for
 abbrev pub HoldsNothing : Kept → Type 0
 HoldsNothing session = (session.membership ≡ NotMember) × (held_of session.window ≡ [])
 
-abbrev pub Gives : Links → Broker → Result (Attached Held GroupPlace) DeskError → Type 0
-Gives links b (Ok (New session None)) = Owns links b × HoldsNothing session
-Gives links b (Ok (New session (Some ended))) = Holds links b ended.membership (held_of ended.window) × HoldsNothing session
-Gives links b (Ok (Resumed session)) = Holds links b session.membership (held_of session.window)
-Gives links b (Ok (Replace holder)) = Owns links b
-Gives links b (Ok Busy) = Owns links b
-Gives links b (Err error) = Owns links b
+abbrev pub Gives : Ledger → Broker → Result (Attached Held GroupPlace) DeskError → Type 0
+Gives ledger b (Ok (New session None)) = Owns ledger b × HoldsNothing session
+Gives ledger b (Ok (New session (Some ended))) = Holds ledger b ended.membership (held_of ended.window) × HoldsNothing session
+Gives ledger b (Ok (Resumed session)) = Holds ledger b session.membership (held_of session.window)
+Gives ledger b (Ok (Replace holder)) = Owns ledger b
+Gives ledger b (Ok Busy) = Owns ledger b
+Gives ledger b (Err error) = Owns ledger b
 
 fresh : (session its : Kept) → HoldsNothing its → session ≡ its → HoldsNothing session
 fresh session its nothing same = subst HoldsNothing (sym same) nothing
 
-module _ (links : Links) (old new : Broker) (request : Request) (goes : Shrinks old new → Goes [] old new) (was : Owns links old) where
+module _ (ledger : Ledger) (old new : Broker) (request : Request) (goes : Shrinks old new → Goes [] old new) (was : Owns ledger old) where
   begins : (rows : Rows Held GroupPlace) (client : List ℕ) (connection : ℕ) → new.desk.rows ≡ map.insert rows old.desk.made (new_row client connection)
       → ((number : ℕ) (t : Kept) → IsAtDesk rows number t → IsAtDesk old.desk.rows number t) → Goes [] old new
   begins rows client connection is shrinks =
       goes (λ number t at. shrinks number t (written rows new.desk.rows old.desk.made (new_row client connection) is refl number t at).1)
 
-  client_gives : (client : List ℕ) (answer : Result (Attached Held GroupPlace) DeskError) → AttachesClient old.desk client request answer new.desk → Gives links new answer
+  client_gives : (client : List ℕ) (answer : Result (Attached Held GroupPlace) DeskError) → AttachesClient old.desk client request answer new.desk → Gives ledger new answer
   client_gives client (Ok (New session None)) does =
-      (owns_calm links old new (begins old.desk.rows client request.connection (ap (λ b. b.rows) does.after) (λ number t at. at)) was, fresh session _ (refl, refl) does.is_new.is)
+      (owns_calm ledger old new (begins old.desk.rows client request.connection (ap (λ b. b.rows) does.after) (λ number t at. at)) was, fresh session _ (refl, refl) does.is_new.is)
   client_gives client (Ok (New session (Some ended))) does =
       let k = does.number in
       let rows = map.insert old.desk.rows k (away does.row.client) in
       let first = written old.desk.rows rows k (away does.row.client) refl refl in
       let second = written rows new.desk.rows old.desk.made (new_row client request.connection) (ap (λ b. b.rows) does.after) refl in
       let calls = goes (λ number t at. (first number t (second number t at).1).1) in (
-        taken links old new k ended (record { row = does.row; has = does.its.has; stands = ap session_in does.its.stands }) calls
+        taken ledger old new k ended (record { row = does.row; has = does.its.has; stands = ap session_in does.its.stands }) calls
             (λ number t at. (first number t (second number t at).1).0) was,
         fresh session _ (refl, refl) does.is_new.is,
       )
   client_gives client (Ok (Resumed session)) does =
       let k = does.number in
       let rest = written old.desk.rows new.desk.rows k (with_standing does.row (Lent request.connection)) (ap (λ b. b.rows) does.after) refl in
-      taken links old new k session (record { row = does.row; has = does.its.has; stands = ap session_in does.its.stands }) (goes (λ number t at. (rest number t at).1))
+      taken ledger old new k session (record { row = does.row; has = does.its.has; stands = ap session_in does.its.stands }) (goes (λ number t at. (rest number t at).1))
       (λ number t at. (rest number t at).0) was
   client_gives client (Ok (Replace holder)) does =
       let rest = written old.desk.rows new.desk.rows does.number (with_wait does.row request.connection) (ap (λ b. b.rows) does.after) (ap session_in does.its.stands) in
-      owns_calm links old new (goes (λ number t at. (rest number t at).1)) was
-  client_gives client (Ok Busy) does = owns_calm links old new (goes (same_rows old new (ap (λ b. b.rows) does.1))) was
-  client_gives client (Err errors.Full) does = owns_calm links old new (goes (same_rows old new (ap (λ b. b.rows) does.2))) was
-  client_gives client (Err errors.Memory) does = owns_calm links old new (goes (same_rows old new (ap (λ b. b.rows) does.2))) was
+      owns_calm ledger old new (goes (λ number t at. (rest number t at).1)) was
+  client_gives client (Ok Busy) does = owns_calm ledger old new (goes (same_rows old new (ap (λ b. b.rows) does.1))) was
+  client_gives client (Err errors.Full) does = owns_calm ledger old new (goes (same_rows old new (ap (λ b. b.rows) does.2))) was
+  client_gives client (Err errors.Memory) does = owns_calm ledger old new (goes (same_rows old new (ap (λ b. b.rows) does.2))) was
   client_gives client (Err errors.NoPlace) does = absurd does
   client_gives client (Err errors.NoName) does = absurd does
 
-  gives_by : (client : List ℕ) (answer : Result (Attached Held GroupPlace) DeskError) → attaches_by client old.desk request answer new.desk → Gives links new answer
+  gives_by : (client : List ℕ) (answer : Result (Attached Held GroupPlace) DeskError) → attaches_by client old.desk request answer new.desk → Gives ledger new answer
   gives_by [] (Ok (New session None)) does =
-      (owns_calm links old new (begins old.desk.rows _ request.connection (ap (λ b. b.rows) does.after) (λ number t at. at)) was, fresh session _ (refl, refl) does.is_new.is)
+      (owns_calm ledger old new (begins old.desk.rows _ request.connection (ap (λ b. b.rows) does.after) (λ number t at. at)) was, fresh session _ (refl, refl) does.is_new.is)
   gives_by [] (Ok (New session (Some ended))) does = absurd does
   gives_by [] (Ok (Resumed session)) does = absurd does
   gives_by [] (Ok (Replace holder)) does = absurd does
   gives_by [] (Ok Busy) does = absurd does
-  gives_by [] (Err errors.NoName) does = owns_calm links old new (goes (same_rows old new (ap (λ b. b.rows) does.1))) was
-  gives_by [] (Err errors.Full) does = owns_calm links old new (goes (same_rows old new (ap (λ b. b.rows) does.2))) was
-  gives_by [] (Err errors.Memory) does = owns_calm links old new (goes (same_rows old new (ap (λ b. b.rows) does.2))) was
+  gives_by [] (Err errors.NoName) does = owns_calm ledger old new (goes (same_rows old new (ap (λ b. b.rows) does.1))) was
+  gives_by [] (Err errors.Full) does = owns_calm ledger old new (goes (same_rows old new (ap (λ b. b.rows) does.2))) was
+  gives_by [] (Err errors.Memory) does = owns_calm ledger old new (goes (same_rows old new (ap (λ b. b.rows) does.2))) was
   gives_by [] (Err errors.NoPlace) does = absurd does
   gives_by (byte ∷ bytes) answer does = client_gives (byte ∷ bytes) answer does
 
-pub gives : (links : Links) (old new : Broker) (request : Request) (answer : Result (Attached Held GroupPlace) DeskError) → Calls old (Attach request answer) new → Owns links old
-    → Gives links new answer
-gives links old new request answer does was =
-    gives_by links old new request (one (Attach request answer) old new (λ stamp spends. spends) refl does) was request.client answer does.makes
+pub gives : (ledger : Ledger) (old new : Broker) (request : Request) (answer : Result (Attached Held GroupPlace) DeskError) → Calls old (Attach request answer) new → Owns ledger old
+    → Gives ledger new answer
+gives ledger old new request answer does was =
+    gives_by ledger old new request (one (Attach request answer) old new (λ stamp spends. spends) refl tt does) was request.client answer does.makes

@@ -22,9 +22,10 @@ use Rattle.local_broker.specs.Histories.{Called}
 use Rattle.local_broker.proofs.Happened.{running_all}
 use Rattle.local_broker.proofs.Outs.{stays_all}
 use Rattle.local_server.specs.Settling.{Settlement, AreOut, AreOutFor}
-use Rattle.local_server.proofs.Stepping.{Links}
 use Rattle.local_server.proofs.Settled.{AddsIn, adds_nothing, one_settled}
-use Rattle.local_server.proofs.Owning.{Entries, IsEntry, AreApart, Holds, Runs, still, same_rows, had, owns_on, mine_on, calm, less}
+use Rattle.local_server.proofs.Known.{same_log}
+use Rattle.local_server.proofs.Accepting.{settled_known}
+use Rattle.local_server.proofs.Owning.{Ledger, Entries, IsEntry, AreApart, Holds, Runs, still, same_rows, had, owns_on, mine_on, calm, less}
 
 -- what is held under other identifiers
 held_still : (k : ℕ) (entries : Entries) (j : ℕ) (f : Held) → Contains (entries_without k entries) (j, f) → Contains entries (j, f) × (j ≢ k)
@@ -74,8 +75,8 @@ same_under (entry ∷ entries) k e f distinct c d =
     (contains_cons_cases entry entries (k, e) c)
 
 -- a PUBACK: what its session holds under the identifier is settled
-pub record Acked (links : Links) (old : Broker) (entries : Entries) (identifier code : ℕ) (membership' : Membership GroupPlace) (entries' : Entries) (new : Broker) : Type 0 where
-  pub holds : Holds links new membership' entries'
+pub record Acked (ledger : Ledger) (old : Broker) (entries : Entries) (identifier code : ℕ) (membership' : Membership GroupPlace) (entries' : Entries) (new : Broker) : Type 0 where
+  pub holds : Holds ledger new membership' entries'
   pub settled : List Settlement
   pub adds : AddsIn old.groups settled new.groups
   pub exact : (envelope : Held) → Contains entries (identifier, envelope) → settled ≡ (envelope, fate_of code) ∷ []
@@ -98,18 +99,18 @@ settle_runs place place' k envelope code old new does =
       desk = same_rows old new (ap (λ b. b.rows) does.2.desk);
     }
 
-module _ (links : Links) (old new : Broker) (membership : Membership GroupPlace) (place : GroupPlace) (code k : ℕ) (window : Contents Held) where
+module _ (ledger : Ledger) (old new : Broker) (membership : Membership GroupPlace) (place : GroupPlace) (code k : ℕ) (window : Contents Held) where
   settles_one : (place' : GroupPlace) (envelope : Held) → (AreOutFor old membership (held_of window) → AreOut old place (held_of window))
       → AreDistinct (identifiers (held_of window))
-      → Contains (held_of window) (k, envelope) → Calls old (Settle place place' envelope (fate_of code)) new → Holds links old membership (held_of window)
-      → Acked links old (held_of window) k code membership (held_of (after_ack window k)) new
+      → Contains (held_of window) (k, envelope) → Calls old (Settle place place' envelope (fate_of code)) new → Holds ledger old membership (held_of window)
+      → Acked ledger old (held_of window) k code membership (held_of (after_ack window k)) new
   settles_one place' envelope its distinct has does was =
       let entries = held_of window in
       let spent : Entries = (k, envelope) ∷ [] in
       let runs = settle_runs place place' k envelope code old new does in
       let out = its was.mine.owned k envelope has in
       let part : (i : ℕ) (e : Held) → Contains (held_of (after_ack window k)) (i, e) → Contains entries (i, e) = λ i e c. (acked_still window k i e c).0 in
-      let rest : Holds links old membership (held_of (after_ack window k)) = less links old membership membership entries (held_of (after_ack window k)) part
+      let rest : Holds ledger old membership (held_of (after_ack window k)) = less ledger old membership membership entries (held_of (after_ack window k)) part
       (λ owned. part_owned membership part owned) was in
       let apart : AreApart spent (held_of (after_ack window k)) = λ i j e f c d same.
       (let is = only k i envelope e c in
@@ -118,11 +119,11 @@ module _ (links : Links) (old new : Broker) (membership : Membership GroupPlace)
       still.1 (sym (ap (λ (x : ℕ × Held). x.0) is ∙ was.mine.once i j e f here still.0 same))) in
       record {
         holds = record {
-          others = owns_on spent links old new runs
-              (λ keeper t there i j e f c d. was.mine.apart keeper t (had keeper links old new t runs.desk there) i j e f
+          others = owns_on spent ledger ledger.log old new runs (settled_known place place' envelope (fate_of code) ledger.log old new does was.others.know) (same_log ledger.log)
+              (λ keeper t there i j e f c d. was.mine.apart keeper t (had keeper ledger.links old new t runs.desk there) i j e f
               (subst (λ (x : ℕ × Held). Contains entries x) (only k i envelope e c) has) d)
               was.others;
-          mine = mine_on spent links old new membership (held_of (after_ack window k)) runs apart rest.mine;
+          mine = mine_on spent ledger ledger.log old new membership (held_of (after_ack window k)) runs (same_log ledger.log) apart rest.mine;
         };
         settled = (envelope, fate_of code) ∷ [];
         adds =
@@ -139,43 +140,43 @@ module _ (links : Links) (old new : Broker) (membership : Membership GroupPlace)
       part_owned (Leaving at) part owned = λ i e c. owned i e (part i e c)
 
   settles_in : (found : Option Held) (place' : GroupPlace) (window' : Contents Held) → (AreOutFor old membership (held_of window) → AreOut old place (held_of window))
-      → AreDistinct (identifiers (held_of window)) → calls.Acks window k found window' → Settles Calls old place code found place' new → Holds links old membership (held_of window)
-      → Acked links old (held_of window) k code membership (held_of window') new
+      → AreDistinct (identifiers (held_of window)) → calls.Acks window k found window' → Settles Calls old place code found place' new → Holds ledger old membership (held_of window)
+      → Acked ledger old (held_of window) k code membership (held_of window') new
   settles_in None place' window' its distinct acks settles was =
-      subst (λ (w : Contents Held). Acked links old (held_of window) k code membership (held_of w) new) (sym acks.1)
+      subst (λ (w : Contents Held). Acked ledger old (held_of window) k code membership (held_of w) new) (sym acks.1)
       (record {
-        holds = calm links old new membership (held_of window) (still old new settles.1) was;
+        holds = calm ledger old new membership (held_of window) (still old new settles.1) was;
         settled = [];
         adds = adds_nothing old new settles.1;
         exact = λ envelope c. absurd (acks.0 (contains_identifier (held_of window) k envelope c));
       })
   settles_in (Some envelope) place' window' its distinct acks settles was =
-      subst (λ (w : Contents Held). Acked links old (held_of window) k code membership (held_of w) new) (sym acks.1) (settles_one place' envelope its distinct acks.0 settles was)
+      subst (λ (w : Contents Held). Acked ledger old (held_of window) k code membership (held_of w) new) (sym acks.1) (settles_one place' envelope its distinct acks.0 settles was)
 
   kept_place : (found : Option Held) (place' : GroupPlace) → Settles Calls old place code found place' new → place' ≡ place
   kept_place None place' settles = settles.0
   kept_place (Some envelope) place' settles = settles.1
 
-pub acknowledged : (membership : Membership GroupPlace) (links : Links) (old new : Broker) (window : Contents Held) (identifier code : ℕ) (membership' : Membership GroupPlace)
+pub acknowledged : (membership : Membership GroupPlace) (ledger : Ledger) (old new : Broker) (window : Contents Held) (identifier code : ℕ) (membership' : Membership GroupPlace)
     (window' : Contents Held)
-    → AcknowledgesFor Calls old membership window identifier code membership' window' new → Holds links old membership (held_of window)
-    → Acked links old (held_of window) identifier code membership' (held_of window') new
-acknowledged NotMember links old new window identifier code membership' window' does was =
-    subst (λ (m : Membership GroupPlace). Acked links old (held_of window) identifier code m (held_of window') new) (sym does.0)
-    (subst (λ (w : Contents Held). Acked links old (held_of window) identifier code NotMember (held_of w) new) (sym does.1)
+    → AcknowledgesFor Calls old membership window identifier code membership' window' new → Holds ledger old membership (held_of window)
+    → Acked ledger old (held_of window) identifier code membership' (held_of window') new
+acknowledged NotMember ledger old new window identifier code membership' window' does was =
+    subst (λ (m : Membership GroupPlace). Acked ledger old (held_of window) identifier code m (held_of window') new) (sym does.0)
+    (subst (λ (w : Contents Held). Acked ledger old (held_of window) identifier code NotMember (held_of w) new) (sym does.1)
     (record {
-      holds = calm links old new NotMember (held_of window) (still old new does.2) was;
+      holds = calm ledger old new NotMember (held_of window) (still old new does.2) was;
       settled = [];
       adds = adds_nothing old new does.2;
       exact = λ envelope c. absurd (contains_nil (identifier, envelope) (subst (λ (es : Entries). Contains es (identifier, envelope)) was.mine.owned c));
     }))
-acknowledged (Member place) links old new window identifier code membership' window' does was =
+acknowledged (Member place) ledger old new window identifier code membership' window' does was =
     let s = does.1 in
-    subst (λ (m : Membership GroupPlace). Acked links old (held_of window) identifier code m (held_of window') new)
-    (sym (does.2 ∙ ap Member (kept_place links old new (Member place) place code identifier window s.found does.0 s.settled)))
-    (settles_in links old new (Member place) place code identifier window s.found does.0 window' (λ owned. owned) s.sound.entries.distinct s.acked s.settled was)
-acknowledged (Leaving place) links old new window identifier code membership' window' does was =
+    subst (λ (m : Membership GroupPlace). Acked ledger old (held_of window) identifier code m (held_of window') new)
+    (sym (does.2 ∙ ap Member (kept_place ledger old new (Member place) place code identifier window s.found does.0 s.settled)))
+    (settles_in ledger old new (Member place) place code identifier window s.found does.0 window' (λ owned. owned) s.sound.entries.distinct s.acked s.settled was)
+acknowledged (Leaving place) ledger old new window identifier code membership' window' does was =
     let s = does.1 in
-    subst (λ (m : Membership GroupPlace). Acked links old (held_of window) identifier code m (held_of window') new)
-    (sym (does.2 ∙ ap Leaving (kept_place links old new (Leaving place) place code identifier window s.found does.0 s.settled)))
-    (settles_in links old new (Leaving place) place code identifier window s.found does.0 window' (λ owned. owned) s.sound.entries.distinct s.acked s.settled was)
+    subst (λ (m : Membership GroupPlace). Acked ledger old (held_of window) identifier code m (held_of window') new)
+    (sym (does.2 ∙ ap Leaving (kept_place ledger old new (Leaving place) place code identifier window s.found does.0 s.settled)))
+    (settles_in ledger old new (Leaving place) place code identifier window s.found does.0 window' (λ owned. owned) s.sound.entries.distinct s.acked s.settled was)

@@ -10,7 +10,8 @@ use Rattle.session_desk.specs.Rows.{Rows}
 use Rattle.session_desk.specs.Books.{Books}
 use Rattle.session_desk.specs.Hands.{DeskLaw}
 use Rattle.conn_engine.specs.declared.standing.Link.{Link}
-use Rattle.local_server.specs.Transcripts.{Turn, transcript_of, IsTurnOf, AreTurnsOf, turns_of, session_of}
+use Rattle.local_server.specs.Turns.{Turn, turns_of}
+use Rattle.local_server.specs.Transcripts.{transcript_of, IsTurnOf, AreTurnsOf, session_of}
 use Rattle.local_server.proofs.Windows.{Leads, IsUp, leads_new}
 use Rattle.local_server.proofs.Turns.{other_marks, quiet_marks, own_turns, other_turns}
 use Rattle.local_server.proofs.Lent.{IsLentTo, IsParkedAs, KeepsRows, one_holder, not_both}

@@ -1,5 +1,6 @@
 -- One step of a connection: one more turn, and what holds along a run holds on.
-use Rattle.std.proofs.Common.{◌≡◌, ◌⊎◌, ℕ, List, [], ◌∷◌, ◌++◌, Option, Some, None, Result, refl, sym, ap, subst, ◌∙◌, ⊎_elim}
+use Rattle.std.proofs.Common.{◌≡◌, ◌≢◌, ◌⊎◌, ℕ, List, [], ◌∷◌, ◌++◌, Option, Some, None, Result, refl, sym, ap, subst, ◌∙◌, ⊎_elim}
+use Rattle.std.specs.Prelude.{⊤}
 use Rattle.std.specs.List.{AllByRecursion}
 use Rattle.std.proofs.lemmas.Option.{same_Some}
 use Rattle.group_jobs.specs.Stamps.{Held}
@@ -9,14 +10,19 @@ use Rattle.member_window.specs.Runs.{transcript_of as made_by}
 use Rattle.session_desk.specs.declared.attached.Attached.{Attached}
 use Rattle.session_desk.specs.declared.error.DeskError.{DeskError}
 use Rattle.session_desk.specs.declared.session.Session.{Session}
+use Rattle.conn_engine.specs.declared.input.Input.{Input}
+use Rattle.conn_engine.specs.declared.input.Then.{Then}
+use Rattle.conn_engine.specs.declared.input.Then.TheVariants.{Go}
 use Rattle.conn_engine.specs.declared.standing.Link.{Link}
 use Rattle.conn_engine.specs.Ending.{down}
 use Rattle.conn_engine.specs.Facts.Fact.{Attach, ParkAsIs}
-use Rattle.conn_laws.specs.Transcripts.{IsWithin, session_given, LeadsAside, AsksForOne, SessionBegins, SessionGoesOn, SessionEnds, AsksInVain, SessionTurns}
+use Rattle.conn_laws.specs.Marks.{IsWithin}
+use Rattle.conn_laws.specs.Transcripts.{session_given, LeadsAside, AsksForOne, SessionBegins, SessionGoesOn, SessionEnds, AsksInVain, SessionTurns}
 use Rattle.local_broker.specs.Places.{GroupPlace}
 use Rattle.local_broker.specs.Broker.{Broker}
 use Rattle.local_broker.specs.Calls.{Calls}
-use Rattle.local_server.specs.Transcripts.{Turn, transcript_of, Begins, IsTurnOf, session_of}
+use Rattle.local_server.specs.Turns.{Turn}
+use Rattle.local_server.specs.Transcripts.{transcript_of, Begins, IsTurnOf, session_of}
 use Rattle.local_server.proofs.Windows.{Leads, IsUp, leads_on, leads_up, leads_down, leads_down_again, stays_up}
 use Rattle.local_server.proofs.Turns.{own_marks}
 use Rattle.local_server.proofs.Lent.{IsLentTo}
@@ -27,12 +33,23 @@ use Rattle.local_server.proofs.Asked.{lawful, led_aside, gives, gives_none, park
 abbrev pub Links : Type 0
 Links = ℕ → Option (Link GroupPlace)
 
+-- whether a connection goes on, by what it has before a step and behind it
+abbrev pub GoesAs : Option (Link GroupPlace) → Option (Link GroupPlace) → Then → Type 0
+GoesAs None None next = ⊤
+GoesAs None (Some link) next = next ≡ Go
+GoesAs (Some link) (Some link') next = next ≡ Go
+GoesAs (Some link) None next = next ≢ Go
+
 -- a step of this connection added these marks
-pub record AddsTurn (turns : List Turn) (links : Links) (number : ℕ) (marks : List (Mark Held)) (after : Option (Link GroupPlace)) (new : Broker) : Type 0 where
+pub record AddsTurn (turns : List Turn) (links : Links) (number : ℕ) (input : Input) (next : Then) (marks : List (Mark Held)) (after : Option (Link GroupPlace)) (new : Broker)
+    : Type 0 where
   pub turn : Turn
   pub whose : turn.connection ≡ number
+  pub input_is : turn.input ≡ input
+  pub next_is : turn.next ≡ next
   pub marks_are : turn.marks ≡ marks
   pub session : (link : Link GroupPlace) → links number ≡ Some link → turn.session ≡ link.session.identity.number
+  pub session_then : (link : Link GroupPlace) → after ≡ Some link → turn.session ≡ link.session.identity.number
   pub keeps : KeepsSessions (turns ++ turn ∷ []) new.desk (with_link links number after)
 
 -- the marks of the turn lead on from where the session was
@@ -79,58 +96,67 @@ linked turns turn new link its holds leads up other is =
       up = up;
     })
 
-begins : (turns : List Turn) (old new : Broker) (links : Links) (number : ℕ) (link : Link GroupPlace) (marks : List (Mark Held)) → SessionBegins Calls old number link marks new
-    → links number ≡ None → KeepsSessions turns old.desk links → AddsTurn turns links number marks (Some link) new
-begins turns old new links number link marks begin free was =
+begins : (turns : List Turn) (old new : Broker) (links : Links) (number : ℕ) (input : Input) (next : Then) (link : Link GroupPlace) (marks : List (Mark Held))
+    → SessionBegins Calls old number link marks new → next ≡ Go
+    → links number ≡ None → KeepsSessions turns old.desk links → AddsTurn turns links number input next marks (Some link) new
+begins turns old new links number input next link marks begin on free was =
     let session = begin.session in
     let got = got_aside turns begin.mid new links number session begin.aside (gets turns old begin.mid links number begin.answer session begin.given begin.asks was) in
-    let turn : Turn = record { connection = number; session = session.identity.number; marks = marks } in
+    let turn : Turn = record { connection = number; input = input; next = next; session = session.identity.number; marks = marks } in
     let its : session.identity.number ≡ link.session.identity.number = ap (λ w. w.number) (sym begin.same) in
     let up =
     leads_up (transcript_of session.identity.number turns) link.terms.receive_maximum session.window link.session.window begin.calls got.in_hand.stands.leads begin.within begin.made in
     let leads = leads_there turns turn (Up link.terms.receive_maximum ∷ made_by begin.calls) link.session.window begin.marks_are up.0 in
     let is_turn : IsTurnOf (session_of (links number)) turn (Some link.session.identity.number) =
-    subst (λ (l : Option (Link GroupPlace)). IsTurnOf (session_of l) turn (Some link.session.identity.number)) (sym free) (its, subst Begins (sym begin.marks_are) begin.within) in
+    subst (λ (l : Option (Link GroupPlace)). IsTurnOf (session_of l) turn (Some link.session.identity.number)) (sym free)
+    (its, subst Begins (sym begin.marks_are) begin.within, on) in
     record {
       turn = turn;
       whose = refl;
+      input_is = refl;
+      next_is = refl;
       marks_are = refl;
       session = λ other has. absurd (cc);
+      session_then = λ other is. its ∙ ap (λ (l : Link GroupPlace). l.session.identity.number) (same_Some link other is);
       keeps = turned turns turn new.desk links (Some link) got.keeps got.in_hand.holds is_turn leads.legal (linked turns turn new link its got.in_hand.holds leads up.1);
     }
 
-goes_on : (turns : List Turn) (old new : Broker) (links : Links) (number : ℕ) (link link' : Link GroupPlace) (marks : List (Mark Held))
-    → SessionGoesOn Calls old link link' marks new
-    → links number ≡ Some link → KeepsSessions turns old.desk links → AddsTurn turns links number marks (Some link') new
-goes_on turns old new links number link link' marks goes has was =
+goes_on : (turns : List Turn) (old new : Broker) (links : Links) (number : ℕ) (input : Input) (next : Then) (link link' : Link GroupPlace) (marks : List (Mark Held))
+    → SessionGoesOn Calls old link link' marks new → next ≡ Go
+    → links number ≡ Some link → KeepsSessions turns old.desk links → AddsTurn turns links number input next marks (Some link') new
+goes_on turns old new links number input next link link' marks goes on has was =
     let keeps = step_aside turns old new links goes.aside was in
     let had = keeps.linked number link has in
-    let turn : Turn = record { connection = number; session = link.session.identity.number; marks = marks } in
+    let turn : Turn = record { connection = number; input = input; next = next; session = link.session.identity.number; marks = marks } in
     let its : link.session.identity.number ≡ link'.session.identity.number = ap (λ w. w.number) (sym goes.same) in
     let up = stays_up goes.calls link.session.window link'.session.window had.up (subst (AllByRecursion IsWithin) goes.marks_are goes.within) goes.made in
     let leads = leads_there turns turn (made_by goes.calls) link'.session.window goes.marks_are
     (leads_on (transcript_of link.session.identity.number turns) link.session.window link'.session.window goes.calls had.leads goes.made up.1) in
     let is_turn : IsTurnOf (session_of (links number)) turn (Some link'.session.identity.number) =
-    subst (λ (l : Option (Link GroupPlace)). IsTurnOf (session_of l) turn (Some link'.session.identity.number)) (sym has) (refl, sym its, goes.within) in
+    subst (λ (l : Option (Link GroupPlace)). IsTurnOf (session_of l) turn (Some link'.session.identity.number)) (sym has) (refl, sym its, goes.within, on) in
     record {
       turn = turn;
       whose = refl;
+      input_is = refl;
+      next_is = refl;
       marks_are = refl;
       session = λ other is. ap (λ (l : Link GroupPlace). l.session.identity.number) (same_Some link other (sym has ∙ is));
+      session_then = λ other is. its ∙ ap (λ (l : Link GroupPlace). l.session.identity.number) (same_Some link' other is);
       keeps = turned turns turn new.desk links (Some link') keeps had.holds is_turn leads.legal (linked turns turn new link' its had.holds leads up);
     }
 
 -- the session is handed in
-ends : (turns : List Turn) (old new : Broker) (links : Links) (number : ℕ) (link : Link GroupPlace) (marks : List (Mark Held)) → SessionEnds Calls old link marks new
-    → links number ≡ Some link → KeepsSessions turns old.desk links → AddsTurn turns links number marks None new
-ends turns old new links number link marks end has was =
+ends : (turns : List Turn) (old new : Broker) (links : Links) (number : ℕ) (input : Input) (next : Then) (link : Link GroupPlace) (marks : List (Mark Held))
+    → SessionEnds Calls old link marks new → next ≢ Go
+    → links number ≡ Some link → KeepsSessions turns old.desk links → AddsTurn turns links number input next marks None new
+ends turns old new links number input next link marks end stops has was =
     let had = was.linked number link has in
     let n = link.session.identity.number in
-    let turn : Turn = record { connection = number; session = n; marks = marks } in
+    let turn : Turn = record { connection = number; input = input; next = next; session = n; marks = marks } in
     let more : List Turn = turns ++ turn ∷ [] in
     let leads = leads_there turns turn (Down ∷ []) (after_down link.session.window) end.marks_are (leads_down (transcript_of n turns) link.session.window had.leads) in
     let is_turn : IsTurnOf (session_of (links number)) turn None =
-    subst (λ (l : Option (Link GroupPlace)). IsTurnOf (session_of l) turn None) (sym has) (refl, end.marks_are) in
+    subst (λ (l : Option (Link GroupPlace)). IsTurnOf (session_of l) turn None) (sym has) (refl, end.marks_are, stops) in
     let left = turned turns turn old.desk links None was had.holds is_turn leads.legal (λ (l : Link GroupPlace) (is : None ≡ Some l). absurd (cc)) in
     let rows = led_aside old end.before end.aside was.law in
     let before = aside more old.desk end.before.desk (with_link links number None) rows.0 rows.1 left in
@@ -146,8 +172,11 @@ ends turns old new links number link marks end has was =
     record {
       turn = turn;
       whose = refl;
+      input_is = refl;
+      next_is = refl;
       marks_are = refl;
       session = λ other is. ap (λ (l : Link GroupPlace). l.session.identity.number) (same_Some link other (sym has ∙ is));
+      session_then = λ other is. absurd (cc);
       keeps = step_aside more end.behind new (with_link links number None) end.later behind;
     }
 
@@ -179,27 +208,31 @@ vain turns old new links number asked free was =
     step_aside turns back.1 new links back.4 (returned turns asked.mid back.1 links number back.0 back.3 free got))
     asked.vain
 
-nothing : (turns : List Turn) (old new : Broker) (links : Links) (number : ℕ) (marks : List (Mark Held))
+nothing : (turns : List Turn) (old new : Broker) (links : Links) (number : ℕ) (input : Input) (next : Then) (marks : List (Mark Held))
     → (marks ≡ []) × (LeadsAside Calls old new ⊎ AsksInVain Calls old number new)
-    → links number ≡ None → KeepsSessions turns old.desk links → AddsTurn turns links number marks None new
-nothing turns old new links number marks none free was =
+    → links number ≡ None → KeepsSessions turns old.desk links → AddsTurn turns links number input next marks None new
+nothing turns old new links number input next marks none free was =
     let keeps : KeepsSessions turns new.desk links =
     ⊎_elim
     (λ (leads : LeadsAside Calls old new). step_aside turns old new links leads was)
     (λ (asked : AsksInVain Calls old number new). vain turns old new links number asked free was)
     none.1 in
-    let turn : Turn = record { connection = number; session = 0; marks = marks } in
+    let turn : Turn = record { connection = number; input = input; next = next; session = 0; marks = marks } in
     record {
       turn = turn;
       whose = refl;
+      input_is = refl;
+      next_is = refl;
       marks_are = refl;
       session = λ other has. absurd (cc);
+      session_then = λ other is. absurd (cc);
       keeps = subst (λ (l : Links). KeepsSessions (turns ++ turn ∷ []) new.desk l) (sym (with_same links number None free)) (quiet turns turn new.desk links none.0 free keeps);
     }
 
-pub adds_turn : (before after : Option (Link GroupPlace)) (turns : List Turn) (old new : Broker) (links : Links) (number : ℕ) (marks : List (Mark Held))
-    → SessionTurns Calls old number before after marks new → links number ≡ before → KeepsSessions turns old.desk links → AddsTurn turns links number marks after new
-adds_turn None None turns old new links number marks turns_it has was = nothing turns old new links number marks turns_it has was
-adds_turn None (Some link) turns old new links number marks turns_it has was = begins turns old new links number link marks turns_it has was
-adds_turn (Some link) (Some link') turns old new links number marks turns_it has was = goes_on turns old new links number link link' marks turns_it has was
-adds_turn (Some link) None turns old new links number marks turns_it has was = ends turns old new links number link marks turns_it has was
+pub adds_turn : (before after : Option (Link GroupPlace)) (turns : List Turn) (old new : Broker) (links : Links) (number : ℕ) (input : Input) (next : Then)
+    (marks : List (Mark Held)) → SessionTurns Calls old number before after marks new → GoesAs before after next → links number ≡ before → KeepsSessions turns old.desk links
+    → AddsTurn turns links number input next marks after new
+adds_turn None None turns old new links number input next marks turns_it goes has was = nothing turns old new links number input next marks turns_it has was
+adds_turn None (Some link) turns old new links number input next marks turns_it goes has was = begins turns old new links number input next link marks turns_it goes has was
+adds_turn (Some link) (Some link') turns old new links number input next marks turns_it goes has was = goes_on turns old new links number input next link link' marks turns_it goes has was
+adds_turn (Some link) None turns old new links number input next marks turns_it goes has was = ends turns old new links number input next link marks turns_it goes has was

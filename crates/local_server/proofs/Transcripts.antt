@@ -1,5 +1,6 @@
 -- The transcripts of the sessions of a server, along every run.
-use Rattle.std.proofs.Common.{◌≡◌, ◌≢◌, ℕ, zero, suc, Bool, true, false, List, [], ◌∷◌, ◌++◌, map, Option, Some, None, Result, Ok, IsOk, filter_map, slice_get, slice_set, replicate, refl, sym, ap, subst, ◌∙◌, ⊎_elim, append-nil}
+use Rattle.std.proofs.Common.{◌≡◌, ◌≢◌, ℕ, zero, suc, Bool, true, false, List, [], ◌∷◌, ◌++◌, map, Option, Some, None, Result, Ok, IsOk, filter_map, slice_get, slice_set, replicate, refl, sym, ap, subst, ◌∙◌, ⊎_elim, arith, append-nil}
+use Rattle.std.specs.Prelude.{⊤}
 use Rattle.std.specs.Result.{result_and}
 use Rattle.std.specs.Ordering.{nat_cmp}
 use Rattle.std.specs.FinMap as map
@@ -12,6 +13,7 @@ use Rattle.group_jobs.specs.Stamps.{Held}
 use Rattle.local_group.specs.Groups.{Group}
 use Rattle.member_window.specs.Marks.{standing_down, standing_after_all}
 use Rattle.member_window.specs.Runs.{standing_of}
+use Rattle.member_window.proofs.Lists.{contains_nil}
 use Rattle.session_desk.specs.declared.row.Row.{Row}
 use Rattle.session_desk.specs.declared.row.Standing.TheVariants.{Parked}
 use Rattle.session_desk.specs.declared.session.Session.{Session}
@@ -36,9 +38,14 @@ use Rattle.local_server.specs.Servers.{Clients, ServerState, IsNewServer}
 use Rattle.local_server.specs.Addressed.{AreNumbered}
 use Rattle.local_server.specs.Happening.{EndsAt, EndsFirst, Does, DoesIf, HappensAll}
 use Rattle.local_server.specs.Quotas.{AllWithinQuota}
-use Rattle.local_server.specs.Transcripts.{Turn, transcript_of, link_in, link_at, session_of, StandsAsTold, AccountFor, KeepsTranscripts, AccountAlong}
+use Rattle.local_server.specs.Turns.{Turn}
+use Rattle.local_server.specs.Streams.{HearsPiece, HearsTick, HearsLast, client_at, Came, CameIf}
+use Rattle.local_server.specs.Transcripts.{transcript_of, link_in, link_at, session_of, StandsAsTold, AccountFor, KeepsTranscripts, AccountAlong}
 use Rattle.local_server.specs.Settling.{Settlement, settled_in_all, settled_seen_by, HeldIsOut, SettlesWhatIsAcknowledged}
 use Rattle.local_server.proofs.Settled.{AddsIn, adds_nothing, adds_then, none_closed}
+use Rattle.local_server.specs.Messages.{SendsWhatWasAccepted}
+use Rattle.local_server.proofs.Known.{Log}
+use Rattle.local_server.proofs.Many.{as_many}
 use Rattle.local_server.proofs.Owning.{AtDesk, InHand, Owns, owns_closed, owns_new}
 use Rattle.local_server.proofs.Addressed as addressed
 use Rattle.local_server.proofs.Addressed.{at, answered, new_numbered}
@@ -49,7 +56,10 @@ use Rattle.local_server.proofs.Quotas.{keeps_quota}
 use Rattle.local_server.proofs.Lent.{IsLentTo, one_holder}
 use Rattle.local_server.proofs.Sessions.{with_link, link_here, link_beside, with_same, KeepsSessions}
 use Rattle.local_server.proofs.Stepping.{Links}
-use Rattle.local_server.proofs.Turning.{Keeps, Says, silent, then_says, receives, ticks_for, ends_for}
+use Rattle.local_server.proofs.Turning.{Keeps, Says, silent, then_says, says_so, receives, ticks_for, ends_for}
+use Rattle.local_server.proofs.Reading.{EndsTurns, ends_heard}
+use Rattle.local_server.proofs.Unfaulted.{AreUnfaulted, unfaulted_at, still_unfaulted, new_unfaulted}
+use Rattle.local_server.proofs.Heard.{client_in, cell_heard, EndsBelow, none_below, one_more_below, untouched}
 
 -- what the clients in these cells have
 abbrev links_at : Clients → Links
@@ -72,13 +82,13 @@ written_at clients clients' number before after has is each =
     (cases_eq each number)
 
 in_cell : (first : Broker) (turns : List Turn) (said : List Said) (clients clients' : Clients) (number : ℕ) (old new : Broker)
-    (Becomes : Option (ClientState GroupPlace) → Option (ClientState GroupPlace) → Type 0)
+    (Becomes : Option (ClientState GroupPlace) → Option (ClientState GroupPlace) → Type 0) (Answers : List Turn → Type 0)
     (cell : InCell clients number Becomes clients') → Keeps first turns (links_at clients) old
     → (Keeps first turns (with_link (links_at clients) number (link_in (Some cell.before))) old
-    → Says first turns said (with_link (links_at clients) number (link_in (Some cell.after))) new)
-    → Says first turns said (links_at clients') new
-in_cell first turns said clients clients' number old new Becomes cell keeps does =
-    subst (λ (l : Links). Says first turns said l new) (λ i each. written_at clients clients' number cell.before cell.after cell.has cell.is each i)
+    → Says first turns said Answers (with_link (links_at clients) number (link_in (Some cell.after))) new)
+    → Says first turns said Answers (links_at clients') new
+in_cell first turns said clients clients' number old new Becomes Answers cell keeps does =
+    subst (λ (l : Links). Says first turns said Answers l new) (λ i each. written_at clients clients' number cell.before cell.after cell.has cell.is each i)
     (does (subst (λ (l : Links). Keeps first turns l old) (sym (with_same (links_at clients) number (link_in (Some cell.before)) (ap link_in cell.has))) keeps))
 
 -- a connection is opened: it has no session
@@ -88,22 +98,29 @@ opened number now (Some client) after does = ap (λ (c : Option (ClientState Gro
 
 -- the close
 ended : (number : ℕ) (first : Broker) (turns : List Turn) (old new : Broker) (clients clients' : Clients) (now : ℕ) (said : List Said) (result : Result (Unit {0}) NoMemory)
-    → IsOk result → AreNumbered clients → Keeps first turns (links_at clients) old → EndsAt number old clients now said result clients' new
-    → Says first turns said (links_at clients') new
+    → IsOk result → AreNumbered clients → Keeps first turns (links_at clients) old → (ends : EndsAt number old clients now said result clients' new)
+    → Says first turns said (EndsTurns number inputs.Closing (client_at clients number)) (links_at clients') new
 ended number first turns old new clients clients' now said result ok all keeps ends =
-    in_cell first turns said clients clients' number old new _ ends keeps
+    subst (λ (c : Option (ClientState GroupPlace)). Says first turns said (EndsTurns number inputs.Closing c) (links_at clients') new) (sym (client_in clients number ends.before ends.has))
+    (in_cell first turns said clients clients' number old new _ (EndsTurns number inputs.Closing ends.before) ends keeps
     (λ has.
-    ends_for result ends.before ends.after first turns (links_at clients) number old new now inputs.Closing said ok (at ends.before clients number all ends.has) has ends.becomes)
+    ends_for result ends.before ends.after first turns (links_at clients) number old new now inputs.Closing said ok (at ends.before clients number all ends.has) has ends.becomes))
 
 first_ended : (number : ℕ) (first : Broker) (turns : List Turn) (old new : Broker) (clients clients' : Clients) (now : ℕ) (said : List Said) (result : Result (Unit {0}) NoMemory)
     → IsOk result → AreNumbered clients → Keeps first turns (links_at clients) old → EndsFirst number old clients now said result clients' new
-    → Says first turns said (links_at clients') new
+    → Says first turns said (EndsBelow number clients) (links_at clients') new
 first_ended zero first turns old new clients clients' now said result ok all keeps ends =
-    subst (λ (c : Clients). Says first turns said (links_at c) new) (sym ends.2) (silent first turns (links_at clients) old new said ends.0 ends.3 keeps)
+    subst (λ (c : Clients). Says first turns said (EndsBelow 0 clients) (links_at c) new) (sym ends.2)
+    (silent first turns (EndsBelow 0 clients) (links_at clients) old new said (none_below clients) ends.0 ends.3 keeps)
 first_ended (suc number) first turns old new clients clients' now said result ok all keeps ends =
     let both : IsOk (result_and ends.4 ends.5) = subst IsOk ends.9 ok in
-    subst (λ (s : List Said). Says first turns s (links_at clients') new) (sym ends.8)
-    (then_says first turns ends.2 ends.3 (links_at ends.1) (links_at clients') ends.0 new
+    subst (λ (s : List Said). Says first turns s (EndsBelow (suc number) clients) (links_at clients') new) (sym ends.8)
+    (then_says first turns ends.2 ends.3 (EndsBelow number clients) (EndsTurns number inputs.Closing (client_at ends.1 number)) (EndsBelow (suc number) clients)
+    (links_at ends.1) (links_at clients') ends.0 new
+    (λ these those below last.
+    one_more_below number clients these those below
+    (subst (λ (c : Option (ClientState GroupPlace)). EndsTurns number inputs.Closing c those)
+    (untouched number number old ends.0 clients ends.1 now ends.2 ends.4 (omega arith) ends.6) last))
     (first_ended number first turns old ends.0 clients ends.1 now ends.2 ends.4 (first_ok ends.4 ends.5 both) all keeps ends.6)
     (λ before kept.
     ended number first before ends.0 new ends.1 clients' now ends.3 ends.5 (then_ok ends.4 ends.5 both)
@@ -118,7 +135,10 @@ shut first turns links old closed closes keeps =
           keeps.fresh
           ∙ ap (map (λ (h : HandOut). h.1)) (sym (filter_map-append handed_by keeps.happenings (Closed ∷ []) ∙ append-nil (handed_by_all keeps.happenings)));
       sessions = subst (λ (desk : Books Held GroupPlace). KeepsSessions turns desk links) (sym closes.desk) keeps.sessions;
-      owns = owns_closed links old closed closes keeps.owns;
+      accepted = keeps.accepted;
+      accepts = keeps.accepts;
+      sent = keeps.sent;
+      owns = owns_closed (record { links = links; log = keeps.accepted }) old closed closes keeps.owns;
       settled = keeps.settled;
       acknowledged = keeps.acknowledged;
       adds =
@@ -128,48 +148,69 @@ shut first turns links old closed closes keeps =
 
 -- an event, where memory was not wanted
 does : (event : Event) (first : Broker) (turns : List Turn) (old new : Broker) (clients clients' : Clients) (now : ℕ) (said : List Said) (result : Result (Unit {0}) NoMemory)
-    → IsOk result → AreNumbered clients → Keeps first turns (links_at clients) old → Does event old clients now said result clients' new
-    → Says first turns said (links_at clients') new
-does (events.Open number) first turns old new clients clients' now said result ok all keeps done =
+    → IsOk result → AreNumbered clients → AreUnfaulted clients → Keeps first turns (links_at clients) old → Does event old clients now said result clients' new
+    → Says first turns said (λ more. Came event clients more clients') (links_at clients') new
+does (events.Open number) first turns old new clients clients' now said result ok all sound keeps done =
     let cell = done.0 in
-    in_cell first turns said clients clients' number old new _ cell keeps
+    let Silent : List Turn → Type 0 = λ more. more ≡ [] in
+    in_cell first turns said clients clients' number old new _ Silent cell keeps
     (λ has.
-    subst (λ (l : Option (Link GroupPlace)). Says first turns said (with_link (links_at clients) number l) new) (opened number now cell.before cell.after cell.becomes)
-    (silent first turns (with_link (links_at clients) number (link_in (Some cell.before))) old new said done.2 done.1 has))
-does (events.Bytes number piece) first turns old new clients clients' now said result ok all keeps cell =
-    in_cell first turns said clients clients' number old new _ cell keeps
-    (λ has. receives result cell.before cell.after first turns (links_at clients) number old new now piece said ok (at cell.before clients number all cell.has) has cell.becomes)
-does (events.Tick number) first turns old new clients clients' now said result ok all keeps cell =
-    in_cell first turns said clients clients' number old new _ cell keeps
-    (λ has. ticks_for result cell.before cell.after first turns (links_at clients) number old new now said ok (at cell.before clients number all cell.has) has cell.becomes)
-does (events.End number) first turns old new clients clients' now said result ok all keeps cell =
-    in_cell first turns said clients clients' number old new _ cell keeps
+    subst (λ (l : Option (Link GroupPlace)). Says first turns said Silent (with_link (links_at clients) number l) new) (opened number now cell.before cell.after cell.becomes)
+    (silent first turns Silent (with_link (links_at clients) number (link_in (Some cell.before))) old new said refl done.2 done.1 has))
+does (events.Bytes number piece) first turns old new clients clients' now said result ok all sound keeps cell =
+    cell_heard clients clients' number _ cell (λ before after. Says first turns said (λ more. HearsPiece before piece more after) (links_at clients') new)
+    (in_cell first turns said clients clients' number old new _ (λ more. HearsPiece cell.before piece more cell.after) cell keeps
+    (λ has.
+    receives result cell.before cell.after first turns (links_at clients) number old new now piece said ok (at cell.before clients number all cell.has)
+    (unfaulted_at cell.before clients number sound cell.has) has cell.becomes))
+does (events.Tick number) first turns old new clients clients' now said result ok all sound keeps cell =
+    cell_heard clients clients' number _ cell (λ before after. Says first turns said (λ more. HearsTick before more after) (links_at clients') new)
+    (in_cell first turns said clients clients' number old new _ (λ more. HearsTick cell.before more cell.after) cell keeps
+    (λ has.
+    ticks_for result cell.before cell.after first turns (links_at clients) number old new now said ok (at cell.before clients number all cell.has)
+    (unfaulted_at cell.before clients number sound cell.has) has cell.becomes))
+does (events.End number) first turns old new clients clients' now said result ok all sound keeps cell =
+    cell_heard clients clients' number _ cell (λ before after. Says first turns said (HearsLast inputs.EndOfInput before) (links_at clients') new)
+    (says_so first turns said (EndsTurns number inputs.EndOfInput cell.before) (HearsLast inputs.EndOfInput cell.before) (links_at clients') new
+    (λ these ends. ends_heard number inputs.EndOfInput cell.before these ends)
+    (in_cell first turns said clients clients' number old new _ (EndsTurns number inputs.EndOfInput cell.before) cell keeps
     (λ has.
     ends_for result cell.before cell.after first turns (links_at clients) number old new now inputs.EndOfInput said ok
-    (at cell.before clients number all cell.has) has cell.becomes)
-does events.Close first turns old new clients clients' now said result ok all keeps closes =
-    first_ended closes.2 first turns closes.0 new clients clients' now said result ok all (shut first turns (links_at clients) old closes.0 closes.1 keeps) closes.4
+    (at cell.before clients number all cell.has) has cell.becomes)))
+does events.Close first turns old new clients clients' now said result ok all sound keeps closes =
+    says_so first turns said (EndsBelow closes.2 clients) (λ more. Came events.Close clients more clients') (links_at clients') new
+    (λ these below number less. ends_heard number inputs.Closing (client_at clients number) _ ((below number).0 (let is = closes.3 in omega arith)))
+    (first_ended closes.2 first turns closes.0 new clients clients' now said result ok all (shut first turns (links_at clients) old closes.0 closes.1 keeps) closes.4)
 
 does_if : (open? : Bool) (event : Event) (first : Broker) (turns : List Turn) (old new : Broker) (clients clients' : Clients) (now : ℕ) (said : List Said)
     (result : Result (Unit {0}) NoMemory)
-    → IsOk result → AreNumbered clients → Keeps first turns (links_at clients) old → DoesIf open? event old clients now said result clients' new
-    → Says first turns said (links_at clients') new
-does_if true event first turns old new clients clients' now said result ok all keeps done = does event first turns old new clients clients' now said result ok all keeps done
-does_if false event first turns old new clients clients' now said result ok all keeps done =
-    subst (λ (c : Clients). Says first turns said (links_at c) new) (sym done.2) (silent first turns (links_at clients) old new said done.0 done.3 keeps)
+    → IsOk result → AreNumbered clients → AreUnfaulted clients → Keeps first turns (links_at clients) old → DoesIf open? event old clients now said result clients' new
+    → Says first turns said (λ more. CameIf open? event clients more clients') (links_at clients') new
+does_if true event first turns old new clients clients' now said result ok all sound keeps done =
+    does event first turns old new clients clients' now said result ok all sound keeps done
+does_if false event first turns old new clients clients' now said result ok all sound keeps done =
+    subst (λ (c : Clients). Says first turns said (λ more. more ≡ []) (links_at c) new) (sym done.2)
+    (silent first turns (λ more. more ≡ []) (links_at clients) old new said refl done.0 done.3 keeps)
 
-happened : (events : List TimedEvent) (first : Broker) (turns : List Turn) (said : List Said) (old new : ServerState) → AreNumbered old.clients
+-- whatever they answer
+abbrev Any : List Turn → Type 0
+Any turns = ⊤
+
+happened : (events : List TimedEvent) (first : Broker) (turns : List Turn) (said : List Said) (old new : ServerState) → AreNumbered old.clients → AreUnfaulted old.clients
     → Keeps first turns (links_at old.clients) old.broker
-    → HappensAll old events said new → Says first turns said (links_at new.clients) new.broker
-happened [] first turns said old new all keeps run =
-    subst (λ (s : ServerState). Says first turns said (links_at s.clients) s.broker) (sym run.1)
-    (silent first turns (links_at old.clients) old.broker old.broker said run.0 refl keeps)
-happened (event ∷ others) first turns said old new all keeps run =
+    → HappensAll old events said new → Says first turns said Any (links_at new.clients) new.broker
+happened [] first turns said old new all sound keeps run =
+    subst (λ (s : ServerState). Says first turns said Any (links_at s.clients) s.broker) (sym run.1)
+    (silent first turns Any (links_at old.clients) old.broker old.broker said tt run.0 refl keeps)
+happened (event ∷ others) first turns said old new all sound keeps run =
     let mid = run.0 in
-    subst (λ (s : List Said). Says first turns s (links_at new.clients) new.broker) (sym run.5)
-    (then_says first turns run.1 run.2 (links_at mid.clients) (links_at new.clients) mid.broker new.broker
-    (does_if (is_open old.broker) event.event first turns old.broker mid.broker old.clients mid.clients mid.clock run.1 (Ok tt) refl all keeps run.3.does)
-    (λ before kept. happened others first before run.2 mid new (answered event.moment event.event run.1 (Ok tt) old mid all run.3).0 kept run.4))
+    subst (λ (s : List Said). Says first turns s Any (links_at new.clients) new.broker) (sym run.5)
+    (then_says first turns run.1 run.2 (λ more. CameIf (is_open old.broker) event.event old.clients more mid.clients) Any Any (links_at mid.clients) (links_at new.clients)
+    mid.broker new.broker (λ these those one other. tt)
+    (does_if (is_open old.broker) event.event first turns old.broker mid.broker old.clients mid.clients mid.clock run.1 (Ok tt) refl all sound keeps run.3.does)
+    (λ before kept.
+    happened others first before run.2 mid new (answered event.moment event.event run.1 (Ok tt) old mid all run.3).0
+    (still_unfaulted (is_open old.broker) event.event old.broker mid.broker old.clients mid.clients mid.clock run.1 (Ok tt) refl sound run.3.does) kept run.4))
 
 -- a new server: no session, and nobody has one
 none_at : (count connection : ℕ) → link_in (slice_get (replicate {A = Option (ClientState GroupPlace)} count None) connection) ≡ None
@@ -208,6 +249,9 @@ starts setup first new =
       led = refl;
       fresh = refl;
       sessions = new_sessions setup first new;
+      accepted = [];
+      accepts = refl;
+      sent = λ envelope has. absurd (contains_nil envelope has);
       owns = owns_new (links_at first.clients) setup.capacity setup.groups first.broker new.broker (nobody setup first new);
       settled = [];
       acknowledged = refl;
@@ -215,8 +259,9 @@ starts setup first new =
     }
 
 whole : (setup : Setup) (events : List TimedEvent) (said : List Said) (first last : ServerState) → IsNewServer setup first → HappensAll first events said last
-    → Says first.broker [] said (links_at last.clients) last.broker
-whole setup events said first last new run = happened events first.broker [] said first last (new_numbered setup first new) (starts setup first new) run
+    → Says first.broker [] said Any (links_at last.clients) last.broker
+whole setup events said first last new run =
+    happened events first.broker [] said first last (new_numbered setup first new) (new_unfaulted setup first new) (starts setup first new) run
 
 -- two connections that have one session are one
 alone : (turns : List Turn) (b : Broker) (links : Links) (one other : ℕ) (these those : Link GroupPlace) → KeepsSessions turns b.desk links
@@ -249,7 +294,7 @@ account setup first turns server new keeps within =
       handed = handed setup.capacity setup.groups keeps.happenings first.broker server.broker _ new.broker keeps.led keeps.fresh;
     }
 
-told_in : (setup : Setup) (said : List Said) (first last : ServerState) → IsNewServer setup first → Says first.broker [] said (links_at last.clients) last.broker
+told_in : (setup : Setup) (said : List Said) (first last : ServerState) → IsNewServer setup first → Says first.broker [] said Any (links_at last.clients) last.broker
     → AllWithinQuota last.clients → KeepsTranscripts said last
 told_in setup said first last new says within = record { turns = says.more; told = says.told; account = account setup first says.more last new says.keeps within }
 
@@ -260,23 +305,25 @@ transcripts setup events said first last new run =
 
 -- at each moment of the run
 moments : (setup : Setup) (first : ServerState) (events : List TimedEvent) (turns : List Turn) (said : List Said) (old new : ServerState) → IsNewServer setup first
-    → AreNumbered old.clients → Keeps first.broker turns (links_at old.clients) old.broker → AllWithinQuota old.clients
+    → AreNumbered old.clients → AreUnfaulted old.clients → Keeps first.broker turns (links_at old.clients) old.broker → AllWithinQuota old.clients
     → (run : HappensAll old events said new) → AccountAlong turns old events said new run
-moments setup first [] turns said old new is all keeps within run = account setup first turns old is keeps within
-moments setup first (event ∷ others) turns said old new is all keeps within run =
+moments setup first [] turns said old new is all sound keeps within run = account setup first turns old is keeps within
+moments setup first (event ∷ others) turns said old new is all sound keeps within run =
     let mid = run.0 in
-    let says = does_if (is_open old.broker) event.event first.broker turns old.broker mid.broker old.clients mid.clients mid.clock run.1 (Ok tt) refl all keeps run.3.does in (
+    let says = does_if (is_open old.broker) event.event first.broker turns old.broker mid.broker old.clients mid.clients mid.clock run.1 (Ok tt) refl all sound keeps run.3.does in (
       account setup first turns old is keeps within,
       says.more,
       says.told,
-      moments setup first others (turns ++ says.more) run.2 mid new is (answered event.moment event.event run.1 (Ok tt) old mid all run.3).0 says.keeps
+      says.answers,
+      moments setup first others (turns ++ says.more) run.2 mid new is (answered event.moment event.event run.1 (Ok tt) old mid all run.3).0
+          (still_unfaulted (is_open old.broker) event.event old.broker mid.broker old.clients mid.clients mid.clock run.1 (Ok tt) refl sound run.3.does) says.keeps
           (quotas.happened event.moment event.event run.1 (Ok tt) old mid run.3 within) run.4,
     )
 
 pub along : (setup : Setup) (events : List TimedEvent) (said : List Said) (first last : ServerState) → IsNewServer setup first → (run : HappensAll first events said last)
     → AccountAlong [] first events said last run
 along setup events said first last new run =
-    moments setup first events [] said first last new (new_numbered setup first new) (starts setup first new) (quotas.new_within setup first new) run
+    moments setup first events [] said first last new (new_numbered setup first new) (new_unfaulted setup first new) (starts setup first new) (quotas.new_within setup first new) run
 
 -- a group that was new has nothing settled but that
 settled_since : (setup : Setup) (first : ServerState) (settled : List Settlement) (last : Broker) → IsNewServer setup first → AddsIn first.broker.groups settled last.groups
@@ -286,20 +333,40 @@ settled_since setup first settled last new adds slot group there =
     since.ends ∙ ap (λ events. settled_in_all events ++ filter_map (settled_seen_by slot) settled) (new.broker.groups slot since.before since.was).fresh.events
 
 -- what each open connection's session holds is out at its place
-held_out : (link : Option (Link GroupPlace)) (b : Broker) (links : Links) (connection : ℕ) → Owns links b → links connection ≡ link → HeldIsOut b link
-held_out None b links connection owns is = tt
-held_out (Some link) b links connection owns is = owns.owned (InHand connection) link.session (record { link = link; has = is; its = refl })
+held_out : (link : Option (Link GroupPlace)) (b : Broker) (links : Links) (log : Log) (connection : ℕ) → Owns (record { links = links; log = log }) b → links connection ≡ link
+    → HeldIsOut b link
+held_out None b links log connection owns is = tt
+held_out (Some link) b links log connection owns is = owns.owned (InHand connection) link.session (record { link = link; has = is; its = refl })
 
-pub settlings : (setup : Setup) (events : List TimedEvent) (said : List Said) (first last : ServerState) → IsNewServer setup first → HappensAll first events said last
-    → SettlesWhatIsAcknowledged said last
+settled_in_run : (setup : Setup) (said : List Said) (first last : ServerState) → IsNewServer setup first → Says first.broker [] said Any (links_at last.clients) last.broker
+    → AllWithinQuota last.clients → SettlesWhatIsAcknowledged said last
 unfolding told_in
-settlings setup events said first last new run =
-    let says = whole setup events said first last new run in
+settled_in_run setup said first last new says within =
     record {
-      transcripts = told_in setup said first last new says (quotas.within setup events said first last new run);
+      transcripts = told_in setup said first last new says within;
       settled = says.keeps.settled;
       acknowledged = says.keeps.acknowledged;
       fates = settled_since setup first says.keeps.settled last.broker new says.keeps.adds;
-      held_out = λ connection. held_out (link_at last.clients connection) last.broker (links_at last.clients) connection says.keeps.owns refl;
+      held_out = λ connection. held_out (link_at last.clients connection) last.broker (links_at last.clients) says.keeps.accepted connection says.keeps.owns refl;
       parked_out = λ number row session has stands. says.keeps.owns.owned (AtDesk number) session (record { row = row; has = has; stands = stands });
+    }
+
+pub settlings : (setup : Setup) (events : List TimedEvent) (said : List Said) (first last : ServerState) → IsNewServer setup first → HappensAll first events said last
+    → SettlesWhatIsAcknowledged said last
+settlings setup events said first last new run =
+    settled_in_run setup said first last new (whole setup events said first last new run) (quotas.within setup events said first last new run)
+
+-- what is sent was accepted
+pub messages : (setup : Setup) (events : List TimedEvent) (said : List Said) (first last : ServerState) → IsNewServer setup first → HappensAll first events said last
+    → SendsWhatWasAccepted said last
+unfolding settled_in_run told_in
+messages setup events said first last new run =
+    let says = whole setup events said first last new run in
+    record {
+      settling = settled_in_run setup said first last new says (quotas.within setup events said first last new run);
+      eight = as_many says.keeps.happenings first.broker last.broker says.keeps.led ∙ new.broker.eight;
+      accepted = says.keeps.accepted;
+      brought = says.keeps.accepts;
+      accepts = λ slot group there. (says.keeps.owns.know slot group there).told;
+      sent = says.keeps.sent;
     }

@@ -1,8 +1,9 @@
 -- What happens to a client is a list of turns.
-use Rattle.std.proofs.Common.{◌≡◌, ℕ, List, [], ◌∷◌, ◌++◌, map, Option, Some, None, Result, Ok, Err, IsOk, false, refl, sym, ap, subst, ◌∙◌, inl, inr, append_assoc, append-nil}
+use Rattle.std.proofs.Common.{◌≡◌, ℕ, List, [], ◌∷◌, ◌++◌, map, filter_map, Option, Some, None, Result, Ok, Err, IsOk, false, Contains, refl, sym, ap, subst, ◌∙◌, inl, inr, ⊎_elim, append_assoc, append-nil}
 use Rattle.std.proofs.lemmas.Bool.{false≢true}
 use Rattle.std.proofs.lemmas.List.{map-append}
-use Rattle.std.proofs.lemmas.List.Elements.{filter_map-append}
+use Rattle.std.proofs.lemmas.List.Elements.{filter_map-append, Contains-append_cases}
+use Rattle.mqtt_wire.specs.Stream.{Unread}
 use Rattle.group_jobs.specs.Stamps.{Held}
 use Rattle.conn_engine.specs.declared.input.Input.{Input}
 use Rattle.conn_engine.specs.declared.input.Input.TheVariants as inputs
@@ -13,7 +14,8 @@ use Rattle.conn_engine.specs.declared.supply.NoMemory.{NoMemory}
 use Rattle.conn_engine.specs.Facts.{Fact}
 use Rattle.conn_engine.specs.Step.{Steps}
 use Rattle.conn_laws.specs.Calls.{handed}
-use Rattle.conn_laws.specs.Transcripts.{publishes_of, fresh_of, link_of, IsNotEnding, Transcribes}
+use Rattle.conn_laws.specs.Marks.{publishes_of, fresh_of}
+use Rattle.conn_laws.specs.Transcripts.{link_of, IsNotEnding, Transcribes}
 use Rattle.conn_laws.proofs.Transcripts.{transcribed}
 use Rattle.client_table.specs.Clients.{ClientState, Said, Moves}
 use Rattle.client_table.specs.Numbers.{IsNumbered}
@@ -25,16 +27,25 @@ use Rattle.local_broker.specs.Calls.{Calls}
 use Rattle.local_broker.specs.HandOuts.{HandOut, handed_by, handed_by_all}
 use Rattle.local_broker.specs.Histories.{Happening, Called, HappensAll}
 use Rattle.local_server.specs.Happening.{slot_of}
-use Rattle.local_server.specs.Transcripts.{Turn, AllTell, all_fresh, link_in}
+use Rattle.local_server.specs.Turns.{Turn, AllTell}
+use Rattle.local_server.specs.Streams.{ReadsFrom, HearsPiece, HearsTick}
+use Rattle.local_server.specs.Transcripts.{all_fresh, link_in}
 use Rattle.local_server.proofs.Happened.{joins, called, handed_by_calls}
+use Rattle.local_server.specs.Messages.{IsBrought, AllAccept, sent_in, all_sent}
 use Rattle.local_server.specs.Settling.{Settlement, AllSettle}
 use Rattle.local_server.proofs.Turns.{more_fresh, told_on}
 use Rattle.local_server.proofs.Settled.{AddsIn, adds_then}
-use Rattle.local_server.proofs.Owning.{Owns}
-use Rattle.local_server.proofs.Acted.{Acts, acts}
+use Rattle.local_server.proofs.Owning.{InHand, Owns}
+use Rattle.local_server.proofs.Acted.{acts}
+use Rattle.local_server.proofs.Known.{Log, IsKnown, stays_known}
+use Rattle.local_server.proofs.Accepted.{accept_on, more_sent}
+use Rattle.local_server.proofs.SentAsAccepted.{sends}
 use Rattle.local_server.proofs.Acknowledged.{settled_on, settle_on}
+use Rattle.local_server.proofs.Confirmed.{turn_hears}
 use Rattle.local_server.proofs.Sessions.{with_link, link_here, with_again, KeepsSessions}
 use Rattle.local_server.proofs.Stepping.{Links, adds_turn}
+use Rattle.local_server.proofs.Going.{goes_as, stopped, closed_by}
+use Rattle.local_server.proofs.Reading.{IsTurn, EndsTurns, IsUnfaulted, left_to, fed_unread, read_first, read_last, tick_first, tick_last, one_ends}
 
 abbrev messages : List Happening → List Held
 messages happenings = map (λ (h : HandOut). h.1) (handed_by_all happenings)
@@ -46,32 +57,48 @@ pub record Keeps (first : Broker) (turns : List Turn) (links : Links) (b : Broke
   pub led : HappensAll first happenings b
   pub fresh : all_fresh turns ≡ messages happenings
   pub sessions : KeepsSessions turns b.desk links
-  pub owns : Owns links b
+  -- what was accepted, and that it is what was sent
+  pub accepted : Log
+  pub accepts : AllAccept turns accepted
+  pub sent : (envelope : Held) → Contains (all_sent turns) envelope → IsKnown accepted envelope
+  pub owns : Owns (record { links = links; log = accepted }) b
   pub settled : List Settlement
   pub acknowledged : AllSettle [] turns settled
   pub adds : AddsIn first.groups settled b.groups
 
--- what was said since is told by so many turns more
-pub record Says (first : Broker) (turns : List Turn) (said : List Said) (links : Links) (new : Broker) : Type 0 where
+-- what was said since is told by so many turns more, which answer what came
+pub record Says (first : Broker) (turns : List Turn) (said : List Said) (Answers : List Turn → Type 0) (links : Links) (new : Broker) : Type 0 where
   pub more : List Turn
   pub told : AllTell said more
+  pub answers : Answers more
   pub keeps : Keeps first (turns ++ more) links new
 
-pub silent : (first : Broker) (turns : List Turn) (links : Links) (old new : Broker) (said : List Said) → said ≡ [] → new ≡ old → Keeps first turns links old
-    → Says first turns said links new
-silent first turns links old new said none same keeps =
-    subst (λ (s : List Said). Says first turns s links new) (sym none)
-    (record { more = []; told = tt; keeps = subst (λ (ts : List Turn). Keeps first ts links new) (sym (append-nil turns)) (subst (Keeps first turns links) (sym same) keeps) })
+pub silent : (first : Broker) (turns : List Turn) (Answers : List Turn → Type 0) (links : Links) (old new : Broker) (said : List Said) → Answers [] → said ≡ [] → new ≡ old
+    → Keeps first turns links old → Says first turns said Answers links new
+silent first turns Answers links old new said nothing none same keeps =
+    subst (λ (s : List Said). Says first turns s Answers links new) (sym none)
+    (record {
+      more = [];
+      told = tt;
+      answers = nothing;
+      keeps = subst (λ (ts : List Turn). Keeps first ts links new) (sym (append-nil turns)) (subst (Keeps first turns links) (sym same) keeps);
+    })
 
-pub then_says : (first : Broker) (turns : List Turn) (said later : List Said) (links links' : Links) (mid new : Broker) → Says first turns said links mid
-    → ((before : List Turn) → Keeps first before links mid → Says first before later links' new) → Says first turns (said ++ later) links' new
-then_says first turns said later links links' mid new these those =
+pub then_says : (first : Broker) (turns : List Turn) (said later : List Said) (These Those All : List Turn → Type 0) (links links' : Links) (mid new : Broker)
+    → ((these those : List Turn) → These these → Those those → All (these ++ those)) → Says first turns said These links mid
+    → ((before : List Turn) → Keeps first before links mid → Says first before later Those links' new) → Says first turns (said ++ later) All links' new
+then_says first turns said later These Those All links links' mid new both these those =
     let rest = those (turns ++ these.more) these.keeps in
     record {
       more = these.more ++ rest.more;
       told = told_on said later these.more rest.more these.told rest.told;
+      answers = both these.more rest.more these.answers rest.answers;
       keeps = subst (λ (ts : List Turn). Keeps first ts links' new) (append_assoc turns these.more rest.more) rest.keeps;
     }
+
+pub says_so : (first : Broker) (turns : List Turn) (said : List Said) (These All : List Turn → Type 0) (links : Links) (new : Broker)
+    → ((these : List Turn) → These these → All these) → Says first turns said These links new → Says first turns said All links new
+says_so first turns said These All links new so says = record { more = says.more; told = says.told; answers = so says.more says.answers; keeps = says.keeps }
 
 -- one step
 not_ending : (standing : Standing GroupPlace) → ((link : Link GroupPlace) → link_of standing ≡ Some link → link.session.window.retired ≡ false) → IsNotEnding standing
@@ -88,69 +115,125 @@ handed_on happenings facts =
     ∙ ap (λ (l : List HandOut). messages happenings ++ map (λ (h : HandOut). h.1) l) (handed_by_calls facts)
 
 stepped : (first : Broker) (turns : List Turn) (links : Links) (old new : Broker) (number : ℕ) (standing standing' : Standing GroupPlace) (input : Input) (said : Said)
-    → said.connection ≡ number → Transcribes Calls old number standing input said.packets standing' new → Acts links old number (link_of standing) input (link_of standing') new
+    (now : ℕ) → said.connection ≡ number → Steps Calls slot_of old number standing now input said.packets said.next standing' new
+    → Transcribes Calls old number standing input said.packets said.next standing' new
     → Keeps first turns (with_link links number (link_of standing)) old
-    → Says first turns (said ∷ []) (with_link links number (link_of standing')) new
-stepped first turns links old new number standing standing' input said its step acts keeps =
+    → Says first turns (said ∷ []) (IsTurn number input said.next) (with_link links number (link_of standing')) new
+stepped first turns links old new number standing standing' input said now its steps step keeps =
+    let acts = acts (record { links = links; log = keeps.accepted }) old new number now standing standing' input said.packets said.next steps keeps.owns in
+    let goes = goes_as old new number now standing standing' input said.packets said.next steps in
     let adds =
-    adds_turn (link_of standing) (link_of standing') turns old new (with_link links number (link_of standing)) number step.marks step.session
+    adds_turn (link_of standing) (link_of standing') turns old new (with_link links number (link_of standing)) number input said.next step.marks step.session goes
     (link_here links number (link_of standing)) keeps.sessions in
     let here : with_link links number (link_of standing) number ≡ link_of standing = link_here links number (link_of standing) in
+    let leads = λ (link : Link GroupPlace) (has : link_of standing ≡ Some link). (keeps.sessions.linked number link (here ∙ has)).leads in
+    let session = λ (link : Link GroupPlace) (has : link_of standing ≡ Some link). adds.session link (here ∙ has) in
     let settles =
-    settled_on turns adds.turn old new number standing standing' input said.packets step adds.marks_are
-    (λ link has. (keeps.sessions.linked number link (here ∙ has)).leads) (λ link has. adds.session link (here ∙ has)) acts.settled acts.adds acts.tells in
+    settled_on turns adds.turn old new number standing standing' input said.packets said.next step adds.marks_are leads session acts.settled acts.adds acts.tells in
+    let hears =
+    turn_hears old new number now standing standing' said.packets said.next input turns adds.turn step steps adds.input_is adds.next_is adds.marks_are goes leads session
+    (λ link has. keeps.owns.owned (InHand number) link.session (record { link = link; has = here ∙ has; its = refl })) in
+    let there : with_link links number (link_of standing') number ≡ link_of standing' = link_here links number (link_of standing') in
+    let again = with_again links number (link_of standing) (link_of standing') in
+    let now_keeps = subst (KeepsSessions (turns ++ adds.turn ∷ []) new.desk) again adds.keeps in
+    let stays = stays_known keeps.accepted acts.accepted in
+    let sends_known = sends turns adds.turn standing standing' old new number input said.packets said.next keeps.accepted (keeps.accepted ++ acts.accepted) stays step adds.marks_are
+    (λ link has.
+    record {
+      its = session link has;
+      leads = leads link has;
+      known = keeps.owns.known (InHand number) link.session (record { link = link; has = here ∙ has; its = refl });
+    })
+    (λ link has.
+    record {
+      its = adds.session_then link has;
+      leads = (now_keeps.linked number link (there ∙ has)).leads;
+      known = acts.owns.known (InHand number) link.session (record { link = link; has = there ∙ has; its = refl });
+    }) in
     record {
       more = adds.turn ∷ [];
-      told = (record { whose = adds.whose ∙ sym its; publishes = step.publishes ∙ ap publishes_of (sym adds.marks_are) }, tt);
+      told = (record { whose = adds.whose ∙ sym its; next = adds.next_is; publishes = step.publishes ∙ ap publishes_of (sym adds.marks_are) }, tt);
+      answers = (adds.turn, refl, record { whose = adds.whose; input_is = adds.input_is; next_is = adds.next_is });
       keeps = record {
         happenings = keeps.happenings ++ map Called step.facts;
         led = joins keeps.happenings (map Called step.facts) first old new keeps.led (called step.facts old new step.made);
         fresh =
             more_fresh turns adds.turn ∙ (λ i. keeps.fresh i ++ (ap fresh_of adds.marks_are ∙ sym step.hands) i) ∙ sym (handed_on keeps.happenings step.facts);
-        sessions = subst (KeepsSessions (turns ++ adds.turn ∷ []) new.desk) (with_again links number (link_of standing) (link_of standing')) adds.keeps;
+        sessions = now_keeps;
+        accepted = keeps.accepted ++ acts.accepted;
+        accepts =
+            accept_on turns adds.turn keeps.accepted acts.accepted keeps.accepts
+            (subst (λ (n : ℕ). IsBrought n adds.turn.input acts.accepted) (sym adds.whose)
+            (subst (λ (i : Input). IsBrought number i acts.accepted) (sym adds.input_is) acts.brought));
+        sent = λ envelope has.
+            ⊎_elim
+            (λ (earlier : Contains (all_sent turns) envelope). stays envelope.stamp envelope.message (keeps.sent envelope earlier))
+            (λ (last : Contains (filter_map sent_in adds.turn.marks) envelope). sends_known envelope last)
+            (Contains-append_cases (all_sent turns) (filter_map sent_in adds.turn.marks) envelope
+            (subst (λ (l : List Held). Contains l envelope) (more_sent turns adds.turn) has));
         owns = acts.owns;
         settled = keeps.settled ++ settles.now;
-        acknowledged = settle_on [] turns adds.turn keeps.settled settles.now keeps.acknowledged settles.are;
+        acknowledged = settle_on [] turns adds.turn keeps.settled settles.now keeps.acknowledged (hears, settles.are);
         adds = adds_then keeps.settled settles.now first.groups old.groups new.groups keeps.adds settles.adds;
       };
     }
 
 pub moves : (first : Broker) (turns : List Turn) (links : Links) (old new : Broker) (number : ℕ) (client after : ClientState GroupPlace) (now : ℕ) (input : Input) (said : Said)
     → client.conn.number ≡ number → Keeps first turns (with_link links number (link_of client.conn.standing)) old → Moves Calls slot_of old client now input said after new
-    → Says first turns (said ∷ []) (with_link links number (link_of after.conn.standing)) new
+    → Says first turns (said ∷ []) (IsTurn number input said.next) (with_link links number (link_of after.conn.standing)) new
 moves first turns links old new number client after now input said is keeps moved =
     let steps = subst (λ (n : ℕ). Steps Calls slot_of old n client.conn.standing now input said.packets said.next after.conn.standing new) is moved.stepped in
     let sound = not_ending client.conn.standing (λ link has. (keeps.sessions.linked number link (link_here links number (link_of client.conn.standing) ∙ has)).leads.goes_on) in
-    stepped first turns links old new number client.conn.standing after.conn.standing input said (moved.told ∙ is)
-    (transcribed Calls slot_of old new number now client.conn.standing after.conn.standing input said.packets said.next steps sound)
-    (acts links old new number now client.conn.standing after.conn.standing input said.packets said.next steps keeps.owns) keeps
+    stepped first turns links old new number client.conn.standing after.conn.standing input said now (moved.told ∙ is) steps
+    (transcribed Calls slot_of old new number now client.conn.standing after.conn.standing input said.packets said.next steps sound) keeps
 
 -- what is read is stepped, packet by packet
 pub reads : (said : List Said) (first : Broker) (turns : List Turn) (links : Links) (old new : Broker) (number : ℕ) (client after : ClientState GroupPlace) (now : ℕ)
-    → client.conn.number ≡ number → Keeps first turns (with_link links number (link_of client.conn.standing)) old → Reads Calls slot_of old client now said after new
-    → Says first turns said (with_link links number (link_of after.conn.standing)) new
-reads [] first turns links old new number client after now is keeps read =
-    subst (λ (c : ClientState GroupPlace). Says first turns [] (with_link links number (link_of c.conn.standing)) new) (sym read.1)
-    (silent first turns (with_link links number (link_of client.conn.standing)) old new [] refl read.2 keeps)
-reads (said ∷ rest) first turns links old new number client after now is keeps (inl last) =
-    subst (λ (more : List Said). Says first turns (said ∷ more) (with_link links number (link_of after.conn.standing)) new) (sym last.1)
-    (moves first turns links old new number client after now last.0.input said is keeps last.0.moved)
-reads (said ∷ rest) first turns links old new number client after now is keeps (inr more) =
-    then_says first turns (said ∷ []) rest (with_link links number (link_of more.0.conn.standing)) (with_link links number (link_of after.conn.standing)) more.1 new
-    (moves first turns links old more.1 number client more.0 now _ said is keeps more.2.moved)
-    (λ before kept. reads rest first before links more.1 new number more.0 after now (more.2.moved.same ∙ is) kept more.3)
+    → client.conn.number ≡ number → client.unread.fault ≡ None → Keeps first turns (with_link links number (link_of client.conn.standing)) old
+    → Reads Calls slot_of old client now said after new
+    → Says first turns said (λ more. ReadsFrom client.unread.bytes more (kept after)) (with_link links number (link_of after.conn.standing)) new
+reads [] first turns links old new number client after now is sound keeps read =
+    subst (λ (c : ClientState GroupPlace). Says first turns [] (λ more. ReadsFrom client.unread.bytes more (kept c)) (with_link links number (link_of c.conn.standing)) new) (sym read.1)
+    (silent first turns (λ more. ReadsFrom client.unread.bytes more (kept client)) (with_link links number (link_of client.conn.standing)) old new []
+    (client.unread.bytes, refl, left_to client.conn.standing client read.0) refl read.2 keeps)
+reads (said ∷ rest) first turns links old new number client after now is sound keeps (inl last) =
+    let it = last.0 in
+    let closed = closed_by old new client after now it.input said it.moved it.closes in
+    subst (λ (more : List Said). Says first turns (said ∷ more) (λ more. ReadsFrom client.unread.bytes more (kept after)) (with_link links number (link_of after.conn.standing)) new)
+    (sym last.1)
+    (says_so first turns (said ∷ []) (IsTurn number it.input said.next) (λ more. ReadsFrom client.unread.bytes more (kept after))
+    (with_link links number (link_of after.conn.standing)) new
+    (λ these one. read_last number it.input said.next client.unread after.unread (kept after) these sound it.front closed one)
+    (moves first turns links old new number client after now it.input said is keeps it.moved))
+reads (said ∷ rest) first turns links old new number client after now is sound keeps (inr more) =
+    let between = more.0 in
+    let one = more.2 in
+    then_says first turns (said ∷ []) rest (IsTurn number (inputs.Packet one.packet) said.next) (λ later. ReadsFrom between.unread.bytes later (kept after))
+    (λ more. ReadsFrom client.unread.bytes more (kept after)) (with_link links number (link_of between.conn.standing)) (with_link links number (link_of after.conn.standing)) more.1 new
+    (λ these those turn later. read_first number one.packet said.next client.unread between.unread (kept after) these those one.taken one.goes turn later)
+    (moves first turns links old more.1 number client between now _ said is keeps one.moved)
+    (λ before kept. reads rest first before links more.1 new number between after now (one.moved.same ∙ is) one.taken.goes_on kept more.3)
 
 pub ticks : (said : List Said) (first : Broker) (turns : List Turn) (links : Links) (old new : Broker) (number : ℕ) (client after : ClientState GroupPlace) (now : ℕ)
-    → client.conn.number ≡ number → Keeps first turns (with_link links number (link_of client.conn.standing)) old → Ticks Calls slot_of old client now said after new
-    → Says first turns said (with_link links number (link_of after.conn.standing)) new
-ticks [] first turns links old new number client after now is keeps ticked = absurd ticked
-ticks (said ∷ rest) first turns links old new number client after now is keeps (inl last) =
-    subst (λ (more : List Said). Says first turns (said ∷ more) (with_link links number (link_of after.conn.standing)) new) (sym last.2)
-    (moves first turns links old new number client after now inputs.Tick said is keeps last.0)
-ticks (said ∷ rest) first turns links old new number client after now is keeps (inr more) =
-    then_says first turns (said ∷ []) rest (with_link links number (link_of more.0.conn.standing)) (with_link links number (link_of after.conn.standing)) more.1 new
-    (moves first turns links old more.1 number client more.0 now inputs.Tick said is keeps more.2)
-    (λ before kept. reads rest first before links more.1 new number more.0 after now (more.2.same ∙ is) kept more.4)
+    → client.conn.number ≡ number → client.unread.fault ≡ None → Keeps first turns (with_link links number (link_of client.conn.standing)) old
+    → Ticks Calls slot_of old client now said after new
+    → Says first turns said (λ more. HearsTick (Some client) more (kept after)) (with_link links number (link_of after.conn.standing)) new
+ticks [] first turns links old new number client after now is sound keeps ticked = absurd ticked
+ticks (said ∷ rest) first turns links old new number client after now is sound keeps (inl last) =
+    let over = stopped old new client after now inputs.Tick said last.0 last.1 in
+    subst (λ (more : List Said). Says first turns (said ∷ more) (λ more. HearsTick (Some client) more (kept after)) (with_link links number (link_of after.conn.standing)) new)
+    (sym last.2)
+    (says_so first turns (said ∷ []) (IsTurn number inputs.Tick said.next) (λ more. HearsTick (Some client) more (kept after))
+    (with_link links number (link_of after.conn.standing)) new (λ these one. tick_last number said.next client (kept after) these over one)
+    (moves first turns links old new number client after now inputs.Tick said is keeps last.0))
+ticks (said ∷ rest) first turns links old new number client after now is sound keeps (inr more) =
+    let between = more.0 in
+    let same = more.5 in
+    then_says first turns (said ∷ []) rest (IsTurn number inputs.Tick said.next) (λ later. ReadsFrom between.unread.bytes later (kept after))
+    (λ more. HearsTick (Some client) more (kept after)) (with_link links number (link_of between.conn.standing)) (with_link links number (link_of after.conn.standing)) more.1 new
+    (λ these those turn later. tick_first number said.next client between (kept after) these those same more.3 turn later)
+    (moves first turns links old more.1 number client between now inputs.Tick said is keeps more.2)
+    (λ before kept. reads rest first before links more.1 new number between after now (more.2.same ∙ is) (ap (λ (u : Unread). u.fault) same ∙ sound) kept more.4)
 
 -- a cell, behind what happened to the client in it
 cell_link : (standing : Standing GroupPlace) (client : ClientState GroupPlace) → client.conn.standing ≡ standing → link_in (Some (kept_as standing client)) ≡ link_of standing
@@ -159,45 +242,58 @@ cell_link (Waiting request ticks) client is = ap link_of is
 cell_link (Connected link) client is = ap link_of is
 cell_link Ended client is = refl
 
-in_cell : (first : Broker) (turns : List Turn) (said : List Said) (links : Links) (number : ℕ) (client : ClientState GroupPlace) (after : Option (ClientState GroupPlace))
-    (new : Broker) → after ≡ kept client
-    → Says first turns said (with_link links number (link_of client.conn.standing)) new → Says first turns said (with_link links number (link_in (Some after))) new
-in_cell first turns said links number client after new is says =
-    subst (λ (l : Option (Link GroupPlace)). Says first turns said (with_link links number l) new)
-    (sym (ap (λ (c : Option (ClientState GroupPlace)). link_in (Some c)) is ∙ cell_link client.conn.standing client refl)) says
+in_cell : (first : Broker) (turns : List Turn) (said : List Said) (Answers : List Turn → Option (ClientState GroupPlace) → Type 0) (links : Links) (number : ℕ)
+    (client : ClientState GroupPlace) (after : Option (ClientState GroupPlace)) (new : Broker) → after ≡ kept client
+    → Says first turns said (λ more. Answers more (kept client)) (with_link links number (link_of client.conn.standing)) new
+    → Says first turns said (λ more. Answers more after) (with_link links number (link_in (Some after))) new
+in_cell first turns said Answers links number client after new is says =
+    subst (λ (c : Option (ClientState GroupPlace)). Says first turns said (λ more. Answers more c) (with_link links number (link_in (Some c))) new) (sym is)
+    (subst (λ (l : Option (Link GroupPlace)). Says first turns said (λ more. Answers more (kept client)) (with_link links number l) new)
+    (sym (cell_link client.conn.standing client refl)) says)
 
-nobody : (first : Broker) (turns : List Turn) (said : List Said) (links : Links) (number : ℕ) (after : Option (ClientState GroupPlace)) (old new : Broker) → said ≡ []
-    → after ≡ None → new ≡ old
-    → Keeps first turns (with_link links number None) old → Says first turns said (with_link links number (link_in (Some after))) new
-nobody first turns said links number after old new none is same keeps =
-    subst (λ (c : Option (ClientState GroupPlace)). Says first turns said (with_link links number (link_in (Some c))) new) (sym is)
-    (silent first turns (with_link links number None) old new said none same keeps)
+nobody : (first : Broker) (turns : List Turn) (said : List Said) (Answers : List Turn → Type 0) (links : Links) (number : ℕ) (after : Option (ClientState GroupPlace))
+    (old new : Broker) → Answers [] → said ≡ [] → after ≡ None → new ≡ old → Keeps first turns (with_link links number None) old
+    → Says first turns said Answers (with_link links number (link_in (Some after))) new
+nobody first turns said Answers links number after old new nothing none is same keeps =
+    subst (λ (c : Option (ClientState GroupPlace)). Says first turns said Answers (with_link links number (link_in (Some c))) new) (sym is)
+    (silent first turns Answers (with_link links number None) old new said nothing none same keeps)
 
 pub receives : (result : Result (Unit {0}) NoMemory) (before after : Option (ClientState GroupPlace)) (first : Broker) (turns : List Turn) (links : Links) (number : ℕ)
-    (old new : Broker) (now : ℕ) (piece : List ℕ)
-    (said : List Said) → IsOk result → IsNumbered number before → Keeps first turns (with_link links number (link_in (Some before))) old
-    → Receives Calls slot_of old before now piece said result after new → Says first turns said (with_link links number (link_in (Some after))) new
-receives (Ok done) None after first turns links number old new now piece said ok is keeps does = nobody first turns said links number after old new does.0 does.1 does.2 keeps
-receives (Ok done) (Some client) after first turns links number old new now piece said ok is keeps does =
-    in_cell first turns said links number does.0 after new does.2 (reads said first turns links old new number (fed client piece) does.0 now is keeps does.1)
-receives (Err error) before after first turns links number old new now piece said ok is keeps does = absurd (false≢true ok)
+    (old new : Broker) (now : ℕ) (piece : List ℕ) (said : List Said) → IsOk result → IsNumbered number before → IsUnfaulted before
+    → Keeps first turns (with_link links number (link_in (Some before))) old → Receives Calls slot_of old before now piece said result after new
+    → Says first turns said (λ more. HearsPiece before piece more after) (with_link links number (link_in (Some after))) new
+receives (Ok done) None after first turns links number old new now piece said ok is sound keeps does =
+    nobody first turns said (λ more. HearsPiece None piece more after) links number after old new refl does.0 does.1 does.2 keeps
+receives (Ok done) (Some client) after first turns links number old new now piece said ok is sound keeps does =
+    let same = fed_unread client piece sound in
+    in_cell first turns said (λ more c. HearsPiece (Some client) piece more c) links number does.0 after new does.2
+    (says_so first turns said (λ more. ReadsFrom (fed client piece).unread.bytes more (kept does.0)) (λ more. HearsPiece (Some client) piece more (kept does.0))
+    (with_link links number (link_of does.0.conn.standing)) new
+    (λ these from. subst (λ (u : Unread). ReadsFrom u.bytes these (kept does.0)) same from)
+    (reads said first turns links old new number (fed client piece) does.0 now is (ap (λ (u : Unread). u.fault) same) keeps does.1))
+receives (Err error) before after first turns links number old new now piece said ok is sound keeps does = absurd (false≢true ok)
 
 pub ticks_for : (result : Result (Unit {0}) NoMemory) (before after : Option (ClientState GroupPlace)) (first : Broker) (turns : List Turn) (links : Links) (number : ℕ)
-    (old new : Broker) (now : ℕ)
-    (said : List Said) → IsOk result → IsNumbered number before → Keeps first turns (with_link links number (link_in (Some before))) old
-    → TicksFor Calls slot_of old before now said result after new → Says first turns said (with_link links number (link_in (Some after))) new
-ticks_for (Ok done) None after first turns links number old new now said ok is keeps does = nobody first turns said links number after old new does.0 does.1 does.2 keeps
-ticks_for (Ok done) (Some client) after first turns links number old new now said ok is keeps does =
-    in_cell first turns said links number does.0 after new does.2 (ticks said first turns links old new number client does.0 now is keeps does.1)
-ticks_for (Err error) before after first turns links number old new now said ok is keeps does = absurd (false≢true ok)
+    (old new : Broker) (now : ℕ) (said : List Said) → IsOk result → IsNumbered number before → IsUnfaulted before
+    → Keeps first turns (with_link links number (link_in (Some before))) old → TicksFor Calls slot_of old before now said result after new
+    → Says first turns said (λ more. HearsTick before more after) (with_link links number (link_in (Some after))) new
+ticks_for (Ok done) None after first turns links number old new now said ok is sound keeps does =
+    nobody first turns said (λ more. HearsTick None more after) links number after old new refl does.0 does.1 does.2 keeps
+ticks_for (Ok done) (Some client) after first turns links number old new now said ok is sound keeps does =
+    in_cell first turns said (λ more c. HearsTick (Some client) more c) links number does.0 after new does.2
+    (ticks said first turns links old new number client does.0 now is sound keeps does.1)
+ticks_for (Err error) before after first turns links number old new now said ok is sound keeps does = absurd (false≢true ok)
 
 pub ends_for : (result : Result (Unit {0}) NoMemory) (before after : Option (ClientState GroupPlace)) (first : Broker) (turns : List Turn) (links : Links) (number : ℕ)
-    (old new : Broker) (now : ℕ)
-    (input : Input) (said : List Said) → IsOk result → IsNumbered number before → Keeps first turns (with_link links number (link_in (Some before))) old
-    → EndsFor Calls slot_of old before now input said result after new → Says first turns said (with_link links number (link_in (Some after))) new
-ends_for (Ok done) None after first turns links number old new now input said ok is keeps does = nobody first turns said links number after old new does.0 does.1 does.2 keeps
+    (old new : Broker) (now : ℕ) (input : Input) (said : List Said) → IsOk result → IsNumbered number before
+    → Keeps first turns (with_link links number (link_in (Some before))) old → EndsFor Calls slot_of old before now input said result after new
+    → Says first turns said (EndsTurns number input before) (with_link links number (link_in (Some after))) new
+ends_for (Ok done) None after first turns links number old new now input said ok is keeps does =
+    nobody first turns said (EndsTurns number input None) links number after old new refl does.0 does.1 does.2 keeps
 ends_for (Ok done) (Some client) after first turns links number old new now input said ok is keeps does =
-    in_cell first turns said links number does.0 after new does.2
-    (subst (λ (s : List Said). Says first turns s (with_link links number (link_of does.0.conn.standing)) new) (sym does.1.1)
-    (moves first turns links old new number client does.0 now input does.1.0 is keeps does.1.2))
+    in_cell first turns said (λ more c. EndsTurns number input (Some client) more) links number does.0 after new does.2
+    (subst (λ (s : List Said). Says first turns s (EndsTurns number input (Some client)) (with_link links number (link_of does.0.conn.standing)) new) (sym does.1.1)
+    (says_so first turns (does.1.0 ∷ []) (IsTurn number input does.1.0.next) (EndsTurns number input (Some client)) (with_link links number (link_of does.0.conn.standing)) new
+    (λ these one. one_ends number input does.1.0.next client these one)
+    (moves first turns links old new number client does.0 now input does.1.0 is keeps does.1.2)))
 ends_for (Err error) before after first turns links number old new now input said ok is keeps does = absurd (false≢true ok)

@@ -5,9 +5,10 @@ use Rattle.std.proofs.lemmas.Grind.{flat_map-append}
 use Rattle.std.proofs.lemmas.List.Elements.{filter-append}
 use Rattle.group_jobs.specs.Stamps.{Held}
 use Rattle.member_window.specs.Marks.{Mark}
-use Rattle.conn_laws.specs.Transcripts.{fresh_of}
+use Rattle.conn_laws.specs.Marks.{fresh_of}
 use Rattle.client_table.specs.Clients.{Said}
-use Rattle.local_server.specs.Transcripts.{Turn, AllTell, marks_for, transcript_of, IsTurnOf, AreTurnsOf, turns_of, all_fresh}
+use Rattle.local_server.specs.Turns.{Turn, AllTell, turns_of}
+use Rattle.local_server.specs.Transcripts.{marks_for, transcript_of, IsTurnOf, AreTurnsOf, all_fresh}
 
 -- the transcripts behind one more turn
 more_marks : (number : ℕ) (turns : List Turn) (turn : Turn) → transcript_of number (turns ++ turn ∷ []) ≡ transcript_of number turns ++ marks_for number turn

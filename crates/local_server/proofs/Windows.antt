@@ -14,7 +14,7 @@ use Rattle.member_window.specs.Runs.{MakesAll, marks_of, transcript_of, standing
 use Rattle.member_window.proofs.Sound.{sound_new}
 use Rattle.member_window.proofs.Legality.{legal_append}
 use Rattle.member_window.proofs.Law.{sound_after_all, legal_calls, standing_after_calls}
-use Rattle.conn_laws.specs.Transcripts.{IsWithin}
+use Rattle.conn_laws.specs.Marks.{IsWithin}
 
 -- a transcript is legal, and the window of its session stands where it leads
 pub record Leads (told : List (Mark Held)) (w : Contents Held) : Type 0 where
@@ -30,7 +30,7 @@ IsUp w = IsSome w.quota × (w.retired ≡ false)
 pub leads_new : Leads [] new_contents
 leads_new = record { legal = tt; stands = refl; sound = sound_new; goes_on = refl }
 
-standing_after_append : (s : Standing Held) (before behind : List (Mark Held)) → standing_after_all s (before ++ behind) ≡ standing_after_all (standing_after_all s before) behind
+pub standing_after_append : (s : Standing Held) (before behind : List (Mark Held)) → standing_after_all s (before ++ behind) ≡ standing_after_all (standing_after_all s before) behind
 standing_after_append s [] behind = refl
 standing_after_append s (mark ∷ before) behind = standing_after_append (standing_after s mark) before behind
 

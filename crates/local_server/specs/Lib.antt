@@ -9,5 +9,8 @@ pub mod LastEvents
 pub mod Eager
 pub mod Addressed
 pub mod Publishers
+pub mod Turns
+pub mod Streams
 pub mod Transcripts
 pub mod Settling
+pub mod Messages

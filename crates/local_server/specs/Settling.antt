@@ -1,5 +1,7 @@
 -- What is settled in a run: as the `Acked` marks of the sessions' transcripts have it, and as the events of the groups do (sections 3.4 and 4.3.2).
-use Rattle.std.specs.Prelude.{◌≡◌, ℕ, nat_eq, if◌then◌else◌, List, [], ◌∷◌, ◌++◌, filter_map, Option, Some, None, slice_get, Contains, ⊤}
+use Rattle.std.specs.Prelude.{◌≡◌, ◌≢◌, ℕ, nat_eq, if◌then◌else◌, List, [], ◌∷◌, ◌++◌, filter_map, Option, Some, None, slice_get, Contains, ⊤}
+use Rattle.std.specs.List.{list_any}
+use Rattle.mqtt_wire.specs.declared.packet.Packet.TheVariants as packets
 use Rattle.dispatch_core.specs.declared.event.Event.{Event}
 use Rattle.dispatch_core.specs.declared.event.Event.TheVariants.{Accept, First, Ack, Refuse, Back, Again, Close}
 use Rattle.dispatch_core.specs.declared.event.Job.{Job}
@@ -15,14 +17,18 @@ use Rattle.session_desk.specs.declared.session.Membership.{Membership}
 use Rattle.session_desk.specs.declared.session.Membership.TheVariants.{NotMember, Member, Leaving}
 use Rattle.session_desk.specs.Rows.{HasRow, session_in}
 use Rattle.conn_rules.specs.Acknowledging.{fate_of}
+use Rattle.conn_engine.specs.declared.input.Input.{Input}
+use Rattle.conn_engine.specs.declared.input.Input.TheVariants as inputs
+use Rattle.conn_engine.specs.declared.input.Then.TheVariants.{Go}
 use Rattle.conn_engine.specs.declared.standing.Link.{Link}
-use Rattle.conn_laws.specs.Transcripts.{acknowledged_of}
+use Rattle.conn_laws.specs.Marks.{acknowledged_of}
 use Rattle.client_table.specs.Clients.{Said}
 use Rattle.local_broker.specs.Places.{GroupPlace}
 use Rattle.local_broker.specs.Broker.{Broker}
 use Rattle.local_broker.specs.Histories.{HasOut}
 use Rattle.local_server.specs.Servers.{ServerState}
-use Rattle.local_server.specs.Transcripts.{Turn, transcript_of, link_at, KeepsTranscripts}
+use Rattle.local_server.specs.Turns.{Turn}
+use Rattle.local_server.specs.Transcripts.{transcript_of, link_at, KeepsTranscripts}
 
 -- what is settled, and how
 abbrev pub Settlement : Type 0
@@ -52,11 +58,24 @@ AreSettled entries [] settled = settled ≡ []
 AreSettled entries (acked ∷ []) settled = (envelope : Held) × Contains entries (acked.0, envelope) × (settled ≡ (envelope, fate_of acked.1) ∷ [])
 AreSettled entries (acked ∷ another ∷ others) settled = ⊥
 
--- what each of these turns settles, behind those before, in their order
+-- which PUBACK comes in for a message that a session holds: its identifier, and its Reason Code
+abbrev pub confirmed_by : List (ℕ × Held) → Input → List (ℕ × ℕ)
+confirmed_by entries (inputs.Packet (packets.Puback puback)) =
+    if list_any (λ entry. nat_eq entry.0 puback.packet_identifier) entries then (puback.packet_identifier, puback.reason_code) ∷ [] else []
+confirmed_by entries input = []
+
+-- what a turn acknowledges is the PUBACK that comes in it for a message that its session holds, and nothing else; where the connection ends in
+-- that turn, since another has taken its session, nothing
+pub record Hears (turn : Turn) (entries : List (ℕ × Held)) : Type 0 where
+  pub goes_on : turn.next ≡ Go → acknowledged_of turn.marks ≡ confirmed_by entries turn.input
+  pub ends : turn.next ≢ Go → acknowledged_of turn.marks ≡ []
+
+-- what each of these turns acknowledges and settles, behind those before, in their order
 abbrev pub AllSettle : List Turn → List Turn → List Settlement → Type 0
 AllSettle before [] settled = settled ≡ []
 AllSettle before (turn ∷ turns) settled =
-    (now later : List Settlement) × AreSettled (held [] (transcript_of turn.session before)) (acknowledged_of turn.marks) now
+    let entries = held [] (transcript_of turn.session before) in
+    (now later : List Settlement) × Hears turn entries × AreSettled entries (acknowledged_of turn.marks) now
     × AllSettle (before ++ turn ∷ []) turns later × (settled ≡ now ++ later)
 
 -- these messages are out at a place: it was handed each, and has neither settled it nor given it back
@@ -78,8 +97,8 @@ HeldIsOut b (Some link) = AreOutFor b link.session.membership (held_of link.sess
 pub record SettlesWhatIsAcknowledged (said : List Said) (last : ServerState) : Type 0 where
   -- the transcripts of the sessions, with a turn for each step
   pub transcripts : KeepsTranscripts said last
-  -- what the turns acknowledge, in their order: each the message that its session held under the mark's identifier, with the fate of its Reason
-  -- Code
+  -- what the turns acknowledge, in their order: the PUBACKs that came for what their sessions held, each for the message under its identifier, with
+  -- the fate of its Reason Code
   pub settled : List Settlement
   pub acknowledged : AllSettle [] transcripts.turns settled
   -- and the events of each group that end a hand-out by a fate are those, in that order

@@ -1,6 +1,6 @@
 -- The transcripts of the sessions of a server, along a whole run (sections 4.4 and 4.9).
-use Rattle.std.specs.Prelude.{◌≡◌, ℕ, nat_eq, if◌then◌else◌, List, [], ◌∷◌, ◌++◌, filter_map, Option, Some, None, slice_get, ⊤}
-use Rattle.std.specs.List.{AllByRecursion, filter, flat_map}
+use Rattle.std.specs.Prelude.{◌≡◌, ◌≢◌, ℕ, nat_eq, if◌then◌else◌, List, [], ◌∷◌, ◌++◌, filter_map, Option, Some, None, slice_get, ⊤}
+use Rattle.std.specs.List.{AllByRecursion, flat_map}
 use Rattle.dispatch_core.specs.declared.event.Job.{Job}
 use Rattle.group_jobs.specs.Stamps.{Held, job_of}
 use Rattle.local_group.specs.Groups.{Group}
@@ -11,34 +11,20 @@ use Rattle.session_desk.specs.declared.row.Row.{Row}
 use Rattle.session_desk.specs.declared.row.Standing.TheVariants.{Parked}
 use Rattle.session_desk.specs.declared.session.Session.{Session}
 use Rattle.session_desk.specs.Rows.{HasRow}
+use Rattle.conn_engine.specs.declared.input.Then.TheVariants.{Go}
 use Rattle.conn_engine.specs.declared.standing.Link.{Link}
 use Rattle.conn_laws.specs.Quotas.{quota_of, KeepsQuota}
-use Rattle.conn_laws.specs.Transcripts.{publishes_in, publishes_of, fresh_of, link_of, IsWithin}
+use Rattle.conn_laws.specs.Marks.{fresh_of, IsWithin}
+use Rattle.conn_laws.specs.Transcripts.{link_of}
 use Rattle.client_table.specs.Clients.{ClientState, Said}
 use Rattle.local_broker.specs.HandOuts.{handed_in_all}
 use Rattle.local_broker.specs.Places.{GroupPlace}
+use Rattle.local_broker.specs.Broker.{is_open}
 use Rattle.local_server.specs.declared.event.TimedEvent.{TimedEvent}
 use Rattle.local_server.specs.Servers.{Clients, ServerState}
 use Rattle.local_server.specs.Happening.{HappensAll}
-
--- what one step of a connection added to the transcript of its session
-pub record Turn : Type 0 where
-  pub connection : ℕ
-  -- the number of the session, by the order in which sessions were new
-  pub session : ℕ
-  pub marks : List (Mark Held)
-
--- a step wrote these PUBLISH packets, and no others
-pub record Tells (said : Said) (turn : Turn) : Type 0 where
-  pub whose : turn.connection ≡ said.connection
-  pub publishes : publishes_in said.packets ≡ publishes_of turn.marks
-
--- each step has its turn
-abbrev pub AllTell : List Said → List Turn → Type 0
-AllTell [] [] = ⊤
-AllTell [] (turn ∷ turns) = ⊥
-AllTell (said ∷ others) [] = ⊥
-AllTell (said ∷ others) (turn ∷ turns) = Tells said turn × AllTell others turns
+use Rattle.local_server.specs.Turns.{Turn, AllTell, turns_of}
+use Rattle.local_server.specs.Streams.{CameIf}
 
 -- the transcript of the session with this number: its marks, over however many connections
 abbrev pub marks_for : ℕ → Turn → List (Mark Held)
@@ -48,7 +34,7 @@ abbrev pub transcript_of : ℕ → List Turn → List (Mark Held)
 transcript_of number turns = flat_map (marks_for number) turns
 
 -- what a turn is that adds marks where its connection has this session, or none: a session is given with `Up`, and the connection stays with
--- it until `Down`
+-- it until `Down`, which is where it does not go on
 abbrev pub Begins : List (Mark Held) → Type 0
 Begins [] = ⊥
 Begins (Up receive_maximum ∷ others) = AllByRecursion IsWithin others
@@ -58,18 +44,14 @@ Begins (Down ∷ others) = ⊥
 
 abbrev pub IsTurnOf : Option ℕ → Turn → Option ℕ → Type 0
 IsTurnOf None turn None = turn.marks ≡ []
-IsTurnOf None turn (Some session) = (turn.session ≡ session) × Begins turn.marks
-IsTurnOf (Some session) turn (Some session') = (turn.session ≡ session) × (session' ≡ session) × AllByRecursion IsWithin turn.marks
-IsTurnOf (Some session) turn None = (turn.session ≡ session) × (turn.marks ≡ Down ∷ [])
+IsTurnOf None turn (Some session) = (turn.session ≡ session) × Begins turn.marks × (turn.next ≡ Go)
+IsTurnOf (Some session) turn (Some session') = (turn.session ≡ session) × (session' ≡ session) × AllByRecursion IsWithin turn.marks × (turn.next ≡ Go)
+IsTurnOf (Some session) turn None = (turn.session ≡ session) × (turn.marks ≡ Down ∷ []) × (turn.next ≢ Go)
 
 -- the turns of one connection lead from the session that it has to the one that it has then
 abbrev pub AreTurnsOf : Option ℕ → List Turn → Option ℕ → Type 0
 AreTurnsOf before [] after = after ≡ before
 AreTurnsOf before (turn ∷ turns) after = (between : Option ℕ) × IsTurnOf before turn between × AreTurnsOf between turns after
-
--- the turns of the connection with this number
-abbrev pub turns_of : ℕ → List Turn → List Turn
-turns_of connection turns = filter (λ turn. nat_eq turn.connection connection) turns
 
 -- what the connection of this number has, where it is open and its client has its session
 abbrev pub link_in : Option (Option (ClientState GroupPlace)) → Option (Link GroupPlace)
@@ -129,11 +111,13 @@ pub record KeepsTranscripts (said : List Said) (last : ServerState) : Type 0 whe
   pub account : AccountFor turns last
 
 -- Along a run, from a server that these turns led to where it is: each event adds the turns of its own steps behind those before, of which none
--- is told anew; and at each moment, before the first event and behind each one, the turns till then led the server to where it is.
+-- is told anew, and they answer what came in it; and at each moment, before the first event and behind each one, the turns till then led the server to where it is.
 abbrev pub AccountAlong : (turns : List Turn) (old : ServerState) (events : List TimedEvent) (said : List Said) (new : ServerState) → HappensAll old events said new → Type 0
 AccountAlong turns old [] said new run = AccountFor turns old
 AccountAlong turns old (first ∷ others) said new run =
     let mid = run.0 in
     let now = run.1 in
     let later = run.2 in
-    AccountFor turns old × (more : List Turn) × AllTell now more × AccountAlong (turns ++ more) mid others later new run.4
+    AccountFor turns old
+    × (more : List Turn) × AllTell now more × CameIf (is_open old.broker) first.event old.clients more mid.clients
+    × AccountAlong (turns ++ more) mid others later new run.4

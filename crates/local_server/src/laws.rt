@@ -18,6 +18,7 @@ ghost use Rattle.local_server.specs.Quotas.{AllWithinQuota};
 ghost use Rattle.local_server.specs.Runs.{HaveLed, AllRunLawfully};
 ghost use Rattle.local_server.specs.Addressed.{Answers};
 ghost use Rattle.local_server.specs.Publishers.{AcceptsFrom};
+ghost use Rattle.local_server.specs.Messages.{SendsWhatWasAccepted};
 ghost use Rattle.local_server.specs.Settling.{SettlesWhatIsAcknowledged};
 ghost use Rattle.local_server.specs.Transcripts.{KeepsTranscripts, AccountAlong};
 ghost use Rattle.local_server.specs.Eager.{AllHandReturnedFirst};
@@ -61,7 +62,9 @@ pub fn hand_out_law()
 
 /// **The transcript of each session is legal, along every run** (sections 4.4 and 4.9), over however many connections the session is resumed
 /// and taken over: each step adds its marks to the transcript of its connection's session, and its PUBLISH packets are those of these marks
-/// (`whole`). It is so at each moment, before and behind each event, with one list of turns, to which each event adds behind those before (`along`).
+/// (`whole`). It is so at each moment, before and behind each event, with one list of turns, to which each event adds behind those before (`along`);
+/// and the turns of an event answer what comes in it: a client's stream is read packet by packet, each answered by a turn, a Tick by one, and so are the
+/// end of the input and the close, by which the connection ends.
 /// So at each moment no more is unacknowledged than the Receive Maximum; a message goes out with DUP 0 under the least identifier that is free, behind
 /// all that is sent again; what is sent again has its own identifier and its place in the order of first sending; and only what is held is
 /// acknowledged. A connection has one session from its CONNECT to its end, and no other connection has it at that moment. What an open connection's
@@ -89,11 +92,20 @@ pub fn eager_law()
 /// are, in order, what the `Acked` marks among the transcripts of the sessions acknowledge, each the message that its session held under the mark's
 /// identifier, by the place that was handed it, acknowledged where the Reason Code is below 0x80, and refused else. And whatever a session holds, of an
 /// open connection or with the desk, is out at that session's place. So each `Acked` of a transcript is one settlement in its group, and no event of
-/// a group settles anything else. That an `Acked` is a PUBACK that came is a law of each step (`conn_laws`), and not yet one of a run. The runs are
-/// those in which memory was not wanted.
+/// a group settles anything else. And each is the PUBACK that came for it, and no PUBACK that comes for what a session holds is passed over, where
+/// its connection goes on. The runs are those in which memory was not wanted.
 pub fn settling_law()
     ensures { (setup : Setup) (events : List TimedEvent) (said : List Said) (first last : ServerState) →
         IsNewServer setup first → HappensAll first events said last → SettlesWhatIsAcknowledged said last }
+{}
+
+/// **What is sent is what was accepted**, along every run (sections 3.3, 4.3.2 and 4.4): each PUBLISH packet that a session is sent, with DUP 0 or 1, is
+/// the message that its group accepted under its stamp: of the messages that the group accepted through the stamp's port, the one in the
+/// place that the stamp's number says. And what the groups accepted, as their events tell, is in order the messages of the PUBLISH packets that came:
+/// each through the port of the connection that it came from, and once by each of some groups. The runs are those in which memory was not wanted.
+pub fn message_law()
+    ensures { (setup : Setup) (events : List TimedEvent) (said : List Said) (first last : ServerState) →
+        IsNewServer setup first → HappensAll first events said last → SendsWhatWasAccepted said last }
 {}
 
 /// **A session is in one pair of hands, whatever happens to the server.**

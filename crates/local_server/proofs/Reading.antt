@@ -1,0 +1,124 @@
+-- The turns that answer what is read of a client's stream.
+use Rattle.std.proofs.Common.{◌≡◌, ℕ, List, [], ◌∷◌, ◌++◌, Option, Some, None, refl, sym, ap, subst, ◌∙◌, ⊎_elim}
+use Rattle.std.specs.Prelude.{⊤}
+use Rattle.mqtt_wire.specs.declared.fault.StreamFault.{StreamFault}
+use Rattle.mqtt_wire.specs.declared.packet.Packet.{Packet}
+use Rattle.mqtt_wire.specs.Stream.{Unread, Takes, Stops, FaultAt}
+use Rattle.conn_engine.specs.declared.input.Input.{Input}
+use Rattle.conn_engine.specs.declared.input.Input.TheVariants as inputs
+use Rattle.conn_engine.specs.declared.input.Then.{Then}
+use Rattle.conn_engine.specs.declared.input.Then.TheVariants.{Go}
+use Rattle.conn_engine.specs.declared.standing.Standing.{Standing}
+use Rattle.conn_engine.specs.declared.standing.Standing.TheVariants.{Unconnected, Waiting, Connected, Ended}
+use Rattle.client_table.specs.Cells.{kept_as}
+use Rattle.client_table.specs.Clients.{ClientState}
+use Rattle.client_table.specs.Streams.{longer, fed, IsRead, IsInFront}
+use Rattle.local_broker.specs.Places.{GroupPlace}
+use Rattle.local_server.specs.Turns.{Turn}
+use Rattle.local_server.specs.Streams.{StandsInFront, IsLeftTo, ReadsFrom, HearsTick, HearsLast}
+
+-- a turn of this connection, which answers this input
+pub record Answers (number : ℕ) (input : Input) (next : Then) (turn : Turn) : Type 0 where
+  pub whose : turn.connection ≡ number
+  pub input_is : turn.input ≡ input
+  pub next_is : turn.next ≡ next
+
+abbrev pub IsTurn : ℕ → Input → Then → List Turn → Type 0
+IsTurn number input next turns = (turn : Turn) × (turns ≡ turn ∷ []) × Answers number input next turn
+
+-- the last turn of a connection, where it is open
+abbrev pub EndsTurns : ℕ → Input → Option (ClientState GroupPlace) → List Turn → Type 0
+EndsTurns number input None turns = turns ≡ []
+EndsTurns number input (Some client) turns = (turn : Turn) × (turns ≡ turn ∷ []) × (turn.connection ≡ number) × (turn.input ≡ input)
+
+pub one_ends : (number : ℕ) (input : Input) (next : Then) (client : ClientState GroupPlace) (turns : List Turn) → IsTurn number input next turns
+    → EndsTurns number input (Some client) turns
+one_ends number input next client turns one = (one.0, one.1, one.2.whose, one.2.input_is)
+
+pub ends_heard : (number : ℕ) (input : Input) (client : Option (ClientState GroupPlace)) (turns : List Turn) → EndsTurns number input client turns → HearsLast input client turns
+ends_heard number input None turns ends = ends
+ends_heard number input (Some client) turns ends = (ends.0, ends.1, ends.3)
+
+-- no fault was met in the stream of the client that is here, where one is
+abbrev pub IsUnfaulted : Option (ClientState GroupPlace) → Type 0
+IsUnfaulted None = ⊤
+IsUnfaulted (Some client) = client.unread.fault ≡ None
+
+-- what is unread, with a further piece behind it
+longer_none : (fault : Option StreamFault) (bytes piece : List ℕ) → fault ≡ None → longer fault bytes piece ≡ record { bytes = bytes ++ piece; fault = None }
+longer_none None bytes piece is = refl
+longer_none (Some fault) bytes piece is = absurd (cc)
+
+pub fed_unread : (client : ClientState GroupPlace) (piece : List ℕ) → client.unread.fault ≡ None
+    → (fed client piece).unread ≡ record { bytes = client.unread.bytes ++ piece; fault = None }
+fed_unread client piece sound = longer_none client.unread.fault client.unread.bytes piece sound
+
+-- a client that has read what is whole
+pub left_to : (standing : Standing GroupPlace) (client : ClientState GroupPlace) → IsRead client → IsLeftTo (kept_as standing client) client.unread.bytes
+left_to (Unconnected opened) client read = (refl, read)
+left_to (Waiting request ticks) client read = (refl, read)
+left_to (Connected link) client read = (refl, read)
+left_to Ended client read = tt
+
+-- what stood in front
+stopped_at : (unread unread' : Unread) (fault : StreamFault) → unread.fault ≡ None → Stops unread fault unread' → StandsInFront (inputs.Fault fault) unread.bytes unread'.bytes
+stopped_at unread unread' fault sound stops = (
+  ⊎_elim
+      (λ (earlier : unread.fault ≡ Some fault). absurd (let e = sym earlier ∙ sound in cc))
+      (λ (now : (unread.fault ≡ None) × FaultAt fault unread.bytes). now.1)
+      stops.1,
+  ap (λ (u : Unread). u.bytes) stops.0,
+)
+
+in_front : (input : Input) (unread unread' : Unread) → unread.fault ≡ None → IsInFront unread input unread' → StandsInFront input unread.bytes unread'.bytes
+in_front (inputs.Packet packet) unread unread' sound takes = (takes.front, takes.spelled, takes.parts)
+in_front (inputs.Fault fault) unread unread' sound stops = stopped_at unread unread' fault sound stops
+in_front inputs.Tick unread unread' sound none = absurd none
+in_front inputs.EndOfInput unread unread' sound none = absurd none
+in_front inputs.Closing unread unread' sound none = absurd none
+
+-- nothing is left to a connection that has ended
+ended : (after : Option (ClientState GroupPlace)) (rest : List ℕ) → after ≡ None → IsLeftTo after rest
+ended after rest is = subst (λ (c : Option (ClientState GroupPlace)). IsLeftTo c rest) (sym is) tt
+
+-- a packet is read, and then what is behind it
+pub read_first : (number : ℕ) (packet : Packet) (next : Then) (unread between : Unread) (after : Option (ClientState GroupPlace)) (these those : List Turn)
+    → Takes unread packet between → next ≡ Go → IsTurn number (inputs.Packet packet) next these → ReadsFrom between.bytes those after → ReadsFrom unread.bytes (these ++ those) after
+read_first number packet next unread between after these those takes goes one from =
+    let turn = one.0 in
+    let is = one.2 in
+    subst (λ (ts : List Turn). ReadsFrom unread.bytes (ts ++ those) after) (sym one.1) (
+      from.0,
+      (
+        between.bytes,
+        subst (λ (i : Input). StandsInFront i unread.bytes between.bytes) (sym is.input_is) (takes.front, takes.spelled, takes.parts),
+        λ stops. absurd (stops (is.next_is ∙ goes)),
+        from.1,
+      ),
+      from.2,
+    )
+
+-- it is read, and the connection ends by it
+pub read_last : (number : ℕ) (input : Input) (next : Then) (unread unread' : Unread) (after : Option (ClientState GroupPlace)) (these : List Turn) → unread.fault ≡ None
+    → IsInFront unread input unread' → after ≡ None → IsTurn number input next these → ReadsFrom unread.bytes these after
+read_last number input next unread unread' after these sound front over one =
+    subst (λ (ts : List Turn). ReadsFrom unread.bytes ts after) (sym one.1) (
+      unread'.bytes,
+      (unread'.bytes, subst (λ (i : Input). StandsInFront i unread.bytes unread'.bytes) (sym one.2.input_is) (in_front input unread unread' sound front), λ stops. refl, refl),
+      ended after unread'.bytes over,
+    )
+
+-- a Tick, by which the connection ends
+pub tick_last : (number : ℕ) (next : Then) (client : ClientState GroupPlace) (after : Option (ClientState GroupPlace)) (these : List Turn) → after ≡ None
+    → IsTurn number inputs.Tick next these → HearsTick (Some client) these after
+tick_last number next client after these over one =
+    subst (λ (ts : List Turn). HearsTick (Some client) ts after) (sym one.1)
+    (one.2.input_is, λ stops. refl, (client.unread.bytes, refl, ended after client.unread.bytes over))
+
+-- a Tick, and then what is read
+pub tick_first : (number : ℕ) (next : Then) (client between : ClientState GroupPlace) (after : Option (ClientState GroupPlace)) (these those : List Turn)
+    → between.unread ≡ client.unread → next ≡ Go → IsTurn number inputs.Tick next these → ReadsFrom between.unread.bytes those after
+    → HearsTick (Some client) (these ++ those) after
+tick_first number next client between after these those same goes one from =
+    subst (λ (ts : List Turn). HearsTick (Some client) (ts ++ those) after) (sym one.1)
+    (one.2.input_is, λ stops. absurd (stops (one.2.next_is ∙ goes)), subst (λ (u : Unread). ReadsFrom u.bytes those after) same from)
