@@ -1,0 +1,4 @@
+pub mod Lengths
+pub mod Forwarding
+pub mod Replies
+pub mod Sending

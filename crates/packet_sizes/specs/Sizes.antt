@@ -1,0 +1,52 @@
+-- How long the packets are that the broker sends (sections 2.1.4, 3.1.2.11.4, 3.2.2.3.7 and 3.3).
+use Rattle.std.specs.Prelude.{◌≡◌, ◌⊎◌, ℕ, ◌≤◌, Bool, List, length, Some}
+use Rattle.mqtt_wire.specs.declared.packet.Packet.{Packet}
+use Rattle.mqtt_wire.specs.Forms.{IsText}
+use Rattle.mqtt_wire.specs.Writing.{written}
+use Rattle.group_jobs.specs.declared.message.Message.{Message}
+use Rattle.conn_rules.specs.Packets.{accepting, job}
+
+-- a client that does not take packets of 64 bytes is refused (3.1.2.11.4, profile)
+abbrev pub bytes_for_all : ℕ
+bytes_for_all = 64
+
+-- it has at most so many bytes in all, and each client takes it that is not refused
+abbrev pub IsSmall : Packet → Type 0
+IsSmall packet = length (written packet) ≤ bytes_for_all
+
+-- the most bytes that a packet of the broker has in all: a CONNACK has so many that assigns the longest text as a Client Identifier
+abbrev pub most_bytes : ℕ
+most_bytes = 65558
+
+abbrev pub IsShort : Packet → Type 0
+IsShort packet = length (written packet) ≤ most_bytes
+
+-- a message that is short in each PUBLISH in which it is handed on
+abbrev pub IsLight : Message → Type 0
+IsLight message = (dup : Bool) (identifier : ℕ) → IsShort (job dup message identifier)
+
+-- a CONNACK that tells a client the identifier that it was given (3.2.2.3.7)
+pub record Assigns (packet : Packet) : Type 0 where
+  pub present : Bool
+  pub name : List ℕ
+  pub text : IsText name
+  pub is : packet ≡ accepting present (Some name)
+
+-- a PUBLISH that hands a message on (3.3)
+pub record HandsOn (packet : Packet) : Type 0 where
+  pub dup : Bool
+  pub message : Message
+  pub identifier : ℕ
+  pub is : packet ≡ job dup message identifier
+
+-- what answers an input: small, or it assigns an identifier
+abbrev pub IsAnswer : Packet → Type 0
+IsAnswer packet = IsSmall packet ⊎ Assigns packet
+
+-- what a step sends: an answer, or a message that is handed on
+abbrev pub IsAnswerUnlessHandedOn : Packet → Type 0
+IsAnswerUnlessHandedOn packet = IsAnswer packet ⊎ HandsOn packet
+
+-- short, or as long as the message makes it that it hands on
+abbrev pub IsShortUnlessHandedOn : Packet → Type 0
+IsShortUnlessHandedOn packet = IsShort packet ⊎ HandsOn packet
