@@ -39,3 +39,4 @@ pub mod Sent
 pub mod SentAsAccepted
 pub mod Accepted
 pub mod Many
+pub mod Light

@@ -44,6 +44,7 @@ use Rattle.local_server.specs.Transcripts.{transcript_of, link_in, link_at, sess
 use Rattle.local_server.specs.Settling.{Settlement, settled_in_all, settled_seen_by, HeldIsOut, SettlesWhatIsAcknowledged}
 use Rattle.local_server.proofs.Settled.{AddsIn, adds_nothing, adds_then, none_closed}
 use Rattle.local_server.specs.Messages.{SendsWhatWasAccepted}
+use Rattle.local_server.specs.Sizes.{AllShort}
 use Rattle.local_server.proofs.Known.{Log}
 use Rattle.local_server.proofs.Many.{as_many}
 use Rattle.local_server.proofs.Owning.{AtDesk, InHand, Owns, owns_closed, owns_new}
@@ -104,7 +105,7 @@ ended number first turns old new clients clients' now said result ok all keeps e
     subst (λ (c : Option (ClientState GroupPlace)). Says first turns said (EndsTurns number inputs.Closing c) (links_at clients') new) (sym (client_in clients number ends.before ends.has))
     (in_cell first turns said clients clients' number old new _ (EndsTurns number inputs.Closing ends.before) ends keeps
     (λ has.
-    ends_for result ends.before ends.after first turns (links_at clients) number old new now inputs.Closing said ok (at ends.before clients number all ends.has) has ends.becomes))
+    ends_for result ends.before ends.after first turns (links_at clients) number old new now inputs.Closing said ok tt (at ends.before clients number all ends.has) has ends.becomes))
 
 first_ended : (number : ℕ) (first : Broker) (turns : List Turn) (old new : Broker) (clients clients' : Clients) (now : ℕ) (said : List Said) (result : Result (Unit {0}) NoMemory)
     → IsOk result → AreNumbered clients → Keeps first turns (links_at clients) old → EndsFirst number old clients now said result clients' new
@@ -138,6 +139,7 @@ shut first turns links old closed closes keeps =
       accepted = keeps.accepted;
       accepts = keeps.accepts;
       sent = keeps.sent;
+      light = keeps.light;
       owns = owns_closed (record { links = links; log = keeps.accepted }) old closed closes keeps.owns;
       settled = keeps.settled;
       acknowledged = keeps.acknowledged;
@@ -175,7 +177,7 @@ does (events.End number) first turns old new clients clients' now said result ok
     (λ these ends. ends_heard number inputs.EndOfInput cell.before these ends)
     (in_cell first turns said clients clients' number old new _ (EndsTurns number inputs.EndOfInput cell.before) cell keeps
     (λ has.
-    ends_for result cell.before cell.after first turns (links_at clients) number old new now inputs.EndOfInput said ok
+    ends_for result cell.before cell.after first turns (links_at clients) number old new now inputs.EndOfInput said ok tt
     (at cell.before clients number all cell.has) has cell.becomes)))
 does events.Close first turns old new clients clients' now said result ok all sound keeps closes =
     says_so first turns said (EndsBelow closes.2 clients) (λ more. Came events.Close clients more clients') (links_at clients') new
@@ -252,6 +254,7 @@ starts setup first new =
       accepted = [];
       accepts = refl;
       sent = λ envelope has. absurd (contains_nil envelope has);
+      light = tt;
       owns = owns_new (links_at first.clients) setup.capacity setup.groups first.broker new.broker (nobody setup first new);
       settled = [];
       acknowledged = refl;
@@ -370,3 +373,7 @@ messages setup events said first last new run =
       accepts = λ slot group there. (says.keeps.owns.know slot group there).told;
       sent = says.keeps.sent;
     }
+
+-- what is said is short
+pub shortness : (setup : Setup) (events : List TimedEvent) (said : List Said) (first last : ServerState) → IsNewServer setup first → HappensAll first events said last → AllShort said
+shortness setup events said first last new run = (whole setup events said first last new run).short

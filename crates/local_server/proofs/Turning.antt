@@ -1,5 +1,6 @@
 -- What happens to a client is a list of turns.
 use Rattle.std.proofs.Common.{◌≡◌, ℕ, List, [], ◌∷◌, ◌++◌, map, filter_map, Option, Some, None, Result, Ok, Err, IsOk, false, Contains, refl, sym, ap, subst, ◌∙◌, inl, inr, ⊎_elim, append_assoc, append-nil}
+use Rattle.std.specs.List.{AllByRecursion}
 use Rattle.std.proofs.lemmas.Bool.{false≢true}
 use Rattle.std.proofs.lemmas.List.{map-append}
 use Rattle.std.proofs.lemmas.List.Elements.{filter_map-append, Contains-append_cases}
@@ -17,9 +18,13 @@ use Rattle.conn_laws.specs.Calls.{handed}
 use Rattle.conn_laws.specs.Marks.{publishes_of, fresh_of}
 use Rattle.conn_laws.specs.Transcripts.{link_of, IsNotEnding, Transcribes}
 use Rattle.conn_laws.proofs.Transcripts.{transcribed}
+use Rattle.conn_laws.proofs.Aside.{all_of_both}
+use Rattle.packet_sizes.specs.Sizes.{IsShort, IsLight}
+use Rattle.packet_sizes.proofs.Sending.{kept_short}
+use Rattle.packet_sizes.proofs.Sending as sending
 use Rattle.client_table.specs.Clients.{ClientState, Said, Moves}
 use Rattle.client_table.specs.Numbers.{IsNumbered}
-use Rattle.client_table.specs.Streams.{fed, Reads, Ticks}
+use Rattle.client_table.specs.Streams.{fed, IsInFront, Reads, Ticks}
 use Rattle.client_table.specs.Cells.{kept_as, kept, Receives, TicksFor, EndsFor}
 use Rattle.local_broker.specs.Places.{GroupPlace}
 use Rattle.local_broker.specs.Broker.{Broker}
@@ -31,12 +36,14 @@ use Rattle.local_server.specs.Turns.{Turn, AllTell}
 use Rattle.local_server.specs.Streams.{ReadsFrom, HearsPiece, HearsTick}
 use Rattle.local_server.specs.Transcripts.{all_fresh, link_in}
 use Rattle.local_server.proofs.Happened.{joins, called, handed_by_calls}
-use Rattle.local_server.specs.Messages.{IsBrought, AllAccept, sent_in, all_sent}
+use Rattle.local_server.specs.Messages.{Accepted, IsBrought, AllAccept, sent_in, all_sent}
 use Rattle.local_server.specs.Settling.{Settlement, AllSettle}
 use Rattle.local_server.proofs.Turns.{more_fresh, told_on}
 use Rattle.local_server.proofs.Settled.{AddsIn, adds_then}
 use Rattle.local_server.proofs.Owning.{InHand, Owns}
 use Rattle.local_server.proofs.Acted.{acts}
+use Rattle.local_server.specs.Sizes.{AllShort}
+use Rattle.local_server.proofs.Light.{IsSpelled, AllLight, brought_light, known_light, marks_short, packets_short}
 use Rattle.local_server.proofs.Known.{Log, IsKnown, stays_known}
 use Rattle.local_server.proofs.Accepted.{accept_on, more_sent}
 use Rattle.local_server.proofs.SentAsAccepted.{sends}
@@ -61,6 +68,7 @@ pub record Keeps (first : Broker) (turns : List Turn) (links : Links) (b : Broke
   pub accepted : Log
   pub accepts : AllAccept turns accepted
   pub sent : (envelope : Held) → Contains (all_sent turns) envelope → IsKnown accepted envelope
+  pub light : AllLight accepted
   pub owns : Owns (record { links = links; log = accepted }) b
   pub settled : List Settlement
   pub acknowledged : AllSettle [] turns settled
@@ -70,6 +78,7 @@ pub record Keeps (first : Broker) (turns : List Turn) (links : Links) (b : Broke
 pub record Says (first : Broker) (turns : List Turn) (said : List Said) (Answers : List Turn → Type 0) (links : Links) (new : Broker) : Type 0 where
   pub more : List Turn
   pub told : AllTell said more
+  pub short : AllShort said
   pub answers : Answers more
   pub keeps : Keeps first (turns ++ more) links new
 
@@ -80,6 +89,7 @@ silent first turns Answers links old new said nothing none same keeps =
     (record {
       more = [];
       told = tt;
+      short = tt;
       answers = nothing;
       keeps = subst (λ (ts : List Turn). Keeps first ts links new) (sym (append-nil turns)) (subst (Keeps first turns links) (sym same) keeps);
     })
@@ -92,13 +102,14 @@ then_says first turns said later These Those All links links' mid new both these
     record {
       more = these.more ++ rest.more;
       told = told_on said later these.more rest.more these.told rest.told;
+      short = all_of_both (λ (one : Said). AllByRecursion IsShort one.packets) said later these.short rest.short;
       answers = both these.more rest.more these.answers rest.answers;
       keeps = subst (λ (ts : List Turn). Keeps first ts links' new) (append_assoc turns these.more rest.more) rest.keeps;
     }
 
 pub says_so : (first : Broker) (turns : List Turn) (said : List Said) (These All : List Turn → Type 0) (links : Links) (new : Broker)
     → ((these : List Turn) → These these → All these) → Says first turns said These links new → Says first turns said All links new
-says_so first turns said These All links new so says = record { more = says.more; told = says.told; answers = so says.more says.answers; keeps = says.keeps }
+says_so first turns said These All links new so says = record { more = says.more; told = says.told; short = says.short; answers = so says.more says.answers; keeps = says.keeps }
 
 -- one step
 not_ending : (standing : Standing GroupPlace) → ((link : Link GroupPlace) → link_of standing ≡ Some link → link.session.window.retired ≡ false) → IsNotEnding standing
@@ -115,11 +126,11 @@ handed_on happenings facts =
     ∙ ap (λ (l : List HandOut). messages happenings ++ map (λ (h : HandOut). h.1) l) (handed_by_calls facts)
 
 stepped : (first : Broker) (turns : List Turn) (links : Links) (old new : Broker) (number : ℕ) (standing standing' : Standing GroupPlace) (input : Input) (said : Said)
-    (now : ℕ) → said.connection ≡ number → Steps Calls slot_of old number standing now input said.packets said.next standing' new
+    (now : ℕ) → said.connection ≡ number → IsSpelled input → Steps Calls slot_of old number standing now input said.packets said.next standing' new
     → Transcribes Calls old number standing input said.packets said.next standing' new
     → Keeps first turns (with_link links number (link_of standing)) old
     → Says first turns (said ∷ []) (IsTurn number input said.next) (with_link links number (link_of standing')) new
-stepped first turns links old new number standing standing' input said now its steps step keeps =
+stepped first turns links old new number standing standing' input said now its spelled steps step keeps =
     let acts = acts (record { links = links; log = keeps.accepted }) old new number now standing standing' input said.packets said.next steps keeps.owns in
     let goes = goes_as old new number now standing standing' input said.packets said.next steps in
     let adds =
@@ -150,9 +161,17 @@ stepped first turns links old new number standing standing' input said now its s
       leads = (now_keeps.linked number link (there ∙ has)).leads;
       known = acts.owns.known (InHand number) link.session (record { link = link; has = there ∙ has; its = refl });
     }) in
+    let light = all_of_both (λ (a : Accepted). IsLight a.message) keeps.accepted acts.accepted keeps.light (brought_light acts.accepted number input spelled acts.brought.each) in
+    let publishes = marks_short adds.turn.marks (λ envelope has. known_light (keeps.accepted ++ acts.accepted) envelope light (sends_known envelope has)) in
     record {
       more = adds.turn ∷ [];
       told = (record { whose = adds.whose ∙ sym its; next = adds.next_is; publishes = step.publishes ∙ ap publishes_of (sym adds.marks_are) }, tt);
+      short = (
+        packets_short said.packets
+            (kept_short said.packets (sending.sent Calls slot_of old new number now standing standing' input said.packets said.next steps))
+            (subst (AllByRecursion IsShort) (sym (step.publishes ∙ ap publishes_of (sym adds.marks_are))) publishes),
+        tt,
+      );
       answers = (adds.turn, refl, record { whose = adds.whose; input_is = adds.input_is; next_is = adds.next_is });
       keeps = record {
         happenings = keeps.happenings ++ map Called step.facts;
@@ -171,6 +190,7 @@ stepped first turns links old new number standing standing' input said now its s
             (λ (last : Contains (filter_map sent_in adds.turn.marks) envelope). sends_known envelope last)
             (Contains-append_cases (all_sent turns) (filter_map sent_in adds.turn.marks) envelope
             (subst (λ (l : List Held). Contains l envelope) (more_sent turns adds.turn) has));
+        light = light;
         owns = acts.owns;
         settled = keeps.settled ++ settles.now;
         acknowledged = settle_on [] turns adds.turn keeps.settled settles.now keeps.acknowledged (hears, settles.are);
@@ -179,13 +199,22 @@ stepped first turns links old new number standing standing' input said now its s
     }
 
 pub moves : (first : Broker) (turns : List Turn) (links : Links) (old new : Broker) (number : ℕ) (client after : ClientState GroupPlace) (now : ℕ) (input : Input) (said : Said)
-    → client.conn.number ≡ number → Keeps first turns (with_link links number (link_of client.conn.standing)) old → Moves Calls slot_of old client now input said after new
+    → client.conn.number ≡ number → IsSpelled input → Keeps first turns (with_link links number (link_of client.conn.standing)) old
+    → Moves Calls slot_of old client now input said after new
     → Says first turns (said ∷ []) (IsTurn number input said.next) (with_link links number (link_of after.conn.standing)) new
-moves first turns links old new number client after now input said is keeps moved =
+moves first turns links old new number client after now input said is spelled keeps moved =
     let steps = subst (λ (n : ℕ). Steps Calls slot_of old n client.conn.standing now input said.packets said.next after.conn.standing new) is moved.stepped in
     let sound = not_ending client.conn.standing (λ link has. (keeps.sessions.linked number link (link_here links number (link_of client.conn.standing) ∙ has)).leads.goes_on) in
-    stepped first turns links old new number client.conn.standing after.conn.standing input said now (moved.told ∙ is) steps
+    stepped first turns links old new number client.conn.standing after.conn.standing input said now (moved.told ∙ is) spelled steps
     (transcribed Calls slot_of old new number now client.conn.standing after.conn.standing input said.packets said.next steps sound) keeps
+
+-- what stands in front of a stream was read
+front_spelled : (input : Input) (unread unread' : Unread) → IsInFront unread input unread' → IsSpelled input
+front_spelled (inputs.Packet packet) unread unread' front = (front.front, front.spelled)
+front_spelled (inputs.Fault fault) unread unread' front = tt
+front_spelled inputs.Tick unread unread' front = absurd front
+front_spelled inputs.EndOfInput unread unread' front = absurd front
+front_spelled inputs.Closing unread unread' front = absurd front
 
 -- what is read is stepped, packet by packet
 pub reads : (said : List Said) (first : Broker) (turns : List Turn) (links : Links) (old new : Broker) (number : ℕ) (client after : ClientState GroupPlace) (now : ℕ)
@@ -204,14 +233,14 @@ reads (said ∷ rest) first turns links old new number client after now is sound
     (says_so first turns (said ∷ []) (IsTurn number it.input said.next) (λ more. ReadsFrom client.unread.bytes more (kept after))
     (with_link links number (link_of after.conn.standing)) new
     (λ these one. read_last number it.input said.next client.unread after.unread (kept after) these sound it.front closed one)
-    (moves first turns links old new number client after now it.input said is keeps it.moved))
+    (moves first turns links old new number client after now it.input said is (front_spelled it.input client.unread after.unread it.front) keeps it.moved))
 reads (said ∷ rest) first turns links old new number client after now is sound keeps (inr more) =
     let between = more.0 in
     let one = more.2 in
     then_says first turns (said ∷ []) rest (IsTurn number (inputs.Packet one.packet) said.next) (λ later. ReadsFrom between.unread.bytes later (kept after))
     (λ more. ReadsFrom client.unread.bytes more (kept after)) (with_link links number (link_of between.conn.standing)) (with_link links number (link_of after.conn.standing)) more.1 new
     (λ these those turn later. read_first number one.packet said.next client.unread between.unread (kept after) these those one.taken one.goes turn later)
-    (moves first turns links old more.1 number client between now _ said is keeps one.moved)
+    (moves first turns links old more.1 number client between now (inputs.Packet one.packet) said is (one.taken.front, one.taken.spelled) keeps one.moved)
     (λ before kept. reads rest first before links more.1 new number between after now (one.moved.same ∙ is) one.taken.goes_on kept more.3)
 
 pub ticks : (said : List Said) (first : Broker) (turns : List Turn) (links : Links) (old new : Broker) (number : ℕ) (client after : ClientState GroupPlace) (now : ℕ)
@@ -225,14 +254,14 @@ ticks (said ∷ rest) first turns links old new number client after now is sound
     (sym last.2)
     (says_so first turns (said ∷ []) (IsTurn number inputs.Tick said.next) (λ more. HearsTick (Some client) more (kept after))
     (with_link links number (link_of after.conn.standing)) new (λ these one. tick_last number said.next client (kept after) these over one)
-    (moves first turns links old new number client after now inputs.Tick said is keeps last.0))
+    (moves first turns links old new number client after now inputs.Tick said is tt keeps last.0))
 ticks (said ∷ rest) first turns links old new number client after now is sound keeps (inr more) =
     let between = more.0 in
     let same = more.5 in
     then_says first turns (said ∷ []) rest (IsTurn number inputs.Tick said.next) (λ later. ReadsFrom between.unread.bytes later (kept after))
     (λ more. HearsTick (Some client) more (kept after)) (with_link links number (link_of between.conn.standing)) (with_link links number (link_of after.conn.standing)) more.1 new
     (λ these those turn later. tick_first number said.next client between (kept after) these those same more.3 turn later)
-    (moves first turns links old more.1 number client between now inputs.Tick said is keeps more.2)
+    (moves first turns links old more.1 number client between now inputs.Tick said is tt keeps more.2)
     (λ before kept. reads rest first before links more.1 new number between after now (more.2.same ∙ is) (ap (λ (u : Unread). u.fault) same ∙ sound) kept more.4)
 
 -- a cell, behind what happened to the client in it
@@ -285,15 +314,15 @@ ticks_for (Ok done) (Some client) after first turns links number old new now sai
 ticks_for (Err error) before after first turns links number old new now said ok is sound keeps does = absurd (false≢true ok)
 
 pub ends_for : (result : Result (Unit {0}) NoMemory) (before after : Option (ClientState GroupPlace)) (first : Broker) (turns : List Turn) (links : Links) (number : ℕ)
-    (old new : Broker) (now : ℕ) (input : Input) (said : List Said) → IsOk result → IsNumbered number before
+    (old new : Broker) (now : ℕ) (input : Input) (said : List Said) → IsOk result → IsSpelled input → IsNumbered number before
     → Keeps first turns (with_link links number (link_in (Some before))) old → EndsFor Calls slot_of old before now input said result after new
     → Says first turns said (EndsTurns number input before) (with_link links number (link_in (Some after))) new
-ends_for (Ok done) None after first turns links number old new now input said ok is keeps does =
+ends_for (Ok done) None after first turns links number old new now input said ok spelled is keeps does =
     nobody first turns said (EndsTurns number input None) links number after old new refl does.0 does.1 does.2 keeps
-ends_for (Ok done) (Some client) after first turns links number old new now input said ok is keeps does =
+ends_for (Ok done) (Some client) after first turns links number old new now input said ok spelled is keeps does =
     in_cell first turns said (λ more c. EndsTurns number input (Some client) more) links number does.0 after new does.2
     (subst (λ (s : List Said). Says first turns s (EndsTurns number input (Some client)) (with_link links number (link_of does.0.conn.standing)) new) (sym does.1.1)
     (says_so first turns (does.1.0 ∷ []) (IsTurn number input does.1.0.next) (EndsTurns number input (Some client)) (with_link links number (link_of does.0.conn.standing)) new
     (λ these one. one_ends number input does.1.0.next client these one)
-    (moves first turns links old new number client does.0 now input does.1.0 is keeps does.1.2)))
-ends_for (Err error) before after first turns links number old new now input said ok is keeps does = absurd (false≢true ok)
+    (moves first turns links old new number client does.0 now input does.1.0 is spelled keeps does.1.2)))
+ends_for (Err error) before after first turns links number old new now input said ok spelled is keeps does = absurd (false≢true ok)

@@ -14,3 +14,4 @@ pub mod Streams
 pub mod Transcripts
 pub mod Settling
 pub mod Messages
+pub mod Sizes

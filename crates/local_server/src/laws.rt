@@ -20,6 +20,7 @@ ghost use Rattle.local_server.specs.Addressed.{Answers};
 ghost use Rattle.local_server.specs.Publishers.{AcceptsFrom};
 ghost use Rattle.local_server.specs.Messages.{SendsWhatWasAccepted};
 ghost use Rattle.local_server.specs.Settling.{SettlesWhatIsAcknowledged};
+ghost use Rattle.local_server.specs.Sizes.{AllShort, AllWritable};
 ghost use Rattle.local_server.specs.Transcripts.{KeepsTranscripts, AccountAlong};
 ghost use Rattle.local_server.specs.Eager.{AllHandReturnedFirst};
 ghost use Rattle.local_server.specs.LastEvents.{AllAddTheClose};
@@ -106,6 +107,16 @@ pub fn settling_law()
 pub fn message_law()
     ensures { (setup : Setup) (events : List TimedEvent) (said : List Said) (first last : ServerState) →
         IsNewServer setup first → HappensAll first events said last → SendsWhatWasAccepted said last }
+{}
+
+/// **No packet is too long to be written**, along every run (section 2.1.4): each packet that is said has at most 65,558 bytes in all (`short`), and so a
+/// Remaining Length that can be said: `mqtt_wire`'s `encode` refuses none as too large (`writable`). For a message is handed on as it came in a PUBLISH
+/// that was read, which has at most 65,536 bytes. The runs are those in which memory was not wanted.
+pub fn size_law()
+    ensures short { (setup : Setup) (events : List TimedEvent) (said : List Said) (first last : ServerState) →
+        IsNewServer setup first → HappensAll first events said last → AllShort said }
+    ensures writable { (setup : Setup) (events : List TimedEvent) (said : List Said) (first last : ServerState) →
+        IsNewServer setup first → HappensAll first events said last → AllWritable said }
 {}
 
 /// **A session is in one pair of hands, whatever happens to the server.**
