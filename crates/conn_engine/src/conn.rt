@@ -22,7 +22,7 @@ use std::marker::Model;
 
 /// How many packets there is room for from the start: most steps send a reply, a message, or both, and there is room for one more before
 /// it is asked for.
-const MOST_AT_ONCE: usize = 3;
+const ROOM_AT_FIRST: usize = 3;
 
 /// A connection to a client. `P` is a place in a group.
 ///
@@ -110,7 +110,7 @@ impl<P: Place> Conn<P> {
             × FailsToStep S.call P.slot_of supply.old self.old.number self.old.standing now input supply.new) }
     {
         packets.clear();
-        if packets.reserve_exact(MOST_AT_ONCE).is_err() {
+        if packets.reserve_exact(ROOM_AT_FIRST).is_err() {
             drop(input);
             give_up(supply, self.number, &mut self.standing, now);
             return Err(NoMemory);
