@@ -3,6 +3,7 @@ ghost use Rattle.std.specs.Prelude.{◌<◌};
 
 use crate::refusing::{Refused, Refusing};
 use client_table::{ClientTable, Said};
+use conn_engine::NoMemory;
 use local_broker::LocalPlace;
 use mqtt_topic::Routes;
 use mqtt_wire::encode_into;
@@ -46,10 +47,7 @@ impl Hall {
     pub(crate) fn bytes(&mut self, rt: &impl Abort, number: u8, piece: &[u8], written: &[&[u8]])
         requires { number < 64 }
     {
-        self.said.clear();
-        let received = self
-            .clients
-            .receive(&mut self.supply, number, 0, piece, &mut self.said);
+        let received = self.receive(number, piece);
         assert!(rt; received.is_ok());
         self.compare(rt, written);
     }
@@ -64,10 +62,7 @@ impl Hall {
     )
         requires { number < 64 }
     {
-        self.said.clear();
-        let received = self
-            .clients
-            .receive(&mut self.supply, number, 0, piece, &mut self.said);
+        let received = self.receive(number, piece);
         assert!(rt; received.is_err());
         self.compare(rt, written);
     }
@@ -76,10 +71,7 @@ impl Hall {
     pub(crate) fn tick(&mut self, rt: &impl Abort, number: u8, written: &[&[u8]])
         requires { number < 64 }
     {
-        self.said.clear();
-        let ticked = self
-            .clients
-            .tick(&mut self.supply, number, 0, &mut self.said);
+        let ticked = self.advance(number);
         assert!(rt; ticked.is_ok());
         self.compare(rt, written);
     }
@@ -88,12 +80,27 @@ impl Hall {
     pub(crate) fn tick_refused(&mut self, rt: &impl Abort, number: u8)
         requires { number < 64 }
     {
-        self.said.clear();
-        let ticked = self
-            .clients
-            .tick(&mut self.supply, number, 0, &mut self.said);
+        let ticked = self.advance(number);
         assert!(rt; ticked.is_err());
         self.compare(rt, &[]);
+    }
+
+    /// A piece comes.
+    fn receive(&mut self, number: u8, piece: &[u8]) -> Result<(), NoMemory>
+        requires { number < 64 }
+    {
+        self.said.clear();
+        self.clients
+            .receive(&mut self.supply, number, 0, piece, &mut self.said)
+    }
+
+    /// Time goes on.
+    fn advance(&mut self, number: u8) -> Result<(), NoMemory>
+        requires { number < 64 }
+    {
+        self.said.clear();
+        self.clients
+            .tick(&mut self.supply, number, 0, &mut self.said)
     }
 
     /// What was said in the last event is written as these bytes, one part after the other.
