@@ -40,3 +40,4 @@ pub mod SentAsAccepted
 pub mod Accepted
 pub mod Many
 pub mod Light
+pub mod Placed

@@ -22,7 +22,7 @@ use Rattle.local_broker.specs.Places.{GroupPlace}
 use Rattle.local_broker.specs.Broker.{Broker}
 use Rattle.local_broker.specs.Calls.{Calls}
 use Rattle.local_server.specs.Turns.{Turn}
-use Rattle.local_server.specs.Transcripts.{transcript_of, Begins, IsTurnOf, session_of}
+use Rattle.local_server.specs.Transcripts.{transcript_of, Begins, IsTurnOf, session_of, place_of}
 use Rattle.local_server.proofs.Windows.{Leads, IsUp, leads_on, leads_up, leads_down, leads_down_again, stays_up}
 use Rattle.local_server.proofs.Turns.{own_marks}
 use Rattle.local_server.proofs.Lent.{IsLentTo}
@@ -47,6 +47,7 @@ pub record AddsTurn (turns : List Turn) (links : Links) (number : ℕ) (input : 
   pub whose : turn.connection ≡ number
   pub input_is : turn.input ≡ input
   pub next_is : turn.next ≡ next
+  pub place_is : turn.place ≡ place_of after
   pub marks_are : turn.marks ≡ marks
   pub session : (link : Link GroupPlace) → links number ≡ Some link → turn.session ≡ link.session.identity.number
   pub session_then : (link : Link GroupPlace) → after ≡ Some link → turn.session ≡ link.session.identity.number
@@ -102,7 +103,7 @@ begins : (turns : List Turn) (old new : Broker) (links : Links) (number : ℕ) (
 begins turns old new links number input next link marks begin on free was =
     let session = begin.session in
     let got = got_aside turns begin.mid new links number session begin.aside (gets turns old begin.mid links number begin.answer session begin.given begin.asks was) in
-    let turn : Turn = record { connection = number; input = input; next = next; session = session.identity.number; marks = marks } in
+    let turn : Turn = record { connection = number; input = input; next = next; session = session.identity.number; place = place_of (Some link); marks = marks } in
     let its : session.identity.number ≡ link.session.identity.number = ap (λ w. w.number) (sym begin.same) in
     let up =
     leads_up (transcript_of session.identity.number turns) link.terms.receive_maximum session.window link.session.window begin.calls got.in_hand.stands.leads begin.within begin.made in
@@ -115,6 +116,7 @@ begins turns old new links number input next link marks begin on free was =
       whose = refl;
       input_is = refl;
       next_is = refl;
+      place_is = refl;
       marks_are = refl;
       session = λ other has. absurd (cc);
       session_then = λ other is. its ∙ ap (λ (l : Link GroupPlace). l.session.identity.number) (same_Some link other is);
@@ -127,7 +129,7 @@ goes_on : (turns : List Turn) (old new : Broker) (links : Links) (number : ℕ) 
 goes_on turns old new links number input next link link' marks goes on has was =
     let keeps = step_aside turns old new links goes.aside was in
     let had = keeps.linked number link has in
-    let turn : Turn = record { connection = number; input = input; next = next; session = link.session.identity.number; marks = marks } in
+    let turn : Turn = record { connection = number; input = input; next = next; session = link.session.identity.number; place = place_of (Some link'); marks = marks } in
     let its : link.session.identity.number ≡ link'.session.identity.number = ap (λ w. w.number) (sym goes.same) in
     let up = stays_up goes.calls link.session.window link'.session.window had.up (subst (AllByRecursion IsWithin) goes.marks_are goes.within) goes.made in
     let leads = leads_there turns turn (made_by goes.calls) link'.session.window goes.marks_are
@@ -139,6 +141,7 @@ goes_on turns old new links number input next link link' marks goes on has was =
       whose = refl;
       input_is = refl;
       next_is = refl;
+      place_is = refl;
       marks_are = refl;
       session = λ other is. ap (λ (l : Link GroupPlace). l.session.identity.number) (same_Some link other (sym has ∙ is));
       session_then = λ other is. its ∙ ap (λ (l : Link GroupPlace). l.session.identity.number) (same_Some link' other is);
@@ -152,7 +155,7 @@ ends : (turns : List Turn) (old new : Broker) (links : Links) (number : ℕ) (in
 ends turns old new links number input next link marks end stops has was =
     let had = was.linked number link has in
     let n = link.session.identity.number in
-    let turn : Turn = record { connection = number; input = input; next = next; session = n; marks = marks } in
+    let turn : Turn = record { connection = number; input = input; next = next; session = n; place = None; marks = marks } in
     let more : List Turn = turns ++ turn ∷ [] in
     let leads = leads_there turns turn (Down ∷ []) (after_down link.session.window) end.marks_are (leads_down (transcript_of n turns) link.session.window had.leads) in
     let is_turn : IsTurnOf (session_of (links number)) turn None =
@@ -174,6 +177,7 @@ ends turns old new links number input next link marks end stops has was =
       whose = refl;
       input_is = refl;
       next_is = refl;
+      place_is = refl;
       marks_are = refl;
       session = λ other is. ap (λ (l : Link GroupPlace). l.session.identity.number) (same_Some link other (sym has ∙ is));
       session_then = λ other is. absurd (cc);
@@ -217,12 +221,13 @@ nothing turns old new links number input next marks none free was =
     (λ (leads : LeadsAside Calls old new). step_aside turns old new links leads was)
     (λ (asked : AsksInVain Calls old number new). vain turns old new links number asked free was)
     none.1 in
-    let turn : Turn = record { connection = number; input = input; next = next; session = 0; marks = marks } in
+    let turn : Turn = record { connection = number; input = input; next = next; session = 0; place = None; marks = marks } in
     record {
       turn = turn;
       whose = refl;
       input_is = refl;
       next_is = refl;
+      place_is = refl;
       marks_are = refl;
       session = λ other has. absurd (cc);
       session_then = λ other is. absurd (cc);

@@ -40,7 +40,7 @@ use Rattle.local_server.specs.Happening.{EndsAt, EndsFirst, Does, DoesIf, Happen
 use Rattle.local_server.specs.Quotas.{AllWithinQuota}
 use Rattle.local_server.specs.Turns.{Turn}
 use Rattle.local_server.specs.Streams.{HearsPiece, HearsTick, HearsLast, client_at, Came, CameIf}
-use Rattle.local_server.specs.Transcripts.{transcript_of, link_in, link_at, session_of, StandsAsTold, AccountFor, KeepsTranscripts, AccountAlong}
+use Rattle.local_server.specs.Transcripts.{transcript_of, link_in, link_at, session_of, place_of, StandsAsTold, AccountFor, KeepsTranscripts, AccountAlong}
 use Rattle.local_server.specs.Settling.{Settlement, settled_in_all, settled_seen_by, HeldIsOut, SettlesWhatIsAcknowledged}
 use Rattle.local_server.proofs.Settled.{AddsIn, adds_nothing, adds_then, none_closed}
 use Rattle.local_server.specs.Messages.{SendsWhatWasAccepted}
@@ -140,6 +140,8 @@ shut first turns links old closed closes keeps =
       accepts = keeps.accepts;
       sent = keeps.sent;
       light = keeps.light;
+      placed = keeps.placed;
+      at = keeps.at;
       owns = owns_closed (record { links = links; log = keeps.accepted }) old closed closes keeps.owns;
       settled = keeps.settled;
       acknowledged = keeps.acknowledged;
@@ -255,6 +257,8 @@ starts setup first new =
       accepts = refl;
       sent = λ envelope has. absurd (contains_nil envelope has);
       light = tt;
+      placed = tt;
+      at = λ connection. ap place_of (sym (nobody setup first new connection));
       owns = owns_new (links_at first.clients) setup.capacity setup.groups first.broker new.broker (nobody setup first new);
       settled = [];
       acknowledged = refl;
@@ -294,6 +298,8 @@ account setup first turns server new keeps within =
       alone = λ one other these those is is' same. alone turns server.broker links one other these those sessions is is' same;
       stands = λ connection. stands turns (link_at server.clients connection) server.broker server.clients connection sessions within refl;
       parked = λ number row session has is. parked turns server.broker links number row session sessions has is;
+      placed = keeps.placed;
+      at = keeps.at;
       handed = handed setup.capacity setup.groups keeps.happenings first.broker server.broker _ new.broker keeps.led keeps.fresh;
     }
 

@@ -32,9 +32,9 @@ use Rattle.local_broker.specs.Calls.{Calls}
 use Rattle.local_broker.specs.HandOuts.{HandOut, handed_by, handed_by_all}
 use Rattle.local_broker.specs.Histories.{Happening, Called, HappensAll}
 use Rattle.local_server.specs.Happening.{slot_of}
-use Rattle.local_server.specs.Turns.{Turn, AllTell}
+use Rattle.local_server.specs.Turns.{Turn, AllTell, turns_of}
 use Rattle.local_server.specs.Streams.{ReadsFrom, HearsPiece, HearsTick}
-use Rattle.local_server.specs.Transcripts.{all_fresh, link_in}
+use Rattle.local_server.specs.Transcripts.{all_fresh, link_in, place_of, last_place, IsAt, SendsItsOwn}
 use Rattle.local_server.proofs.Happened.{joins, called, handed_by_calls}
 use Rattle.local_server.specs.Messages.{Accepted, IsBrought, AllAccept, sent_in, all_sent}
 use Rattle.local_server.specs.Settling.{Settlement, AllSettle}
@@ -46,6 +46,7 @@ use Rattle.local_server.specs.Sizes.{AllShort}
 use Rattle.local_server.proofs.Light.{IsSpelled, AllLight, brought_light, known_light, marks_short, packets_short}
 use Rattle.local_server.proofs.Known.{Log, IsKnown, stays_known}
 use Rattle.local_server.proofs.Accepted.{accept_on, more_sent}
+use Rattle.local_server.proofs.Placed.{keeps_places, sends_own, leads_to}
 use Rattle.local_server.proofs.SentAsAccepted.{sends}
 use Rattle.local_server.proofs.Acknowledged.{settled_on, settle_on}
 use Rattle.local_server.proofs.Confirmed.{turn_hears}
@@ -69,6 +70,9 @@ pub record Keeps (first : Broker) (turns : List Turn) (links : Links) (b : Broke
   pub accepts : AllAccept turns accepted
   pub sent : (envelope : Held) → Contains (all_sent turns) envelope → IsKnown accepted envelope
   pub light : AllLight accepted
+  -- what is sent for the first time, the place of its session was handed
+  pub placed : AllByRecursion SendsItsOwn turns
+  pub at : (connection : ℕ) → last_place (turns_of connection turns) ≡ place_of (links connection)
   pub owns : Owns (record { links = links; log = accepted }) b
   pub settled : List Settlement
   pub acknowledged : AllSettle [] turns settled
@@ -161,6 +165,10 @@ stepped first turns links old new number standing standing' input said now its s
       leads = (now_keeps.linked number link (there ∙ has)).leads;
       known = acts.owns.known (InHand number) link.session (record { link = link; has = there ∙ has; its = refl });
     }) in
+    let own : SendsItsOwn adds.turn =
+    subst (λ (place : Option GroupPlace). AllByRecursion (IsAt place) (fresh_of adds.turn.marks)) (sym adds.place_is)
+    (subst (AllByRecursion (IsAt (place_of (link_of standing')))) (step.hands ∙ ap fresh_of (sym adds.marks_are))
+    (sends_own step.facts old new (link_of standing') keeps.owns.running step.made (step.own keeps_places))) in
     let light = all_of_both (λ (a : Accepted). IsLight a.message) keeps.accepted acts.accepted keeps.light (brought_light acts.accepted number input spelled acts.brought.each) in
     let publishes = marks_short adds.turn.marks (λ envelope has. known_light (keeps.accepted ++ acts.accepted) envelope light (sends_known envelope has)) in
     record {
@@ -191,6 +199,9 @@ stepped first turns links old new number standing standing' input said now its s
             (Contains-append_cases (all_sent turns) (filter_map sent_in adds.turn.marks) envelope
             (subst (λ (l : List Held). Contains l envelope) (more_sent turns adds.turn) has));
         light = light;
+        placed = all_of_both SendsItsOwn turns (adds.turn ∷ []) keeps.placed (own, tt);
+        at = subst (λ (l : Links). (connection : ℕ) → last_place (turns_of connection (turns ++ adds.turn ∷ [])) ≡ place_of (l connection)) again
+            (leads_to turns adds.turn (with_link links number (link_of standing)) number (link_of standing') adds.whose adds.place_is keeps.at);
         owns = acts.owns;
         settled = keeps.settled ++ settles.now;
         acknowledged = settle_on [] turns adds.turn keeps.settled settles.now keeps.acknowledged (hears, settles.are);

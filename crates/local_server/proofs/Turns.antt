@@ -8,7 +8,7 @@ use Rattle.member_window.specs.Marks.{Mark}
 use Rattle.conn_laws.specs.Marks.{fresh_of}
 use Rattle.client_table.specs.Clients.{Said}
 use Rattle.local_server.specs.Turns.{Turn, AllTell, turns_of}
-use Rattle.local_server.specs.Transcripts.{marks_for, transcript_of, IsTurnOf, AreTurnsOf, all_fresh}
+use Rattle.local_server.specs.Transcripts.{marks_for, transcript_of, IsTurnOf, AreTurnsOf, last_place, all_fresh}
 
 -- the transcripts behind one more turn
 more_marks : (number : ℕ) (turns : List Turn) (turn : Turn) → transcript_of number (turns ++ turn ∷ []) ≡ transcript_of number turns ++ marks_for number turn
@@ -44,19 +44,30 @@ lead_on : (turns : List Turn) (before between after : Option ℕ) (turn : Turn) 
 lead_on [] before between after turn are is = (after, subst (λ (o : Option ℕ). IsTurnOf o turn after) are is, refl)
 lead_on (first ∷ others) before between after turn are is = (are.0, are.1, lead_on others are.0 between after turn are.2 is)
 
+turns_with : (connection : ℕ) (turns : List Turn) (turn : Turn) → turn.connection ≡ connection → turns_of connection (turns ++ turn ∷ []) ≡ turns_of connection turns ++ turn ∷ []
+turns_with connection turns turn its =
+    filter-append (λ (t : Turn). nat_eq t.connection connection) turns (turn ∷ [])
+    ∙ ap (λ (b : Bool). turns_of connection turns ++ (if b then turn ∷ [] else [])) (eq-eqb turn.connection connection its)
+
 pub own_turns : (connection : ℕ) (turns : List Turn) (turn : Turn) (between after : Option ℕ) → turn.connection ≡ connection → AreTurnsOf None (turns_of connection turns) between
     → IsTurnOf between turn after → AreTurnsOf None (turns_of connection (turns ++ turn ∷ [])) after
 own_turns connection turns turn between after its are is =
-    let same : turns_of connection (turns ++ turn ∷ []) ≡ turns_of connection turns ++ turn ∷ [] =
-    filter-append (λ (t : Turn). nat_eq t.connection connection) turns (turn ∷ [])
-    ∙ ap (λ (b : Bool). turns_of connection turns ++ (if b then turn ∷ [] else [])) (eq-eqb turn.connection connection its) in
-    subst (λ (ts : List Turn). AreTurnsOf None ts after) (sym same) (lead_on (turns_of connection turns) None between after turn are is)
+    subst (λ (ts : List Turn). AreTurnsOf None ts after) (sym (turns_with connection turns turn its)) (lead_on (turns_of connection turns) None between after turn are is)
 
 pub other_turns : (connection : ℕ) (turns : List Turn) (turn : Turn) → connection ≢ turn.connection → turns_of connection (turns ++ turn ∷ []) ≡ turns_of connection turns
 other_turns connection turns turn other =
     filter-append (λ (t : Turn). nat_eq t.connection connection) turns (turn ∷ [])
     ∙ ap (λ (b : Bool). turns_of connection turns ++ (if b then turn ∷ [] else [])) (ne_eqb turn.connection connection (λ e. other (sym e)))
     ∙ append-nil (turns_of connection turns)
+
+-- where the turns of a connection lead, behind one more
+last_of : (turns : List Turn) (turn : Turn) → last_place (turns ++ turn ∷ []) ≡ turn.place
+last_of [] turn = refl
+last_of (first ∷ []) turn = refl
+last_of (first ∷ second ∷ others) turn = last_of (second ∷ others) turn
+
+pub own_place : (connection : ℕ) (turns : List Turn) (turn : Turn) → turn.connection ≡ connection → last_place (turns_of connection (turns ++ turn ∷ [])) ≡ turn.place
+own_place connection turns turn its = ap last_place (turns_with connection turns turn its) ∙ last_of (turns_of connection turns) turn
 
 -- what is said first, and then
 pub told_on : (said more : List Said) (turns others : List Turn) → AllTell said turns → AllTell more others → AllTell (said ++ more) (turns ++ others)

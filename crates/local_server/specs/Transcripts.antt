@@ -10,6 +10,8 @@ use Rattle.member_window.specs.Runs.{standing_of}
 use Rattle.session_desk.specs.declared.row.Row.{Row}
 use Rattle.session_desk.specs.declared.row.Standing.TheVariants.{Parked}
 use Rattle.session_desk.specs.declared.session.Session.{Session}
+use Rattle.session_desk.specs.declared.session.Membership.{Membership}
+use Rattle.session_desk.specs.declared.session.Membership.TheVariants.{NotMember, Member, Leaving}
 use Rattle.session_desk.specs.Rows.{HasRow}
 use Rattle.conn_engine.specs.declared.input.Then.TheVariants.{Go}
 use Rattle.conn_engine.specs.declared.standing.Link.{Link}
@@ -67,6 +69,31 @@ abbrev pub session_of : {P : Type 0} → Option (Link P) → Option ℕ
 session_of None = None
 session_of (Some link) = Some link.session.identity.number
 
+-- the place at which a session is handed messages: who leaves is handed no more (profile)
+abbrev pub place_in : Membership GroupPlace → Option GroupPlace
+place_in NotMember = None
+place_in (Member place) = Some place
+place_in (Leaving place) = None
+
+abbrev pub place_of : Option (Link GroupPlace) → Option GroupPlace
+place_of None = None
+place_of (Some link) = place_in link.session.membership
+
+-- where these turns lead, the place is this one
+abbrev pub last_place : List Turn → Option GroupPlace
+last_place [] = None
+last_place (turn ∷ []) = turn.place
+last_place (turn ∷ other ∷ others) = last_place (other ∷ others)
+
+-- a message was handed to this place
+abbrev pub IsAt : Option GroupPlace → Held → Type 0
+IsAt None envelope = ⊥
+IsAt (Some place) envelope = (envelope.stamp.group ≡ place.slot) × (envelope.place ≡ place.number)
+
+-- a turn sends for the first time what the place of its session was handed, and nothing else
+abbrev pub SendsItsOwn : Turn → Type 0
+SendsItsOwn turn = AllByRecursion (IsAt turn.place) (fresh_of turn.marks)
+
 -- the session of a connection stands where its transcript leads: what is held, what is owed, and the quota, which is that of the CONNECT, and no
 -- more is owed
 abbrev pub StandsAsTold : List Turn → Option (Link GroupPlace) → Type 0
@@ -98,6 +125,9 @@ pub record AccountFor (turns : List Turn) (server : ServerState) : Type 0 where
   pub parked : (number : ℕ) (row : Row Held GroupPlace) (session : Session Held GroupPlace) → HasRow server.broker.desk.rows number row
       → row.standing ≡ Parked session
       → standing_after_all (standing_down []) (transcript_of session.identity.number turns) ≡ standing_of session.window
+  -- each turn sends for the first time only what its session's place was handed; and that place is what the session has, until its next turn
+  pub placed : AllByRecursion SendsItsOwn turns
+  pub at : (connection : ℕ) → last_place (turns_of connection turns) ≡ place_of (link_at server.clients connection)
   -- the hand-outs among a group's events, first and later ones, are what is sent for the first time, in that order
   pub handed : (slot : ℕ) (group : Group) → slice_get server.broker.groups slot ≡ Some group
       → handed_in_all group.events ≡ filter_map (seen_by slot) (all_fresh turns)

@@ -1,0 +1,80 @@
+-- What a step sends for the first time, the place of its session was handed.
+use Rattle.std.proofs.Common.{◌≡◌, ◌≢◌, ℕ, List, [], ◌∷◌, ◌++◌, map, Option, Some, None, Ok, refl, sym, ap, subst, ◌∙◌, ⊎_elim}
+use Rattle.std.specs.List.{AllByRecursion, cons_option}
+use Rattle.std.proofs.lemmas.Bool.{cases_eq}
+use Rattle.group_jobs.specs.Stamps.{Held}
+use Rattle.conn_engine.specs.declared.standing.Link.{Link}
+use Rattle.conn_engine.specs.Facts.{Fact}
+use Rattle.conn_engine.specs.Facts.Fact.{Take, TakeBack}
+use Rattle.conn_laws.specs.Calls.{hand_out_of, handed, MakesAll}
+use Rattle.conn_laws.specs.Transcripts.{IsMemberAt, KeepsPlaces}
+use Rattle.local_group.specs.declared.waiting.Waiting.{Waiting}
+use Rattle.local_group.specs.Groups.{Group, held_by}
+use Rattle.local_broker.specs.Places.{GroupPlace}
+use Rattle.local_broker.specs.Broker.{Broker}
+use Rattle.local_broker.specs.Calls.{Calls}
+use Rattle.local_broker.specs.HandOuts.{HandOut}
+use Rattle.local_broker.specs.Histories.{Called, AreRunning, IsRunning}
+use Rattle.local_broker.proofs.Happened.{running_all}
+use Rattle.local_server.specs.Turns.{Turn, turns_of}
+use Rattle.local_server.specs.Transcripts.{place_in, place_of, last_place, IsAt}
+use Rattle.local_server.proofs.Turns.{own_place, other_turns}
+use Rattle.local_server.proofs.Sessions.{with_link, link_here, link_beside}
+use Rattle.local_server.proofs.Stepping.{Links}
+
+-- a place that is asked for a message stays what it is
+pub keeps_places : KeepsPlaces Calls
+keeps_places old new (Take place place' answer) does = does.1
+keeps_places old new (TakeBack place place' answer) does = does.1
+keeps_places old new other does = tt
+
+-- what is handed out has the place
+abbrev IsItsOwn : HandOut → Type 0
+IsItsOwn hand_out = IsAt (Some hand_out.0) hand_out.1
+
+held_at : (group : Group) (front : Waiting) (place : GroupPlace) (envelope : Held) → IsRunning place.slot group → envelope ≡ held_by group.slot front place.number
+    → IsAt (Some place) envelope
+held_at group front place envelope running is = (ap (λ (e : Held). e.stamp.group) is ∙ running.numbered, ap (λ (e : Held). e.place) is)
+
+one_handed : (fact : Fact GroupPlace) (old new : Broker) → AreRunning old → Calls old fact new → AllByRecursion IsItsOwn (cons_option (hand_out_of fact) [])
+one_handed (Take place place' (Ok (Some envelope))) old new running does =
+    let call = does.0 in (held_at call.before call.does.0 place envelope (running place.slot call.before call.there) call.does.2, tt)
+one_handed (TakeBack place place' (Ok (Some envelope))) old new running does =
+    let call = does.0 in (held_at call.before call.does.0 place envelope (running place.slot call.before call.there) call.does.2, tt)
+one_handed other old new running does = tt
+
+first_and : (found : Option HandOut) (others : List HandOut) → AllByRecursion IsItsOwn (cons_option found []) → AllByRecursion IsItsOwn others
+    → AllByRecursion IsItsOwn (cons_option found others)
+first_and None others one all = all
+first_and (Some hand_out) others one all = (one.0, all)
+
+all_handed : (facts : List (Fact GroupPlace)) (old new : Broker) → AreRunning old → MakesAll Calls old facts new → AllByRecursion IsItsOwn (handed facts)
+all_handed [] old new running made = tt
+all_handed (fact ∷ facts) old new running made =
+    first_and (hand_out_of fact) (handed facts) (one_handed fact old made.0 running made.1)
+    (all_handed facts made.0 new (running_all (Called fact ∷ []) old made.0 running (made.0, made.1, refl)) made.2)
+
+-- and it is the place of the session
+of_session : (link : Option (Link GroupPlace)) (hand_outs : List HandOut) → AllByRecursion (λ (h : HandOut). IsMemberAt link h.0) hand_outs → AllByRecursion IsItsOwn hand_outs
+    → AllByRecursion (IsAt (place_of link)) (map (λ (h : HandOut). h.1) hand_outs)
+of_session link [] members own = tt
+of_session None (hand_out ∷ others) members own = absurd members.0
+of_session (Some link) (hand_out ∷ others) members own =
+    (subst (λ (o : Option GroupPlace). IsAt o hand_out.1) (sym (ap place_in members.0)) own.0, of_session (Some link) others members.1 own.1)
+
+pub sends_own : (facts : List (Fact GroupPlace)) (old new : Broker) (link : Option (Link GroupPlace)) → AreRunning old → MakesAll Calls old facts new
+    → AllByRecursion (λ (h : HandOut). IsMemberAt link h.0) (handed facts) → AllByRecursion (IsAt (place_of link)) (map (λ (h : HandOut). h.1) (handed facts))
+sends_own facts old new link running made members = of_session link (handed facts) members (all_handed facts old new running made)
+
+-- where the turns of each connection lead, behind one more turn
+pub leads_to : (turns : List Turn) (turn : Turn) (links : Links) (number : ℕ) (after : Option (Link GroupPlace)) → turn.connection ≡ number → turn.place ≡ place_of after
+    → ((connection : ℕ) → last_place (turns_of connection turns) ≡ place_of (links connection))
+    → (connection : ℕ) → last_place (turns_of connection (turns ++ turn ∷ [])) ≡ place_of (with_link links number after connection)
+leads_to turns turn links number after its place was connection =
+    ⊎_elim
+    (λ (same : connection ≡ number).
+    own_place connection turns turn (its ∙ sym same) ∙ place
+    ∙ ap place_of (sym (link_here links number after) ∙ ap (with_link links number after) (sym same)))
+    (λ (other : connection ≢ number).
+    ap last_place (other_turns connection turns turn (λ e. other (e ∙ its))) ∙ was connection ∙ ap place_of (sym (link_beside links number connection after other)))
+    (cases_eq connection number)
