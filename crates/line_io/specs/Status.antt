@@ -4,8 +4,7 @@ use Rattle.std.specs.Fmt.{decimal}
 use Rattle.line_io.specs.declared.error.RunError.{RunError}
 use Rattle.line_io.specs.declared.error.RunError.TheVariants.{Device, Memory, Line}
 
--- 3 where a device failed; 4 for want of memory, or where a packet to be written is longer than MQTT can say; 5 for a line that the program does
--- not take
+-- 3 where a device failed; 4 for want of memory; 5 for a line that the program does not take
 abbrev pub status_of : RunError → ℕ
 status_of Device = 3
 status_of Memory = 4

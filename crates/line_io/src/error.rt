@@ -12,7 +12,7 @@ use std::io;
 pub enum RunError {
     /// 3: the reader or the writer failed, or 2^20 reads did not reach the input's end.
     Device,
-    /// 4: an allocation was refused, or a packet to be written is longer than MQTT can say (2.1.4).
+    /// 4: an allocation was refused.
     Memory,
     /// 5: this line of the input, counted from 1, is none that the program takes.
     Line(u64),
@@ -58,7 +58,8 @@ impl<T: Drop> From<AllocFailed<T>> for RunError {
 impl From<Fault> for RunError {
     ghost from_gives = { λ _ e. e ≡ Memory };
 
-    /// A packet whose Remaining Length would be over 268,435,455 has no room, as one for which memory is refused.
+    /// A packet whose Remaining Length would be over 268,435,455 (2.1.4) would count as one for which memory is refused. No packet of a
+    /// run is that long: see `size_law` of `local_server`.
     fn from(_: Fault) -> RunError {
         RunError::Memory
     }
