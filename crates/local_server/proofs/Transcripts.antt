@@ -1,6 +1,5 @@
 -- The transcripts of the sessions of a server, along every run.
 use Rattle.std.proofs.Common.{◌≡◌, ◌≢◌, ℕ, zero, suc, Bool, true, false, List, [], ◌∷◌, ◌++◌, map, Option, Some, None, Result, Ok, IsOk, filter_map, slice_get, slice_set, replicate, refl, sym, ap, subst, ◌∙◌, ⊎_elim, arith, append-nil}
-use Rattle.std.specs.Prelude.{⊤}
 use Rattle.std.specs.Result.{result_and}
 use Rattle.std.specs.Ordering.{nat_cmp}
 use Rattle.std.specs.FinMap as map
@@ -38,8 +37,8 @@ use Rattle.local_server.specs.Servers.{Clients, ServerState, IsNewServer}
 use Rattle.local_server.specs.Addressed.{AreNumbered}
 use Rattle.local_server.specs.Happening.{EndsAt, EndsFirst, Does, DoesIf, HappensAll}
 use Rattle.local_server.specs.Quotas.{AllWithinQuota}
-use Rattle.local_server.specs.Turns.{Turn}
-use Rattle.local_server.specs.Streams.{HearsPiece, HearsTick, HearsLast, client_at, Came, CameIf}
+use Rattle.local_server.specs.Turns.{Turn, AllTell}
+use Rattle.local_server.specs.Streams.{HearsPiece, HearsTick, HearsLast, client_at, Came, CameIf, AllCame}
 use Rattle.local_server.specs.Transcripts.{transcript_of, link_in, link_at, session_of, place_of, StandsAsTold, AccountFor, KeepsTranscripts, AccountAlong}
 use Rattle.local_server.specs.Settling.{Settlement, settled_in_all, settled_seen_by, HeldIsOut, SettlesWhatIsAcknowledged}
 use Rattle.local_server.proofs.Settled.{AddsIn, adds_nothing, adds_then, none_closed}
@@ -196,22 +195,26 @@ does_if false event first turns old new clients clients' now said result ok all 
     subst (λ (c : Clients). Says first turns said (λ more. more ≡ []) (links_at c) new) (sym done.2)
     (silent first turns (λ more. more ≡ []) (links_at clients) old new said refl done.0 done.3 keeps)
 
--- whatever they answer
-abbrev Any : List Turn → Type 0
-Any turns = ⊤
+-- what is said is told by the turns
+and_told : (first : Broker) (turns : List Turn) (said : List Said) (Answers : List Turn → Type 0) (links : Links) (new : Broker) → Says first turns said Answers links new
+    → Says first turns said (λ more. AllTell said more × Answers more) links new
+and_told first turns said Answers links new says =
+    record { more = says.more; told = says.told; short = says.short; answers = (says.told, says.answers); keeps = says.keeps }
 
 happened : (events : List TimedEvent) (first : Broker) (turns : List Turn) (said : List Said) (old new : ServerState) → AreNumbered old.clients → AreUnfaulted old.clients
     → Keeps first turns (links_at old.clients) old.broker
-    → HappensAll old events said new → Says first turns said Any (links_at new.clients) new.broker
+    → (run : HappensAll old events said new) → Says first turns said (λ more. AllCame old events said new run more) (links_at new.clients) new.broker
 happened [] first turns said old new all sound keeps run =
-    subst (λ (s : ServerState). Says first turns said Any (links_at s.clients) s.broker) (sym run.1)
-    (silent first turns Any (links_at old.clients) old.broker old.broker said tt run.0 refl keeps)
+    subst (λ (s : ServerState). Says first turns said (λ more. more ≡ []) (links_at s.clients) s.broker) (sym run.1)
+    (silent first turns (λ more. more ≡ []) (links_at old.clients) old.broker old.broker said refl run.0 refl keeps)
 happened (event ∷ others) first turns said old new all sound keeps run =
     let mid = run.0 in
-    subst (λ (s : List Said). Says first turns s Any (links_at new.clients) new.broker) (sym run.5)
-    (then_says first turns run.1 run.2 (λ more. CameIf (is_open old.broker) event.event old.clients more mid.clients) Any Any (links_at mid.clients) (links_at new.clients)
-    mid.broker new.broker (λ these those one other. tt)
-    (does_if (is_open old.broker) event.event first turns old.broker mid.broker old.clients mid.clients mid.clock run.1 (Ok tt) refl all sound keeps run.3.does)
+    subst (λ (s : List Said). Says first turns s (λ more. AllCame old (event ∷ others) said new run more) (links_at new.clients) new.broker) (sym run.5)
+    (then_says first turns run.1 run.2 (λ more. AllTell run.1 more × CameIf (is_open old.broker) event.event old.clients more mid.clients)
+    (λ more. AllCame mid others run.2 new run.4 more) (λ more. AllCame old (event ∷ others) said new run more) (links_at mid.clients) (links_at new.clients)
+    mid.broker new.broker (λ these those one other. (these, those, one.0, one.1, other, refl))
+    (and_told first turns run.1 (λ more. CameIf (is_open old.broker) event.event old.clients more mid.clients) (links_at mid.clients) mid.broker
+    (does_if (is_open old.broker) event.event first turns old.broker mid.broker old.clients mid.clients mid.clock run.1 (Ok tt) refl all sound keeps run.3.does))
     (λ before kept.
     happened others first before run.2 mid new (answered event.moment event.event run.1 (Ok tt) old mid all run.3).0
     (still_unfaulted (is_open old.broker) event.event old.broker mid.broker old.clients mid.clients mid.clock run.1 (Ok tt) refl sound run.3.does) kept run.4))
@@ -265,8 +268,8 @@ starts setup first new =
       adds = adds_nothing first.broker first.broker refl;
     }
 
-whole : (setup : Setup) (events : List TimedEvent) (said : List Said) (first last : ServerState) → IsNewServer setup first → HappensAll first events said last
-    → Says first.broker [] said Any (links_at last.clients) last.broker
+whole : (setup : Setup) (events : List TimedEvent) (said : List Said) (first last : ServerState) → IsNewServer setup first → (run : HappensAll first events said last)
+    → Says first.broker [] said (λ more. AllCame first events said last run more) (links_at last.clients) last.broker
 whole setup events said first last new run =
     happened events first.broker [] said first last (new_numbered setup first new) (new_unfaulted setup first new) (starts setup first new) run
 
@@ -303,14 +306,16 @@ account setup first turns server new keeps within =
       handed = handed setup.capacity setup.groups keeps.happenings first.broker server.broker _ new.broker keeps.led keeps.fresh;
     }
 
-told_in : (setup : Setup) (said : List Said) (first last : ServerState) → IsNewServer setup first → Says first.broker [] said Any (links_at last.clients) last.broker
-    → AllWithinQuota last.clients → KeepsTranscripts said last
-told_in setup said first last new says within = record { turns = says.more; told = says.told; account = account setup first says.more last new says.keeps within }
+told_in : (setup : Setup) (events : List TimedEvent) (said : List Said) (first last : ServerState) → IsNewServer setup first → (run : HappensAll first events said last)
+    → Says first.broker [] said (λ more. AllCame first events said last run more) (links_at last.clients) last.broker → AllWithinQuota last.clients
+    → KeepsTranscripts first events said last run
+told_in setup events said first last new run says within =
+    record { turns = says.more; told = says.told; came = says.answers; account = account setup first says.more last new says.keeps within }
 
-pub transcripts : (setup : Setup) (events : List TimedEvent) (said : List Said) (first last : ServerState) → IsNewServer setup first → HappensAll first events said last
-    → KeepsTranscripts said last
+pub transcripts : (setup : Setup) (events : List TimedEvent) (said : List Said) (first last : ServerState) → IsNewServer setup first → (run : HappensAll first events said last)
+    → KeepsTranscripts first events said last run
 transcripts setup events said first last new run =
-    told_in setup said first last new (whole setup events said first last new run) (quotas.within setup events said first last new run)
+    told_in setup events said first last new run (whole setup events said first last new run) (quotas.within setup events said first last new run)
 
 -- at each moment of the run
 moments : (setup : Setup) (first : ServerState) (events : List TimedEvent) (turns : List Turn) (said : List Said) (old new : ServerState) → IsNewServer setup first
@@ -347,12 +352,13 @@ held_out : (link : Option (Link GroupPlace)) (b : Broker) (links : Links) (log :
 held_out None b links log connection owns is = tt
 held_out (Some link) b links log connection owns is = owns.owned (InHand connection) link.session (record { link = link; has = is; its = refl })
 
-settled_in_run : (setup : Setup) (said : List Said) (first last : ServerState) → IsNewServer setup first → Says first.broker [] said Any (links_at last.clients) last.broker
-    → AllWithinQuota last.clients → SettlesWhatIsAcknowledged said last
+settled_in_run : (setup : Setup) (events : List TimedEvent) (said : List Said) (first last : ServerState) → IsNewServer setup first → (run : HappensAll first events said last)
+    → Says first.broker [] said (λ more. AllCame first events said last run more) (links_at last.clients) last.broker → AllWithinQuota last.clients
+    → SettlesWhatIsAcknowledged first events said last run
 unfolding told_in
-settled_in_run setup said first last new says within =
+settled_in_run setup events said first last new run says within =
     record {
-      transcripts = told_in setup said first last new says within;
+      transcripts = told_in setup events said first last new run says within;
       settled = says.keeps.settled;
       acknowledged = says.keeps.acknowledged;
       fates = settled_since setup first says.keeps.settled last.broker new says.keeps.adds;
@@ -360,19 +366,19 @@ settled_in_run setup said first last new says within =
       parked_out = λ number row session has stands. says.keeps.owns.owned (AtDesk number) session (record { row = row; has = has; stands = stands });
     }
 
-pub settlings : (setup : Setup) (events : List TimedEvent) (said : List Said) (first last : ServerState) → IsNewServer setup first → HappensAll first events said last
-    → SettlesWhatIsAcknowledged said last
+pub settlings : (setup : Setup) (events : List TimedEvent) (said : List Said) (first last : ServerState) → IsNewServer setup first → (run : HappensAll first events said last)
+    → SettlesWhatIsAcknowledged first events said last run
 settlings setup events said first last new run =
-    settled_in_run setup said first last new (whole setup events said first last new run) (quotas.within setup events said first last new run)
+    settled_in_run setup events said first last new run (whole setup events said first last new run) (quotas.within setup events said first last new run)
 
 -- what is sent was accepted
-pub messages : (setup : Setup) (events : List TimedEvent) (said : List Said) (first last : ServerState) → IsNewServer setup first → HappensAll first events said last
-    → SendsWhatWasAccepted said last
+pub messages : (setup : Setup) (events : List TimedEvent) (said : List Said) (first last : ServerState) → IsNewServer setup first → (run : HappensAll first events said last)
+    → SendsWhatWasAccepted first events said last run
 unfolding settled_in_run told_in
 messages setup events said first last new run =
     let says = whole setup events said first last new run in
     record {
-      settling = settled_in_run setup said first last new says (quotas.within setup events said first last new run);
+      settling = settled_in_run setup events said first last new run says (quotas.within setup events said first last new run);
       eight = as_many says.keeps.happenings first.broker last.broker says.keeps.led ∙ new.broker.eight;
       accepted = says.keeps.accepted;
       brought = says.keeps.accepts;

@@ -14,7 +14,9 @@ use Rattle.conn_rules.specs.Publishing.{message_of}
 use Rattle.conn_engine.specs.declared.input.Input.{Input}
 use Rattle.conn_engine.specs.declared.input.Input.TheVariants as inputs
 use Rattle.client_table.specs.Clients.{Said}
+use Rattle.local_server.specs.declared.event.TimedEvent.{TimedEvent}
 use Rattle.local_server.specs.Servers.{ServerState}
+use Rattle.local_server.specs.Happening.{HappensAll}
 use Rattle.local_server.specs.Turns.{Turn}
 use Rattle.local_server.specs.Settling.{SettlesWhatIsAcknowledged}
 
@@ -81,10 +83,10 @@ sent_in Down = None
 abbrev pub all_sent : List Turn → List Held
 all_sent turns = flat_map (λ turn. filter_map sent_in turn.marks) turns
 
--- what holds of a run in which this was said: what is sent is what was accepted
-pub record SendsWhatWasAccepted (said : List Said) (last : ServerState) : Type 0 where
+-- what holds of a run: what is sent is what was accepted
+pub record SendsWhatWasAccepted (first : ServerState) (events : List TimedEvent) (said : List Said) (last : ServerState) (run : HappensAll first events said last) : Type 0 where
   -- the transcripts of the sessions, and what is settled in them
-  pub settling : SettlesWhatIsAcknowledged said last
+  pub settling : SettlesWhatIsAcknowledged first events said last run
   -- what the eight groups accepted, in its order, each the message of a PUBLISH that came
   pub eight : length last.broker.groups ≡ 8
   pub accepted : List Accepted

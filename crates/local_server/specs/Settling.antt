@@ -26,7 +26,9 @@ use Rattle.client_table.specs.Clients.{Said}
 use Rattle.local_broker.specs.Places.{GroupPlace}
 use Rattle.local_broker.specs.Broker.{Broker}
 use Rattle.local_broker.specs.Histories.{HasOut}
+use Rattle.local_server.specs.declared.event.TimedEvent.{TimedEvent}
 use Rattle.local_server.specs.Servers.{ServerState}
+use Rattle.local_server.specs.Happening.{HappensAll}
 use Rattle.local_server.specs.Turns.{Turn}
 use Rattle.local_server.specs.Transcripts.{transcript_of, link_at, KeepsTranscripts}
 
@@ -64,8 +66,8 @@ confirmed_by entries (inputs.Packet (packets.Puback puback)) =
     if list_any (λ entry. nat_eq entry.0 puback.packet_identifier) entries then (puback.packet_identifier, puback.reason_code) ∷ [] else []
 confirmed_by entries input = []
 
--- what a turn acknowledges is the PUBACK that comes in it for a message that its session holds, and nothing else; where the connection ends in
--- that turn, since another has taken its session, nothing
+-- what a turn acknowledges is the PUBACK that comes in it for a message that its session holds, and nothing else; where the connection does not go
+-- on behind that turn, nothing
 pub record Hears (turn : Turn) (entries : List (ℕ × Held)) : Type 0 where
   pub goes_on : turn.next ≡ Go → acknowledged_of turn.marks ≡ confirmed_by entries turn.input
   pub ends : turn.next ≢ Go → acknowledged_of turn.marks ≡ []
@@ -93,10 +95,10 @@ abbrev pub HeldIsOut : Broker → Option (Link GroupPlace) → Type 0
 HeldIsOut b None = ⊤
 HeldIsOut b (Some link) = AreOutFor b link.session.membership (held_of link.session.window)
 
--- what holds of a run in which this was said: what is acknowledged is settled
-pub record SettlesWhatIsAcknowledged (said : List Said) (last : ServerState) : Type 0 where
+-- what holds of a run: what is acknowledged is settled
+pub record SettlesWhatIsAcknowledged (first : ServerState) (events : List TimedEvent) (said : List Said) (last : ServerState) (run : HappensAll first events said last) : Type 0 where
   -- the transcripts of the sessions, with a turn for each step
-  pub transcripts : KeepsTranscripts said last
+  pub transcripts : KeepsTranscripts first events said last run
   -- what the turns acknowledge, in their order: the PUBACKs that came for what their sessions held, each for the message under its identifier, with
   -- the fate of its Reason Code
   pub settled : List Settlement

@@ -5,13 +5,16 @@ use Rattle.mqtt_wire.specs.Stream.{FaultAt}
 use Rattle.conn_engine.specs.declared.input.Input.{Input}
 use Rattle.conn_engine.specs.declared.input.Input.TheVariants as inputs
 use Rattle.conn_engine.specs.declared.input.Then.TheVariants.{Go}
-use Rattle.client_table.specs.Clients.{ClientState}
+use Rattle.client_table.specs.Clients.{ClientState, Said}
 use Rattle.client_table.specs.Streams.{IsRead}
 use Rattle.local_broker.specs.Places.{GroupPlace}
+use Rattle.local_broker.specs.Broker.{is_open}
 use Rattle.local_server.specs.declared.event.Event.{Event}
 use Rattle.local_server.specs.declared.event.Event.TheVariants as events
-use Rattle.local_server.specs.Servers.{Clients}
-use Rattle.local_server.specs.Turns.{Turn, turns_of}
+use Rattle.local_server.specs.declared.event.TimedEvent.{TimedEvent}
+use Rattle.local_server.specs.Servers.{Clients, ServerState}
+use Rattle.local_server.specs.Happening.{HappensAll}
+use Rattle.local_server.specs.Turns.{Turn, AllTell, turns_of}
 
 -- the packet that stands in front of a stream, or the fault, and what is left of the stream behind it
 abbrev pub StandsInFront : Input → List ℕ → List ℕ → Type 0
@@ -71,3 +74,12 @@ Came events.Close old turns new = (number : ℕ) → number < 64 → HearsLast i
 abbrev pub CameIf : Bool → Event → Clients → List Turn → Clients → Type 0
 CameIf true event old turns new = Came event old turns new
 CameIf false event old turns new = turns ≡ []
+
+-- the turns of a run answer what came in its events, one event after the other: each has a turn for each step that was taken in it
+abbrev pub AllCame : (old : ServerState) (events : List TimedEvent) (said : List Said) (new : ServerState) → HappensAll old events said new → List Turn → Type 0
+AllCame old [] said new run turns = turns ≡ []
+AllCame old (first ∷ others) said new run turns =
+    let mid = run.0 in
+    let now = run.1 in
+    (these later : List Turn) × AllTell now these × CameIf (is_open old.broker) first.event old.clients these mid.clients × AllCame mid others run.2 new run.4 later
+    × (turns ≡ these ++ later)

@@ -26,7 +26,7 @@ use Rattle.local_server.specs.declared.event.TimedEvent.{TimedEvent}
 use Rattle.local_server.specs.Servers.{Clients, ServerState}
 use Rattle.local_server.specs.Happening.{HappensAll}
 use Rattle.local_server.specs.Turns.{Turn, AllTell, turns_of}
-use Rattle.local_server.specs.Streams.{CameIf}
+use Rattle.local_server.specs.Streams.{CameIf, AllCame}
 
 -- the transcript of the session with this number: its marks, over however many connections
 abbrev pub marks_for : ℕ → Turn → List (Mark Held)
@@ -132,11 +132,13 @@ pub record AccountFor (turns : List Turn) (server : ServerState) : Type 0 where
   pub handed : (slot : ℕ) (group : Group) → slice_get server.broker.groups slot ≡ Some group
       → handed_in_all group.events ≡ filter_map (seen_by slot) (all_fresh turns)
 
--- what holds of the transcripts of a run in which this was said
-pub record KeepsTranscripts (said : List Said) (last : ServerState) : Type 0 where
+-- what holds of the transcripts of a run
+pub record KeepsTranscripts (first : ServerState) (events : List TimedEvent) (said : List Said) (last : ServerState) (run : HappensAll first events said last) : Type 0 where
   pub turns : List Turn
   -- each step, with the PUBLISH packets that it wrote
   pub told : AllTell said turns
+  -- they answer what came
+  pub came : AllCame first events said last run turns
   -- and they led the server to where it is
   pub account : AccountFor turns last
 

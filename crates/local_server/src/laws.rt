@@ -27,8 +27,8 @@ ghost use Rattle.local_server.specs.LastEvents.{AllAddTheClose};
 
 /// **The headline on one thread**, whatever events happen to a server, over however many connections and in whatever order: each accepted
 /// message is first handed to at most one member, once; each member's first hand-outs from a publisher keep that publisher's order; no
-/// connection has more unacknowledged PUBLISH packets than its Receive Maximum; a refused message goes to nobody else; nothing is handed
-/// out after close; and a report gives each accepted message exactly one fate.
+/// connection has more unacknowledged PUBLISH packets than its Receive Maximum; a refused message goes to nobody else; nothing is accepted
+/// or handed out after close; and a report gives each accepted message exactly one fate.
 pub fn headline_law()
     ensures { (setup : Setup) (events : List TimedEvent) (said : List Said) (first last : ServerState) →
         IsNewServer setup first → HappensAll first events said last → HoldsTheHeadline last }
@@ -64,8 +64,8 @@ pub fn hand_out_law()
 /// **The transcript of each session is legal, along every run** (sections 4.4 and 4.9), over however many connections the session is resumed
 /// and taken over: each step adds its marks to the transcript of its connection's session, and its PUBLISH packets are those of these marks
 /// (`whole`). It is so at each moment, before and behind each event, with one list of turns, to which each event adds behind those before (`along`);
-/// and the turns of an event answer what comes in it: a client's stream is read packet by packet, each answered by a turn, a Tick by one, and so are the
-/// end of the input and the close, by which the connection ends.
+/// and the turns of an event answer what comes in it: a client's stream is read packet by packet, each answered by a turn, and a Tick, the
+/// end of the input and the close by one each.
 /// So at each moment no more is unacknowledged than the Receive Maximum; a message goes out with DUP 0 under the least identifier that is free, behind
 /// all that is sent again; what is sent again has its own identifier and its place in the order of first sending; and only what is held is
 /// acknowledged. A connection has one session from its CONNECT to its end, and no other connection has it at that moment. What an open connection's
@@ -74,7 +74,7 @@ pub fn hand_out_law()
 /// in that order. The runs are those in which memory was not wanted.
 pub fn transcript_law()
     ensures whole { (setup : Setup) (events : List TimedEvent) (said : List Said) (first last : ServerState) →
-        IsNewServer setup first → HappensAll first events said last → KeepsTranscripts said last }
+        IsNewServer setup first → (run : HappensAll first events said last) → KeepsTranscripts first events said last run }
     ensures along { (setup : Setup) (events : List TimedEvent) (said : List Said) (first last : ServerState) →
         IsNewServer setup first → (run : HappensAll first events said last) → AccountAlong [] first events said last run }
 {}
@@ -97,7 +97,7 @@ pub fn eager_law()
 /// its connection goes on. The runs are those in which memory was not wanted.
 pub fn settling_law()
     ensures { (setup : Setup) (events : List TimedEvent) (said : List Said) (first last : ServerState) →
-        IsNewServer setup first → HappensAll first events said last → SettlesWhatIsAcknowledged said last }
+        IsNewServer setup first → (run : HappensAll first events said last) → SettlesWhatIsAcknowledged first events said last run }
 {}
 
 /// **What is sent is what was accepted**, along every run (sections 3.3, 4.3.2 and 4.4): each PUBLISH packet that a session is sent, with DUP 0 or 1, is
@@ -106,7 +106,7 @@ pub fn settling_law()
 /// each through the port of the connection that it came from, and once by each of some groups. The runs are those in which memory was not wanted.
 pub fn message_law()
     ensures { (setup : Setup) (events : List TimedEvent) (said : List Said) (first last : ServerState) →
-        IsNewServer setup first → HappensAll first events said last → SendsWhatWasAccepted said last }
+        IsNewServer setup first → (run : HappensAll first events said last) → SendsWhatWasAccepted first events said last run }
 {}
 
 /// **No packet is too long to be written**, along every run (section 2.1.4): each packet that is said has at most 65,558 bytes in all (`short`), and so a
