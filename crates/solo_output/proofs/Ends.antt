@@ -1,0 +1,240 @@
+-- The end of the connection, and what the groups tell then.
+use Rattle.std.proofs.Common.{◌≡◌, ◌≢◌, ℕ, suc, ◌+◌, ◌-◌, ◌==◌, Bool, cond, List, [], ◌∷◌, map, length, slice_get, Option, Some, None, option_map, refl, sym, ap, ◌∙◌, subst, ⊎_elim, inl, inr, arith, eq-eqb, ne_eqb, add-zero}
+use Rattle.std.proofs.lemmas.Bool.{cases_eq}
+use Rattle.std.proofs.lemmas.List.{length-map}
+use Rattle.std.proofs.lemmas.Option.{same_Some, slice_get-map, get_or_from_slice_get}
+use Rattle.mqtt_topic.specs.Names.{Share}
+use Rattle.group_jobs.specs.Stamps.{Held}
+use Rattle.session_desk.specs.declared.session.Session.{Session}
+use Rattle.session_desk.specs.declared.session.Membership.{Membership}
+use Rattle.session_desk.specs.declared.session.Membership.TheVariants.{NotMember, Member, Leaving}
+use Rattle.session_desk.specs.Calls.Call.{Park}
+use Rattle.session_desk.specs.Keeping.{IsLent, EndsLent}
+use Rattle.conn_engine.specs.Ending.{down, GivesBack, Ends, RetiresFrom, RetiresAs, Retires, Parts, PartsAs}
+use Rattle.local_group.specs.Groups.{Group}
+use Rattle.local_broker.specs.Places.{GroupPlace}
+use Rattle.local_broker.specs.Broker.{Broker}
+use Rattle.local_broker.specs.Calls.{Calls, AsksDesk}
+use Rattle.local_broker.specs.Reporting.{TellsLine}
+use Rattle.solo_output.specs.Groups.{Story, Bound, shares_of, accepted_in, handed_in, open_identifiers}
+use Rattle.solo_output.specs.Report.{fates_of, line_of, report_of}
+use Rattle.solo_output.proofs.Groups.{ShowsGroup, IsEnding, ending, one_back, good_of, bad_of}
+use Rattle.solo_output.proofs.Reported.{fates_are, line_is}
+use Rattle.solo_output.proofs.Brokers.{ShowsBroker, entries_at, in_group, entries_none}
+use Rattle.solo_output.proofs.Hands.{first_place}
+use Rattle.solo_output.proofs.Settles.{IsAt, member_at, leaving_at}
+use Rattle.solo_output.proofs.Sessions.{placed, Idles, ShowsSession, broker_moved}
+use Rattle.solo_output.proofs.Delivers.{all_owed}
+
+-- what a group has of its slot once the client is gone
+abbrev EndsAs : Story → ℕ → ℕ → List (ℕ × Held) → Group → Type 0
+EndsAs story slot returned entries group =
+    IsEnding (length (accepted_in slot story.groups)) (good_of (handed_in slot story.handed_out)) (bad_of (handed_in slot story.handed_out))
+    (length (accepted_in slot story.groups) - length (handed_in slot story.handed_out)) returned slot entries group
+
+-- a group tells the fates that the story has
+pub record IsTold (slot : ℕ) (story : Story) (group : Group) : Type 0 where
+  pub entries : List (ℕ × Held)
+  pub returned : ℕ
+  pub ends : EndsAs story slot returned entries group
+  pub fates : fates_are (good_of (handed_in slot story.handed_out)) (bad_of (handed_in slot story.handed_out)) (length entries)
+      (length (accepted_in slot story.groups) - length (handed_in slot story.handed_out)) returned
+      ≡ fates_of story.terms.session_expiry_interval (length (accepted_in slot story.groups)) (handed_in slot story.handed_out)
+
+-- and so does each
+pub record ShowsEnd (story : Story) (b : Broker) : Type 0 where
+  pub routes : b.routes ≡ shares_of story.groups
+  pub told : (slot : ℕ) (group : Group) → slice_get b.groups slot ≡ Some group → IsTold slot story group
+
+module _ (story : Story) (slot : ℕ) (group : Group) where
+  abbrev opened : ℕ
+  opened = length (open_identifiers (handed_in slot story.handed_out))
+
+  tells : (returned : ℕ) (entries : List (ℕ × Held)) → EndsAs story slot returned entries group → length entries ≡ cond (story.terms.session_expiry_interval == 0) 0 opened
+      → returned ≡ cond (story.terms.session_expiry_interval == 0) opened 0 → IsTold slot story group
+  tells returned entries ends held back =
+      record {
+        entries = entries;
+        returned = returned;
+        ends = ends;
+        fates = λ i. fates_are (good_of (handed_in slot story.handed_out)) (bad_of (handed_in slot story.handed_out)) (held i)
+            (length (accepted_in slot story.groups) - length (handed_in slot story.handed_out)) (back i);
+      }
+
+  -- the session goes on
+  tells_held : story.terms.session_expiry_interval ≢ 0 → (entries : List (ℕ × Held)) → opened ≡ length entries → EndsAs story slot 0 entries group → IsTold slot story group
+  tells_held parked entries many ends =
+      let is = ne_eqb story.terms.session_expiry_interval 0 parked in
+      tells 0 entries ends (sym many ∙ ap (λ b. cond b 0 opened) (sym is)) (ap (λ b. cond b opened 0) (sym is))
+
+  -- it ends with its connection
+  tells_back : story.terms.session_expiry_interval ≡ 0 → (returned : ℕ) → returned ≡ opened → EndsAs story slot returned [] group → IsTold slot story group
+  tells_back over returned many ends =
+      let is = eq-eqb story.terms.session_expiry_interval 0 over in
+      tells returned [] ends (ap (λ b. cond b 0 opened) (sym is)) (many ∙ ap (λ b. cond b opened 0) (sym is))
+
+  -- nothing is out
+  tells_none : opened ≡ 0 → EndsAs story slot 0 [] group → IsTold slot story group
+  tells_none none ends =
+      ⊎_elim
+      (λ (over : story.terms.session_expiry_interval ≡ 0). tells_back over 0 (sym none) ends)
+      (λ (parked : story.terms.session_expiry_interval ≢ 0). tells_held parked [] none ends)
+      (cases_eq story.terms.session_expiry_interval 0)
+
+-- the entries of a slot are as many as its hand-outs that are open
+many_open : (capacity slot : ℕ) (story : Story) (entries : List (ℕ × Held)) (group : Group) → ShowsGroup capacity slot (accepted_in slot story.groups) (handed_in slot story.handed_out) entries group
+    → length (open_identifiers (handed_in slot story.handed_out)) ≡ length entries
+many_open capacity slot story entries group shows = ap length shows.opens ∙ length-map entries (λ (e : ℕ × Held). e.0)
+
+-- ---- the line of a group
+
+pub line_told : (story : Story) (b : Broker) → ShowsEnd story b → (slot : ℕ) (line : List ℕ) → TellsLine b slot line → (own : Bound) → slice_get story.groups slot ≡ Some own → line ≡ report_of slot own story
+line_told story b shows slot line tells_line own there =
+    let told = shows.told slot tells_line.group tells_line.there in
+    let hand_outs = handed_in slot story.handed_out in
+    let expiry = story.terms.session_expiry_interval in
+    let share_at : slice_get (shares_of story.groups) slot ≡ Some own.share = slice_get-map (λ (g : Bound). g.share) story.groups slot ∙ ap (option_map (λ (g : Bound). g.share)) there in
+    let share : tells_line.share ≡ own.share = same_Some tells_line.share own.share (sym tells_line.bound ∙ ap (λ (l : List Share). slice_get l slot) shows.routes ∙ share_at) in
+    let accepted : accepted_in slot story.groups ≡ own.accepted =
+    get_or_from_slice_get (map (λ (g : Bound). g.accepted) story.groups) slot own.accepted []
+    (slice_get-map (λ (g : Bound). g.accepted) story.groups slot ∙ ap (option_map (λ (g : Bound). g.accepted)) there) in
+    tells_line.is_line.told
+    ∙ line_is (length (accepted_in slot story.groups)) (good_of hand_outs) (bad_of hand_outs) (length (accepted_in slot story.groups) - length hand_outs) told.returned slot told.entries
+    tells_line.group told.ends tells_line.is_line.report tells_line.is_line.reports tells_line.share
+    ∙ ap (line_of tells_line.share (length (accepted_in slot story.groups))) told.fates
+    ∙ (λ i. line_of (share i) (length (accepted i)) (fates_of expiry (length (accepted i)) hand_outs))
+
+-- a client that was never connected
+pub ends_idle : (story : Story) (b : Broker) → ShowsBroker story [] b → ShowsEnd story b
+ends_idle story b shows =
+    record {
+      routes = shows.routes;
+      told = λ slot group there.
+          (let shown = subst (λ (l : List (ℕ × Held)). ShowsGroup story.capacity slot (accepted_in slot story.groups) (handed_in slot story.handed_out) l group) (entries_none story.membership slot) (shows.groups slot group there) in
+          tells_none story slot group (many_open story.capacity slot story [] group shown)
+          (ending story.capacity slot (accepted_in slot story.groups) (handed_in slot story.handed_out) [] group shown));
+    }
+
+-- ---- a session that ends
+
+abbrev open_at : Story → ℕ → ℕ
+open_at story slot = length (open_identifiers (handed_in slot story.handed_out))
+
+-- what is out of one group is given back to it: so many were out at first
+record Returning (story : Story) (slot total : ℕ) (entries : List (ℕ × Held)) (returned : ℕ) (b : Broker) : Type 0 where
+  routes : b.routes ≡ shares_of story.groups
+  each : (at : ℕ) (group : Group) → slice_get b.groups at ≡ Some group
+      → (at ≡ slot → EndsAs story slot returned entries group × (open_at story slot ≡ total)) × (at ≢ slot → EndsAs story at 0 [] group × (open_at story at ≡ 0))
+
+gives_back : (story : Story) (slot total : ℕ) (entries : List (ℕ × Held)) (returned : ℕ) (old new : Broker) (place' : GroupPlace) (left : List (ℕ × Held)) → Returning story slot total entries returned old
+    → GivesBack Calls old (first_place slot) entries place' left new → Returning story slot total [] (returned + length entries) new
+gives_back story slot total [] returned old new place' left is does =
+    subst (λ (n : ℕ). Returning story slot total [] n new) (sym (add-zero returned)) (subst (Returning story slot total [] returned) (sym does.2) is)
+gives_back story slot total (entry ∷ entries) returned old new place' left is (inl (between, mid, call, later)) =
+    let hand_outs = handed_in slot story.handed_out in
+    let accepted = length (accepted_in slot story.groups) in
+    let was = (is.each slot call.0.before call.0.there).0 refl in
+    let one : EndsAs story slot (returned + 1) entries call.0.after =
+    one_back accepted (good_of hand_outs) (bad_of hand_outs) (accepted - length hand_outs) returned slot entry entries call.0.before call.0.after was.0 call.0.does in
+    let next : Returning story slot total entries (returned + 1) mid = record {
+      routes = call.2.routes ∙ is.routes;
+      each = in_group old.groups mid.groups slot _
+          (λ at group. (at ≡ slot → EndsAs story slot (returned + 1) entries group × (open_at story slot ≡ total)) × (at ≢ slot → EndsAs story at 0 [] group × (open_at story at ≡ 0)))
+          call.0
+          (λ at group differs there. (λ same. absurd (differs same), (is.each at group there).1))
+          (λ same. (one, was.1), λ differs. absurd (differs refl));
+    } in
+    let rest = gives_back story slot total entries (returned + 1) mid new place' left next (subst (λ (p : GroupPlace). GivesBack Calls mid p entries place' left new) call.1 later) in
+    let many : returned + 1 + length entries ≡ returned + suc (length entries) = omega arith in
+    subst (λ (n : ℕ). Returning story slot total [] n new) many rest
+gives_back story slot total (entry ∷ entries) returned old new place' left is (inr none) = absurd none.0
+
+module _ (story : Story) (session : Session Held GroupPlace) (old mid new : Broker) (now : ℕ) (shows : ShowsSession story session old) (routes : mid.routes ≡ old.routes) (groups : mid.groups ≡ old.groups) where
+  before : ShowsBroker story session.window.owed mid
+  before = broker_moved story session.window.owed old mid routes groups shows.broker
+
+  -- the session goes on without its connection
+  parked : story.terms.session_expiry_interval ≢ 0 → new ≡ mid → ShowsEnd story new
+  parked goes_on same =
+      subst (ShowsEnd story) (sym same)
+      (record {
+        routes = before.routes;
+        told = λ slot group there.
+            (let entries = entries_at story.membership slot session.window.owed in
+            let shown = before.groups slot group there in
+            tells_held story slot group goes_on entries (many_open story.capacity slot story entries group shown)
+            (ending story.capacity slot (accepted_in slot story.groups) (handed_in slot story.handed_out) entries group shown));
+      })
+
+  -- a session that is gone, or kept to be retired later
+  ended : (left : Session Held GroupPlace) (gone : Bool) (one other : Broker) → Ends Calls one left gone other → (other.routes ≡ one.routes) × (other.groups ≡ one.groups)
+  ended left gone one other (inl does) = (does.2.1.routes, does.2.1.groups)
+  ended left gone one other (inr does) = (does.2.1.routes, does.2.1.groups)
+
+  retires_from : (slot : ℕ) (again : GroupPlace → Membership GroupPlace) (gone : Bool) → IsAt story.membership slot → story.terms.session_expiry_interval ≡ 0 → RetiresFrom Calls mid (down session) (first_place slot) again gone new
+      → ShowsEnd story new
+  retires_from slot again gone at over does =
+      let owed = session.window.owed in
+      let total = length owed in
+      let start : Returning story slot total owed 0 mid = record {
+        routes = before.routes;
+        each = λ place group there.
+            (let accepted = accepted_in place story.groups in
+            let hand_outs = handed_in place story.handed_out in
+            let shown = before.groups place group there in (
+              λ same.
+                  (let own : ShowsGroup story.capacity slot (accepted_in slot story.groups) (handed_in slot story.handed_out) owed group =
+                  subst (λ (l : List (ℕ × Held)). ShowsGroup story.capacity slot (accepted_in slot story.groups) (handed_in slot story.handed_out) l group) (at.own owed)
+                  (before.groups slot group (ap (slice_get mid.groups) (sym same) ∙ there)) in
+                  (ending story.capacity slot (accepted_in slot story.groups) (handed_in slot story.handed_out) owed group own, many_open story.capacity slot story owed group own)),
+              λ differs.
+                  (let none : ShowsGroup story.capacity place accepted hand_outs [] group =
+                  subst (λ (l : List (ℕ × Held)). ShowsGroup story.capacity place accepted hand_outs l group) (at.others place owed differs) shown in
+                  (ending story.capacity place accepted hand_outs [] group none, many_open story.capacity place story [] group none)),
+            ));
+      } in
+      let given = subst (λ (l : List (ℕ × Held)). GivesBack Calls mid (first_place slot) l does.place' does.left does.mid) (all_owed session.window shows.window.none_waits) does.given in
+      let back = gives_back story slot total owed 0 mid does.mid does.place' does.left start given in
+      let last = ended _ gone does.mid new does.ended in
+      record {
+        routes = last.0 ∙ back.routes;
+        told = λ place group there.
+            (let each = back.each place group (ap (λ (l : List Group). slice_get l place) (sym last.1) ∙ there) in
+            ⊎_elim
+            (λ (same : place ≡ slot).
+            let own = each.0 same in
+            let many : 0 + total ≡ open_at story slot = omega (arith, own.1) in
+            subst (λ (n : ℕ). IsTold n story group) (sym same) (tells_back story slot group over (0 + total) many own.0))
+            (λ (differs : place ≢ slot). let other = each.1 differs in tells_none story place group other.1 other.0)
+            (cases_eq place slot));
+      }
+
+  retired : (own : Membership ℕ) → story.membership ≡ own → (gone : Bool) → story.terms.session_expiry_interval ≡ 0 → RetiresAs Calls mid (down session) (placed own) gone new → ShowsEnd story new
+  retired NotMember is gone over does =
+      let empty : session.window.owed ≡ [] = subst (λ (m : Membership ℕ). Idles m session.window.owed) is shows.idles in
+      let last = ended _ gone mid new does in
+      ends_idle story new (broker_moved story [] mid new last.0 last.1 (subst (λ (l : List (ℕ × Held)). ShowsBroker story l mid) empty before))
+  retired (Member slot) is gone over does = retires_from slot Member gone (subst (λ (m : Membership ℕ). IsAt m slot) (sym is) (member_at slot)) over does
+  retired (Leaving slot) is gone over does = retires_from slot Leaving gone (subst (λ (m : Membership ℕ). IsAt m slot) (sym is) (leaving_at slot)) over does
+
+  retires : (gone : Bool) → story.terms.session_expiry_interval ≡ 0 → Retires Calls mid (down session) gone new → ShowsEnd story new
+  retires gone over does =
+      retired story.membership refl gone over (subst (λ (m : Membership GroupPlace). RetiresAs Calls mid (down session) m gone new) shows.member does)
+
+parted : (story : Story) (session : Session Held GroupPlace) (old mid new : Broker) (now : ℕ) (answer : Option (Session Held GroupPlace)) → ShowsSession story session old → AsksDesk old (Park (down session) now answer) mid → PartsAs Calls mid answer new
+    → ShowsEnd story new
+parted story session old mid new now None shows asks does = parked story session old mid new now shows asks.routes asks.groups (λ e. asks.makes.goes_on (shows.expiry ∙ e)) does
+parted story session old mid new now (Some back) shows asks (gone, does) =
+    let its : Retires Calls mid (down session) gone new = subst (λ (s : Session Held GroupPlace). Retires Calls mid s gone new) asks.makes.0 does in
+    let lent : IsLent old.desk (down session) = record {
+      row = shows.lent.row;
+      connection = shows.lent.connection;
+      is_row = record { has = shows.lent.has; its = shows.lent.its; stands = shows.lent.stands };
+    } in
+    ⊎_elim
+    (λ (over : EndsLent old.desk (down session) mid.desk). retires story session old mid new now shows asks.routes asks.groups gone (sym shows.expiry ∙ over.with_connection) its)
+    (λ (none : (¬ IsLent old.desk (down session)) × (mid.desk ≡ old.desk)). absurd (none.0 lent))
+    asks.makes.1
+
+pub parts : (story : Story) (session : Session Held GroupPlace) (old new : Broker) (now : ℕ) → ShowsSession story session old → Parts Calls old session now new → ShowsEnd story new
+parts story session old new now shows does = parted story session old does.1 new now does.0 shows does.2 does.3

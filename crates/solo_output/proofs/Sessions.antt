@@ -1,0 +1,156 @@
+-- How the session of the one client shows a story.
+use Rattle.std.proofs.Common.{◌≡◌, ℕ, min, List, [], ◌∷◌, length, slice_get, Some, refl, sym, ap, ◌∙◌, subst}
+use Rattle.std.proofs.lemmas.Bool.{cond_both}
+use Rattle.group_jobs.specs.declared.message.Message.{Message}
+use Rattle.group_jobs.specs.Stamps.{Held}
+use Rattle.member_window.specs.Contents.{Contents}
+use Rattle.session_desk.specs.declared.row.Row.{Row}
+use Rattle.session_desk.specs.declared.row.Standing.TheVariants.{Lent}
+use Rattle.session_desk.specs.declared.session.Session.{Session}
+use Rattle.session_desk.specs.declared.session.Membership.{Membership}
+use Rattle.session_desk.specs.declared.session.Membership.TheVariants.{NotMember, Member, Leaving}
+use Rattle.session_desk.specs.Rows.{Rows, HasRow}
+use Rattle.session_desk.specs.Sessions.{Who}
+use Rattle.conn_rules.specs.declared.terms.Terms.{Terms}
+use Rattle.conn_engine.specs.declared.standing.Link.{Link}
+use Rattle.local_broker.specs.Places.{GroupPlace}
+use Rattle.local_broker.specs.Broker.{Broker}
+use Rattle.local_group.specs.Groups.{Group}
+use Rattle.solo_output.specs.Groups.{Story, HandOut, Phase, accepted_in, handed_in, with_hand_out, with_message, with_membership, with_phase, unacknowledged}
+use Rattle.solo_output.specs.Groups.Phase.{Connected}
+use Rattle.solo_output.specs.HandOuts.{hand_out, least_free}
+use Rattle.solo_output.specs.Publishing.{is_full, offer_to, taken_too}
+use Rattle.solo_output.proofs.Groups.{ShowsGroup}
+use Rattle.solo_output.proofs.Brokers.{ShowsBroker, entries_at}
+use Rattle.solo_output.proofs.Hands.{ShowsWindow, first_place}
+use Rattle.solo_output.proofs.Desks.{ShowsDesk}
+
+-- the slot of a place
+abbrev pub slot_at : GroupPlace → ℕ
+slot_at place = place.slot
+
+-- the membership, with the place
+abbrev pub placed : Membership ℕ → Membership GroupPlace
+placed NotMember = NotMember
+placed (Member slot) = Member (first_place slot)
+placed (Leaving slot) = Leaving (first_place slot)
+
+-- who is no member holds nothing
+abbrev pub Idles : Membership ℕ → List (ℕ × Held) → Type 0
+Idles NotMember entries = entries ≡ []
+Idles (Member slot) entries = Unit {0}
+Idles (Leaving slot) entries = Unit {0}
+
+-- the session is lent
+pub record IsLentAs (rows : Rows Held GroupPlace) (who : Who) : Type 0 where
+  pub row : Row Held GroupPlace
+  pub connection : ℕ
+  pub has : HasRow rows who.number row
+  pub its : row.client ≡ who.client
+  pub stands : row.standing ≡ Lent connection
+
+pub record ShowsSession (story : Story) (session : Session Held GroupPlace) (b : Broker) : Type 0 where
+  pub broker : ShowsBroker story session.window.owed b
+  pub desk : ShowsDesk story.membership b.desk
+  pub window : ShowsWindow story session.window
+  pub member : session.membership ≡ placed story.membership
+  pub idles : Idles story.membership session.window.owed
+  pub expiry : session.expiry.seconds ≡ story.terms.session_expiry_interval
+  pub lent : IsLentAs b.desk.rows session.identity
+
+-- and its connection, which goes on
+pub record ShowsLink (story : Story) (link : Link GroupPlace) (b : Broker) : Type 0 where
+  pub session : ShowsSession story link.session b
+  pub terms : link.terms ≡ story.terms
+  pub phase : story.phase ≡ Connected
+
+-- ---- stories that differ in their messages alone
+
+pub record Keeps (one other : Story) : Type 0 where
+  pub phase : other.phase ≡ one.phase
+  pub terms : other.terms ≡ one.terms
+  pub membership : other.membership ≡ one.membership
+
+pub kept : (story : Story) → Keeps story story
+kept story = record { phase = refl; terms = refl; membership = refl }
+
+pub hand_out_keeps : (slot : ℕ) (messages : List Message) (story : Story) → Keeps story (hand_out slot messages story).story
+hand_out_keeps slot [] story = kept story
+hand_out_keeps slot (message ∷ messages) story =
+    let rest = hand_out_keeps slot messages (with_hand_out slot (least_free (unacknowledged story)) story) in
+    record { phase = rest.phase; terms = rest.terms; membership = rest.membership }
+
+pub record KeepsHanded (one other : Story) : Type 0 where
+  pub same : Keeps one other
+  pub handed_out : other.handed_out ≡ one.handed_out
+
+pub offer_keeps : (slots : List ℕ) (message : Message) (story : Story) → KeepsHanded story (offer_to slots message story).story
+offer_keeps [] message story = record { same = kept story; handed_out = refl }
+offer_keeps (slot ∷ slots) message story =
+    cond_both (is_full slot story) (offer_to slots message story) (taken_too (offer_to slots message (with_message slot message story))) (λ offered. KeepsHanded story offered.story)
+    (λ full. offer_keeps slots message story)
+    (λ room.
+    let rest = offer_keeps slots message (with_message slot message story) in
+    record { same = record { phase = rest.same.phase; terms = rest.same.terms; membership = rest.same.membership }; handed_out = rest.handed_out })
+
+pub window_kept : (one other : Story) (w : Contents Held) → KeepsHanded one other → ShowsWindow one w → ShowsWindow other w
+window_kept one other w keeps shows =
+    record {
+      none_waits = shows.none_waits;
+      quota_is = shows.quota_is ∙ ap (λ (t : Terms). Some (min t.receive_maximum 256)) (sym keeps.same.terms);
+      opens = ap Rattle.solo_output.specs.Groups.open_identifiers keeps.handed_out ∙ shows.opens;
+      not_ending = shows.not_ending;
+    }
+
+-- groups accepted messages, and nothing else happened
+pub session_kept : (one other : Story) (session : Session Held GroupPlace) (old new : Broker) → KeepsHanded one other → ShowsBroker other session.window.owed new → new.desk ≡ old.desk
+    → ShowsSession one session old → ShowsSession other session new
+session_kept one other session old new keeps broker desk shows =
+    record {
+      broker = broker;
+      desk = subst (λ (m : Membership ℕ). ShowsDesk m new.desk) (sym keeps.same.membership) (subst (ShowsDesk one.membership) (sym desk) shows.desk);
+      window = window_kept one other session.window keeps shows.window;
+      member = shows.member ∙ ap placed (sym keeps.same.membership);
+      idles = subst (λ (m : Membership ℕ). Idles m session.window.owed) (sym keeps.same.membership) shows.idles;
+      expiry = shows.expiry ∙ ap (λ (t : Terms). t.session_expiry_interval) (sym keeps.same.terms);
+      lent = subst (λ (rows : Rows Held GroupPlace). IsLentAs rows session.identity) (ap (λ d. d.rows) (sym desk)) shows.lent;
+    }
+
+-- ---- another membership
+
+pub broker_as : (membership : Membership ℕ) (story : Story) (entries : List (ℕ × Held)) (b : Broker) → ((slot : ℕ) → entries_at membership slot entries ≡ entries_at story.membership slot entries)
+    → ShowsBroker story entries b → ShowsBroker (with_membership membership story) entries b
+broker_as membership story entries b same shows =
+    record {
+      routes = shows.routes;
+      few = shows.few;
+      eight = shows.eight;
+      groups = λ slot group there.
+          subst (λ (l : List (ℕ × Held)). ShowsGroup story.capacity slot (accepted_in slot story.groups) (handed_in slot story.handed_out) l group) (sym (same slot)) (shows.groups slot group there);
+    }
+
+pub window_as : (membership : Membership ℕ) (story : Story) (w : Contents Held) → ShowsWindow story w → ShowsWindow (with_membership membership story) w
+window_as membership story w shows = record { none_waits = shows.none_waits; quota_is = shows.quota_is; opens = shows.opens; not_ending = shows.not_ending }
+
+-- the same, where the broker is another that has the same routes and groups
+pub broker_moved : (story : Story) (entries : List (ℕ × Held)) (old new : Broker) → new.routes ≡ old.routes → new.groups ≡ old.groups → ShowsBroker story entries old → ShowsBroker story entries new
+broker_moved story entries old new routes groups shows =
+    record {
+      routes = routes ∙ shows.routes;
+      few = shows.few;
+      eight = ap length groups ∙ shows.eight;
+      groups = λ slot group there. shows.groups slot group (ap (λ (l : List Group). slice_get l slot) (sym groups) ∙ there);
+    }
+
+-- another phase
+pub session_in : (phase : Phase) (story : Story) (session : Session Held GroupPlace) (b : Broker) → ShowsSession story session b → ShowsSession (with_phase phase story) session b
+session_in phase story session b shows =
+    record {
+      broker = record { routes = shows.broker.routes; few = shows.broker.few; eight = shows.broker.eight; groups = shows.broker.groups };
+      desk = shows.desk;
+      window = record { none_waits = shows.window.none_waits; quota_is = shows.window.quota_is; opens = shows.window.opens; not_ending = shows.window.not_ending };
+      member = shows.member;
+      idles = shows.idles;
+      expiry = shows.expiry;
+      lent = shows.lent;
+    }

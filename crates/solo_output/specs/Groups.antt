@@ -1,0 +1,116 @@
+-- What has become of the messages of one client's run, as lists: those that each group accepted, and the hand-outs (sections 4.3.2, 4.4 and 4.8.2).
+use Rattle.std.specs.Prelude.{ℕ, zero, suc, ◌==◌, ◌&&◌, nat_lt, Bool, true, false, not, if◌then◌else◌, List, [], ◌∷◌, ◌++◌, map, filter, length, drop, slice_index_or, Option, Some, None, is_none}
+use Rattle.mqtt_topic.specs.Names.{Share}
+use Rattle.group_jobs.specs.declared.message.Message.{Message}
+use Rattle.conn_rules.specs.declared.terms.Terms.{Terms}
+use Rattle.session_desk.specs.declared.session.Membership.{Membership}
+use Rattle.session_desk.specs.declared.session.Membership.TheVariants.{NotMember}
+
+-- a share that is bound, and the messages that its group accepted, in order
+pub record Bound : Type 0 where
+  pub share : Share
+  pub accepted : List Message
+
+-- the next message of the group of this slot was sent to the client under this identifier; the Reason Code of its PUBACK, if that came (3.4.2.1)
+pub record HandOut : Type 0 where
+  pub slot : ℕ
+  pub identifier : ℕ
+  pub code : Option ℕ
+
+-- how far the connection has come
+pub data Phase : Type 0 where
+  Unconnected : Phase
+  Connected : Phase
+  Closed : Phase
+
+-- What the client asked for when it connected; how many messages may wait in each group; the groups, that of slot n at place n; the slot
+-- of the group whose member the client is, if it is one; and the hand-outs, in order: the first of a slot is that of the first message of
+-- its group, and so on.
+pub record Story : Type 0 where
+  pub phase : Phase
+  pub terms : Terms
+  pub capacity : ℕ
+  pub groups : List Bound
+  pub membership : Membership ℕ
+  pub handed_out : List HandOut
+
+-- 3.1.2: what holds before a CONNECT: no keep alive, the greatest Receive Maximum, packets of any size, and a session that ends with
+-- its connection
+abbrev pub default_terms : Terms
+default_terms = record { receive_maximum = 65535; session_expiry_interval = 0; keep_alive = 0; takes_all_packets = true }
+
+-- a share, whose group accepted nothing yet
+abbrev pub bound : Share → Bound
+bound share = record { share = share; accepted = [] }
+
+-- before the first packet, with these shares bound
+abbrev pub opening : ℕ → List Share → Story
+opening capacity shares =
+    record { phase = Unconnected; terms = default_terms; capacity = capacity; groups = map bound shares; membership = NotMember; handed_out = [] }
+
+abbrev pub shares_of : List Bound → List Share
+shares_of groups = map (λ group. group.share) groups
+
+-- what the group of this slot accepted; where there is none, nothing
+abbrev pub accepted_in : ℕ → List Bound → List Message
+accepted_in slot groups = slice_index_or (map (λ group. group.accepted) groups) slot []
+
+-- the group of this slot accepts one message more
+abbrev pub accepting : ℕ → Message → List Bound → List Bound
+accepting slot message [] = []
+accepting zero message (group ∷ groups) = record group { accepted = group.accepted ++ message ∷ [] } ∷ groups
+accepting (suc slot) message (group ∷ groups) = group ∷ accepting slot message groups
+
+-- the hand-outs of this slot
+abbrev pub handed_in : ℕ → List HandOut → List HandOut
+handed_in slot hand_outs = filter (λ hand_out. hand_out.slot == slot) hand_outs
+
+-- accepted by the group of this slot and not handed out, the oldest first
+abbrev pub waiting_in : ℕ → Story → List Message
+waiting_in slot story = drop (length (handed_in slot story.handed_out)) (accepted_in slot story.groups)
+
+-- no PUBACK came
+abbrev pub is_open : HandOut → Bool
+is_open hand_out = is_none hand_out.code
+
+-- the identifiers of the hand-outs that are not acknowledged, in order
+abbrev pub open_identifiers : List HandOut → List ℕ
+open_identifiers hand_outs = map (λ hand_out. hand_out.identifier) (filter is_open hand_outs)
+
+abbrev pub unacknowledged : Story → List ℕ
+unacknowledged story = open_identifiers story.handed_out
+
+-- a PUBACK settles the unacknowledged hand-out of its identifier, if there is one
+abbrev pub settled : ℕ → ℕ → HandOut → HandOut
+settled identifier code hand_out =
+    if is_open hand_out && (hand_out.identifier == identifier) then record hand_out { code = Some code } else hand_out
+
+-- a Reason Code below 80 hex acknowledges, another refuses (2.4)
+abbrev pub acknowledges : Option ℕ → Bool
+acknowledges None = false
+acknowledges (Some code) = nat_lt code 128
+
+abbrev pub refuses : Option ℕ → Bool
+refuses None = false
+refuses (Some code) = not (nat_lt code 128)
+
+-- what a story becomes
+
+abbrev pub with_phase : Phase → Story → Story
+with_phase phase story = record story { phase = phase }
+
+abbrev pub with_membership : Membership ℕ → Story → Story
+with_membership membership story = record story { membership = membership }
+
+abbrev pub with_message : ℕ → Message → Story → Story
+with_message slot message story = record story { groups = accepting slot message story.groups }
+
+abbrev pub with_share : Share → Story → Story
+with_share share story = record story { groups = story.groups ++ bound share ∷ [] }
+
+abbrev pub with_puback : ℕ → ℕ → Story → Story
+with_puback identifier code story = record story { handed_out = map (settled identifier code) story.handed_out }
+
+abbrev pub with_hand_out : ℕ → ℕ → Story → Story
+with_hand_out slot identifier story =
+    record story { handed_out = story.handed_out ++ (record { slot = slot; identifier = identifier; code = None }) ∷ [] }

@@ -1,0 +1,44 @@
+-- The report lines: what became of the messages of each group (profile).
+use Rattle.std.specs.Prelude.{ℕ, ◌+◌, ◌-◌, ◌==◌, if◌then◌else◌, List, [], ◌∷◌, ◌++◌, length, count_by, codes}
+use Rattle.mqtt_topic.specs.Names.{Share}
+use Rattle.group_jobs.specs.Reports.{labelled}
+use Rattle.solo_output.specs.Groups.{Bound, HandOut, Story, handed_in, open_identifiers, acknowledges, refuses}
+
+-- how many messages of a group have each fate
+pub record Fates : Type 0 where
+  pub acknowledged : ℕ
+  pub refused : ℕ
+  pub held : ℕ
+  pub queued : ℕ
+  pub returned : ℕ
+
+-- Each accepted message is acknowledged, refused, held, queued or returned: what is unacknowledged at the end of the connection is
+-- returned where the session ends with it, and else held (3.1.2.11.2).
+abbrev pub fates_of : ℕ → ℕ → List HandOut → Fates
+fates_of expiry accepted hand_outs = record {
+  acknowledged = count_by (λ hand_out. acknowledges hand_out.code) hand_outs;
+  refused = count_by (λ hand_out. refuses hand_out.code) hand_outs;
+  held = if expiry == 0 then 0 else length (open_identifiers hand_outs);
+  queued = accepted - length hand_outs;
+  returned = if expiry == 0 then length (open_identifiers hand_outs) else 0;
+}
+
+-- the share's text, the counts, and 0A
+abbrev pub line_of : Share → ℕ → Fates → List ℕ
+line_of share accepted fates =
+    share.text ++ labelled (codes " accepted ") accepted ++ labelled (codes " acknowledged ") fates.acknowledged
+    ++ labelled (codes " refused ") fates.refused ++ labelled (codes " held ") fates.held ++ labelled (codes " queued ") fates.queued
+    ++ labelled (codes " returned ") fates.returned ++ 10 ∷ []
+
+-- the group of this slot
+abbrev pub report_of : ℕ → Bound → Story → List ℕ
+report_of slot group story =
+    line_of group.share (length group.accepted) (fates_of story.terms.session_expiry_interval (length group.accepted) (handed_in slot story.handed_out))
+
+-- a line for each of these groups, the first having this slot
+abbrev pub reports_from : ℕ → List Bound → Story → List ℕ
+reports_from slot [] story = []
+reports_from slot (group ∷ groups) story = report_of slot group story ++ reports_from (slot + 1) groups story
+
+abbrev pub reports : Story → List ℕ
+reports story = reports_from 0 story.groups story
