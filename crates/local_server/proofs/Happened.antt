@@ -30,6 +30,7 @@ use Rattle.local_server.specs.declared.event.TimedEvent.{TimedEvent}
 use Rattle.local_server.specs.declared.setup.Setup.{Setup}
 use Rattle.local_server.specs.Servers.{Clients, ServerState, IsNewServer}
 use Rattle.local_server.specs.Happening.{slot_of, EndsAt, EndsFirst, ClosesAll, Does, DoesIf, Happens, HappensAll}
+use Rattle.local_server.specs.Undergoing.{Undergoes}
 use Rattle.local_server.specs.Deliveries.{HandsOutWhatIsSaid}
 use Rattle.local_server.specs.Runs.{HaveLed, AllRunLawfully}
 
@@ -153,6 +154,18 @@ all_ran (first ∷ others) said old new all =
 pub all_happened : (events : List TimedEvent) (said : List Said) (old new : ServerState) → HappensAll old events said new → HaveLed old.broker new.broker
 all_happened events said old new all = let run = all_ran events said old new all in (run.happenings, run.led)
 
+-- the same, whether memory was wanted or not
+pub undergone : (events : List TimedEvent) (old new : ServerState) → Undergoes old events new → HaveLed old.broker new.broker
+undergone [] old new same = ([], ap (λ s. s.broker) same)
+undergone (first ∷ others) old new all =
+    let one = happened first.moment first.event all.1 all.2 old all.0 all.3 in
+    let rest = undergone others all.0 new all.4 in
+    (one.0 ++ rest.0, joins one.0 rest.0 old.broker all.0.broker new.broker one.1 rest.1)
+
+pub undergoes : (events : List TimedEvent) (said : List Said) (old new : ServerState) → HappensAll old events said new → Undergoes old events new
+undergoes [] said old new all = all.1
+undergoes (first ∷ others) said old new all = (all.0, all.1, Ok tt, all.3, undergoes others all.2 all.0 new all.4)
+
 -- what is handed out in a run is what is said
 pub hands : (setup : Setup) (events : List TimedEvent) (said : List Said) (first last : ServerState) → IsNewServer setup first → HappensAll first events said last → HandsOutWhatIsSaid last said
 hands setup events said first last new all =
@@ -163,16 +176,15 @@ hands setup events said first last new all =
       handed = handed_all setup.capacity setup.groups run.happenings first.broker last.broker new.broker run.led;
     }
 
-pub runs : (setup : Setup) (events : List TimedEvent) (said : List Said) (first last : ServerState) → IsNewServer setup first → HappensAll first events said last → AllRunLawfully last.broker
-runs setup events said first last new all slot group there =
-    let led = all_happened events said first last all in
+pub runs : (setup : Setup) (events : List TimedEvent) (first last : ServerState) → IsNewServer setup first → Undergoes first events last → AllRunLawfully last.broker
+runs setup events first last new all slot group there =
+    let led = undergone events first last all in
     let running = running_all led.0 first.broker last.broker (running_first setup.capacity setup.groups first.broker new.broker) led.1 slot group there in
     record { run = running.run; lawful = lawful_run group.events group.state running.run }
 
-pub desk : (setup : Setup) (events : List TimedEvent) (said : List Said) (first last : ServerState) → IsNewServer setup first → HappensAll first events said last
-    → DeskLaw last.broker.desk.rows last.broker.desk.made
-desk setup events said first last new all =
-    let led = all_happened events said first last all in
+pub desk : (setup : Setup) (events : List TimedEvent) (first last : ServerState) → IsNewServer setup first → Undergoes first events last → DeskLaw last.broker.desk.rows last.broker.desk.made
+desk setup events first last new all =
+    let led = undergone events first last all in
     law_all_along led.0 first.broker last.broker (new_desk setup.capacity setup.groups first.broker new.broker) led.1
 
 -- behind the close

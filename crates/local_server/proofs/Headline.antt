@@ -11,11 +11,10 @@ use Rattle.dispatch_core.proofs.RunLaws.{refused_run, closed_run}
 use Rattle.dispatch_core.proofs.ToldLaws.{firsts_run}
 use Rattle.local_group.specs.Groups.{Group}
 use Rattle.local_group.proofs.Fates.{one_fate}
-use Rattle.client_table.specs.Clients.{Said}
 use Rattle.local_server.specs.declared.event.TimedEvent.{TimedEvent}
 use Rattle.local_server.specs.declared.setup.Setup.{Setup}
 use Rattle.local_server.specs.Servers.{ServerState, IsNewServer}
-use Rattle.local_server.specs.Happening.{HappensAll}
+use Rattle.local_server.specs.Undergoing.{Undergoes}
 use Rattle.local_server.specs.Headline.{IsOneFirst, KeepsPromises, HoldsTheHeadline}
 use Rattle.local_server.specs.Runs.{RunsLawfully}
 use Rattle.local_server.proofs.Happened.{runs}
@@ -42,8 +41,8 @@ keeps group lawfully = record {
   one_fate = λ report reports job. one_fate group report lawfully.lawful reports job;
 }
 
-pub headline : (setup : Setup) (events : List TimedEvent) (said : List Said) (first last : ServerState) → IsNewServer setup first → HappensAll first events said last → HoldsTheHeadline last
-headline setup events said first last new all = record {
-  groups = λ slot group there. keeps group (runs setup events said first last new all slot group there);
-  quota = within setup events said first last new all;
+pub headline : (setup : Setup) (events : List TimedEvent) (first last : ServerState) → IsNewServer setup first → Undergoes first events last → HoldsTheHeadline last
+headline setup events first last new all = record {
+  groups = λ slot group there. keeps group (runs setup events first last new all slot group there);
+  quota = within setup events first last new all;
 }

@@ -21,7 +21,8 @@ use Rattle.local_server.specs.declared.event.Event.TheVariants as events
 use Rattle.local_server.specs.declared.event.TimedEvent.{TimedEvent}
 use Rattle.local_server.specs.declared.setup.Setup.{Setup}
 use Rattle.local_server.specs.Servers.{Clients, ServerState, IsNewServer}
-use Rattle.local_server.specs.Happening.{slot_of, EndsAt, EndsFirst, ClosesAll, Does, DoesIf, Happens, HappensAll}
+use Rattle.local_server.specs.Happening.{slot_of, EndsAt, EndsFirst, ClosesAll, Does, DoesIf, Happens}
+use Rattle.local_server.specs.Undergoing.{Undergoes}
 use Rattle.local_server.specs.Quotas.{AllWithinQuota}
 use Rattle.local_server.specs.Transcripts.{link_in, link_at}
 
@@ -84,15 +85,15 @@ pub happened : (moment : ℕ) (event : Event) (said : List Said) (result : Resul
     → AllWithinQuota old.clients → AllWithinQuota new.clients
 happened moment event said result old new happens all = does_if (is_open old.broker) event old.broker new.broker old.clients new.clients new.clock said result happens.does all
 
-all_happened : (events : List TimedEvent) (said : List Said) (old new : ServerState) → HappensAll old events said new → AllWithinQuota old.clients → AllWithinQuota new.clients
-all_happened [] said old new run all = subst AllWithinQuota (sym (ap (λ s. s.clients) run.1)) all
-all_happened (first ∷ others) said old new run all = all_happened others run.2 run.0 new run.4 (happened first.moment first.event run.1 (Ok tt) old run.0 run.3 all)
+undergone : (events : List TimedEvent) (old new : ServerState) → Undergoes old events new → AllWithinQuota old.clients → AllWithinQuota new.clients
+undergone [] old new same all = subst AllWithinQuota (sym (ap (λ s. s.clients) same)) all
+undergone (first ∷ others) old new run all = undergone others run.0 new run.4 (happened first.moment first.event run.1 run.2 old run.0 run.3 all)
 
 pub new_within : (setup : Setup) (first : ServerState) → IsNewServer setup first → AllWithinQuota first.clients
 new_within setup first new = subst AllWithinQuota (sym new.clients) (all_of (IsCellWithinQuota {P = GroupPlace}) 64 None tt)
 
-pub within : (setup : Setup) (events : List TimedEvent) (said : List Said) (first last : ServerState) → IsNewServer setup first → HappensAll first events said last → AllWithinQuota last.clients
-within setup events said first last new run = all_happened events said first last run (new_within setup first new)
+pub within : (setup : Setup) (events : List TimedEvent) (first last : ServerState) → IsNewServer setup first → Undergoes first events last → AllWithinQuota last.clients
+within setup events first last new run = undergone events first last run (new_within setup first new)
 
 -- so what a connection has keeps the quota of its CONNECT
 link_of_standing : (standing : Standing GroupPlace) (link : Link GroupPlace) → link_of standing ≡ Some link → IsWithinQuota standing

@@ -49,7 +49,7 @@ use Rattle.local_server.proofs.Many.{as_many}
 use Rattle.local_server.proofs.Owning.{AtDesk, InHand, Owns, owns_closed, owns_new}
 use Rattle.local_server.proofs.Addressed as addressed
 use Rattle.local_server.proofs.Addressed.{at, answered, new_numbered}
-use Rattle.local_server.proofs.Happened.{joins, first_ok, then_ok}
+use Rattle.local_server.proofs.Happened.{joins, first_ok, then_ok, undergoes}
 use Rattle.local_server.proofs.HandOuts.{handed}
 use Rattle.local_server.proofs.Quotas as quotas
 use Rattle.local_server.proofs.Quotas.{keeps_quota}
@@ -315,7 +315,7 @@ told_in setup events said first last new run says within =
 pub transcripts : (setup : Setup) (events : List TimedEvent) (said : List Said) (first last : ServerState) → IsNewServer setup first → (run : HappensAll first events said last)
     → KeepsTranscripts first events said last run
 transcripts setup events said first last new run =
-    told_in setup events said first last new run (whole setup events said first last new run) (quotas.within setup events said first last new run)
+    told_in setup events said first last new run (whole setup events said first last new run) (quotas.within setup events first last new (undergoes events said first last run))
 
 -- at each moment of the run
 moments : (setup : Setup) (first : ServerState) (events : List TimedEvent) (turns : List Turn) (said : List Said) (old new : ServerState) → IsNewServer setup first
@@ -369,7 +369,7 @@ settled_in_run setup events said first last new run says within =
 pub settlings : (setup : Setup) (events : List TimedEvent) (said : List Said) (first last : ServerState) → IsNewServer setup first → (run : HappensAll first events said last)
     → SettlesWhatIsAcknowledged first events said last run
 settlings setup events said first last new run =
-    settled_in_run setup events said first last new run (whole setup events said first last new run) (quotas.within setup events said first last new run)
+    settled_in_run setup events said first last new run (whole setup events said first last new run) (quotas.within setup events first last new (undergoes events said first last run))
 
 -- what is sent was accepted
 pub messages : (setup : Setup) (events : List TimedEvent) (said : List Said) (first last : ServerState) → IsNewServer setup first → (run : HappensAll first events said last)
@@ -378,7 +378,7 @@ unfolding settled_in_run told_in
 messages setup events said first last new run =
     let says = whole setup events said first last new run in
     record {
-      settling = settled_in_run setup events said first last new run says (quotas.within setup events said first last new run);
+      settling = settled_in_run setup events said first last new run says (quotas.within setup events first last new (undergoes events said first last run));
       eight = as_many says.keeps.happenings first.broker last.broker says.keeps.led ∙ new.broker.eight;
       accepted = says.keeps.accepted;
       brought = says.keeps.accepts;

@@ -1,6 +1,7 @@
 pub mod Servers
 pub mod Alike
 pub mod Happening
+pub mod Undergoing
 pub mod Deliveries
 pub mod Runs
 pub mod Quotas

@@ -13,6 +13,7 @@ ghost use Rattle.local_server.specs.Deliveries.{HandsOutWhatIsSaid};
 ghost use Rattle.local_server.specs.Servers.{HasNoneBelow, ServerState, IsNewServer};
 ghost use Rattle.local_server.specs.Alike.{AreAlike};
 ghost use Rattle.local_server.specs.Happening.{Happens, HappensAll};
+ghost use Rattle.local_server.specs.Undergoing.{Undergoes};
 ghost use Rattle.local_server.specs.Headline.{HoldsTheHeadline};
 ghost use Rattle.local_server.specs.Quotas.{AllWithinQuota};
 ghost use Rattle.local_server.specs.Runs.{HaveLed, AllRunLawfully};
@@ -25,31 +26,32 @@ ghost use Rattle.local_server.specs.Transcripts.{KeepsTranscripts, AccountAlong}
 ghost use Rattle.local_server.specs.Eager.{AllHandReturnedFirst};
 ghost use Rattle.local_server.specs.LastEvents.{AllAddTheClose};
 
-/// **The headline on one thread**, whatever events happen to a server, over however many connections and in whatever order: each accepted
-/// message is first handed to at most one member, once; each member's first hand-outs from a publisher keep that publisher's order; no
-/// connection has more unacknowledged PUBLISH packets than its Receive Maximum; a refused message goes to nobody else; nothing is accepted
-/// or handed out after close; and a report gives each accepted message exactly one fate.
+/// **The headline on one thread**, whatever events happen to a server, over however many connections and in whatever order, and whether memory
+/// was wanted in them or not: each accepted message is first handed to at most one member, once; each member's first hand-outs from a publisher
+/// keep that publisher's order; no connection has more unacknowledged PUBLISH packets than its Receive Maximum; a refused message goes to nobody
+/// else; nothing is accepted or handed out after close; and a report gives each accepted message exactly one fate.
 pub fn headline_law()
-    ensures { (setup : Setup) (events : List TimedEvent) (said : List Said) (first last : ServerState) →
-        IsNewServer setup first → HappensAll first events said last → HoldsTheHeadline last }
+    ensures { (setup : Setup) (events : List TimedEvent) (first last : ServerState) →
+        IsNewServer setup first → Undergoes first events last → HoldsTheHeadline last }
 {}
 
-/// **An event is a list of calls** of what the connections share, and perhaps its close, whether memory was wanted or not; and so
-/// are many. So each law of `local_broker` holds behind every event.
+/// **An event is a list of calls** of what the connections share, and perhaps its close, whether memory was wanted or not (`one`); and so
+/// are many (`all`). So each law of `local_broker` holds behind every event. The runs in which memory was not wanted are among these (`without`).
 pub fn happenings_law()
     ensures one { (moment : ℕ) (event : Event) (said : List Said) (result : Result (Unit {0}) NoMemory) (old new : ServerState) →
         Happens old moment event said result new → HaveLed old.broker new.broker }
-    ensures all { (events : List TimedEvent) (said : List Said) (old new : ServerState) →
-        HappensAll old events said new → HaveLed old.broker new.broker }
+    ensures all { (events : List TimedEvent) (old new : ServerState) → Undergoes old events new → HaveLed old.broker new.broker }
+    ensures without { (events : List TimedEvent) (said : List Said) (old new : ServerState) →
+        HappensAll old events said new → Undergoes old events new }
 {}
 
-/// **Each group runs lawfully, whatever happens to its server**: its events are a run to where its jobs are. So each accepted
+/// **Each group runs lawfully, whatever happens to its server**, with memory and without: its events are a run to where its jobs are. So each accepted
 /// message was first handed to one member at most, each member's first hand-outs keep the order of each connection's messages, and
 /// every accepted message is in one place. One that was refused goes to nobody else, and nothing is handed out behind the close, as
 /// `dispatch_core` has it of every run.
 pub fn running_law()
-    ensures { (setup : Setup) (events : List TimedEvent) (said : List Said) (first last : ServerState) →
-        IsNewServer setup first → HappensAll first events said last → AllRunLawfully last.broker }
+    ensures { (setup : Setup) (events : List TimedEvent) (first last : ServerState) →
+        IsNewServer setup first → Undergoes first events last → AllRunLawfully last.broker }
 {}
 
 /// **What is handed out is what is sent**, in every run: the messages of the PUBLISH packets with DUP 0 that the clients are told of are,
@@ -119,20 +121,21 @@ pub fn size_law()
         IsNewServer setup first → HappensAll first events said last → AllWritable said }
 {}
 
-/// **A session is in one pair of hands, whatever happens to the server.**
+/// **The desk law holds, whatever happens to the server**, with memory and without: at most 256 sessions, no two of one client that are lent or parked,
+/// and none parked that is ending.
 pub fn desk_law()
-    ensures { (setup : Setup) (events : List TimedEvent) (said : List Said) (first last : ServerState) →
-        IsNewServer setup first → HappensAll first events said last → DeskLaw last.broker.desk.rows last.broker.desk.made }
+    ensures { (setup : Setup) (events : List TimedEvent) (first last : ServerState) →
+        IsNewServer setup first → Undergoes first events last → DeskLaw last.broker.desk.rows last.broker.desk.made }
 {}
 
 /// **The quota is kept on every connection** (section 4.9), whatever happens to the server, also where memory is wanted (`one`): of the PUBLISH
-/// packets that were sent on it, those that wait for their PUBACK are never more than the Receive Maximum of its CONNECT, and never more
-/// than 256.
+/// packets that were sent on it, those that wait for their PUBACK are never more than the Receive Maximum that its terms have, which are those of
+/// its CONNECT by the step law, and never more than 256.
 pub fn quota_law()
     ensures one { (moment : ℕ) (event : Event) (said : List Said) (result : Result (Unit {0}) NoMemory) (old new : ServerState) →
         Happens old moment event said result new → AllWithinQuota old.clients → AllWithinQuota new.clients }
-    ensures all { (setup : Setup) (events : List TimedEvent) (said : List Said) (first last : ServerState) →
-        IsNewServer setup first → HappensAll first events said last → AllWithinQuota last.clients }
+    ensures all { (setup : Setup) (events : List TimedEvent) (first last : ServerState) →
+        IsNewServer setup first → Undergoes first events last → AllWithinQuota last.clients }
 {}
 
 /// **What is said in an event of a connection is said to that one**, behind whatever events, and whether memory was wanted or not.

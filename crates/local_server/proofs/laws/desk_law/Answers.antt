@@ -3,4 +3,4 @@ use Rattle.local_server.proofs.Happened.{desk}
 use Rattle.local_server.proofs.laws.desk_law.Goals as goal
 
 pub returns : goal.returns
-returns c setup events said first last new all = desk setup events said first last new all
+returns c setup events first last new all = desk setup events first last new all

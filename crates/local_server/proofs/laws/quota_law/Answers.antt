@@ -6,4 +6,4 @@ pub returns-clause-one : goal.returns-clause-one
 returns-clause-one c moment event said result old new happens all = happened moment event said result old new happens all
 
 pub returns-clause-all : goal.returns-clause-all
-returns-clause-all c setup events said first last new run = within setup events said first last new run
+returns-clause-all c setup events first last new run = within setup events first last new run

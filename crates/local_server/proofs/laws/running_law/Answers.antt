@@ -3,4 +3,4 @@ use Rattle.local_server.proofs.Happened.{runs}
 use Rattle.local_server.proofs.laws.running_law.Goals as goal
 
 pub returns : goal.returns
-returns c setup events said first last new all = runs setup events said first last new all
+returns c setup events first last new all = runs setup events first last new all
