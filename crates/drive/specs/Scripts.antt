@@ -4,7 +4,7 @@ use Rattle.hex.specs.Hex.{decode_of}
 use Rattle.hex.specs.declared.error.FromHexError.{FromHexError}
 use Rattle.line_io.specs.Lines.{lines_of}
 use Rattle.line_io.specs.declared.error.RunError.{RunError}
-use Rattle.line_io.specs.declared.error.RunError.TheVariants.{Device, Memory, Line}
+use Rattle.line_io.specs.declared.error.RunError.TheVariants.{ReadFailed, TooManyReads, WriteFailed, Memory, Line}
 use Rattle.local_server.specs.declared.event.Event.{Event}
 use Rattle.local_server.specs.declared.event.Event.TheVariants.{Open, Bytes, Tick, End, Close}
 use Rattle.local_server.specs.declared.event.TimedEvent.{TimedEvent}
@@ -67,8 +67,10 @@ script_from number (line ∷ lines) =
 abbrev pub script_of : List ℕ → Result (List TimedEvent) ℕ
 script_of input = script_from 1 (lines_of input)
 
--- an error that names a line names the first that spells no event
+-- an error of lines: memory was refused, or it names the first that spells no event
 abbrev pub NamesBadLine : Result (List TimedEvent) ℕ → RunError → Type 0
-NamesBadLine script Device = Unit {0}
+NamesBadLine script ReadFailed = ⊥
+NamesBadLine script TooManyReads = ⊥
+NamesBadLine script WriteFailed = ⊥
 NamesBadLine script Memory = Unit {0}
 NamesBadLine script (Line number) = script ≡ Err number

@@ -63,7 +63,7 @@ pub record IsOutput (script : Result (List TimedEvent) ℕ) (lines : Said → Li
   pub spelled : script ≡ Ok events
   pub transcript : IsTranscript lines setup events output
 
--- the output of `drive` for an input
+-- the output of `drive_lines` for an input
 abbrev pub IsDriveOutput : Setup → List ℕ → List ℕ → Type 0
 IsDriveOutput setup input output = IsOutput (script_of input) lines_said setup output
 
@@ -77,6 +77,8 @@ pub record Writes (IsSo : List ℕ → Type 0) (old new : Option (List ℕ)) : T
   pub defined_by : IsSo output
   pub written : Appends old new output
 
--- the writer got nothing, or a beginning of an output that is so
-abbrev pub BeginsTo : (List ℕ → Type 0) → Option (List ℕ) → Option (List ℕ) → Type 0
-BeginsTo IsSo old new = Keeps old new ⊎ ((output : List ℕ) × IsSo output × Begins old new output)
+-- the writer got a beginning of an output that is so, perhaps all of it, perhaps nothing
+pub record BeginsTo (IsSo : List ℕ → Type 0) (old new : Option (List ℕ)) : Type 0 where
+  pub output : List ℕ
+  pub defined_by : IsSo output
+  pub begun : Begins old new output

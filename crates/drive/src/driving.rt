@@ -1,5 +1,5 @@
 //! A run: from a reader of what happens to a writer of what is said.
-ghost use Rattle.std.specs.Prelude.{◌≡◌, ◌++◌, List, ℕ, length, Err, OnOk, OnErr, IfOk, IfErr, IfSome, Ok};
+ghost use Rattle.std.specs.Prelude.{◌≡◌, ◌≢◌, ◌++◌, List, ℕ, length, Err, OnOk, IfOk, IfErr, IfSome, Ok};
 ghost use Rattle.std.specs.List.{flat_map};
 ghost use Rattle.std.specs.Io.KnownBytes.{Keeps};
 ghost use Rattle.line_io.specs.declared.error.RunError.TheVariants.{Memory};
@@ -28,9 +28,9 @@ use std::io::{Read, Write};
 ///
 /// # Errors
 ///
-/// [`RunError::Line`] for the first line that spells no event; nothing is written then. [`RunError::Device`] where the reader or the
-/// writer fails, or 2^20 reads did not reach the input's end, and [`RunError::Memory`]: what was written begins the transcript.
-pub fn drive<R: Read, W: Write>(
+/// [`RunError::Line`] for the first line that spells no event; [`RunError::ReadFailed`]; [`RunError::TooManyReads`] where 2^20 reads did not
+/// reach the input's end; and [`RunError::Memory`]: nothing was written then. [`RunError::WriteFailed`]: what was written begins the transcript.
+pub fn drive_lines<R: Read, W: Write>(
     alloc: Global,
     setup: Setup,
     reader: &mut R,
@@ -39,12 +39,13 @@ pub fn drive<R: Read, W: Write>(
     // What was written is the transcript of the events that the input spells, and nothing else.
     ensures ended { OnOk result (IfSome (R.remaining reader.old)
         (λ input. Writes (IsDriveOutput setup input) (W.contents writer.old) (W.contents writer.new))) }
-    // A line that is named is the first that spells no event, and nothing was written.
+    // A line that is named is the first that spells no event.
     ensures bad_line { (line : ℕ) → result ≡ Err (RunError.Line line) → IfSome (R.remaining reader.old)
-        (λ input. (script_of input ≡ Err line) × Keeps (W.contents writer.old) (W.contents writer.new)) }
-    // At each other error what was written begins the transcript; it is nothing where there is none.
-    ensures begun { OnErr result (IfSome (R.remaining reader.old)
-        (λ input. BeginsTo (IsDriveOutput setup input) (W.contents writer.old) (W.contents writer.new))) }
+        (λ input. script_of input ≡ Err line) }
+    // Where the writer failed, what was written begins the transcript; at each other error nothing was written.
+    ensures begun { result ≡ Err RunError.WriteFailed → IfSome (R.remaining reader.old)
+        (λ input. BeginsTo (IsDriveOutput setup input) (W.contents writer.old) (W.contents writer.new)) }
+    ensures kept { IfErr result (λ error. error ≢ RunError.WriteFailed → Keeps (W.contents writer.old) (W.contents writer.new)) }
 {
     run(alloc, Form::Events, setup, reader, writer)
 }
@@ -56,8 +57,7 @@ pub fn drive<R: Read, W: Write>(
 ///
 /// # Errors
 ///
-/// [`RunError::Line`] for the first line that is not an even number of hex digits; nothing is written then. [`RunError::Device`] and
-/// [`RunError::Memory`] as in [`drive`].
+/// [`RunError::Line`] for the first line that is not an even number of hex digits; the others as in [`drive_lines`].
 pub fn solo<R: Read, W: Write>(
     alloc: Global,
     setup: Setup,
@@ -67,12 +67,13 @@ pub fn solo<R: Read, W: Write>(
     // What was written is what the client is sent and the reports, and nothing else.
     ensures ended { OnOk result (IfSome (R.remaining reader.old)
         (λ input. Writes (IsSoloOutput setup input) (W.contents writer.old) (W.contents writer.new))) }
-    // A line that is named is the first that is not hex, and nothing was written.
+    // A line that is named is the first that is not hex.
     ensures bad_line { (line : ℕ) → result ≡ Err (RunError.Line line) → IfSome (R.remaining reader.old)
-        (λ input. (client_script_of input ≡ Err line) × Keeps (W.contents writer.old) (W.contents writer.new)) }
-    // At each other error what was written begins that; it is nothing where there is none.
-    ensures begun { OnErr result (IfSome (R.remaining reader.old)
-        (λ input. BeginsTo (IsSoloOutput setup input) (W.contents writer.old) (W.contents writer.new))) }
+        (λ input. client_script_of input ≡ Err line) }
+    // Where the writer failed, what was written begins that; at each other error nothing was written.
+    ensures begun { result ≡ Err RunError.WriteFailed → IfSome (R.remaining reader.old)
+        (λ input. BeginsTo (IsSoloOutput setup input) (W.contents writer.old) (W.contents writer.new)) }
+    ensures kept { IfErr result (λ error. error ≢ RunError.WriteFailed → Keeps (W.contents writer.old) (W.contents writer.new)) }
 {
     run(alloc, Form::Client, setup, reader, writer)
 }
@@ -88,9 +89,10 @@ fn run<R: Read, W: Write>(
     ensures ended { OnOk result (IfSome (R.remaining reader.old)
         (λ input. Writes (IsOutput (script_as form input) (lines_as form) setup) (W.contents writer.old) (W.contents writer.new))) }
     ensures bad_line { (line : ℕ) → result ≡ Err (RunError.Line line) → IfSome (R.remaining reader.old)
-        (λ input. (script_as form input ≡ Err line) × Keeps (W.contents writer.old) (W.contents writer.new)) }
-    ensures begun { OnErr result (IfSome (R.remaining reader.old)
-        (λ input. BeginsTo (IsOutput (script_as form input) (lines_as form) setup) (W.contents writer.old) (W.contents writer.new))) }
+        (λ input. script_as form input ≡ Err line) }
+    ensures begun { result ≡ Err RunError.WriteFailed → IfSome (R.remaining reader.old)
+        (λ input. BeginsTo (IsOutput (script_as form input) (lines_as form) setup) (W.contents writer.old) (W.contents writer.new)) }
+    ensures kept { IfErr result (λ error. error ≢ RunError.WriteFailed → Keeps (W.contents writer.old) (W.contents writer.new)) }
 {
     let input = read_all(alloc, reader)?;
     let events = read_events(alloc, form, &input)?;

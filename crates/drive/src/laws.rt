@@ -1,5 +1,5 @@
 //! Laws of what is written: what holds of every input. Each is the contract of a function that does nothing, stated over the definitions
-//! that the contracts of [`drive`](crate::drive) and [`solo`](crate::solo) cite.
+//! that the contracts of [`drive_lines`](crate::drive_lines) and [`solo`](crate::solo) cite.
 ghost use Rattle.std.specs.Prelude.{◌≡◌, ℕ, List};
 ghost use Rattle.client_table.specs.Clients.{Said};
 ghost use Rattle.local_server.specs.declared.event.TimedEvent.{TimedEvent};
@@ -7,7 +7,7 @@ ghost use Rattle.local_server.specs.declared.setup.Setup.{Setup};
 ghost use Rattle.drive.specs.Transcripts.{IsTranscript, IsDriveOutput, IsSoloOutput};
 
 /// **Each input has one output**: a list of events has one transcript at most (`transcript`), and so each input has one output, of
-/// [`drive`](crate::drive) and of [`solo`](crate::solo). So what they write is the output that is defined for what they read.
+/// [`drive_lines`](crate::drive_lines) and of [`solo`](crate::solo). So what they write is the output that is defined for what they read.
 pub fn one_output_law()
     ensures transcript { (lines : Said → List ℕ) (setup : Setup) (events : List TimedEvent) (text text' : List ℕ) →
         IsTranscript lines setup events text → IsTranscript lines setup events text' → text ≡ text' }

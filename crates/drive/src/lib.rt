@@ -17,7 +17,7 @@
 //! ```
 //! let script: &[u8] = b"0 open 0\n0 bytes 0 100F00044D5154540502003C0000027731\n"; // a client connects
 //! let mut output = Vec::new(alloc);
-//! drive(alloc, setup, &mut &script[..], &mut output)?; // `output` has the line of a CONNACK
+//! drive_lines(alloc, setup, &mut &script[..], &mut output)?; // `output` has the line of a CONNACK
 //! ```
 #![tactic(auto)]
 
@@ -31,4 +31,4 @@ mod stream;
 mod transcript;
 mod words;
 
-pub use driving::{drive, solo};
+pub use driving::{drive_lines, solo};

@@ -1,8 +1,6 @@
 -- Lines: those of an input, and those that are written (profile).
 use Rattle.std.specs.Prelude.{ℕ, ◌==◌, if◌then◌else◌, List, [], ◌∷◌, ◌++◌}
 use Rattle.hex.specs.Hex.{encode_lower}
-use Rattle.line_io.specs.declared.error.RunError.{RunError}
-use Rattle.line_io.specs.declared.error.RunError.TheVariants.{Device, Memory, Line}
 
 -- a byte at the front of the first piece
 abbrev pub onto_first : ℕ → List (List ℕ) → List (List ℕ)
@@ -17,12 +15,6 @@ cut_at separator last (byte ∷ bytes) = if byte == separator then [] ∷ cut_at
 -- the lines: each ends at a byte 0A, and where nothing follows the last 0A, nothing is no line
 abbrev pub lines_of : List ℕ → List (List ℕ)
 lines_of input = cut_at 10 [] input
-
--- the error says nothing of a line
-abbrev pub IsNoLine : RunError → Type 0
-IsNoLine Device = Unit {0}
-IsNoLine Memory = Unit {0}
-IsNoLine (Line number) = ⊥
 
 -- a line of output: bytes in lower case hex, and 0A
 abbrev pub hex_line : List ℕ → List ℕ

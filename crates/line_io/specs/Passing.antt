@@ -1,4 +1,4 @@
--- What a writer holds of a text that passes to it through a buffer.
+-- What a writer got of a text: a beginning of it, and what waits.
 use Rattle.std.specs.Prelude.{◌≡◌, ℕ, List, ◌++◌, Option}
 use Rattle.std.specs.Io.KnownBytes.{Appends}
 

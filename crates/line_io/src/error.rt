@@ -1,17 +1,20 @@
 //! Why a run stops before its end.
 ghost use Rattle.std.specs.Prelude.{◌≡◌};
 ghost use Rattle.line_io.specs.Status.{status_of};
-ghost use Rattle.line_io.specs.declared.error.RunError.TheVariants.{Device, Memory};
+ghost use Rattle.line_io.specs.declared.error.RunError.TheVariants.{Memory};
 
 use mqtt_wire::Fault;
 use std::alloc::{AllocError, AllocFailed};
-use std::io;
 
 /// Why a run did not end, and the status that the program ends with.
 #[derive(Clone, Copy, Debug, PartialEq, Eq, Drop)]
 pub enum RunError {
-    /// 3: the reader or the writer failed, or 2^20 reads did not reach the input's end.
-    Device,
+    /// 3: the reader failed.
+    ReadFailed,
+    /// 3: 2^20 reads did not reach the input's end.
+    TooManyReads,
+    /// 3: the writer failed.
+    WriteFailed,
     /// 4: an allocation was refused.
     Memory,
     /// 5: this line of the input, counted from 1, is none that the program takes.
@@ -24,18 +27,10 @@ impl RunError {
         ensures { result ≡ status_of self.now }
     {
         match self {
-            RunError::Device => 3,
+            RunError::ReadFailed | RunError::TooManyReads | RunError::WriteFailed => 3,
             RunError::Memory => 4,
             RunError::Line(_) => 5,
         }
-    }
-}
-
-impl From<io::Error> for RunError {
-    ghost from_gives = { λ _ e. e ≡ Device };
-
-    fn from(_: io::Error) -> RunError {
-        RunError::Device
     }
 }
 

@@ -1,6 +1,7 @@
 //! All of an input, and its lines.
 ghost use Rattle.std.specs.Prelude.{◌≡◌, ◌<◌, ◌∷◌, length, vec_len, IfOk, IfErr, IfSome};
-ghost use Rattle.line_io.specs.Lines.{lines_of, IsNoLine};
+ghost use Rattle.line_io.specs.Lines.{lines_of};
+ghost use Rattle.line_io.specs.Status.{IsOfReading};
 
 use crate::error::RunError;
 use memchr::memchr;
@@ -24,10 +25,10 @@ fn room(alloc: Global) -> Result<Vec<u8>, AllocError>
 ///
 /// # Errors
 ///
-/// [`RunError::Device`] where the reader fails, or 2^20 reads did not reach its end, and [`RunError::Memory`].
+/// [`RunError::ReadFailed`], [`RunError::TooManyReads`] where 2^20 reads did not reach the reader's end, and [`RunError::Memory`].
 pub fn read_all<R: Read>(alloc: Global, reader: &mut R) -> Result<Vec<u8>, RunError>
     ensures all { IfOk result (λ input. IfSome (R.remaining reader.old) (λ bytes. input.items ≡ bytes)) }
-    ensures err { IfErr result IsNoLine }
+    ensures err { IfErr result IsOfReading }
 {
     let mut input = Vec::new(alloc);
     let mut piece = room(alloc)?;
@@ -36,10 +37,10 @@ pub fn read_all<R: Read>(alloc: Global, reader: &mut R) -> Result<Vec<u8>, RunEr
             Ok(0) => return Ok(input),
             Ok(count) => input.extend_from_slice(&piece[..count])?,
             Err(e) if e.kind() == ErrorKind::Interrupted => {}
-            Err(e) => return Err(e.into()),
+            Err(_) => return Err(RunError::ReadFailed),
         }
     }
-    Err(RunError::Device)
+    Err(RunError::TooManyReads)
 }
 
 /// The first line of an input that is not empty, without the 0A that ends it, and what follows.

@@ -2,16 +2,16 @@
 ghost use Rattle.std.specs.Prelude.{◌≡◌, OnOk, OnErr, IfErr};
 ghost use Rattle.std.specs.Io.KnownBytes.{Appends};
 ghost use Rattle.line_io.specs.Passing.{Begins};
-ghost use Rattle.line_io.specs.declared.error.RunError.TheVariants.{Device};
+ghost use Rattle.line_io.specs.declared.error.RunError.TheVariants.{WriteFailed};
 
 use crate::error::RunError;
 use std::io::{ErrorKind, Write};
 
-/// Writes all of the bytes. At a failure, which is that of the device, the writer has a beginning of them.
+/// Writes all of the bytes. At a failure the writer has a beginning of them.
 fn write_out<W: Write>(writer: &mut W, bytes: &[u8]) -> Result<(), RunError>
     ensures ok { OnOk result (Appends (W.contents writer.old) (W.contents writer.new) bytes.now) }
     ensures err { OnErr result (Begins (W.contents writer.old) (W.contents writer.new) bytes.now) }
-    ensures device { IfErr result (λ e. e ≡ Device) }
+    ensures cause { IfErr result (λ error. error ≡ WriteFailed) }
 {
     let mut rest = bytes;
     for _ in 0..u64::MAX {
@@ -19,26 +19,28 @@ fn write_out<W: Write>(writer: &mut W, bytes: &[u8]) -> Result<(), RunError>
             return Ok(());
         }
         match writer.write(rest) {
-            Ok(0) => return Err(RunError::Device),
+            Ok(0) => return Err(RunError::WriteFailed),
             Ok(count) => rest = &rest[count..],
             Err(e) if e.kind() == ErrorKind::Interrupted => {}
-            Err(e) => return Err(e.into()),
+            Err(_) => return Err(RunError::WriteFailed),
         }
     }
-    Err(RunError::Device)
+    Err(RunError::WriteFailed)
 }
 
 /// Writes all of a text. At a failure the writer has a beginning of it.
 ///
 /// # Errors
 ///
-/// [`RunError::Device`].
+/// [`RunError::WriteFailed`].
 pub fn write_all<W: Write>(writer: &mut W, text: &[u8]) -> Result<(), RunError>
     ensures ok { OnOk result (Appends (W.contents writer.old) (W.contents writer.new) text.now) }
     ensures err { OnErr result (Begins (W.contents writer.old) (W.contents writer.new) text.now) }
-    ensures device { IfErr result (λ e. e ≡ Device) }
+    ensures cause { IfErr result (λ error. error ≡ WriteFailed) }
 {
     write_out(writer, text)?;
-    writer.flush()?;
-    Ok(())
+    match writer.flush() {
+        Ok(()) => Ok(()),
+        Err(_) => Err(RunError::WriteFailed),
+    }
 }

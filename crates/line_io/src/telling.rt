@@ -13,13 +13,15 @@ use std::io::Write;
 ///
 /// # Errors
 ///
-/// [`RunError::Device`], and [`RunError::Memory`] at the line of a [`RunError::Line`].
+/// [`RunError::WriteFailed`], and [`RunError::Memory`] at the line of a [`RunError::Line`].
 pub fn tell<W: Write>(alloc: Global, error: RunError, writer: &mut W) -> Result<(), RunError>
     ensures ok { OnOk result (Appends (W.contents writer.old) (W.contents writer.new) (error_line error)) }
     ensures err { OnErr result (Begins (W.contents writer.old) (W.contents writer.new) (error_line error)) }
 {
     match error {
-        RunError::Device => write_all(writer, b"device\n"),
+        RunError::ReadFailed | RunError::TooManyReads | RunError::WriteFailed => {
+            write_all(writer, b"device\n")
+        }
         RunError::Memory => write_all(writer, b"memory\n"),
         RunError::Line(number) => {
             let line = format!(in alloc; "input line {number}\n")?;

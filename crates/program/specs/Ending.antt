@@ -5,7 +5,7 @@ use Rattle.local_server.specs.declared.event.TimedEvent.{TimedEvent}
 use Rattle.arguments.specs.declared.command.Request.{Request}
 use Rattle.arguments.specs.declared.command.Request.TheVariants.{Solo, Drive}
 use Rattle.line_io.specs.declared.error.RunError.{RunError}
-use Rattle.line_io.specs.declared.error.RunError.TheVariants.{Device, Memory, Line}
+use Rattle.line_io.specs.declared.error.RunError.TheVariants.{ReadFailed, TooManyReads, WriteFailed, Memory, Line}
 use Rattle.line_io.specs.Status.{status_of, error_line}
 use Rattle.line_io.specs.Passing.{Begins}
 use Rattle.drive.specs.Scripts.{script_of}
@@ -40,12 +40,14 @@ abbrev pub IsOutputFor : Request → List ℕ → List ℕ → Type 0
 IsOutputFor (Solo setup) input output = IsSoloOutput setup input output
 IsOutputFor (Drive setup) input output = IsDriveOutput setup input output
 
--- What a command wrote for an input: its output where it came to its end, nothing where it names the first line that it does not take, and at
--- every other error a beginning of its output, or nothing.
+-- What a command wrote for an input: its output where it came to its end, and a beginning of it where the output failed; at every other error
+-- nothing, and a line that is named is the first that the command does not take.
 abbrev pub Wrote : Request → List ℕ → Result (Unit {0}) RunError → Option (List ℕ) → Option (List ℕ) → Type 0
 Wrote request input (Ok done) old new = Writes (IsOutputFor request input) old new
-Wrote request input (Err Device) old new = BeginsTo (IsOutputFor request input) old new
-Wrote request input (Err Memory) old new = BeginsTo (IsOutputFor request input) old new
+Wrote request input (Err ReadFailed) old new = Keeps old new
+Wrote request input (Err TooManyReads) old new = Keeps old new
+Wrote request input (Err WriteFailed) old new = BeginsTo (IsOutputFor request input) old new
+Wrote request input (Err Memory) old new = Keeps old new
 Wrote request input (Err (Line number)) old new = (events_for request input ≡ Err number) × Keeps old new
 
 -- A command came to its end, or to an error.
@@ -58,7 +60,7 @@ pub record RunEnds (request : Request) (old new : Streams) (status : ℕ) : Type
 -- a text is shown: all of it, or a beginning
 abbrev pub Shown : List ℕ → Result (Unit {0}) RunError → Option (List ℕ) → Option (List ℕ) → Type 0
 Shown text (Ok done) old new = Appends old new text
-Shown text (Err error) old new = (error ≡ Device) × Begins old new text
+Shown text (Err error) old new = (error ≡ WriteFailed) × Begins old new text
 
 -- A text was shown, or the output failed; nothing was read.
 pub record ShowEnds (text : List ℕ) (old new : Streams) (status : ℕ) : Type 0 where

@@ -6,7 +6,7 @@ ghost use Rattle.program.specs.Ending.{Ends, Streams, Tells, Wrote, status_at};
 
 use crate::asking::{Asked, asked_by};
 use arguments::Request;
-use drive::{drive, solo};
+use drive::{drive_lines, solo};
 use line_io::{RunError, tell, write_all};
 use std::alloc::Global;
 use std::io;
@@ -84,7 +84,7 @@ fn command<R: Read, W: Write>(
 {
     match request {
         Request::Solo(setup) => solo(alloc, setup, reader, output),
-        Request::Drive(setup) => drive(alloc, setup, reader, output),
+        Request::Drive(setup) => drive_lines(alloc, setup, reader, output),
     }
 }
 
