@@ -69,13 +69,13 @@ OfferedAs true capacity slot accepted message hand_outs entries taken new = (tak
 OfferedAs false capacity slot accepted message hand_outs entries taken new = (taken ≡ 1) × ShowsGroup capacity slot (accepted ++ message ∷ []) hand_outs entries new
 
 -- what a list is once it is
-all_kept : {A : Type 0} (P : A → Type 0) (test : A → Bool) (xs : List A) → AllByRecursion P xs → AllByRecursion P (filter test xs)
+pub all_kept : {A : Type 0} (P : A → Type 0) (test : A → Bool) (xs : List A) → AllByRecursion P xs → AllByRecursion P (filter test xs)
 all_kept P test [] all = tt
 all_kept P test (x ∷ xs) all =
     let rest = all_kept P test xs all.1 in
     cond_both (test x) (x ∷ filter test xs) (filter test xs) (AllByRecursion P) (λ _. (all.0, rest)) (λ _. rest)
 
-all_push : {A : Type 0} (P : A → Type 0) (xs : List A) (x : A) → AllByRecursion P xs → P x → AllByRecursion P (xs ++ x ∷ [])
+pub all_push : {A : Type 0} (P : A → Type 0) (xs : List A) (x : A) → AllByRecursion P xs → P x → AllByRecursion P (xs ++ x ∷ [])
 all_push P [] x all is = (is, tt)
 all_push P (y ∷ xs) x all is = (all.0, all_push P xs x all.1 is)
 

@@ -1,7 +1,7 @@
 -- The least identifier that is free, and what is left without an entry.
-use Rattle.std.proofs.Common.{◌≡◌, ◌≢◌, ℕ, zero, suc, ◌+◌, ◌-◌, ◌<◌, ◌≤◌, ◌==◌, true, false, not, cond, List, [], ◌∷◌, map, length, get_or, Contains, refl, sym, ap, ◌∙◌, subst, ⊎_elim, arith, eq-eqb, ne_eqb}
+use Rattle.std.proofs.Common.{◌≡◌, ◌≢◌, ℕ, zero, suc, ◌+◌, ◌-◌, ◌<◌, ◌≤◌, ◌==◌, ◌||◌, true, false, not, cond, List, [], ◌∷◌, map, length, get_or, Contains, refl, sym, ap, ◌∙◌, subst, ⊎_elim, arith, eq-eqb, ne_eqb}
 use Rattle.std.specs.List.{list_any}
-use Rattle.std.proofs.lemmas.Bool.{cases_eq}
+use Rattle.std.proofs.lemmas.Bool.{both_ways, cases_eq, cond_both}
 use Rattle.std.proofs.lemmas.List.Elements.{Contains-get_or}
 use Rattle.std.proofs.lemmas.List.Folds.{list_any_at, list_any_none}
 use Rattle.dispatch_core.specs.declared.event.Job.{Job}
@@ -9,7 +9,7 @@ use Rattle.dispatch_core.specs.JobRuns.{count_of}
 use Rattle.dispatch_core.proofs.JobLists.{count_of-cons}
 use Rattle.group_jobs.specs.Stamps.{Held, job_of}
 use Rattle.member_window.specs.Identifiers.{identifiers, entries_without, AreDistinct, IsLeastFree}
-use Rattle.member_window.proofs.Lists.{pigeonhole, contains_cons_cases, contains_nil, contains_identifier, without_absent}
+use Rattle.member_window.proofs.Lists.{pigeonhole, contains_here, contains_there, contains_cons_cases, contains_nil, contains_identifier, without_absent}
 use Rattle.solo_output.specs.HandOuts.{free_from, least_free}
 
 -- the one list has a job once more than the other
@@ -40,6 +40,45 @@ least_is used identifier least =
     let not_zero : 1 ≤ identifier = least.not_zero in
     let few : identifier - 1 ≤ length used = pigeonhole (identifier - 1) used (λ k low high. least.least k low (omega arith)) in
     free_is (length used) 1 used identifier least (omega arith) least.not_zero (omega arith)
+
+-- and it is the least that is free
+among_of : (used : List ℕ) (k : ℕ) → list_any (λ other. other == k) used ≡ true → Contains used k
+among_of [] k some = absurd cc
+among_of (own ∷ used) k some =
+    ⊎_elim
+    (λ (is : own ≡ k). subst (λ (x : ℕ). Contains (own ∷ used) x) is (contains_here own used))
+    (λ (other : own ≢ k). contains_there own used k (among_of used k (sym (ap (λ b. b || list_any (λ j. j == k) used) (ne_eqb own k other)) ∙ some)))
+    (cases_eq own k)
+
+-- every number below is used, and they are too few to use all that are looked at
+found_from : (more k : ℕ) (used : List ℕ) → 1 ≤ k → ((smaller : ℕ) → 1 ≤ smaller → smaller < k → Contains used smaller) → length used < k + more → IsLeastFree used (free_from more k used)
+found_from zero k used some below few =
+    record {
+      not_zero = some;
+      free = λ there. absurd (omega (arith, pigeonhole k used (λ j low high. up_to j low high there), few));
+      least = below;
+    }
+  where
+    up_to : (j : ℕ) → 1 ≤ j → j ≤ k → Contains used k → Contains used j
+    up_to j low high there =
+        ⊎_elim (λ (is : j ≡ k). subst (λ (x : ℕ). Contains used x) (sym is) there) (λ (other : j ≢ k). below j low (omega (arith, high, other))) (cases_eq j k)
+found_from (suc more) k used some below few =
+    cond_both (list_any (λ other. other == k) used) (free_from more (k + 1) used) k (IsLeastFree used)
+    (λ taken. found_from more (k + 1) used (omega arith) (λ j low high. up_to j low high (among_of used k taken)) (omega arith))
+    (λ absent. record { not_zero = some; free = λ there. both_ways _ absent (among used k there); least = below })
+  where
+    up_to : (j : ℕ) → 1 ≤ j → j < k + 1 → Contains used k → Contains used j
+    up_to j low high there =
+        ⊎_elim (λ (is : j ≡ k). subst (λ (x : ℕ). Contains used x) (sym is) there) (λ (other : j ≢ k). below j low (omega (arith, high, other))) (cases_eq j k)
+
+pub is_least : (used : List ℕ) → IsLeastFree used (least_free used)
+is_least used = found_from (length used) 1 used (omega arith) (λ j low high. absurd (omega (arith, low, high))) (omega arith)
+
+-- it is one more than they are at most
+pub least_small : (used : List ℕ) → least_free used ≤ length used + 1
+least_small used =
+    let least = is_least used in
+    omega (arith, least.not_zero, pigeonhole (least_free used - 1) used (λ k low high. least.least k low (omega (arith, high, least.not_zero))))
 
 -- the jobs of entries
 abbrev pub jobs_of : List (ℕ × Held) → List Job

@@ -18,3 +18,11 @@ pub mod Turns
 pub mod Streams
 pub mod Walk
 pub mod Output
+pub mod Moves
+pub mod Kept
+pub mod Told
+pub mod Taken
+pub mod Lasting
+pub mod Turned
+pub mod Lawful
+pub mod Grouped

@@ -1,5 +1,5 @@
 -- What `solo` writes is what the story comes to.
-use Rattle.std.proofs.Common.{◌≡◌, ℕ, zero, suc, ◌+◌, ◌<◌, ◌≤◌, List, [], ◌∷◌, ◌++◌, length, take, get_or, Option, Result, Ok, refl, sym, ap, ◌∙◌, subst, arith, add-zero, zero-add}
+use Rattle.std.proofs.Common.{◌≡◌, ℕ, zero, suc, ◌+◌, ◌<◌, ◌≤◌, List, [], ◌∷◌, ◌++◌, length, take, get_or, Option, ◌⊎◌, Result, Ok, Err, inl, inr, refl, sym, ap, ◌∙◌, subst, arith, add-zero, zero-add}
 use Rattle.std.specs.List.{flat_map}
 use Rattle.std.proofs.lemmas.List.{append_assoc, append-nil, take_more, take_all, length-take-le}
 use Rattle.std.proofs.lemmas.List.Concat.{flat_map-append}
@@ -7,13 +7,14 @@ use Rattle.std.proofs.lemmas.Option.{slice_get-get_or}
 use Rattle.mqtt_wire.specs.declared.fault.StreamFault.{StreamFault}
 use Rattle.mqtt_wire.specs.declared.packet.Packet.{Packet}
 use Rattle.mqtt_wire.specs.Stream.{Reads}
-use Rattle.mqtt_wire.proofs.StreamLaws.{one_reading}
+use Rattle.mqtt_wire.proofs.StreamLaws.{one_reading, exists_reading}
 use Rattle.client_table.specs.Clients.{Said}
 use Rattle.local_broker.specs.Broker.{Broker}
 use Rattle.local_server.specs.declared.event.TimedEvent.{TimedEvent}
 use Rattle.local_server.specs.declared.setup.Setup.{Setup}
 use Rattle.local_server.specs.Happening.{HappensAll}
-use Rattle.drive.specs.Transcripts.{ReportsFirst, client_lines, IsSoloOutput}
+use Rattle.drive.specs.Streams.{client_script_of}
+use Rattle.drive.specs.Transcripts.{ReportsFirst, client_lines, IsSoloOutput, Writes, BeginsTo}
 use Rattle.solo_output.specs.Groups.{Story, Bound, bound, opening}
 use Rattle.solo_output.specs.Replies.{turns}
 use Rattle.solo_output.specs.Report.{report_of, reports_from, reports}
@@ -21,7 +22,7 @@ use Rattle.solo_output.specs.Streams.{stream_of}
 use Rattle.solo_output.specs.Output.{lines_for, solo_output, IsOutputFor}
 use Rattle.solo_output.proofs.Brokers.{length-shares}
 use Rattle.solo_output.proofs.Ends.{ShowsEnd, line_told}
-use Rattle.solo_output.proofs.Streams.{whole, cut}
+use Rattle.solo_output.proofs.Streams.{whole, cut, bad_lines}
 use Rattle.solo_output.proofs.Walk.{sent_in, run}
 
 -- ---- the reports
@@ -92,3 +93,33 @@ of_each setup input output stream packets rest fault few is spelled reads =
     let same : got.stream ≡ stream = is_ok got.stream stream (sym got.spelled ∙ spelled) in
     let one = one_reading stream got.packets got.rest got.fault packets rest fault (subst (λ (s : List ℕ). Reads s got.packets got.rest got.fault) same got.reads) reads in
     got.text ∙ (λ i. solo_output setup (one.0 i) (one.2 i))
+
+-- ---- what is written
+
+pub written : (setup : Setup) (input : List ℕ) (old new : Option (List ℕ)) → length setup.groups ≤ 8 → Writes (IsSoloOutput setup input) old new → Writes (IsOutputFor setup input) old new
+written setup input old new few does = record { output = does.output; defined_by = closed setup input does.output few does.defined_by; written = does.written }
+
+pub begun : (setup : Setup) (input : List ℕ) (old new : Option (List ℕ)) → length setup.groups ≤ 8 → BeginsTo (IsSoloOutput setup input) old new → BeginsTo (IsOutputFor setup input) old new
+begun setup input old new few does = record { output = does.output; defined_by = closed setup input does.output few does.defined_by; begun = does.begun }
+
+-- ---- there is one output
+
+output_of : (setup : Setup) (input : List ℕ) (script : Result (List TimedEvent) ℕ) → client_script_of input ≡ script → ((line : ℕ) × (stream_of input ≡ Err line)) ⊎ ((output : List ℕ) × IsOutputFor setup input output)
+output_of setup input (Err line) is = inl (line, (bad_lines input line).0 is)
+output_of setup input (Ok events) is =
+    let cut_up = cut input events is in
+    let reading = exists_reading (whole cut_up.pieces) cut_up.bytes in
+    inr (
+      solo_output setup reading.0 reading.2,
+      record { stream = whole cut_up.pieces; spelled = cut_up.stream_is; packets = reading.0; rest = reading.1; fault = reading.2; reads = reading.3; text = refl },
+    )
+
+pub exists_output : (setup : Setup) (input : List ℕ) → ((line : ℕ) × (stream_of input ≡ Err line)) ⊎ ((output : List ℕ) × IsOutputFor setup input output)
+exists_output setup input = output_of setup input (client_script_of input) refl
+
+pub one_output : (setup : Setup) (input one other : List ℕ) → IsOutputFor setup input one → IsOutputFor setup input other → one ≡ other
+one_output setup input one other first second =
+    let same : first.stream ≡ second.stream = is_ok first.stream second.stream (sym first.spelled ∙ second.spelled) in
+    let read = one_reading second.stream first.packets first.rest first.fault second.packets second.rest second.fault
+    (subst (λ (s : List ℕ). Reads s first.packets first.rest first.fault) same first.reads) second.reads in
+    first.text ∙ (λ i. solo_output setup (read.0 i) (read.2 i)) ∙ sym second.text

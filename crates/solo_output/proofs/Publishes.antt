@@ -88,7 +88,7 @@ module _ (story : Story) (entries : List (ℕ × Held)) (old new : Broker) (show
       )
 
 -- each of these groups is
-below_still : (slot : ℕ) (message : Message) (story : Story) (slots : List ℕ) → AllByRecursion (λ s. s < length story.groups) slots → AllByRecursion (λ s. s < length (with_message slot message story).groups) slots
+pub below_still : (slot : ℕ) (message : Message) (story : Story) (slots : List ℕ) → AllByRecursion (λ s. s < length story.groups) slots → AllByRecursion (λ s. s < length (with_message slot message story).groups) slots
 below_still slot message story slots below = subst (λ (n : ℕ). AllByRecursion (λ s. s < n) slots) (sym (length-accepting slot message story.groups)) below
 
 pub record OfferedAll (story : Story) (entries : List (ℕ × Held)) (offered : Offered) (old new : Broker) (taken : ℕ) : Type 0 where

@@ -41,7 +41,7 @@ pub record Codes (one : Coded) (story : Story) (session : Session Held GroupPlac
   pub phase : one.story.phase ≡ story.phase
 
 -- a slot that was found is there
-position_below : {A : Type 0} (p : A → Bool) (xs : List A) (at : ℕ) → position p xs ≡ Some at → at < length xs
+pub position_below : {A : Type 0} (p : A → Bool) (xs : List A) (at : ℕ) → position p xs ≡ Some at → at < length xs
 position_below p xs at found =
     let parts = cond_some (nat_lt (position_or_len p xs) (length xs)) (position_or_len p xs) at found in
     let less = ltb-true (position_or_len p xs) (length xs) parts.0 in

@@ -5,4 +5,5 @@ pub mod Subscribing
 pub mod Replies
 pub mod Report
 pub mod Streams
+pub mod Runs
 pub mod Output

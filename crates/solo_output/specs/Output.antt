@@ -7,10 +7,10 @@ use Rattle.mqtt_wire.specs.declared.packet.Packet.{Packet}
 use Rattle.mqtt_wire.specs.Stream.{Reads}
 use Rattle.local_server.specs.declared.setup.Setup.{Setup}
 use Rattle.drive.specs.Transcripts.{client_line}
-use Rattle.solo_output.specs.Groups.{opening}
 use Rattle.solo_output.specs.HandOuts.{Turn}
-use Rattle.solo_output.specs.Replies.{turns, farewell}
+use Rattle.solo_output.specs.Replies.{farewell}
 use Rattle.solo_output.specs.Report.{reports}
+use Rattle.solo_output.specs.Runs.{run_of}
 use Rattle.solo_output.specs.Streams.{stream_of}
 
 -- a line for each packet
@@ -23,7 +23,7 @@ concluded fault turn = lines_for (turn.sent ++ option_to_list (farewell fault tu
 
 -- on a server that begins so
 abbrev pub solo_output : Setup → List Packet → Option StreamFault → List ℕ
-solo_output setup packets fault = concluded fault (turns packets (opening setup.capacity setup.groups))
+solo_output setup packets fault = concluded fault (run_of setup packets)
 
 -- the output for an input: that for the packets and the fault which the stream of its lines is read as
 pub record IsOutputFor (setup : Setup) (input output : List ℕ) : Type 0 where

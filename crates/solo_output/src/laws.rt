@@ -1,21 +1,40 @@
-//! Laws of the story: what `solo` writes is what it comes to. Each is the contract of a function that does nothing, stated over the
-//! definitions that the contract of [`solo`](drive::solo) cites.
-ghost use Rattle.std.specs.Prelude.{◌≡◌, ◌↔◌, ◌≤◌, ℕ, List, length, Option, Ok, Err};
-ghost use Rattle.member_window.specs.Identifiers.{IsLeastFree};
+//! Laws of the story: what `solo` writes is what it comes to, and what it comes to is lawful. Each is the contract of a function that does nothing,
+//! stated over the definitions that the contract of [`solo`](drive::solo) cites.
+ghost use Rattle.std.specs.Prelude.{◌≡◌, ◌⊎◌, ◌↔◌, ◌+◌, ◌≤◌, ℕ, List, [], ◌∷◌, ◌++◌, length, slice_get, Option, Some, None, Ok, Err};
+ghost use Rattle.std.specs.List.{AllByRecursion};
+ghost use Rattle.member_window.specs.Identifiers.{IsLeastFree, AreDistinct};
 ghost use Rattle.mqtt_wire.specs.declared.fault.StreamFault.{StreamFault};
+ghost use Rattle.mqtt_wire.specs.declared.packet.Connect.{Connect};
 ghost use Rattle.mqtt_wire.specs.declared.packet.Packet.{Packet};
+ghost use Rattle.mqtt_wire.specs.declared.packet.Packet.TheVariants as kinds;
+ghost use Rattle.mqtt_wire.specs.declared.packet.Puback.{Puback};
+ghost use Rattle.mqtt_wire.specs.declared.packet.Publish.{Publish};
 ghost use Rattle.mqtt_wire.specs.Stream.{Reads};
+ghost use Rattle.mqtt_topic.specs.Names.{Share};
+ghost use Rattle.mqtt_topic.specs.Routes.{AreDistinct as HaveDistinctTexts};
+ghost use Rattle.local_group.specs.Groups.{life};
+ghost use Rattle.session_desk.specs.declared.session.Membership.TheVariants.{Member};
+ghost use Rattle.conn_rules.specs.declared.publishing.PublishAnswer.TheVariants.{Offer};
+ghost use Rattle.conn_rules.specs.Connecting.{or_else};
+ghost use Rattle.conn_rules.specs.Packets.{puback};
+ghost use Rattle.conn_rules.specs.Publishing.{publish_answer, puback_code};
 ghost use Rattle.local_server.specs.declared.setup.Setup.{Setup};
 ghost use Rattle.drive.specs.Streams.{client_script_of};
-ghost use Rattle.drive.specs.Transcripts.{IsSoloOutput};
-ghost use Rattle.solo_output.specs.HandOuts.{least_free};
+ghost use Rattle.drive.specs.Transcripts.{IsSoloOutput, Writes, BeginsTo};
+ghost use Rattle.solo_output.specs.Groups.{Story, HandOut, opening, shares_of, accepted_in, handed_in, waiting_in, unacknowledged};
+ghost use Rattle.solo_output.specs.Groups.Phase.{Connected, Closed};
+ghost use Rattle.solo_output.specs.HandOuts.{quota, least_free, sends_nothing};
+ghost use Rattle.solo_output.specs.Publishing.{matching};
+ghost use Rattle.solo_output.specs.Replies.{reply, turn, turns};
+ghost use Rattle.solo_output.specs.Report.{fates_of};
 ghost use Rattle.solo_output.specs.Streams.{stream_of};
 ghost use Rattle.solo_output.specs.Output.{solo_output, IsOutputFor};
+ghost use Rattle.solo_output.specs.Runs.{run_of, takers, taken, published, sent_in, jobs_of, IsIn, IsStill, IsSettledBy};
 
 /// **The output of [`solo`](drive::solo) is a function of what its client's stream is read as**, on a server with at most eight shares bound:
 /// the lines of the input spell a stream, that is read as packets and perhaps a fault, and the output is `solo_output` of these (`closed_form`);
 /// and so for whatever the stream is read as (`each_reading`), of which there is one. Where a line is not hex, the events of the input and its stream name the same
-/// first such line (`bad_line`).
+/// first such line (`bad_line`). So where `solo` ends, it wrote that output (`written`), and where its writer fails, a beginning of it (`begun`).
 pub fn solo_output_law()
     ensures closed_form { (setup : Setup) (input output : List ℕ) → length setup.groups ≤ 8 → IsSoloOutput setup input output →
         IsOutputFor setup input output }
@@ -23,9 +42,87 @@ pub fn solo_output_law()
         length setup.groups ≤ 8 → IsSoloOutput setup input output → stream_of input ≡ Ok stream → Reads stream packets rest fault →
         output ≡ solo_output setup packets fault }
     ensures bad_line { (input : List ℕ) (line : ℕ) → (client_script_of input ≡ Err line) ↔ (stream_of input ≡ Err line) }
+    ensures written { (setup : Setup) (input : List ℕ) (old new : Option (List ℕ)) → length setup.groups ≤ 8 →
+        Writes (IsSoloOutput setup input) old new → Writes (IsOutputFor setup input) old new }
+    ensures begun { (setup : Setup) (input : List ℕ) (old new : Option (List ℕ)) → length setup.groups ≤ 8 →
+        BeginsTo (IsSoloOutput setup input) old new → BeginsTo (IsOutputFor setup input) old new }
 {}
 
-/// **A hand-out goes under the least identifier that is free** (2.2.1): what the story computes is the one that is so.
+/// **Each input has one output**, or a first line that is not hex.
+pub fn one_output_law()
+    ensures exists { (setup : Setup) (input : List ℕ) →
+        ((line : ℕ) × (stream_of input ≡ Err line)) ⊎ ((output : List ℕ) × IsOutputFor setup input output) }
+    ensures unique { (setup : Setup) (input one other : List ℕ) → IsOutputFor setup input one → IsOutputFor setup input other → one ≡ other }
+{}
+
+/// **A hand-out goes under the least identifier that is free** (2.2.1): what the story computes is so, and nothing else is.
 pub fn identifier_law()
-    ensures { (used : List ℕ) (identifier : ℕ) → IsLeastFree used identifier → least_free used ≡ identifier }
+    ensures least { (used : List ℕ) → IsLeastFree used (least_free used) }
+    ensures only { (used : List ℕ) (identifier : ℕ) → IsLeastFree used identifier → least_free used ≡ identifier }
+{}
+
+/// **Every run is lawful**: what the story keeps on every setup, whatever packets come, of the client and of each group.
+///
+/// - `receive_maximum`: no more hand-outs are unacknowledged than the Receive Maximum of the CONNECT, or than 65,535 where it has none
+///   (3.1.2.11.3, 4.9).
+/// - `quota`: nor more than the quota, which is 256 at most.
+/// - `identifiers`: the unacknowledged identifiers are 1 to 256, and no two are equal (2.2.1).
+/// - `groups`: eight shares at most are bound, of differing texts, where those of the setup are so; `slots`: each keeps its slot.
+/// - `accepted`: a group accepted the messages of the PUBLISH packets that were offered when its filter matched and it had room, in order, and no others
+///   (4.7); `heard`: the PUBACK says whether none matched, all that matched took the message, or some did not (3.4.2.1).
+/// - `waiting`: no group accepts more than its publisher may send in its life, and in none more messages wait than the capacity.
+/// - `in_order`: the PUBLISH packets that were sent are one for each hand-out, and those of a group are its first accepted messages, in order, each
+///   under the identifier of its hand-out. So none goes out twice, and none before an older one (4.6).
+/// - `members`: a hand-out goes to a member of its group, and `one_group`: what is unacknowledged is of the one group whose member the client is,
+///   or which it is leaving (4.8.2).
+/// - `settles`: a PUBACK gives its Reason Code to the hand-out that is unacknowledged under its identifier; `settled`: and a hand-out has a code only so (4.3.2).
+/// - `for_good`: a hand-out keeps its group, its identifier and, once it has one, its Reason Code.
+/// - `one_fate`: the counts of a group's report add up to that of its accepted messages.
+/// - `eager`: while a client is connected and a member, a message of its group waits only where as many are unacknowledged as may be.
+/// - `closed`: behind the close nothing is sent, and nothing changes.
+pub fn every_run_is_lawful()
+    ensures receive_maximum { (setup : Setup) (connect : Connect) (packets : List Packet) →
+        length (unacknowledged (run_of setup (kinds.Connect connect ∷ packets)).story) ≤ or_else 65535 connect.properties.receive_maximum }
+    ensures quota { (setup : Setup) (packets : List Packet) → let story = (run_of setup packets).story in
+        (length (unacknowledged story) ≤ quota story) × (quota story ≤ 256) }
+    ensures identifiers { (setup : Setup) (packets : List Packet) → let used = unacknowledged (run_of setup packets).story in
+        AllByRecursion (λ identifier. (1 ≤ identifier) × (identifier ≤ 256)) used × AreDistinct used }
+    ensures groups { (setup : Setup) (packets : List Packet) → length setup.groups ≤ 8 → HaveDistinctTexts setup.groups →
+        let shares = shares_of (run_of setup packets).story.groups in (length shares ≤ 8) × HaveDistinctTexts shares }
+    ensures slots { (setup : Setup) (packets more : List Packet) → let story = (run_of setup packets).story in
+        (later : List Share) × (shares_of (turns more story).story.groups ≡ shares_of story.groups ++ later) }
+    ensures accepted { (setup : Setup) (packets : List Packet) (slot : ℕ) →
+        accepted_in slot (run_of setup packets).story.groups ≡ taken packets slot (opening setup.capacity setup.groups) }
+    ensures heard { (story : Story) (publish : Publish) (identifier : ℕ) → story.phase ≡ Connected → publish_answer publish ≡ Offer identifier →
+        (reply (kinds.Publish publish) story).packet
+        ≡ Some (puback identifier (puback_code (length (matching publish.topic story)) (length (takers publish.topic story)))) }
+    ensures waiting { (setup : Setup) (packets : List Packet) (slot : ℕ) → let story = (run_of setup packets).story in
+        (length (accepted_in slot story.groups) ≤ life) × (length (waiting_in slot story) ≤ setup.capacity) }
+    ensures in_order { (setup : Setup) (packets : List Packet) (slot : ℕ) → let run = run_of setup packets in
+        let accepted = accepted_in slot run.story.groups in let hand_outs = handed_in slot run.story.handed_out in
+        (length (published run.sent) ≡ length run.story.handed_out) × (length hand_outs ≤ length accepted)
+        × (sent_in slot (published run.sent) run.story.handed_out ≡ jobs_of accepted hand_outs) }
+    ensures members { (setup : Setup) (packets : List Packet) (packet : Packet) (place : ℕ) (one : HandOut) →
+        let story = (run_of setup packets).story in let next = (turn packet story).story in
+        length story.handed_out ≤ place → slice_get next.handed_out place ≡ Some one → next.membership ≡ Member one.slot }
+    ensures one_group { (setup : Setup) (packets : List Packet) (place : ℕ) (one : HandOut) → let story = (run_of setup packets).story in
+        slice_get story.handed_out place ≡ Some one → one.code ≡ None → IsIn story.membership one.slot }
+    ensures settles { (setup : Setup) (packets : List Packet) (puback : Puback) (place : ℕ) (one : HandOut) →
+        let story = (run_of setup packets).story in story.phase ≡ Connected →
+        slice_get story.handed_out place ≡ Some one → one.code ≡ None → puback.packet_identifier ≡ one.identifier →
+        (settled : HandOut) × (slice_get (turn (kinds.Puback puback) story).story.handed_out place ≡ Some settled)
+        × IsStill one settled × (settled.code ≡ Some puback.reason_code) }
+    ensures settled { (setup : Setup) (packets : List Packet) (place code : ℕ) (one : HandOut) →
+        slice_get (run_of setup packets).story.handed_out place ≡ Some one → one.code ≡ Some code → IsSettledBy setup packets place code }
+    ensures for_good { (setup : Setup) (packets more : List Packet) (place : ℕ) (one : HandOut) → let story = (run_of setup packets).story in
+        slice_get story.handed_out place ≡ Some one →
+        (other : HandOut) × (slice_get (turns more story).story.handed_out place ≡ Some other) × IsStill one other }
+    ensures one_fate { (setup : Setup) (packets : List Packet) (slot : ℕ) → let story = (run_of setup packets).story in
+        let accepted = length (accepted_in slot story.groups) in
+        let fates = fates_of story.terms.session_expiry_interval accepted (handed_in slot story.handed_out) in
+        fates.acknowledged + fates.refused + fates.held + fates.queued + fates.returned ≡ accepted }
+    ensures eager { (setup : Setup) (packets : List Packet) (slot : ℕ) → let story = (run_of setup packets).story in
+        story.phase ≡ Connected → story.membership ≡ Member slot →
+        (waiting_in slot story ≡ []) ⊎ (length (unacknowledged story) ≡ quota story) }
+    ensures closed { (story : Story) (packets : List Packet) → story.phase ≡ Closed → turns packets story ≡ sends_nothing story }
 {}

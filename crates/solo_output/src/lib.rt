@@ -1,6 +1,7 @@
-//! What `solo` writes, as a function of what its client's stream is read as: a story of lists, without queue, window or session.
+//! What `solo` writes, as a function of what its client's stream is read as: a story of lists, without queue, window or session; and what every
+//! such story keeps.
 #![tactic(auto)]
 
 mod laws;
 
-pub use laws::{identifier_law, solo_output_law};
+pub use laws::{every_run_is_lawful, identifier_law, one_output_law, solo_output_law};

@@ -1,0 +1,121 @@
+-- What every run of a story keeps in its groups: their slots, and one fate for each message.
+use Rattle.std.proofs.Common.{◌≡◌, ℕ, suc, ◌+◌, ◌≤◌, ◌==◌, nat_lt, not, Bool, true, false, cond, List, [], ◌∷◌, ◌++◌, length, Option, Some, None, refl, sym, ap, ◌∙◌, subst, arith}
+use Rattle.std.specs.List.{count_by}
+use Rattle.std.proofs.lemmas.List.{append-nil, append_assoc, length-map, length_push, map-append}
+use Rattle.std.proofs.lemmas.List.Sums.{sum_by-cons}
+use Rattle.mqtt_wire.specs.declared.packet.Packet.{Packet}
+use Rattle.mqtt_topic.specs.Names.{Share}
+use Rattle.mqtt_topic.specs.Routes.{AreDistinct}
+use Rattle.mqtt_topic.proofs.RouteLaws.{none_has, distinct_more}
+use Rattle.local_server.specs.declared.setup.Setup.{Setup}
+use Rattle.solo_output.specs.Groups.{Story, HandOut, Bound, bound, opening, shares_of, accepted_in, handed_in, open_identifiers, acknowledges, refuses, with_message, with_share}
+use Rattle.solo_output.specs.Replies.{turns}
+use Rattle.solo_output.specs.Report.{fates_of}
+use Rattle.solo_output.specs.Runs.{run_of}
+use Rattle.solo_output.proofs.Brokers.{shares_kept, length-accepting, length-shares, shares_first}
+use Rattle.solo_output.proofs.Lists.{handed}
+use Rattle.solo_output.proofs.Moves.{Ways, ran}
+use Rattle.solo_output.proofs.Lawful.{kept_of}
+
+-- ---- the groups
+
+-- no more than eight where there were no more, of texts that differ where they did, and each share where it was
+record Grows (one two : List Bound) : Type 0 where
+  few : length one ≤ 8 → length two ≤ 8
+  distinct : AreDistinct (shares_of one) → AreDistinct (shares_of two)
+  later : List Share
+  behind : shares_of two ≡ shares_of one ++ later
+
+grows_none : (one two : List Bound) → length two ≡ length one → shares_of two ≡ shares_of one → Grows one two
+grows_none one two many same =
+    record { few = λ few. omega (arith, many, few); distinct = subst AreDistinct (sym same); later = []; behind = same ∙ sym (append-nil (shares_of one)) }
+
+stay : (groups : List Bound) → Grows groups groups
+stay groups = grows_none groups groups refl refl
+
+abbrev GroupsGrow : Story → Story → Type 0
+GroupsGrow one two = Grows one.groups two.groups
+
+groups_grow : Ways GroupsGrow
+groups_grow =
+    record {
+      stays = λ story. stay story.groups;
+      goes_on = λ one two three first' later.
+          record {
+            few = λ few. later.few (first'.few few);
+            distinct = λ distinct. later.distinct (first'.distinct distinct);
+            later = first'.later ++ later.later;
+            behind = later.behind ∙ ap (λ (l : List Share). l ++ later.later) first'.behind ∙ append_assoc (shares_of one.groups) first'.later later.later;
+          };
+      connects = λ connect story is. stay story.groups;
+      closes = λ story. stay story.groups;
+      expires = λ expiry story. stay story.groups;
+      binds = λ share story none few.
+          let more : shares_of (with_share share story).groups ≡ shares_of story.groups ++ share ∷ [] = map-append (λ (g : Bound). g.share) story.groups (bound share ∷ []) in
+          record {
+            few = λ fewer. omega (arith, length_push story.groups (bound share), few);
+            distinct = λ distinct. subst AreDistinct (sym more) (distinct_more (shares_of story.groups) share distinct (none_has share.text (shares_of story.groups) none));
+            later = share ∷ [];
+            behind = more;
+          };
+      joins = λ slot story may within. stay story.groups;
+      leaves = λ slot story is. stay story.groups;
+      parts = λ slot story is none. stay story.groups;
+    }
+
+groups_ran : (packets : List Packet) (story : Story) → GroupsGrow story (turns packets story).story
+groups_ran =
+    ran GroupsGrow groups_grow
+    (λ slot message story within room. grows_none story.groups (with_message slot message story).groups (length-accepting slot message story.groups) (shares_kept slot message story.groups))
+    (λ identifier code story. stay story.groups)
+    (λ slot message rest story connected member less waits. stay story.groups)
+
+pub slots_all : (setup : Setup) (packets more : List Packet) → let story = (run_of setup packets).story in (later : List Share) × (shares_of (turns more story).story.groups ≡ shares_of story.groups ++ later)
+slots_all setup packets more =
+    let grows = groups_ran more (run_of setup packets).story in
+    (grows.later, grows.behind)
+
+pub groups_all : (setup : Setup) (packets : List Packet) → length setup.groups ≤ 8 → AreDistinct setup.groups → let shares = shares_of (run_of setup packets).story.groups in (length shares ≤ 8) × AreDistinct shares
+groups_all setup packets few distinct =
+    let story = (run_of setup packets).story in
+    let grows = groups_ran packets (opening setup.capacity setup.groups) in
+    let small : length story.groups ≤ 8 = grows.few (omega (arith, length-map setup.groups bound, few)) in
+    (omega (arith, length-shares story.groups, small), grows.distinct (subst AreDistinct (sym (shares_first setup.groups)) distinct))
+
+-- ---- fates
+
+abbrev good : List HandOut → ℕ
+good hand_outs = count_by (λ hand_out. acknowledges hand_out.code) hand_outs
+
+abbrev bad : List HandOut → ℕ
+bad hand_outs = count_by (λ hand_out. refuses hand_out.code) hand_outs
+
+either_code : (b : Bool) → cond b 1 0 + cond (not b) 1 0 ≡ 1
+either_code true = refl
+either_code false = refl
+
+fate_first : (slot identifier : ℕ) (code : Option ℕ) (others : List HandOut) → good others + bad others + length (open_identifiers others) ≡ length others
+    → good (handed slot identifier code ∷ others) + bad (handed slot identifier code ∷ others) + length (open_identifiers (handed slot identifier code ∷ others)) ≡ suc (length others)
+fate_first slot identifier None others rest =
+    let one = handed slot identifier None in
+    omega (arith, rest, sum_by-cons (λ (h : HandOut). cond (acknowledges h.code) 1 0) one others, sum_by-cons (λ (h : HandOut). cond (refuses h.code) 1 0) one others)
+fate_first slot identifier (Some code) others rest =
+    let one = handed slot identifier (Some code) in
+    let told : good (one ∷ others) ≡ cond (nat_lt code 128) 1 0 + good others = sum_by-cons (λ (h : HandOut). cond (acknowledges h.code) 1 0) one others in
+    let not_told : bad (one ∷ others) ≡ cond (not (nat_lt code 128)) 1 0 + bad others = sum_by-cons (λ (h : HandOut). cond (refuses h.code) 1 0) one others in
+    omega (arith, rest, told, not_told, either_code (nat_lt code 128))
+
+fates : (hand_outs : List HandOut) → good hand_outs + bad hand_outs + length (open_identifiers hand_outs) ≡ length hand_outs
+fates [] = refl
+fates (one ∷ others) = fate_first one.slot one.identifier one.code others (fates others)
+
+held_or_back : (b : Bool) (n : ℕ) → cond b 0 n + cond b n 0 ≡ n
+held_or_back true n = omega arith
+held_or_back false n = omega arith
+
+pub fates_all : (setup : Setup) (packets : List Packet) (slot : ℕ) → let story = (run_of setup packets).story in let accepted = length (accepted_in slot story.groups) in
+    let fates = fates_of story.terms.session_expiry_interval accepted (handed_in slot story.handed_out) in fates.acknowledged + fates.refused + fates.held + fates.queued + fates.returned ≡ accepted
+fates_all setup packets slot =
+    let story = (run_of setup packets).story in
+    let own = handed_in slot story.handed_out in
+    omega (arith, (kept_of setup packets).order slot, fates own, held_or_back (story.terms.session_expiry_interval == 0) (length (open_identifiers own)))

@@ -1,0 +1,109 @@
+-- What a group accepts of a packet, and what its publisher hears of it.
+use Rattle.std.proofs.Common.{◌≡◌, ◌≢◌, ℕ, zero, suc, ◌+◌, ◌<◌, ◌≤◌, ◌&&◌, ◌||◌, nat_le, not, Bool, true, false, cond, List, [], ◌∷◌, ◌++◌, length, drop, slice_index_or, Some, refl, sym, ap, ◌∙◌, subst, arith, zero-add}
+use Rattle.std.specs.List.{filter}
+use Rattle.std.proofs.lemmas.Bool.{cond_both}
+use Rattle.std.proofs.lemmas.List.{append-nil, length-map}
+use Rattle.mqtt_wire.specs.declared.packet.Packet.TheVariants as kinds
+use Rattle.mqtt_wire.specs.declared.packet.Publish.{Publish}
+use Rattle.mqtt_topic.specs.Routes.{routed, places_of}
+use Rattle.group_jobs.specs.declared.message.Message.{Message}
+use Rattle.local_group.specs.Groups.{life}
+use Rattle.conn_rules.specs.declared.publishing.PublishAnswer.{PublishAnswer}
+use Rattle.conn_rules.specs.declared.publishing.PublishAnswer.TheVariants as publishing
+use Rattle.conn_rules.specs.Packets.{puback}
+use Rattle.conn_rules.specs.Publishing.{publish_answer, puback_code, message_of}
+use Rattle.solo_output.specs.Groups.{Story, Phase, shares_of, accepted_in, handed_in, with_message}
+use Rattle.solo_output.specs.Groups.Phase.{Connected}
+use Rattle.solo_output.specs.Publishing.{is_full, matching, offer_to, taken_too, publish_reply_as}
+use Rattle.solo_output.specs.Replies.{reply, reply_in}
+use Rattle.solo_output.specs.Runs.{takers, taken_as}
+use Rattle.solo_output.proofs.Brokers.{accepted_same, accepted_other, length-accepting, length-shares}
+
+-- a message in another group fills none
+full_other : (slot at : ℕ) (message : Message) (story : Story) → at ≢ slot → is_full at (with_message slot message story) ≡ is_full at story
+full_other slot at message story other =
+    ap (λ (l : List Message). nat_le life (length l) || nat_le story.capacity (length (drop (length (handed_in at story.handed_out)) l))) (accepted_other slot at message story.groups other)
+
+-- the slots that come before these get nothing
+earlier_kept : (from : ℕ) (bits : List Bool) (message : Message) (story : Story) (at : ℕ) → at < from → accepted_in at (offer_to (places_of from bits) message story).story.groups ≡ accepted_in at story.groups
+earlier_kept from [] message story at less = refl
+earlier_kept from (false ∷ bits) message story at less = earlier_kept (from + 1) bits message story at (omega arith)
+earlier_kept from (true ∷ bits) message story at less =
+    let slots = places_of (from + 1) bits in
+    let next = with_message from message story in
+    cond_both (is_full from story) (offer_to slots message story) (taken_too (offer_to slots message next)) (λ offered. accepted_in at offered.story.groups ≡ accepted_in at story.groups)
+    (λ full. earlier_kept (from + 1) bits message story at (omega arith))
+    (λ room. earlier_kept (from + 1) bits message next at (omega arith) ∙ accepted_other from at message story.groups (λ e. absurd (omega (arith, e, less))))
+
+-- each slot whose bit is set gets the message, where its group is not full
+abbrev taken_if : Bool → Message → List Message
+taken_if b message = cond b (message ∷ []) []
+
+offered_at : (k from at : ℕ) (bits : List Bool) (message : Message) (story : Story) → at ≡ from + k → from + length bits ≤ length story.groups
+    → accepted_in at (offer_to (places_of from bits) message story).story.groups ≡ accepted_in at story.groups ++ taken_if (slice_index_or bits k false && not (is_full at story)) message
+offered_at k from at [] message story is few = sym (append-nil (accepted_in at story.groups))
+offered_at zero from at (false ∷ bits) message story is few =
+    earlier_kept (from + 1) bits message story at (omega (arith, is)) ∙ sym (append-nil (accepted_in at story.groups))
+offered_at (suc k) from at (false ∷ bits) message story is few = offered_at k (from + 1) at bits message story (omega (arith, is)) (omega arith)
+offered_at zero from at (true ∷ bits) message story is few =
+    let here : at ≡ from = omega (arith, is) in
+    let slots = places_of (from + 1) bits in
+    let next = with_message from message story in
+    subst (λ (n : ℕ). accepted_in n (offer_to (from ∷ slots) message story).story.groups ≡ accepted_in n story.groups ++ taken_if (not (is_full n story)) message) (sym here)
+    (cond_both (is_full from story) (offer_to slots message story) (taken_too (offer_to slots message next)) (λ offered. accepted_in from offered.story.groups ≡ accepted_in from story.groups ++ taken_if (not (is_full from story)) message)
+    (λ full.
+    earlier_kept (from + 1) bits message story from (omega arith)
+    ∙ sym (append-nil (accepted_in from story.groups))
+    ∙ ap (λ (b : Bool). accepted_in from story.groups ++ taken_if (not b) message) (sym full))
+    (λ room.
+    earlier_kept (from + 1) bits message next from (omega arith)
+    ∙ accepted_same from message story.groups (omega arith)
+    ∙ ap (λ (b : Bool). accepted_in from story.groups ++ taken_if (not b) message) (sym room)))
+offered_at (suc k) from at (true ∷ bits) message story is few =
+    let slots = places_of (from + 1) bits in
+    let next = with_message from message story in
+    let other : at ≢ from = λ e. absurd (omega (arith, e, is)) in
+    cond_both (is_full from story) (offer_to slots message story) (taken_too (offer_to slots message next))
+    (λ offered. accepted_in at offered.story.groups ≡ accepted_in at story.groups ++ taken_if (slice_index_or bits k false && not (is_full at story)) message)
+    (λ full. offered_at k (from + 1) at bits message story (omega (arith, is)) (omega arith))
+    (λ room.
+    offered_at k (from + 1) at bits message next (omega (arith, is)) (omega (arith, length-accepting from message story.groups))
+    ∙ (λ i. accepted_other from at message story.groups other i ++ taken_if (slice_index_or bits k false && not (full_other from at message story other i)) message))
+
+bits_few : (topic : List ℕ) (story : Story) → 0 + length (routed topic (shares_of story.groups)) ≤ length story.groups
+bits_few topic story =
+    let many : length (routed topic (shares_of story.groups)) ≡ length story.groups = length-map (shares_of story.groups) _ ∙ length-shares story.groups in
+    omega arith
+
+-- what a group accepts of a PUBLISH
+pub takes_of : (answer : PublishAnswer) (publish : Publish) (story : Story) (slot : ℕ) → accepted_in slot (publish_reply_as answer publish story).story.groups ≡ accepted_in slot story.groups ++ taken_as answer slot publish story
+takes_of (publishing.Close code) publish story slot = sym (append-nil (accepted_in slot story.groups))
+takes_of (publishing.Refuse identifier code) publish story slot = sym (append-nil (accepted_in slot story.groups))
+takes_of (publishing.Offer identifier) publish story slot =
+    offered_at slot 0 slot (routed publish.topic (shares_of story.groups)) (message_of publish) story (sym (zero-add slot)) (bits_few publish.topic story)
+
+-- ---- how many groups took a message
+
+taken_many : (from : ℕ) (bits : List Bool) (message : Message) (now story : Story) → ((slot : ℕ) → from ≤ slot → is_full slot now ≡ is_full slot story)
+    → (offer_to (places_of from bits) message now).taken ≡ length (filter (λ slot. not (is_full slot story)) (places_of from bits))
+taken_many from [] message now story same = refl
+taken_many from (false ∷ bits) message now story same = taken_many (from + 1) bits message now story (λ slot past. same slot (omega arith))
+taken_many from (true ∷ bits) message now story same =
+    let slots = places_of (from + 1) bits in
+    let next = with_message from message now in
+    let has_room = λ (slot : ℕ). not (is_full slot story) in
+    let first_too = λ (b : Bool). length (cond (not b) (from ∷ filter has_room slots) (filter has_room slots)) in
+    cond_both (is_full from now) (offer_to slots message now) (taken_too (offer_to slots message next)) (λ offered. offered.taken ≡ length (filter has_room (from ∷ slots)))
+    (λ full. taken_many (from + 1) bits message now story (λ slot past. same slot (omega arith)) ∙ ap first_too (sym full ∙ same from (omega arith)))
+    (λ room.
+    let rest = taken_many (from + 1) bits message next story (λ slot past. full_other from slot message now (λ e. absurd (omega (arith, e, past))) ∙ same slot (omega arith)) in
+    let more : 1 + (offer_to slots message next).taken ≡ suc (length (filter has_room slots)) = omega (arith, rest) in
+    more ∙ ap first_too (sym room ∙ same from (omega arith)))
+
+-- the PUBACK says so
+pub heard : (publish : Publish) (identifier : ℕ) (story : Story) → story.phase ≡ Connected → publish_answer publish ≡ publishing.Offer identifier
+    → (reply (kinds.Publish publish) story).packet ≡ Some (puback identifier (puback_code (length (matching publish.topic story)) (length (takers publish.topic story))))
+heard publish identifier story connected answer =
+    ap (λ (p : Phase). (reply_in p (kinds.Publish publish) story).packet) connected
+    ∙ ap (λ (a : PublishAnswer). (publish_reply_as a publish story).packet) answer
+    ∙ ap (λ (n : ℕ). Some (puback identifier (puback_code (length (matching publish.topic story)) n))) (taken_many 0 (routed publish.topic (shares_of story.groups)) (message_of publish) story story (λ slot past. refl))

@@ -1,0 +1,221 @@
+-- The PUBLISH packets that are sent are those of the hand-outs, group by group.
+use Rattle.std.proofs.Common.{◌≡◌, ◌≢◌, ℕ, ◌<◌, ◌≤◌, ◌==◌, ◌&&◌, Bool, true, false, cond, List, [], ◌∷◌, ◌++◌, map, length, drop, Some, None, refl, sym, ap, ◌∙◌, subst, ⊎_elim, arith, eq-eqb, ne_eqb}
+use Rattle.std.specs.List.{filter, zip}
+use Rattle.std.proofs.lemmas.Bool.{cases_eq}
+use Rattle.std.proofs.lemmas.List.{append-nil, append_assoc, length-map, length_push, map-append}
+use Rattle.std.proofs.lemmas.List.Elements.{filter-append}
+use Rattle.mqtt_wire.specs.declared.packet.Packet.{Packet}
+use Rattle.group_jobs.specs.declared.message.Message.{Message}
+use Rattle.session_desk.specs.declared.session.Membership.{Membership}
+use Rattle.session_desk.specs.declared.session.Membership.TheVariants.{NotMember, Member, Leaving}
+use Rattle.conn_rules.specs.Packets.{job}
+use Rattle.solo_output.specs.Groups.{Story, HandOut, Phase, accepted_in, handed_in, waiting_in, is_open, settled, unacknowledged, with_message, with_puback, with_hand_out, with_membership}
+use Rattle.solo_output.specs.Groups.Phase.{Unconnected, Connected, Closed}
+use Rattle.solo_output.specs.HandOuts.{least_free, due, hand_out, deliver_to, deliver_in, deliver}
+use Rattle.solo_output.specs.Publishing.{is_full}
+use Rattle.solo_output.specs.Replies.{reply}
+use Rattle.solo_output.specs.Runs.{sent_in, jobs_of}
+use Rattle.solo_output.proofs.Lists.{handed, handed_in_push_same, handed_in_push_other, handed_in_settled}
+use Rattle.solo_output.proofs.Brokers.{accepted_same, accepted_other, accepted_bound}
+use Rattle.solo_output.proofs.Moves.{Ways, due_behind, replied}
+use Rattle.solo_output.proofs.Kept.{Kept, keeps, kept_accepting, kept_settling}
+
+-- ---- hand-outs beside packets
+
+-- one more of both
+zip_push : {A B : Type 0} (xs : List A) (ys : List B) (x : A) (y : B) → length xs ≡ length ys → zip (xs ++ x ∷ []) (ys ++ y ∷ []) ≡ zip xs ys ++ (x, y) ∷ []
+zip_push [] [] x y same = refl
+zip_push [] (other ∷ ys) x y same = absurd (omega (arith, same))
+zip_push (other ∷ xs) [] x y same = absurd (omega (arith, same))
+zip_push (one ∷ xs) (other ∷ ys) x y same = ap (λ l. (one, other) ∷ l) (zip_push xs ys x y (omega (arith, same)))
+
+first_if : (b : Bool) (packet : Packet) (one : HandOut) → map (λ (pair : Packet × HandOut). pair.0) (cond b ((packet, one) ∷ []) []) ≡ cond b (packet ∷ []) []
+first_if true packet one = refl
+first_if false packet one = refl
+
+sent_push : (slot : ℕ) (packets : List Packet) (hand_outs : List HandOut) (packet : Packet) (one : HandOut) → length packets ≡ length hand_outs
+    → sent_in slot (packets ++ packet ∷ []) (hand_outs ++ one ∷ []) ≡ sent_in slot packets hand_outs ++ cond (one.slot == slot) (packet ∷ []) []
+sent_push slot packets hand_outs packet one same =
+    let its = λ (pair : Packet × HandOut). pair.1.slot == slot in
+    let of = λ (pair : Packet × HandOut). pair.0 in
+    ap (λ l. map of (filter its l)) (zip_push packets hand_outs packet one same)
+    ∙ ap (map of) (filter-append its (zip packets hand_outs) ((packet, one) ∷ []))
+    ∙ map-append of (filter its (zip packets hand_outs)) (cond (one.slot == slot) ((packet, one) ∷ []) [])
+    ∙ ap (λ l. sent_in slot packets hand_outs ++ l) (first_if (one.slot == slot) packet one)
+
+jobs_none : (messages : List Message) → jobs_of messages [] ≡ []
+jobs_none [] = refl
+jobs_none (message ∷ messages) = refl
+
+-- the next message goes out
+jobs_push : (messages : List Message) (hand_outs : List HandOut) (message : Message) (rest : List Message) (one : HandOut) → drop (length hand_outs) messages ≡ message ∷ rest
+    → jobs_of messages (hand_outs ++ one ∷ []) ≡ jobs_of messages hand_outs ++ job false message one.identifier ∷ []
+jobs_push [] [] message rest one left = absurd cc
+jobs_push [] (other ∷ hand_outs) message rest one left = absurd cc
+jobs_push (own ∷ messages) [] message rest one left =
+    let same : own ≡ message = cc in
+    (λ i. job false (same i) one.identifier ∷ jobs_none messages i)
+jobs_push (own ∷ messages) (other ∷ hand_outs) message rest one left = ap (λ (l : List Packet). job false own other.identifier ∷ l) (jobs_push messages hand_outs message rest one left)
+
+-- a further message is none that went out
+jobs_accepting : (messages : List Message) (message : Message) (hand_outs : List HandOut) → length hand_outs ≤ length messages → jobs_of (messages ++ message ∷ []) hand_outs ≡ jobs_of messages hand_outs
+jobs_accepting [] message [] few = refl
+jobs_accepting [] message (one ∷ hand_outs) few = absurd (omega arith)
+jobs_accepting (own ∷ messages) message [] few = refl
+jobs_accepting (own ∷ messages) message (one ∷ hand_outs) few = ap (λ (l : List Packet). job false own one.identifier ∷ l) (jobs_accepting messages message hand_outs (omega arith))
+
+-- a PUBACK changes no identifier and no slot
+same_identifier : (b : Bool) (code : ℕ) (one : HandOut) → (cond b (record one { code = Some code }) one).identifier ≡ one.identifier
+same_identifier true code one = refl
+same_identifier false code one = refl
+
+same_slot : (b : Bool) (code : ℕ) (one : HandOut) → (cond b (record one { code = Some code }) one).slot ≡ one.slot
+same_slot true code one = refl
+same_slot false code one = refl
+
+jobs_settled : (identifier code : ℕ) (messages : List Message) (hand_outs : List HandOut) → jobs_of messages (map (settled identifier code) hand_outs) ≡ jobs_of messages hand_outs
+jobs_settled identifier code [] hand_outs = refl
+jobs_settled identifier code (message ∷ messages) [] = refl
+jobs_settled identifier code (message ∷ messages) (one ∷ hand_outs) =
+    λ i. job false message (same_identifier (is_open one && (one.identifier == identifier)) code one i) ∷ jobs_settled identifier code messages hand_outs i
+
+first_kept : (b : Bool) (packet : Packet) (one other : HandOut) (pairs : List (Packet × HandOut))
+    → map (λ (pair : Packet × HandOut). pair.0) (cond b ((packet, one) ∷ pairs) pairs) ≡ cond b (packet ∷ map (λ (pair : Packet × HandOut). pair.0) pairs) (map (λ (pair : Packet × HandOut). pair.0) pairs)
+first_kept true packet one other pairs = refl
+first_kept false packet one other pairs = refl
+
+sent_cons : (slot : ℕ) (packet : Packet) (packets : List Packet) (one : HandOut) (hand_outs : List HandOut)
+    → sent_in slot (packet ∷ packets) (one ∷ hand_outs) ≡ cond (one.slot == slot) (packet ∷ sent_in slot packets hand_outs) (sent_in slot packets hand_outs)
+sent_cons slot packet packets one hand_outs = first_kept (one.slot == slot) packet one one (filter (λ (pair : Packet × HandOut). pair.1.slot == slot) (zip packets hand_outs))
+
+sent_settled : (slot identifier code : ℕ) (packets : List Packet) (hand_outs : List HandOut) → sent_in slot packets (map (settled identifier code) hand_outs) ≡ sent_in slot packets hand_outs
+sent_settled slot identifier code [] hand_outs = refl
+sent_settled slot identifier code (packet ∷ packets) [] = refl
+sent_settled slot identifier code (packet ∷ packets) (one ∷ hand_outs) =
+    let rest = sent_settled slot identifier code packets hand_outs in
+    let own = same_slot (is_open one && (one.identifier == identifier)) code one in
+    sent_cons slot packet packets (settled identifier code one) (map (settled identifier code) hand_outs)
+    ∙ (λ i. cond (own i == slot) (packet ∷ rest i) (rest i))
+    ∙ sym (sent_cons slot packet packets one hand_outs)
+
+-- ---- what was sent so far is that of the hand-outs
+
+pub record IsTold (packets : List Packet) (story : Story) : Type 0 where
+  pub many : length packets ≡ length story.handed_out
+  pub each : (slot : ℕ) → sent_in slot packets story.handed_out ≡ jobs_of (accepted_in slot story.groups) (handed_in slot story.handed_out)
+
+-- replies change nothing of it
+abbrev Tells : Story → Story → Type 0
+Tells one two = Kept one → Kept two × ((packets : List Packet) → IsTold packets one → IsTold packets two)
+
+tells : Ways Tells
+tells =
+    record {
+      stays = λ story k. (k, λ packets told. told);
+      goes_on = λ one two three first later k.
+          let behind = first k in
+          let last = later behind.0 in
+          (last.0, λ packets told. last.1 packets (behind.1 packets told));
+      connects = λ connect story is k. (keeps.connects connect story is k, λ packets told. record { many = told.many; each = told.each });
+      closes = λ story k. (keeps.closes story k, λ packets told. record { many = told.many; each = told.each });
+      expires = λ expiry story k. (keeps.expires expiry story k, λ packets told. record { many = told.many; each = told.each });
+      binds = λ share story none few k. (
+        keeps.binds share story none few k,
+        λ packets told.
+            record { many = told.many; each = λ slot. told.each slot ∙ ap (λ (l : List Message). jobs_of l (handed_in slot story.handed_out)) (sym (accepted_bound slot share story.groups)) },
+      );
+      joins = λ slot story may within k. (keeps.joins slot story may within k, λ packets told. record { many = told.many; each = told.each });
+      leaves = λ slot story is k. (keeps.leaves slot story is k, λ packets told. record { many = told.many; each = told.each });
+      parts = λ slot story is none k. (keeps.parts slot story is none k, λ packets told. record { many = told.many; each = told.each });
+    }
+
+told_accepting : (slot : ℕ) (message : Message) (story : Story) → slot < length story.groups → is_full slot story ≡ false → Tells story (with_message slot message story)
+told_accepting slot message story within room k = (
+  kept_accepting slot message story within room k,
+  λ packets told.
+      record {
+        many = told.many;
+        each = λ at. told.each at ∙ sym (same at);
+      },
+)
+  where
+    same : (at : ℕ) → jobs_of (accepted_in at (with_message slot message story).groups) (handed_in at story.handed_out) ≡ jobs_of (accepted_in at story.groups) (handed_in at story.handed_out)
+    same at =
+        ⊎_elim
+        (λ (is : at ≡ slot).
+        subst (λ (n : ℕ). jobs_of (accepted_in n (with_message slot message story).groups) (handed_in n story.handed_out) ≡ jobs_of (accepted_in n story.groups) (handed_in n story.handed_out)) (sym is)
+        (ap (λ (l : List Message). jobs_of l (handed_in slot story.handed_out)) (accepted_same slot message story.groups within)
+        ∙ jobs_accepting (accepted_in slot story.groups) message (handed_in slot story.handed_out) (k.order slot)))
+        (λ (other : at ≢ slot). ap (λ (l : List Message). jobs_of l (handed_in at story.handed_out)) (accepted_other slot at message story.groups other))
+        (cases_eq at slot)
+
+told_settling : (identifier code : ℕ) (story : Story) → Tells story (with_puback identifier code story)
+told_settling identifier code story k = (
+  kept_settling identifier code story k,
+  λ packets told.
+      record {
+        many = told.many ∙ sym (length-map story.handed_out (settled identifier code));
+        each = λ slot.
+            sent_settled slot identifier code packets story.handed_out ∙ told.each slot
+            ∙ sym (jobs_settled identifier code (accepted_in slot story.groups) (handed_in slot story.handed_out))
+            ∙ ap (jobs_of (accepted_in slot story.groups)) (sym (handed_in_settled identifier code slot story.handed_out));
+      },
+)
+
+pub told_replying : (packet : Packet) (story : Story) → Tells story (reply packet story).story
+told_replying = replied Tells tells told_accepting told_settling
+
+-- ---- a hand-out is told by its packet
+
+told_one : (slot : ℕ) (message : Message) (rest : List Message) (story : Story) (packets : List Packet) → waiting_in slot story ≡ message ∷ rest → IsTold packets story
+    → IsTold (packets ++ job false message (least_free (unacknowledged story)) ∷ []) (with_hand_out slot (least_free (unacknowledged story)) story)
+told_one slot message rest story packets waits told =
+    let next = least_free (unacknowledged story) in
+    let one = handed slot next None in
+    let packet = job false message next in
+    record {
+      many = omega (arith, told.many, length_push packets packet, length_push story.handed_out one);
+      each = λ at.
+          ⊎_elim
+          (λ (is : at ≡ slot).
+          subst (λ (n : ℕ). sent_in n (packets ++ packet ∷ []) (story.handed_out ++ one ∷ []) ≡ jobs_of (accepted_in n story.groups) (handed_in n (story.handed_out ++ one ∷ []))) (sym is)
+          (sent_push slot packets story.handed_out packet one told.many
+          ∙ ap (λ b. sent_in slot packets story.handed_out ++ cond b (packet ∷ []) []) (eq-eqb slot slot refl)
+          ∙ ap (λ (l : List Packet). l ++ packet ∷ []) (told.each slot)
+          ∙ sym (jobs_push (accepted_in slot story.groups) (handed_in slot story.handed_out) message rest one waits)
+          ∙ ap (jobs_of (accepted_in slot story.groups)) (sym (handed_in_push_same story.handed_out slot next))))
+          (λ (other : at ≢ slot).
+          sent_push at packets story.handed_out packet one told.many
+          ∙ ap (λ b. sent_in at packets story.handed_out ++ cond b (packet ∷ []) []) (ne_eqb slot at (λ e. other (sym e)))
+          ∙ append-nil (sent_in at packets story.handed_out)
+          ∙ told.each at
+          ∙ ap (jobs_of (accepted_in at story.groups)) (sym (handed_in_push_other story.handed_out slot at next (λ e. other (sym e)))))
+          (cases_eq at slot);
+    }
+
+pub told_handing : (slot : ℕ) (messages : List Message) (story : Story) (packets : List Packet) → messages ≡ due slot story → IsTold packets story → IsTold (packets ++ (hand_out slot messages story).sent) (hand_out slot messages story).story
+told_handing slot [] story packets is told = subst (λ (l : List Packet). IsTold l story) (sym (append-nil packets)) told
+told_handing slot (message ∷ messages) story packets is told =
+    let next = least_free (unacknowledged story) in
+    let behind = due_behind slot story message messages is in
+    let later = hand_out slot messages (with_hand_out slot next story) in
+    subst (λ (l : List Packet). IsTold l later.story) (append_assoc packets (job false message next ∷ []) later.sent)
+    (told_handing slot messages (with_hand_out slot next story) (packets ++ job false message next ∷ []) behind.3 (told_one slot message behind.0 story packets behind.1 told))
+
+-- who leaves is handed nothing
+told_left : (slot : ℕ) (story : Story) (packets : List Packet) (membership : Membership ℕ) → IsTold packets story → IsTold packets (with_membership membership story)
+told_left slot story packets membership told = record { many = told.many; each = told.each }
+
+delivers_to : (membership : Membership ℕ) (story : Story) (packets : List Packet) → IsTold packets story → IsTold (packets ++ (deliver_to membership story).sent) (deliver_to membership story).story
+delivers_to NotMember story packets told = subst (λ (l : List Packet). IsTold l story) (sym (append-nil packets)) told
+delivers_to (Member slot) story packets told = told_handing slot (due slot story) story packets refl told
+delivers_to (Leaving slot) story packets told =
+    subst (λ (l : List Packet). IsTold l (deliver_to (Leaving slot) story).story) (sym (append-nil packets)) (told_left slot story packets _ told)
+
+delivers_in : (phase : Phase) (story : Story) (packets : List Packet) → IsTold packets story → IsTold (packets ++ (deliver_in phase story).sent) (deliver_in phase story).story
+delivers_in Unconnected story packets told = subst (λ (l : List Packet). IsTold l story) (sym (append-nil packets)) told
+delivers_in Connected story packets told = delivers_to story.membership story packets told
+delivers_in Closed story packets told = subst (λ (l : List Packet). IsTold l story) (sym (append-nil packets)) told
+
+pub told_delivering : (story : Story) (packets : List Packet) → IsTold packets story → IsTold (packets ++ (deliver story).sent) (deliver story).story
+told_delivering story packets told = delivers_in story.phase story packets told
