@@ -13,7 +13,7 @@ fn words_of(alloc: Global, line: &str) -> Result<Vec<String>, AllocError> {
     Ok(words)
 }
 
-/// What a line asks for: the command, its capacity and its number of groups; or the status of its fault.
+/// What a line asks for: the command, its capacity and its shares; or the status of its fault.
 fn asked(alloc: Global, line: &str) -> Result<String, AllocError> {
     let words = words_of(alloc, line)?;
     match arguments(alloc, &words) {
@@ -23,30 +23,37 @@ fn asked(alloc: Global, line: &str) -> Result<String, AllocError> {
     }
 }
 
-/// A command, and what its server begins with.
+/// A command, and what its server begins with: the shares in the order of their slots.
 fn told(alloc: Global, command: &str, setup: &Setup) -> Result<String, AllocError> {
-    let groups = setup.groups.shares().len();
-    format!(in alloc; "{command} {} {groups}", setup.capacity)
+    let mut text = format!(in alloc; "{command} {}", setup.capacity)?;
+    for share in setup.groups.shares() {
+        text.push(' ')?;
+        text.push_str(std::str::from_utf8(share.text()).unwrap_or("no text"))?;
+    }
+    Ok(text)
 }
 
 #[test]
 fn what_words_ask_for(rt: HostRuntime) -> Result<(), Fail> {
     let rows = [
-        ("share_broker solo", "solo 1024 0"),
-        ("share_broker solo --capacity 2 --group g:job", "solo 2 1"),
-        ("share_broker drive", "drive 1024 0"),
-        ("share_broker drive --capacity 1", "drive 1 0"),
+        ("share_broker solo", "solo 1024"),
+        (
+            "share_broker solo --capacity 2 --group g:job",
+            "solo 2 $share/g/job",
+        ),
+        ("share_broker drive", "drive 1024"),
+        ("share_broker drive --capacity 1", "drive 1"),
         (
             "share_broker drive --capacity 65536 --group g:job",
-            "drive 65536 1",
+            "drive 65536 $share/g/job",
         ),
         (
-            "share_broker drive --group g:job --group g:a:b --group h:#",
-            "drive 1024 3",
+            "share_broker drive --group g:job --group h:# --group g:a:b",
+            "drive 1024 $share/g/job $share/h/# $share/g/a:b",
         ),
         (
-            "share_broker drive --group a:1 --group a:2 --group a:3 --group a:4 --group a:5 --group a:6 --group a:7 --group a:8",
-            "drive 1024 8",
+            "share_broker drive --group a:8 --group a:7 --group a:6 --group a:5 --group a:4 --group a:3 --group a:2 --group a:1",
+            "drive 1024 $share/a/8 $share/a/7 $share/a/6 $share/a/5 $share/a/4 $share/a/3 $share/a/2 $share/a/1",
         ),
         // faults
         (

@@ -1,6 +1,6 @@
 //! Plays: lines of events, and behind `> ` what is written then.
 use bytes::Bytes;
-use drive::{drive, solo};
+use drive::{drive_lines, solo};
 use line_io::RunError;
 use local_server::Setup;
 use mqtt_topic::{Routes, Share};
@@ -42,8 +42,13 @@ pub fn answered(alloc: Global, setup: Setup, lines: &[u8]) -> Result<Vec<u8>, Ru
 /// What is written of a script.
 pub fn written(alloc: Global, setup: Setup, script: &str) -> Result<Vec<u8>, RunError> {
     let mut output = Vec::new(alloc);
-    drive(alloc, setup, &mut script.as_bytes(), &mut output)?;
+    drive_lines(alloc, setup, &mut script.as_bytes(), &mut output)?;
     Ok(output)
+}
+
+/// Plays a play on a server in each of whose groups 1,024 messages may wait, and on which no share is bound.
+pub fn play_alone(rt: &impl Abort, alloc: Global, lines: &str) {
+    play(rt, alloc, 1_024, &[], lines);
 }
 
 /// Plays a play: up to each of its events, and whole. What is written behind an event is all that is new in the output, but for

@@ -1,13 +1,6 @@
 //! What single packets are answered.
-use crate::acting::play;
-use std::alloc::Global;
-use std::process::Abort;
+use crate::acting::play_alone;
 use std::test::Fail;
-
-// A play of one connection.
-fn alone(rt: &impl Abort, alloc: Global, lines: &str) {
-    play(rt, alloc, 1_024, &[], lines);
-}
 
 #[test]
 fn first_packets(rt: HostRuntime) -> Result<(), Fail> {
@@ -37,7 +30,7 @@ fn first_packets(rt: HostRuntime) -> Result<(), Fail> {
         > 0 close",
     ];
     for lines in plays.iter() {
-        alone(&rt, rt.alloc(), lines);
+        play_alone(&rt, rt.alloc(), lines);
     }
     Ok(())
 }
@@ -75,7 +68,7 @@ fn what_closes(rt: HostRuntime) -> Result<(), Fail> {
         > 0 close",
     ];
     for lines in plays.iter() {
-        alone(&rt, rt.alloc(), lines);
+        play_alone(&rt, rt.alloc(), lines);
     }
     Ok(())
 }
@@ -83,7 +76,7 @@ fn what_closes(rt: HostRuntime) -> Result<(), Fail> {
 // What is forwarded stands in rising order; an expiry is refused.
 #[test]
 fn properties(rt: HostRuntime) -> Result<(), Fail> {
-    alone(
+    play_alone(
         &rt,
         rt.alloc(),
         "0 open 0
@@ -106,7 +99,7 @@ fn properties(rt: HostRuntime) -> Result<(), Fail> {
 // A stream in pieces, several packets in one, and a number that is opened again.
 #[test]
 fn pieces_and_packets(rt: HostRuntime) -> Result<(), Fail> {
-    alone(
+    play_alone(
         &rt,
         rt.alloc(),
         "0 bytes 0 100F00044D5154540502003C0000027731

@@ -1,16 +1,16 @@
 //! Runs of one client whose bytes are known.
-use crate::acting::{answered, plain};
-use line_io::RunError;
-use std::alloc::AllocError;
+use crate::acting::{answered, setup};
+use std::alloc::{AllocError, Global};
+use std::process::Abort;
 use std::test::Fail;
 
 pub(crate) const CONNECT: &[u8] = b"100F00044D5154540502003C0000027731\n";
 
-const CONNACK: &[u8] = b"200e00000b2401250027000100002900\n";
+pub(crate) const CONNACK: &[u8] = b"200e00000b2401250027000100002900\n";
 
 pub(crate) const SUBSCRIBE: &[u8] = b"8212000100000C2473686172652F672F6A6F6201\n";
 
-const SUBACK: &[u8] = b"900400010001\n";
+pub(crate) const SUBACK: &[u8] = b"900400010001\n";
 
 pub(crate) const JOB: &[u8] = b"320900036A6F6200070041\n";
 
@@ -23,7 +23,7 @@ pub(crate) struct Run {
     pub(crate) output: &'static [&'static [u8]],
 }
 
-pub(crate) const RUNS: [Run; 20] = [
+pub(crate) const RUNS: [Run; 22] = [
     Run {
         name: "empty_and_bad_input",
         input: &[],
@@ -144,6 +144,41 @@ pub(crate) const RUNS: [Run; 20] = [
         ],
     },
     Run {
+        name: "share_and_plain_filter",
+        input: &[
+            CONNECT,
+            b"8218000100000C2473686172652F672F6A6F620100036A6F6201\n",
+        ],
+        output: &[
+            CONNACK,
+            b"90050001000183\n",
+            b"$share/g/job accepted 0 acknowledged 0 refused 0 held 0 queued 0 returned 0\n",
+        ],
+    },
+    // who leaves a group with a job in its hands is free for another one once the job is acknowledged
+    Run {
+        name: "leaving_with_a_job",
+        input: &[
+            CONNECT,
+            SUBSCRIBE,
+            JOB,
+            b"A211000200000C2473686172652F672F6A6F62\n",
+            b"8212000300000C2473686172652F682F6A6F6201\n",
+            b"40020001\n",
+            b"8212000300000C2473686172652F682F6A6F6201\n",
+        ],
+        output: &[
+            CONNACK,
+            SUBACK,
+            JOB_OUT,
+            b"b00400020000\n",
+            b"900400030097\n",
+            b"900400030001\n",
+            b"$share/g/job accepted 1 acknowledged 1 refused 0 held 0 queued 0 returned 0\n",
+            b"$share/h/job accepted 0 acknowledged 0 refused 0 held 0 queued 0 returned 0\n",
+        ],
+    },
+    Run {
         name: "property_order",
         input: &[
             CONNECT,
@@ -231,143 +266,119 @@ pub(crate) const RUNS: [Run; 20] = [
     },
 ];
 
-// A name, whether it comes first or behind a CONNECT, the bytes that come in, and the line that goes out.
-const REPLIES: &str = "\
-assigned_identifier first 100D00044D5154540502003C000000 201e00001b12000d6175746f2d30303030303030312401250027000100002900
-older_version first 100E00044D5154540402003C00027731 2003008400
-with_a_will first 100800044D5154540506 2003008300
-authentication first 101300044D5154540502003C041500016D00027731 2003008c00
-maximum_packet_size_63 first 101400044D5154540502003C05270000003F00027731 2003008300
-maximum_packet_size_4 first 101400044D5154540502003C05270000000400027731 -
-protocol_error first 101200044D5154540502003C0321000000027731 2003008200
-malformed first 100F00044D5154540503003C0000027731 -
-user_name_and_password first 101500044D51545405C2003C0000027731000175000170 200e00000b2401250027000100002900
-too_large first 32FDFF03 -
-client_identifier_of_129_bytes first 108E0100044D5154540502003C000081616161616161616161616161616161616161616161616161616161616161616161616161616161616161616161616161616161616161616161616161616161616161616161616161616161616161616161616161616161616161616161616161616161616161616161616161616161616161616161616161616161616161616161 2003008500
-ping_and_second_connect first C000 -
-older_version connected 100E00044D5154540402003C00027731 e00182
-with_a_will connected 100800044D5154540506 e00182
-length_not_minimal connected 829200 e00181
-length_not_minimal connected 00 e00181
-too_large connected 32FDFF03 e00195
-unsupported_publishes connected 300700036A6F620041 e00183
-unsupported_publishes connected 340900036A6F6200070041 e0019b
-unsupported_publishes connected 330900036A6F6200070041 e0019a
-topic_alias connected 320C00036A6F6200070323000141 e00194
-empty_topic connected 3206000000070041 e00182
-wildcard_in_topic connected 320700012B00070041 e00181
-foreign connected 62020001 e00182
-content_type_twice connected 321000036A6F620007080300016103000161 e00182
-identifier_0_first connected 320900036A6F62000001FF e00182
-unknown_property connected 320900036A6F62000701FF e00181
-property_length_not_minimal connected 821300018000000C2473686172652F672F6A6F6201 e00181
-expiry_at_the_end connected E00700051100000001 e00182
-unsubscribe connected A206000100000161 b00400010011
-";
+/// A run over a server in each of whose groups so many messages may wait, and on which these shares are bound.
+struct BoundRun {
+    capacity: usize,
+    shares: &'static [&'static str],
+    run: Run,
+}
 
-pub(crate) fn join(rt: &HostRuntime, parts: &[&[u8]]) -> Result<Vec<u8>, AllocError> {
-    let mut all = Vec::new(rt.alloc());
+const BOUND_RUNS: [BoundRun; 3] = [
+    BoundRun {
+        capacity: 2,
+        shares: &["$share/g/job"],
+        run: Run {
+            name: "full_queue",
+            input: &[
+                CONNECT,
+                JOB,
+                b"320900036A6F6200080042\n",
+                b"320900036A6F6200090043\n",
+            ],
+            output: &[
+                CONNACK,
+                b"40020007\n40020008\n4003000997\n",
+                b"$share/g/job accepted 2 acknowledged 0 refused 0 held 0 queued 2 returned 0\n",
+            ],
+        },
+    },
+    // the second group is full of a job that the first one does not match
+    BoundRun {
+        capacity: 1,
+        shares: &["$share/a/job", "$share/g/+"],
+        run: Run {
+            name: "two_groups",
+            input: &[
+                CONNECT,
+                b"320A00046E6F6E6500070041\n",
+                b"320900036A6F6200080042\n",
+            ],
+            output: &[
+                CONNACK,
+                b"40020007\n4003000897\n",
+                b"$share/a/job accepted 1 acknowledged 0 refused 0 held 0 queued 1 returned 0\n",
+                b"$share/g/+ accepted 1 acknowledged 0 refused 0 held 0 queued 1 returned 0\n",
+            ],
+        },
+    },
+    BoundRun {
+        capacity: 1_024,
+        shares: &[
+            "$share/1/a",
+            "$share/2/a",
+            "$share/3/a",
+            "$share/4/a",
+            "$share/5/a",
+            "$share/6/a",
+            "$share/7/a",
+            "$share/8/a",
+        ],
+        run: Run {
+            name: "ninth_share",
+            input: &[CONNECT, SUBSCRIBE],
+            output: &[
+                CONNACK,
+                b"900400010097\n",
+                b"$share/1/a accepted 0 acknowledged 0 refused 0 held 0 queued 0 returned 0\n",
+                b"$share/2/a accepted 0 acknowledged 0 refused 0 held 0 queued 0 returned 0\n",
+                b"$share/3/a accepted 0 acknowledged 0 refused 0 held 0 queued 0 returned 0\n",
+                b"$share/4/a accepted 0 acknowledged 0 refused 0 held 0 queued 0 returned 0\n",
+                b"$share/5/a accepted 0 acknowledged 0 refused 0 held 0 queued 0 returned 0\n",
+                b"$share/6/a accepted 0 acknowledged 0 refused 0 held 0 queued 0 returned 0\n",
+                b"$share/7/a accepted 0 acknowledged 0 refused 0 held 0 queued 0 returned 0\n",
+                b"$share/8/a accepted 0 acknowledged 0 refused 0 held 0 queued 0 returned 0\n",
+            ],
+        },
+    },
+];
+
+pub(crate) fn join(alloc: Global, parts: &[&[u8]]) -> Result<Vec<u8>, AllocError> {
+    let mut all = Vec::new(alloc);
     for part in parts {
         all.extend_from_slice(part)?;
     }
     Ok(all)
 }
 
+/// Compares all that is written in a run over such a server.
+fn compare(
+    rt: &impl Abort,
+    alloc: Global,
+    capacity: usize,
+    shares: &[&'static str],
+    run: &Run,
+) -> Result<(), Fail> {
+    let name = run.name;
+    let input = join(alloc, run.input)?;
+    let output = join(alloc, run.output)?;
+    let setup = setup(rt, alloc, capacity, shares);
+    let written = answered(alloc, setup, &input).map_err(|_| name)?;
+    assert_eq!(rt; written.as_slice(), output.as_slice(), "{name}");
+    Ok(())
+}
+
 #[test]
 fn runs(rt: HostRuntime) -> Result<(), Fail> {
     for run in RUNS.iter() {
-        let name = run.name;
-        let input = join(&rt, run.input)?;
-        let output = join(&rt, run.output)?;
-        let written = answered(rt.alloc(), plain(rt.alloc()), &input).map_err(|_| name)?;
-        assert_eq!(rt; written.as_slice(), output.as_slice(), "{name}");
+        compare(&rt, rt.alloc(), 1_024, &[], run)?;
     }
     Ok(())
 }
 
-// What goes out for these digits, first or behind a CONNECT, without the CONNACK of that.
-fn reply_to(rt: &HostRuntime, place: &str, digits: &str) -> Result<Vec<u8>, RunError> {
-    let before: &[u8] = if place == "connected" { CONNECT } else { b"" };
-    let input = join(rt, &[before, digits.as_bytes()])?;
-    let written = answered(rt.alloc(), plain(rt.alloc()), &input)?;
-    let known = if place == "connected" {
-        CONNACK.len()
-    } else {
-        0
-    };
-    let rest = written.get(known..).unwrap_or(b"");
-    Ok(Vec::from_slice(rt.alloc(), rest)?)
-}
-
 #[test]
-fn replies(rt: HostRuntime) -> Result<(), Fail> {
-    for line in REPLIES.lines() {
-        let mut words = line.split(' ');
-        let _name = words.next();
-        let place = words.next().ok_or("a place")?;
-        let reply = reply_to(&rt, place, words.next().ok_or("digits")?)?;
-        let wanted = words.next().ok_or("a reply")?.as_bytes();
-        match reply.as_slice() {
-            [] => assert_eq!(rt; wanted, b"-".as_slice(), "{line}"),
-            [text @ .., _end] => assert_eq!(rt; text, wanted, "{line}"),
-        }
+fn runs_with_shares(rt: HostRuntime) -> Result<(), Fail> {
+    for row in BOUND_RUNS.iter() {
+        compare(&rt, rt.alloc(), row.capacity, row.shares, &row.run)?;
     }
-    Ok(())
-}
-
-/// What goes out for the digits in lines of that size, where `solo` ends.
-fn run_in_lines(rt: &HostRuntime, digits: &[u8], size: usize) -> Result<Vec<u8>, RunError> {
-    let mut lines = Vec::new(rt.alloc());
-    for line in digits.chunks(size.max(1)) {
-        lines.extend_from_slice(line)?;
-        lines.push(b'\n')?;
-    }
-    answered(rt.alloc(), plain(rt.alloc()), &lines)
-}
-
-/// What goes out for the digits in two lines, cut at that place, where `solo` ends.
-fn run_in_two(rt: &HostRuntime, digits: &[u8], place: usize) -> Result<Vec<u8>, RunError> {
-    let (front, back) = digits.split_at(place.min(digits.len()));
-    let lines = join(rt, &[front, b"\n", back])?;
-    answered(rt.alloc(), plain(rt.alloc()), &lines)
-}
-
-/// A stream in lines of each size, from one byte to all of them, and cut in two at each byte.
-#[test]
-fn every_cutting(rt: HostRuntime) -> Result<(), Fail> {
-    let input = join(&rt, &[CONNECT, SUBSCRIBE, JOB])?;
-    let output = join(&rt, RUNS[3].output)?;
-    let mut digits = Vec::new(rt.alloc());
-    for digit in input.iter().filter(|digit| **digit != b'\n') {
-        digits.push(*digit)?;
-    }
-    for bytes in 1..49usize {
-        let written = run_in_lines(&rt, &digits, 2 * bytes)?;
-        assert_eq!(rt;
-            written.as_slice(),
-            output.as_slice(),
-            "in lines of {bytes} bytes"
-        );
-        let written = run_in_two(&rt, &digits, 2 * bytes)?;
-        assert_eq!(rt;
-            written.as_slice(),
-            output.as_slice(),
-            "cut in two behind {bytes} bytes"
-        );
-    }
-    Ok(())
-}
-
-/// 256 jobs are out and 1,024 wait: the next one is refused.
-#[test]
-fn full_queue(rt: HostRuntime) -> Result<(), Fail> {
-    let mut input = join(&rt, &[CONNECT, SUBSCRIBE])?;
-    for _ in 0..1_281u32 {
-        input.extend_from_slice(JOB)?;
-    }
-    let written = answered(rt.alloc(), plain(rt.alloc()), &input)?;
-    let end =
-        b"4003000797\n$share/g/job accepted 1280 acknowledged 0 refused 0 held 0 queued 1024 returned 256\n";
-    assert!(rt; written.ends_with(end));
     Ok(())
 }

@@ -1,92 +1,32 @@
-//! Runs of `solo` whose lines are not hex, and runs whose reader or writer fails.
+//! Runs whose lines are none, and runs whose reader or writer fails.
 use crate::acting::plain;
 use crate::clients::{CONNECT, JOB, RUNS, SUBSCRIBE, join};
-use drive::solo;
+use drive::{drive_lines, solo};
 use line_io::RunError;
+use std::alloc::Global;
 use std::io;
 use std::io::{ErrorKind, Read, Write};
+use std::process::Abort;
 use std::test::Fail;
 
-#[test]
-fn bad_input(rt: HostRuntime) -> Result<(), Fail> {
-    let bad: [(&[u8], u64); 5] = [
-        (b"1", 1),
-        (b"10\n1", 2),
-        (b"\n\n0x\n", 3),
-        (b"10\r\n", 1),
-        (b"10 \n1", 1),
-    ];
-    for (input, line) in bad.iter() {
-        let mut writer = Vec::new(rt.alloc());
-        let ended = solo(rt.alloc(), plain(rt.alloc()), &mut &input[..], &mut writer);
-        assert_eq!(rt; ended, Err(RunError::Line(*line)));
-        assert_eq!(rt; writer.len(), 0);
-        assert_eq!(rt; RunError::Line(*line).status(), 5);
+/// A form of a run.
+#[derive(Clone, Copy)]
+enum Form {
+    Solo,
+    Drive,
+}
+
+/// A run of that form.
+fn run<R: Read, W: Write>(
+    alloc: Global,
+    form: Form,
+    reader: &mut R,
+    writer: &mut W,
+) -> Result<(), RunError> {
+    match form {
+        Form::Solo => solo(alloc, plain(alloc), reader, writer),
+        Form::Drive => drive_lines(alloc, plain(alloc), reader, writer),
     }
-    Ok(())
-}
-
-/// A reader that gives some bytes and then fails.
-#[derive(Drop)]
-struct FailingReader<'a>(&'a [u8]);
-
-impl Read for FailingReader<'_> {
-    fn read(&mut self, buf: &mut [u8]) -> io::Result<usize> {
-        match self.0.read(buf) {
-            Ok(0) | Err(_) => Err(io::Error::from(ErrorKind::ConnectionReset)),
-            Ok(count) => Ok(count),
-        }
-    }
-}
-
-#[test]
-fn reader_fails(rt: HostRuntime) {
-    let mut writer = Vec::new(rt.alloc());
-    let ended = solo(
-        rt.alloc(),
-        plain(rt.alloc()),
-        &mut FailingReader(CONNECT),
-        &mut writer,
-    );
-    assert_eq!(rt; ended, Err(RunError::Device));
-    assert_eq!(rt; writer.len(), 0);
-    assert_eq!(rt; RunError::Device.status(), 3);
-}
-
-/// A reader that gives an empty line a read, so many times.
-#[derive(Drop)]
-struct EmptyLines(u32);
-
-impl Read for EmptyLines {
-    fn read(&mut self, buf: &mut [u8]) -> io::Result<usize> {
-        let (Some(byte), Some(left)) = (buf.first_mut(), self.0.checked_sub(1)) else {
-            return Ok(0);
-        };
-        *byte = b'\n';
-        self.0 = left;
-        Ok(1)
-    }
-}
-
-/// The read that finds the end counts too.
-#[test]
-fn most_reads(rt: HostRuntime) {
-    let mut writer = Vec::new(rt.alloc());
-    let ended = solo(
-        rt.alloc(),
-        plain(rt.alloc()),
-        &mut EmptyLines((1 << 20) - 1),
-        &mut writer,
-    );
-    assert_eq!(rt; ended, Ok(()));
-    let ended = solo(
-        rt.alloc(),
-        plain(rt.alloc()),
-        &mut EmptyLines(1 << 20),
-        &mut writer,
-    );
-    assert_eq!(rt; ended, Err(RunError::Device));
-    assert_eq!(rt; writer.len(), 0);
 }
 
 /// A writer that takes some bytes, one a write, and then fails at each write and flush.
@@ -94,6 +34,15 @@ fn most_reads(rt: HostRuntime) {
 struct FailingWriter {
     taken: Vec<u8>,
     room: usize,
+}
+
+impl FailingWriter {
+    fn new(alloc: Global, room: usize) -> FailingWriter {
+        FailingWriter {
+            taken: Vec::new(alloc),
+            room,
+        }
+    }
 }
 
 impl Write for FailingWriter {
@@ -116,25 +65,133 @@ impl Write for FailingWriter {
     }
 }
 
+/// A bad line is told though the writer takes nothing.
 #[test]
-fn writer_fails(rt: HostRuntime) -> Result<(), Fail> {
-    let input = join(&rt, &[CONNECT, SUBSCRIBE, JOB])?;
-    let output = join(&rt, RUNS[3].output)?;
-    for room in 0..=output.len() {
-        let mut writer = FailingWriter {
-            taken: Vec::new(rt.alloc()),
-            room,
+fn bad_input(rt: HostRuntime) {
+    let bad: [(Form, &[u8], u64); 7] = [
+        (Form::Solo, b"1", 1),
+        (Form::Solo, b"10\n1", 2),
+        (Form::Solo, b"\n\n0x\n", 3),
+        (Form::Solo, b"10\r\n", 1),
+        (Form::Solo, b"10 \n1", 1),
+        (Form::Drive, b"0 opens 0\n", 1),
+        (Form::Drive, b"0 open 0\n0 open 64", 2),
+    ];
+    for (form, input, line) in bad.iter() {
+        let mut writer = FailingWriter::new(rt.alloc(), 0);
+        let ended = run(rt.alloc(), *form, &mut &input[..], &mut writer);
+        assert_eq!(rt; ended, Err(RunError::Line(*line)));
+        assert_eq!(rt; writer.taken.len(), 0);
+        assert_eq!(rt; RunError::Line(*line).status(), 5);
+    }
+}
+
+/// A reader that gives some bytes and then fails.
+#[derive(Drop)]
+struct FailingReader<'a>(&'a [u8]);
+
+impl Read for FailingReader<'_> {
+    fn read(&mut self, buf: &mut [u8]) -> io::Result<usize> {
+        match self.0.read(buf) {
+            Ok(0) | Err(_) => Err(io::Error::from(ErrorKind::ConnectionReset)),
+            Ok(count) => Ok(count),
+        }
+    }
+}
+
+/// A reader's failure is told though a line that came before is bad.
+#[test]
+fn reader_fails(rt: HostRuntime) {
+    let rows: [(Form, &[u8]); 4] = [
+        (Form::Solo, CONNECT),
+        (Form::Solo, b"0x\n"),
+        (Form::Drive, b"0 open 0\n"),
+        (Form::Drive, b"0 opens 0\n"),
+    ];
+    for (form, read) in rows.iter() {
+        let mut writer = Vec::new(rt.alloc());
+        let ended = run(rt.alloc(), *form, &mut FailingReader(read), &mut writer);
+        assert_eq!(rt; ended, Err(RunError::ReadFailed));
+        assert_eq!(rt; writer.len(), 0);
+    }
+    assert_eq!(rt; RunError::ReadFailed.status(), 3);
+}
+
+/// A reader that gives an empty line a read, so many times.
+#[derive(Drop)]
+struct EmptyLines(u32);
+
+impl Read for EmptyLines {
+    fn read(&mut self, buf: &mut [u8]) -> io::Result<usize> {
+        let (Some(byte), Some(left)) = (buf.first_mut(), self.0.checked_sub(1)) else {
+            return Ok(0);
         };
-        assert_eq!(rt;
-            solo(
-                rt.alloc(),
-                plain(rt.alloc()),
-                &mut input.as_slice(),
-                &mut writer
-            ),
-            Err(RunError::Device)
-        );
+        *byte = b'\n';
+        self.0 = left;
+        Ok(1)
+    }
+}
+
+/// The read that finds the end counts too.
+#[test]
+fn most_reads(rt: HostRuntime) {
+    let rows = [
+        ((1 << 20) - 1, Ok(())),
+        (1 << 20, Err(RunError::TooManyReads)),
+    ];
+    for (lines, wanted) in rows.iter() {
+        let mut writer = Vec::new(rt.alloc());
+        let ended = run(rt.alloc(), Form::Solo, &mut EmptyLines(*lines), &mut writer);
+        assert_eq!(rt; ended, *wanted);
+        assert_eq!(rt; writer.len(), 0);
+    }
+    assert_eq!(rt; RunError::TooManyReads.status(), 3);
+}
+
+/// Reads are counted, and lines are not.
+#[test]
+fn more_lines_than_reads(rt: HostRuntime) -> Result<(), Fail> {
+    let lines = vec![in rt.alloc(); b'\n'; (1 << 20) + 1]?;
+    for form in [Form::Solo, Form::Drive].iter() {
+        let mut writer = Vec::new(rt.alloc());
+        let ended = run(rt.alloc(), *form, &mut lines.as_slice(), &mut writer);
+        assert_eq!(rt; ended, Ok(()));
+        assert_eq!(rt; writer.len(), 0);
+    }
+    Ok(())
+}
+
+/// A client that subscribes and ends, with the number 7 in `drive`.
+const EVENTS: &[u8] = b"\
+0 open 7
+0 bytes 7 100F00044D5154540502003C00000277318212000100000C2473686172652F672F6A6F6201
+0 end 7
+";
+
+/// What is said to it.
+const SAID: &[u8] = b"\
+7 200e00000b2401250027000100002900
+7 900400010001
+7 close
+$share/g/job accepted 0 acknowledged 0 refused 0 held 0 queued 0 returned 0
+";
+
+/// A writer that fails behind each byte of the output has the bytes up to there.
+fn fail_behind_each(rt: &impl Abort, alloc: Global, form: Form, input: &[u8], output: &[u8]) {
+    for room in 0..=output.len() {
+        let mut writer = FailingWriter::new(alloc, room);
+        let ended = run(alloc, form, &mut &input[..], &mut writer);
+        assert_eq!(rt; ended, Err(RunError::WriteFailed));
         assert_eq!(rt; writer.taken.as_slice(), &output[..room]);
     }
+}
+
+#[test]
+fn writer_fails(rt: HostRuntime) -> Result<(), Fail> {
+    let input = join(rt.alloc(), &[CONNECT, SUBSCRIBE, JOB])?;
+    let output = join(rt.alloc(), RUNS[3].output)?;
+    fail_behind_each(&rt, rt.alloc(), Form::Solo, &input, &output);
+    fail_behind_each(&rt, rt.alloc(), Form::Drive, EVENTS, SAID);
+    assert_eq!(rt; RunError::WriteFailed.status(), 3);
     Ok(())
 }

@@ -1,14 +1,12 @@
 //! What becomes of jobs.
-use crate::acting::play;
+use crate::acting::{play, play_alone};
 use std::test::Fail;
 
 #[test]
 fn first_job(rt: HostRuntime) -> Result<(), Fail> {
-    play(
+    play_alone(
         &rt,
         rt.alloc(),
-        1_024,
-        &[],
         "0 open 0
         0 bytes 0 100F00044D5154540502003C0000027731
         > 0 200e00000b2401250027000100002900
@@ -26,11 +24,9 @@ fn first_job(rt: HostRuntime) -> Result<(), Fail> {
 
 #[test]
 fn receive_maximum_of_one(rt: HostRuntime) -> Result<(), Fail> {
-    play(
+    play_alone(
         &rt,
         rt.alloc(),
-        1_024,
-        &[],
         "0 open 0
         0 bytes 0 101200044D5154540502003C0321000100027731
         > 0 200e00000b2401250027000100002900
@@ -54,11 +50,9 @@ fn receive_maximum_of_one(rt: HostRuntime) -> Result<(), Fail> {
 
 #[test]
 fn refused_job(rt: HostRuntime) -> Result<(), Fail> {
-    play(
+    play_alone(
         &rt,
         rt.alloc(),
-        1_024,
-        &[],
         "0 open 0
         0 bytes 0 100F00044D5154540502003C0000027731
         > 0 200e00000b2401250027000100002900
@@ -79,11 +73,9 @@ fn refused_job(rt: HostRuntime) -> Result<(), Fail> {
 // w1 is handed the first job of p and goes; its session is given up, and w2 is handed the job.
 #[test]
 fn returned_job(rt: HostRuntime) -> Result<(), Fail> {
-    play(
+    play_alone(
         &rt,
         rt.alloc(),
-        1_024,
-        &[],
         "0 open 0
         0 bytes 0 101700044D5154540502003C081100000E1021000A00027731
         > 0 200e00000b2401250027000100002900
@@ -123,11 +115,9 @@ fn returned_job(rt: HostRuntime) -> Result<(), Fail> {
 // The same, but w2 is handed a second job before: the first one comes to it out of order.
 #[test]
 fn returned_out_of_order(rt: HostRuntime) -> Result<(), Fail> {
-    play(
+    play_alone(
         &rt,
         rt.alloc(),
-        1_024,
-        &[],
         "0 open 0
         0 bytes 0 101700044D5154540502003C081100000E1021000A00027731
         > 0 200e00000b2401250027000100002900
@@ -269,11 +259,9 @@ fn eight_groups(rt: HostRuntime) -> Result<(), Fail> {
 // A client that leaves its group keeps what it holds, and is handed nothing fresh; the group stays.
 #[test]
 fn unsubscribe(rt: HostRuntime) -> Result<(), Fail> {
-    play(
+    play_alone(
         &rt,
         rt.alloc(),
-        1_024,
-        &[],
         "0 open 0
         0 bytes 0 100F00044D5154540502003C0000027731
         > 0 200e00000b2401250027000100002900

@@ -13,6 +13,10 @@ mod failures;
 #[cfg(test)]
 mod jobs;
 #[cfg(test)]
+mod replies;
+#[cfg(test)]
 mod scripts;
 #[cfg(test)]
 mod sessions;
+#[cfg(test)]
+mod streams;

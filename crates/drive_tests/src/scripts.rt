@@ -1,6 +1,6 @@
 //! Scripts: lines that spell no event, and lines that are passed over.
 use crate::acting::{plain, written};
-use drive::drive;
+use drive::drive_lines;
 use line_io::RunError;
 use std::test::Fail;
 
@@ -40,7 +40,7 @@ fn good_lines(rt: HostRuntime) -> Result<(), Fail> {
     for script in good.iter() {
         let mut output = Vec::new(rt.alloc());
         assert_eq!(rt;
-            drive(
+            drive_lines(
                 rt.alloc(),
                 plain(rt.alloc()),
                 &mut script.as_bytes(),

@@ -1,14 +1,12 @@
 //! Sessions: resumed, taken over, and given up.
-use crate::acting::play;
+use crate::acting::play_alone;
 use std::test::Fail;
 
 #[test]
 fn resume(rt: HostRuntime) -> Result<(), Fail> {
-    play(
+    play_alone(
         &rt,
         rt.alloc(),
-        1_024,
-        &[],
         "0 open 0
         0 bytes 0 101700044D5154540502003C081100000E1021000A00027731
         > 0 200e00000b2401250027000100002900
@@ -52,11 +50,9 @@ fn resume(rt: HostRuntime) -> Result<(), Fail> {
 
 #[test]
 fn takeover(rt: HostRuntime) -> Result<(), Fail> {
-    play(
+    play_alone(
         &rt,
         rt.alloc(),
-        1_024,
-        &[],
         "0 open 0
         0 bytes 0 100F00044D5154540502003C0000027731
         > 0 200e00000b2401250027000100002900
@@ -77,11 +73,9 @@ fn takeover(rt: HostRuntime) -> Result<(), Fail> {
 // What comes while a connection waits for its session is read behind the Tick that gives it.
 #[test]
 fn what_comes_during_a_takeover(rt: HostRuntime) -> Result<(), Fail> {
-    play(
+    play_alone(
         &rt,
         rt.alloc(),
-        1_024,
-        &[],
         "0 open 0
         0 open 63
         0 bytes 0 100F00044D5154540502003C0000027731
@@ -112,11 +106,9 @@ fn what_comes_during_a_takeover(rt: HostRuntime) -> Result<(), Fail> {
 // A moment that is less than an earlier one is that one: no time goes on.
 #[test]
 fn clock_that_goes_back(rt: HostRuntime) -> Result<(), Fail> {
-    play(
+    play_alone(
         &rt,
         rt.alloc(),
-        1_024,
-        &[],
         "100000 open 0
         0 bytes 0 100F00044D5154540502003C0000027731
         > 0 200e00000b2401250027000100002900
@@ -125,6 +117,79 @@ fn clock_that_goes_back(rt: HostRuntime) -> Result<(), Fail> {
         190000 tick 0
         > 0 e0018d
         > 0 close",
+    );
+    Ok(())
+}
+
+// Nobody ticks the connection that has the session: the one that waits for it is told so at its hundredth Tick.
+#[test]
+fn longest_wait(rt: HostRuntime) -> Result<(), Fail> {
+    let mut lines = String::from_str(
+        rt.alloc(),
+        "0 open 0
+        0 bytes 0 100F00044D5154540502003C0000027731
+        > 0 200e00000b2401250027000100002900
+        0 open 1
+        0 bytes 1 100F00044D5154540502003C0000027731
+        ",
+    )?;
+    for _ in 0..99u32 {
+        lines.push_str("1 tick 1\n")?;
+    }
+    lines.push_str(
+        "1 tick 1
+        > 1 2003008900
+        > 1 close",
+    )?;
+    play_alone(&rt, rt.alloc(), &lines);
+    Ok(())
+}
+
+// A session of 3,600 seconds is there up to the last of their milliseconds.
+#[test]
+fn expiry(rt: HostRuntime) -> Result<(), Fail> {
+    let plays = [
+        "0 open 0
+        0 bytes 0 101700044D5154540502003C081100000E1021000A00027731
+        > 0 200e00000b2401250027000100002900
+        1000 end 0
+        > 0 close
+        3600999 open 1
+        3600999 bytes 1 101700044D5154540500003C081100000E1021000200027731
+        > 1 200e01000b2401250027000100002900",
+        "0 open 0
+        0 bytes 0 101700044D5154540502003C081100000E1021000A00027731
+        > 0 200e00000b2401250027000100002900
+        1000 end 0
+        > 0 close
+        3601000 open 1
+        3601000 bytes 1 101700044D5154540500003C081100000E1021000200027731
+        > 1 200e00000b2401250027000100002900",
+    ];
+    for lines in plays.iter() {
+        play_alone(&rt, rt.alloc(), lines);
+    }
+    Ok(())
+}
+
+// What a client holds at the close is held, though its session's expiry is 0.
+#[test]
+fn held_at_the_close(rt: HostRuntime) -> Result<(), Fail> {
+    play_alone(
+        &rt,
+        rt.alloc(),
+        "0 open 0
+        0 bytes 0 100F00044D5154540502003C0000027731
+        > 0 200e00000b2401250027000100002900
+        0 bytes 0 8212000100000C2473686172652F672F6A6F6201
+        > 0 900400010001
+        0 bytes 0 320900036A6F6200070041
+        > 0 40020007
+        > 0 320900036a6f6200010041
+        0 close
+        > 0 e0018b
+        > 0 close
+        > $share/g/job accepted 1 acknowledged 0 refused 0 held 1 queued 0 returned 0",
     );
     Ok(())
 }

@@ -50,18 +50,63 @@ fn has(text: &[u8], part: &str) -> bool {
     }
 }
 
+/// A command, what it reads, and what it writes.
+const COMMANDS: [(&str, &str, &str); 4] = [
+    (
+        "share_broker solo",
+        "100F00044D5154540502003C0000027731\n",
+        "200e00000b2401250027000100002900\n",
+    ),
+    (
+        "share_broker drive",
+        "0 open 7\n0 bytes 7 100F00044D5154540502003C0000027731\n0 end 7\n",
+        "7 200e00000b2401250027000100002900\n7 close\n",
+    ),
+    (
+        "share_broker solo --capacity 2 --group g:job",
+        "\
+100F00044D5154540502003C0000027731
+320900036A6F6200070041
+320900036A6F6200080042
+320900036A6F6200090043
+",
+        "\
+200e00000b2401250027000100002900
+40020007
+40020008
+4003000997
+$share/g/job accepted 2 acknowledged 0 refused 0 held 0 queued 2 returned 0
+",
+    ),
+    (
+        "share_broker drive --capacity 2 --group g:job",
+        "\
+0 open 0
+0 bytes 0 100F00044D5154540502003C0000027731
+0 bytes 0 320900036A6F6200070041
+0 bytes 0 320900036A6F6200080042
+0 bytes 0 320900036A6F6200090043
+0 end 0
+",
+        "\
+0 200e00000b2401250027000100002900
+0 40020007
+0 40020008
+0 4003000997
+0 close
+$share/g/job accepted 2 acknowledged 0 refused 0 held 0 queued 2 returned 0
+",
+    ),
+];
+
 #[test]
 fn commands_that_end(rt: HostRuntime) -> Result<(), Fail> {
-    let ended = ran(rt.alloc(), "share_broker solo", &mut &CONNECTED[..])?;
-    assert_eq!(rt; ended.status, 0);
-    assert_eq!(rt; ended.output.as_slice(), CONNACK.as_bytes());
-    assert_eq!(rt; ended.errors.len(), 0);
-    let events: &[u8] = b"0 open 7\n0 bytes 7 100F00044D5154540502003C0000027731\n0 end 7\n";
-    let ended = ran(rt.alloc(), "share_broker drive", &mut &events[..])?;
-    let output = format!(in rt.alloc(); "7 {CONNACK}7 close\n")?;
-    assert_eq!(rt; ended.status, 0);
-    assert_eq!(rt; ended.output.as_slice(), output.as_bytes());
-    assert_eq!(rt; ended.errors.len(), 0);
+    for (line, input, output) in COMMANDS.iter() {
+        let ended = ran(rt.alloc(), line, &mut input.as_bytes())?;
+        assert_eq!(rt; ended.status, 0, "{line}");
+        assert_eq!(rt; ended.output.as_slice(), output.as_bytes(), "{line}");
+        assert_eq!(rt; ended.errors.len(), 0, "{line}");
+    }
     Ok(())
 }
 
