@@ -6,7 +6,7 @@ use Rattle.local_server.specs.declared.event.TimedEvent.{TimedEvent}
 use Rattle.local_server.specs.Servers.{ServerState}
 use Rattle.local_server.specs.Happening.{Happens}
 
--- these events happened to a server, each with what was said in it and a result
+-- these events happened to a server, each with what was said in it, and done or ended for want of memory
 abbrev pub Undergoes : ServerState → List TimedEvent → ServerState → Type 0
 Undergoes old [] new = new ≡ old
 Undergoes old (first ∷ others) new =

@@ -11,15 +11,15 @@ use Rattle.member_window.specs.Identifiers.{AreDistinct, identifiers_without}
 use Rattle.member_window.proofs.Lists.{distinct_push, distinct_without, length-without}
 use Rattle.session_desk.specs.declared.session.Membership.{Membership}
 use Rattle.session_desk.specs.declared.session.Membership.TheVariants.{NotMember, Member, Leaving}
-use Rattle.solo_output.specs.Groups.{Story, HandOut, opening, accepted_in, handed_in, waiting_in, is_open, open_identifiers, settled, unacknowledged, with_message, with_share, with_puback, with_hand_out, with_membership}
+use Rattle.solo_output.specs.Groups.{Story, HandOut, bound, opening, accepted_in, handed_in, waiting_in, is_open, open_identifiers, settled, unacknowledged, with_message, with_share, with_puback, with_hand_out, with_membership}
 use Rattle.solo_output.specs.Groups.Phase.{Unconnected, Connected}
 use Rattle.solo_output.specs.HandOuts.{quota, least_free}
 use Rattle.solo_output.specs.Publishing.{is_full}
 use Rattle.solo_output.specs.Replies.{reply, turn, turns}
-use Rattle.solo_output.specs.Runs.{IsIn}
+use Rattle.solo_output.specs.Runs.{IsInGroup}
 use Rattle.solo_output.proofs.Groups.{all_kept, all_push}
 use Rattle.solo_output.proofs.Lists.{handed, open_push, handed_in_push_same, handed_in_push_other, open_settled, handed_in_settled}
-use Rattle.solo_output.proofs.Brokers.{accepted_same, accepted_other, accepted_bound, accepted_first}
+use Rattle.solo_output.proofs.Brokers.{accepted_same, accepted_other, accepted_bound, accepted_first, length-accepting}
 use Rattle.solo_output.proofs.Identifiers.{is_least, least_small}
 use Rattle.solo_output.proofs.Moves.{MayJoin, Ways, replied, turned, ran}
 
@@ -28,7 +28,7 @@ IsSmall identifier = (1 ≤ identifier) × (identifier ≤ 256)
 
 -- what is unacknowledged is of the client's own group
 abbrev pub IsOwn : Membership ℕ → HandOut → Type 0
-IsOwn membership hand_out = hand_out.code ≡ None → IsIn membership hand_out.slot
+IsOwn membership hand_out = hand_out.code ≡ None → IsInGroup membership hand_out.slot
 
 pub record Kept (story : Story) : Type 0 where
   pub small : AllByRecursion IsSmall (unacknowledged story)
@@ -39,6 +39,7 @@ pub record Kept (story : Story) : Type 0 where
   pub lives : (slot : ℕ) → length (accepted_in slot story.groups) ≤ life
   pub fits : (slot : ℕ) → length (waiting_in slot story) ≤ story.capacity
   pub own : AllByRecursion (IsOwn story.membership) story.handed_out
+  pub bound : (slot : ℕ) → IsInGroup story.membership slot → slot < length story.groups
 
 pub kept_first : (capacity : ℕ) (shares : List Share) → Kept (opening capacity shares)
 kept_first capacity shares =
@@ -51,6 +52,7 @@ kept_first capacity shares =
       lives = λ slot. omega (arith, ap length (accepted_first slot shares));
       fits = λ slot. omega (arith, ap length (accepted_first slot shares));
       own = tt;
+      bound = λ slot in_. absurd in_;
     }
 
 -- ---- another membership
@@ -59,9 +61,10 @@ all_own : (P Q : HandOut → Type 0) (hand_outs : List HandOut) → ((hand_out :
 all_own P Q [] so all = tt
 all_own P Q (hand_out ∷ hand_outs) so all = (so hand_out all.0, all_own P Q hand_outs so all.1)
 
-kept_as : (membership : Membership ℕ) (story : Story) → ((hand_out : HandOut) → IsOwn story.membership hand_out → IsOwn membership hand_out) → Kept story → Kept (with_membership membership story)
-kept_as membership story so k =
-    record { small = k.small; distinct = k.distinct; room = k.room; fresh = k.fresh; order = k.order; lives = k.lives; fits = k.fits; own = all_own (IsOwn story.membership) (IsOwn membership) story.handed_out so k.own }
+kept_as : (membership : Membership ℕ) (story : Story) → ((hand_out : HandOut) → IsOwn story.membership hand_out → IsOwn membership hand_out) → (Kept story → (slot : ℕ) → IsInGroup membership slot → slot < length story.groups) → Kept story
+    → Kept (with_membership membership story)
+kept_as membership story so there k =
+    record { small = k.small; distinct = k.distinct; room = k.room; fresh = k.fresh; order = k.order; lives = k.lives; fits = k.fits; own = all_own (IsOwn story.membership) (IsOwn membership) story.handed_out so k.own; bound = there k }
 
 may_own : (before : Membership ℕ) (slot : ℕ) (hand_out : HandOut) → MayJoin before slot → IsOwn before hand_out → IsOwn (Member slot) hand_out
 may_own NotMember slot hand_out may its none = absurd (its none)
@@ -69,7 +72,7 @@ may_own (Member own) slot hand_out may its none = sym may ∙ its none
 may_own (Leaving own) slot hand_out may its none = sym may ∙ its none
 
 leaving_own : (membership : Membership ℕ) (slot : ℕ) (hand_out : HandOut) → membership ≡ Member slot → IsOwn membership hand_out → IsOwn (Leaving slot) hand_out
-leaving_own membership slot hand_out is its none = subst (λ (m : Membership ℕ). IsIn m hand_out.slot) is (its none)
+leaving_own membership slot hand_out is its none = subst (λ (m : Membership ℕ). IsInGroup m hand_out.slot) is (its none)
 
 -- where nothing is unacknowledged, all hand-outs have a code
 none_first : (membership : Membership ℕ) (slot identifier : ℕ) (code : Option ℕ) (hand_outs : List HandOut) → open_identifiers (handed slot identifier code ∷ hand_outs) ≡ []
@@ -119,6 +122,7 @@ kept_accepting slot message story within room k =
           (λ (other : at ≢ slot). omega (arith, ap length (accepted_other slot at message story.groups other), many story at, many (with_message slot message story) at, k.fits at))
           (cases_eq at slot);
       own = k.own;
+      bound = λ at in_. omega (arith, length-accepting slot message story.groups, k.bound at in_);
     }
 
 kept_binding : (share : Share) (story : Story) → Kept story → Kept (with_share share story)
@@ -134,6 +138,7 @@ kept_binding share story k =
       lives = λ slot. omega (arith, same slot, k.lives slot);
       fits = λ slot. omega (arith, same slot, many story slot, many (with_share share story) slot, k.fits slot);
       own = k.own;
+      bound = λ at in_. omega (arith, length_push story.groups (bound share), k.bound at in_);
     }
 
 -- ---- a PUBACK
@@ -160,6 +165,7 @@ kept_settling identifier code story k =
       lives = k.lives;
       fits = λ slot. subst (λ (n : ℕ). length (drop n (accepted_in slot story.groups)) ≤ story.capacity) (sym (same slot)) (k.fits slot);
       own = all_settled story.membership identifier code story.handed_out k.own;
+      bound = k.bound;
     }
 
 -- ---- a hand-out
@@ -193,7 +199,8 @@ kept_handing slot message rest story connected member less waits k =
           (λ (is : at ≡ slot). subst (λ (n : ℕ). length (waiting_in n behind) ≤ story.capacity) (sym is) (omega (arith, one_more, some, many story slot, many behind slot, k.fits slot)))
           (λ (other : at ≢ slot). omega (arith, others at other, many story at, many behind at, k.fits at))
           (cases_eq at slot);
-      own = all_push (IsOwn story.membership) story.handed_out (handed slot next None) k.own (λ none. subst (λ (m : Membership ℕ). IsIn m slot) (sym member) refl);
+      own = all_push (IsOwn story.membership) story.handed_out (handed slot next None) k.own (λ none. subst (λ (m : Membership ℕ). IsInGroup m slot) (sym member) refl);
+      bound = k.bound;
     }
 
 -- ---- every move
@@ -216,14 +223,15 @@ keeps =
             lives = k.lives;
             fits = k.fits;
             own = k.own;
+            bound = k.bound;
           };
-      closes = λ story k. record { small = k.small; distinct = k.distinct; room = k.room; fresh = λ e. absurd cc; order = k.order; lives = k.lives; fits = k.fits; own = k.own };
-      expires = λ expiry story k. record { small = k.small; distinct = k.distinct; room = k.room; fresh = k.fresh; order = k.order; lives = k.lives; fits = k.fits; own = k.own };
+      closes = λ story k. record { small = k.small; distinct = k.distinct; room = k.room; fresh = λ e. absurd cc; order = k.order; lives = k.lives; fits = k.fits; own = k.own; bound = k.bound };
+      expires = λ expiry story k. record { small = k.small; distinct = k.distinct; room = k.room; fresh = k.fresh; order = k.order; lives = k.lives; fits = k.fits; own = k.own; bound = k.bound };
       binds = λ share story none few. kept_binding share story;
-      joins = λ slot story may within. kept_as (Member slot) story (λ hand_out. may_own story.membership slot hand_out may);
-      leaves = λ slot story is. kept_as (Leaving slot) story (λ hand_out. leaving_own story.membership slot hand_out is);
+      joins = λ slot story may within. kept_as (Member slot) story (λ hand_out. may_own story.membership slot hand_out may) (λ k at in_. subst (λ (n : ℕ). n < length story.groups) in_ within);
+      leaves = λ slot story is. kept_as (Leaving slot) story (λ hand_out. leaving_own story.membership slot hand_out is) (λ k at in_. k.bound at (subst (λ (m : Membership ℕ). IsInGroup m at) (sym is) in_));
       parts = λ slot story is none k.
-          record { small = k.small; distinct = k.distinct; room = k.room; fresh = k.fresh; order = k.order; lives = k.lives; fits = k.fits; own = none_open NotMember story.handed_out none };
+          record { small = k.small; distinct = k.distinct; room = k.room; fresh = k.fresh; order = k.order; lives = k.lives; fits = k.fits; own = none_open NotMember story.handed_out none; bound = λ slot in_. absurd in_ };
     }
 
 pub kept_replying : (packet : Packet) (story : Story) → Kept story → Kept (reply packet story).story

@@ -2,6 +2,7 @@
 use Rattle.std.proofs.Common.{◌≡◌, ◌≢◌, ◌⊎◌, ℕ, ◌<◌, ◌==◌, ◌&&◌, Bool, true, false, cond, List, [], ◌∷◌, ◌++◌, map, length, slice_get, Option, Some, None, is_none, refl, sym, ap, ◌∙◌, subst, inl, inr, ⊎_elim, arith, eq-eqb, eqb-true}
 use Rattle.std.specs.Option.{option_map}
 use Rattle.std.proofs.lemmas.Bool.{cases_Bool, cases_eq}
+use Rattle.std.proofs.lemmas.List.{append-nil, append_assoc}
 use Rattle.std.proofs.lemmas.Option.{none-some, same_Some, slice_get-map, slice_get_within}
 use Rattle.dispatch_core.proofs.Spots.{slice_get-push_same, slice_get-push_other}
 use Rattle.group_jobs.specs.declared.message.Message.{Message}
@@ -83,6 +84,27 @@ lasts_delivering = delivered Lasts lasts lasts_one
 
 pub lasts_ran : (packets : List Packet) (story : Story) → Lasts story (turns packets story).story
 lasts_ran = ran Lasts lasts (λ slot message story within room place hand_out there. (hand_out, there, still hand_out)) lasts_settling lasts_one
+
+-- what goes out comes behind what is there
+abbrev Appends : Story → Story → Type 0
+Appends one two = (later : List HandOut) × (two.handed_out ≡ one.handed_out ++ later)
+
+appends : Ways Appends
+appends =
+    record {
+      stays = λ story. ([], sym (append-nil story.handed_out));
+      goes_on = λ one two three first later. (first.0 ++ later.0, later.1 ∙ ap (λ (l : List HandOut). l ++ later.0) first.1 ∙ append_assoc one.handed_out first.0 later.0);
+      connects = λ connect story is. ([], sym (append-nil story.handed_out));
+      closes = λ story. ([], sym (append-nil story.handed_out));
+      expires = λ expiry story. ([], sym (append-nil story.handed_out));
+      binds = λ share story none few. ([], sym (append-nil story.handed_out));
+      joins = λ slot story may within. ([], sym (append-nil story.handed_out));
+      leaves = λ slot story is. ([], sym (append-nil story.handed_out));
+      parts = λ slot story is none. ([], sym (append-nil story.handed_out));
+    }
+
+pub appends_handing : (slot : ℕ) (messages : List Message) (story : Story) → story.phase ≡ Connected → story.membership ≡ Member slot → messages ≡ due slot story → Appends story (hand_out slot messages story).story
+appends_handing = hands_out Appends appends (λ slot message rest story connected member less waits. (handed slot (least_free (unacknowledged story)) None ∷ [], refl))
 
 -- ---- a PUBACK settles the one that is unacknowledged under its identifier
 

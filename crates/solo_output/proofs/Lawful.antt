@@ -1,9 +1,10 @@
 -- What every run of a story keeps.
-use Rattle.std.proofs.Common.{◌≡◌, ◌≢◌, ◌⊎◌, ℕ, zero, suc, ◌-◌, ◌≤◌, min, List, [], ◌∷◌, ◌++◌, length, take, slice_get, Some, None, refl, sym, ap, ◌∙◌, subst, inl, inr, ⊎_elim, arith}
+use Rattle.std.proofs.Common.{◌≡◌, ◌≢◌, ◌⊎◌, ℕ, zero, suc, ◌-◌, ◌<◌, ◌≤◌, Option, min, List, [], ◌∷◌, ◌++◌, length, take, slice_get, Some, None, refl, sym, ap, ◌∙◌, subst, inl, inr, ⊎_elim, arith}
 use Rattle.std.specs.List.{AllByRecursion}
 use Rattle.std.proofs.lemmas.List.{append-nil, append_assoc}
 use Rattle.std.proofs.lemmas.Option.{none-some, same_Some}
 use Rattle.std.proofs.lemmas.List.Elements.{filter-append}
+use Rattle.mqtt_wire.specs.declared.fault.StreamFault.{StreamFault}
 use Rattle.mqtt_wire.specs.declared.packet.Connect.{Connect}
 use Rattle.mqtt_wire.specs.declared.packet.Packet.{Packet}
 use Rattle.mqtt_wire.specs.declared.packet.Packet.TheVariants as kinds
@@ -17,10 +18,10 @@ use Rattle.conn_rules.specs.Connecting.{or_else, connect_answer}
 use Rattle.local_server.specs.declared.setup.Setup.{Setup}
 use Rattle.solo_output.specs.Groups.{Story, HandOut, Phase, opening, accepted_in, waiting_in, open_identifiers, unacknowledged, with_hand_out}
 use Rattle.solo_output.specs.Groups.Phase.{Unconnected, Connected, Closed}
-use Rattle.solo_output.specs.HandOuts.{Turn, quota, least_free, due, hand_out, left_with, deliver_to, deliver_in, deliver}
+use Rattle.solo_output.specs.HandOuts.{Turn, quota, least_free, due, hand_out, sends_nothing, left_with, deliver_to, deliver_in, deliver}
 use Rattle.solo_output.specs.Publishing.{Reply}
-use Rattle.solo_output.specs.Replies.{first_reply_as, reply, reply_in, behind_reply, turn, turns}
-use Rattle.solo_output.specs.Runs.{run_of, taken_in, taken, is_publish, published, jobs_of, IsIn, IsStill, IsSettledBy}
+use Rattle.solo_output.specs.Replies.{first_reply_as, reply, reply_in, behind_reply, turn, turns, farewell_in, farewell}
+use Rattle.solo_output.specs.Runs.{run_of, taken_in_phase, taken, is_publish, published, jobs_of, IsInGroup, IsStill, IsSettledBy}
 use Rattle.solo_output.proofs.Brokers.{accepted_first}
 use Rattle.solo_output.proofs.Sessions.{hand_out_keeps}
 use Rattle.solo_output.proofs.Moves.{Ways, due_behind, ran}
@@ -74,7 +75,7 @@ accepts_all (packet ∷ packets) story slot =
     let next = (turn packet story).story in
     accepts_all packets next slot
     ∙ ap (λ (l : List Message). l ++ taken packets slot next) (turn_accepts packet story slot)
-    ∙ append_assoc (accepted_in slot story.groups) (taken_in story.phase packet slot story) (taken packets slot next)
+    ∙ append_assoc (accepted_in slot story.groups) (taken_in_phase story.phase packet slot story) (taken packets slot next)
 
 pub accepted_all : (setup : Setup) (packets : List Packet) (slot : ℕ) → accepted_in slot (run_of setup packets).story.groups ≡ taken packets slot (opening setup.capacity setup.groups)
 accepted_all setup packets slot =
@@ -266,15 +267,19 @@ module _ (setup : Setup) (connect : Connect) (packets : List Packet) where
   abbrev asked : ℕ
   asked = or_else 65535 connect.properties.receive_maximum
 
-  refused : (r : Reply) → r.story.phase ≡ Closed → r.story.handed_out ≡ [] → length (unacknowledged (turns packets (behind_reply r).story).story) ≤ asked
+  -- no more is unacknowledged than was asked for; and while the client is connected, its quota is that, and 256 at most
+  abbrev Within : Story → Type 0
+  Within story = (length (unacknowledged story) ≤ asked) × (story.phase ≡ Connected → quota story ≡ min asked 256)
+
+  refused : (r : Reply) → r.story.phase ≡ Closed → r.story.handed_out ≡ [] → Within (turns packets (behind_reply r).story).story
   refused r closed' none =
       let stays : (deliver r.story).story ≡ r.story = ap (λ (p : Phase). (deliver_in p r.story).story) closed' in
-      let last : unacknowledged (turns packets (behind_reply r).story).story ≡ [] =
-      ap (λ (s : Story). unacknowledged (turns packets s).story) stays ∙ ap (λ (t : Turn). unacknowledged t.story) (closed_turns packets r.story closed') ∙ ap open_identifiers none in
-      omega (arith, ap length last)
+      let last : (turns packets (behind_reply r).story).story ≡ r.story = ap (λ (s : Story). (turns packets s).story) stays ∙ ap (λ (t : Turn). t.story) (closed_turns packets r.story closed') in
+      let few : length (unacknowledged (turns packets (behind_reply r).story).story) ≡ 0 = ap (λ (s : Story). length (unacknowledged s)) last ∙ ap (λ (hs : List HandOut). length (open_identifiers hs)) none in
+      (omega arith, λ connected. let e : Closed ≡ Connected = sym closed' ∙ sym (ap (λ (s : Story). s.phase) last) ∙ connected in absurd cc)
 
   by_answer : (answer : FirstAnswer) → Kept (turns packets (behind_reply (first_reply_as answer (kinds.Connect connect) start)).story).story
-      → length (unacknowledged (turns packets (behind_reply (first_reply_as answer (kinds.Connect connect) start)).story).story) ≤ asked
+      → Within (turns packets (behind_reply (first_reply_as answer (kinds.Connect connect) start)).story).story
   by_answer first.Close kept = refused (first_reply_as first.Close (kinds.Connect connect) start) refl refl
   by_answer (first.Refuse refusal) kept = refused (first_reply_as (first.Refuse refusal) (kinds.Connect connect) start) refl refl
   by_answer first.Attach kept =
@@ -282,19 +287,31 @@ module _ (setup : Setup) (connect : Connect) (packets : List Packet) where
       let same = (asked_ran packets next (λ e. absurd cc)).1 in
       let last = (turns packets next).story in
       let few : min last.terms.receive_maximum 256 ≤ last.terms.receive_maximum = least_of last.terms.receive_maximum 256 in
-      omega (arith, same, few, kept.room)
+      (omega (arith, same, few, kept.room), λ connected. ap (λ (n : ℕ). min n 256) same)
 
-  pub within_maximum : length (unacknowledged (run_of setup (kinds.Connect connect ∷ packets)).story) ≤ asked
+  pub within_maximum : Within (run_of setup (kinds.Connect connect ∷ packets)).story
   within_maximum = by_answer (connect_answer connect) (kept_of setup (kinds.Connect connect ∷ packets))
+
+-- ---- behind the close of the connection
+
+pub silent : (story : Story) (packets : List Packet) → story.phase ≡ Closed → (turns packets story ≡ sends_nothing story) × ((fault : Option StreamFault) → farewell fault story ≡ None)
+silent story packets closed' = (closed_turns packets story closed', λ fault. ap (λ (p : Phase). farewell_in p fault) closed' ∙ none_behind fault)
+  where
+    none_behind : (fault : Option StreamFault) → farewell_in Closed fault ≡ None
+    none_behind None = refl
+    none_behind (Some fault) = refl
 
 -- ---- whose is what is unacknowledged
 
-own_at : (membership : Membership ℕ) (hand_outs : List HandOut) (place : ℕ) (one : HandOut) → AllByRecursion (IsOwn membership) hand_outs → slice_get hand_outs place ≡ Some one → one.code ≡ None → IsIn membership one.slot
+own_at : (membership : Membership ℕ) (hand_outs : List HandOut) (place : ℕ) (one : HandOut) → AllByRecursion (IsOwn membership) hand_outs → slice_get hand_outs place ≡ Some one → one.code ≡ None → IsInGroup membership one.slot
 own_at membership [] place one all there none = absurd (none_first place one there)
 own_at membership (other ∷ hand_outs) zero one all there none =
     let same : other ≡ one = same_Some other one there in
-    subst (λ (h : HandOut). IsIn membership h.slot) same (all.0 (ap (λ (h : HandOut). h.code) same ∙ none))
+    subst (λ (h : HandOut). IsInGroup membership h.slot) same (all.0 (ap (λ (h : HandOut). h.code) same ∙ none))
 own_at membership (other ∷ hand_outs) (suc place) one all there none = own_at membership hand_outs place one all.1 there none
 
-pub own_all : (setup : Setup) (packets : List Packet) (place : ℕ) (one : HandOut) → let story = (run_of setup packets).story in slice_get story.handed_out place ≡ Some one → one.code ≡ None → IsIn story.membership one.slot
+pub own_all : (setup : Setup) (packets : List Packet) (place : ℕ) (one : HandOut) → let story = (run_of setup packets).story in slice_get story.handed_out place ≡ Some one → one.code ≡ None → IsInGroup story.membership one.slot
 own_all setup packets place one there none = own_at (run_of setup packets).story.membership (run_of setup packets).story.handed_out place one (kept_of setup packets).own there none
+
+pub bound_all : (setup : Setup) (packets : List Packet) (slot : ℕ) → let story = (run_of setup packets).story in IsInGroup story.membership slot → slot < length story.groups
+bound_all setup packets slot in_ = (kept_of setup packets).bound slot in_

@@ -1,6 +1,6 @@
 -- What a group accepts of a packet, and what its publisher hears of it.
-use Rattle.std.proofs.Common.{◌≡◌, ◌≢◌, ℕ, zero, suc, ◌+◌, ◌<◌, ◌≤◌, ◌&&◌, ◌||◌, nat_le, not, Bool, true, false, cond, List, [], ◌∷◌, ◌++◌, length, drop, slice_index_or, Some, refl, sym, ap, ◌∙◌, subst, arith, zero-add}
-use Rattle.std.specs.List.{filter}
+use Rattle.std.proofs.Common.{◌≡◌, ◌≢◌, ℕ, zero, suc, ◌+◌, ◌<◌, ◌≤◌, ◌==◌, ◌&&◌, ◌||◌, nat_le, not, Bool, true, false, cond, List, [], ◌∷◌, ◌++◌, length, drop, slice_index_or, Some, refl, sym, ap, ◌∙◌, subst, arith, zero-add, eq-eqb, ne_eqb}
+use Rattle.std.specs.List.{filter, list_any}
 use Rattle.std.proofs.lemmas.Bool.{cond_both}
 use Rattle.std.proofs.lemmas.List.{append-nil, length-map}
 use Rattle.mqtt_wire.specs.declared.packet.Packet.TheVariants as kinds
@@ -16,7 +16,7 @@ use Rattle.solo_output.specs.Groups.{Story, Phase, shares_of, accepted_in, hande
 use Rattle.solo_output.specs.Groups.Phase.{Connected}
 use Rattle.solo_output.specs.Publishing.{is_full, matching, offer_to, taken_too, publish_reply_as}
 use Rattle.solo_output.specs.Replies.{reply, reply_in}
-use Rattle.solo_output.specs.Runs.{takers, taken_as}
+use Rattle.solo_output.specs.Runs.{takers, taken_of_offer}
 use Rattle.solo_output.proofs.Brokers.{accepted_same, accepted_other, length-accepting, length-shares}
 
 -- a message in another group fills none
@@ -70,17 +70,48 @@ offered_at (suc k) from at (true ∷ bits) message story is few =
     offered_at k (from + 1) at bits message next (omega (arith, is)) (omega (arith, length-accepting from message story.groups))
     ∙ (λ i. accepted_other from at message story.groups other i ++ taken_if (slice_index_or bits k false && not (full_other from at message story other i)) message))
 
+-- who is among the takers
+takes_none : (from at : ℕ) (bits : List Bool) (test : ℕ → Bool) → at < from → list_any (λ taker. taker == at) (filter test (places_of from bits)) ≡ false
+takes_none from at [] test less = refl
+takes_none from at (false ∷ bits) test less = takes_none (from + 1) at bits test (omega arith)
+takes_none from at (true ∷ bits) test less =
+    let slots = filter test (places_of (from + 1) bits) in
+    let rest = takes_none (from + 1) at bits test (omega arith) in
+    cond_both (test from) (from ∷ slots) slots (λ takers. list_any (λ taker. taker == at) takers ≡ false)
+    (λ takes. ap (λ (b : Bool). b || list_any (λ taker. taker == at) slots) (ne_eqb from at (λ e. absurd (omega (arith, e, less)))) ∙ rest)
+    (λ not_. rest)
+
+takes_at : (k from at : ℕ) (bits : List Bool) (test : ℕ → Bool) → at ≡ from + k → list_any (λ taker. taker == at) (filter test (places_of from bits)) ≡ (slice_index_or bits k false && test at)
+takes_at k from at [] test is = refl
+takes_at zero from at (false ∷ bits) test is = takes_none (from + 1) at bits test (omega (arith, is))
+takes_at (suc k) from at (false ∷ bits) test is = takes_at k (from + 1) at bits test (omega (arith, is))
+takes_at zero from at (true ∷ bits) test is =
+    let here : at ≡ from = omega (arith, is) in
+    let slots = filter test (places_of (from + 1) bits) in
+    subst (λ (n : ℕ). list_any (λ taker. taker == n) (filter test (from ∷ places_of (from + 1) bits)) ≡ test n) (sym here)
+    (cond_both (test from) (from ∷ slots) slots (λ takers. list_any (λ taker. taker == from) takers ≡ test from)
+    (λ takes. ap (λ (b : Bool). b || list_any (λ taker. taker == from) slots) (eq-eqb from from refl) ∙ sym takes)
+    (λ not_. takes_none (from + 1) from bits test (omega arith) ∙ sym not_))
+takes_at (suc k) from at (true ∷ bits) test is =
+    let slots = filter test (places_of (from + 1) bits) in
+    let rest = takes_at k (from + 1) at bits test (omega (arith, is)) in
+    cond_both (test from) (from ∷ slots) slots (λ takers. list_any (λ taker. taker == at) takers ≡ (slice_index_or bits k false && test at))
+    (λ takes. ap (λ (b : Bool). b || list_any (λ taker. taker == at) slots) (ne_eqb from at (λ e. absurd (omega (arith, e, is)))) ∙ rest)
+    (λ not_. rest)
+
 bits_few : (topic : List ℕ) (story : Story) → 0 + length (routed topic (shares_of story.groups)) ≤ length story.groups
 bits_few topic story =
     let many : length (routed topic (shares_of story.groups)) ≡ length story.groups = length-map (shares_of story.groups) _ ∙ length-shares story.groups in
     omega arith
 
 -- what a group accepts of a PUBLISH
-pub takes_of : (answer : PublishAnswer) (publish : Publish) (story : Story) (slot : ℕ) → accepted_in slot (publish_reply_as answer publish story).story.groups ≡ accepted_in slot story.groups ++ taken_as answer slot publish story
+pub takes_of : (answer : PublishAnswer) (publish : Publish) (story : Story) (slot : ℕ) → accepted_in slot (publish_reply_as answer publish story).story.groups ≡ accepted_in slot story.groups ++ taken_of_offer answer slot publish story
 takes_of (publishing.Close code) publish story slot = sym (append-nil (accepted_in slot story.groups))
 takes_of (publishing.Refuse identifier code) publish story slot = sym (append-nil (accepted_in slot story.groups))
 takes_of (publishing.Offer identifier) publish story slot =
-    offered_at slot 0 slot (routed publish.topic (shares_of story.groups)) (message_of publish) story (sym (zero-add slot)) (bits_few publish.topic story)
+    let bits = routed publish.topic (shares_of story.groups) in
+    offered_at slot 0 slot bits (message_of publish) story (sym (zero-add slot)) (bits_few publish.topic story)
+    ∙ ap (λ (b : Bool). accepted_in slot story.groups ++ taken_if b (message_of publish)) (sym (takes_at slot 0 slot bits (λ taker. not (is_full taker story)) (sym (zero-add slot))))
 
 -- ---- how many groups took a message
 
@@ -101,9 +132,9 @@ taken_many from (true ∷ bits) message now story same =
     more ∙ ap first_too (sym room ∙ same from (omega arith)))
 
 -- the PUBACK says so
-pub heard : (publish : Publish) (identifier : ℕ) (story : Story) → story.phase ≡ Connected → publish_answer publish ≡ publishing.Offer identifier
+pub answered : (publish : Publish) (identifier : ℕ) (story : Story) → story.phase ≡ Connected → publish_answer publish ≡ publishing.Offer identifier
     → (reply (kinds.Publish publish) story).packet ≡ Some (puback identifier (puback_code (length (matching publish.topic story)) (length (takers publish.topic story))))
-heard publish identifier story connected answer =
+answered publish identifier story connected answer =
     ap (λ (p : Phase). (reply_in p (kinds.Publish publish) story).packet) connected
     ∙ ap (λ (a : PublishAnswer). (publish_reply_as a publish story).packet) answer
     ∙ ap (λ (n : ℕ). Some (puback identifier (puback_code (length (matching publish.topic story)) n))) (taken_many 0 (routed publish.topic (shares_of story.groups)) (message_of publish) story story (λ slot past. refl))

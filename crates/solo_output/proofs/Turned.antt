@@ -1,8 +1,8 @@
 -- A turn, by its packet: what it sends that is no hand-out, what each group accepts of it, and which hand-outs it settles.
-use Rattle.std.proofs.Common.{◌≡◌, ◌≢◌, ◌⊎◌, ℕ, ◌≤◌, false, List, [], ◌∷◌, ◌++◌, length, slice_get, Option, Some, None, refl, sym, ap, ◌∙◌, inl, inr, ⊎_elim, arith}
+use Rattle.std.proofs.Common.{◌≡◌, ◌≢◌, ◌⊎◌, ℕ, zero, suc, ◌≤◌, false, List, [], ◌∷◌, ◌++◌, length, take, slice_get, Option, Some, None, refl, sym, ap, ◌∙◌, subst, inl, inr, ⊎_elim, arith}
 use Rattle.std.specs.Option.{option_to_list}
 use Rattle.std.proofs.lemmas.Bool.{cases_eq, cond_both}
-use Rattle.std.proofs.lemmas.List.{append-nil, length-map, length_push}
+use Rattle.std.proofs.lemmas.List.{append-nil, append_assoc, length-map, length_push, take_all, take-append-le}
 use Rattle.std.proofs.lemmas.List.Elements.{filter-append}
 use Rattle.std.proofs.lemmas.Option.{none-some, same_Some, slice_get_within}
 use Rattle.dispatch_core.proofs.Spots.{slice_get-push_same}
@@ -23,19 +23,21 @@ use Rattle.conn_rules.specs.Connecting.{first_answer, is_given_expiry}
 use Rattle.conn_rules.specs.Packets.{job, disconnect as disconnecting}
 use Rattle.conn_rules.specs.Publishing.{publish_answer}
 use Rattle.conn_rules.specs.Subscribing.{subscribe_refusal, unsubscribe_refusal}
-use Rattle.solo_output.specs.Groups.{Story, HandOut, Phase, accepted_in, settled, unacknowledged, with_hand_out}
+use Rattle.solo_output.specs.Groups.{Story, HandOut, Phase, accepted_in, open_identifiers, settled, unacknowledged, with_hand_out}
 use Rattle.solo_output.specs.Groups.Phase.{Unconnected, Connected, Closed}
 use Rattle.solo_output.specs.HandOuts.{Turn, least_free, due, hand_out, sends_nothing, deliver_to, deliver_in, deliver}
 use Rattle.solo_output.specs.Publishing.{Reply, closing, publish_reply_as}
 use Rattle.solo_output.specs.Subscribing.{subscribe_reply_as, unsubscribe_reply_as}
 use Rattle.solo_output.specs.Replies.{attach_reply, first_reply_as, with_expiry, disconnect_reply, later_reply, reply_in, reply, behind_reply, turn, turns}
-use Rattle.solo_output.specs.Runs.{taken_from, taken_in, is_publish, published}
+use Rattle.solo_output.specs.Runs.{taken_of_packet, taken_in_phase, is_publish, published}
 use Rattle.solo_output.proofs.Brokers.{accepted_bound}
+use Rattle.member_window.specs.Identifiers.{IsLeastFree}
+use Rattle.solo_output.proofs.Identifiers.{is_least}
 use Rattle.solo_output.proofs.Lists.{handed}
 use Rattle.solo_output.proofs.Sessions.{hand_out_keeps, offer_keeps}
 use Rattle.solo_output.proofs.Moves.{Ways, due_behind, subscribes, unsubscribes, disconnects, firsts, replied, delivered}
 use Rattle.solo_output.proofs.Taken.{takes_of}
-use Rattle.solo_output.proofs.Lasting.{came_from, coded_before, lasts_handing}
+use Rattle.solo_output.proofs.Lasting.{came_from, coded_before, appends_handing}
 
 -- ---- what is neither a PUBLISH nor a PUBACK
 
@@ -106,7 +108,7 @@ disconnect_quiet None story = refl
 disconnect_quiet (Some expiry) story =
     cond_both (is_given_expiry expiry story.terms) (closing (Some (disconnecting 0x82)) story) (closing None (with_expiry expiry story)) (λ r. published (option_to_list r.packet) ≡ []) (λ given. refl) (λ other. refl)
 
-later_answers : (packet : Packet) (story : Story) → Answers packet story (λ slot. taken_from packet slot story) (later_reply packet story)
+later_answers : (packet : Packet) (story : Story) → Answers packet story (λ slot. taken_of_packet packet slot story) (later_reply packet story)
 later_answers (kinds.Publish publish) story =
     record {
       quiet = publish_quiet (publish_answer publish) publish story;
@@ -160,13 +162,13 @@ first_quiet first.Close packet story = refl
 first_quiet (first.Refuse refusal) packet story = refl
 first_quiet first.Attach packet story = attach_quiet packet story
 
-answers_in : (phase : Phase) (packet : Packet) (story : Story) → story.phase ≡ phase → Answers packet story (λ slot. taken_in phase packet slot story) (reply_in phase packet story)
+answers_in : (phase : Phase) (packet : Packet) (story : Story) → story.phase ≡ phase → Answers packet story (λ slot. taken_in_phase phase packet slot story) (reply_in phase packet story)
 answers_in Unconnected packet story is =
     unmoved packet story (first_reply_as (first_answer packet) packet story) (first_quiet (first_answer packet) packet story) (firsts Same sames (first_answer packet) packet story is)
 answers_in Connected packet story is = later_answers packet story
 answers_in Closed packet story is = unmoved packet story _ refl (sames.stays story)
 
-pub answers : (packet : Packet) (story : Story) → Answers packet story (λ slot. taken_in story.phase packet slot story) (reply packet story)
+pub answers : (packet : Packet) (story : Story) → Answers packet story (λ slot. taken_in_phase story.phase packet slot story) (reply packet story)
 answers packet story = answers_in story.phase packet story refl
 
 -- a PUBACK settles only where the client is connected
@@ -214,7 +216,7 @@ delivering =
 
 -- ---- a turn
 
-pub turn_accepts : (packet : Packet) (story : Story) (slot : ℕ) → accepted_in slot (turn packet story).story.groups ≡ accepted_in slot story.groups ++ taken_in story.phase packet slot story
+pub turn_accepts : (packet : Packet) (story : Story) (slot : ℕ) → accepted_in slot (turn packet story).story.groups ≡ accepted_in slot story.groups ++ taken_in_phase story.phase packet slot story
 turn_accepts packet story slot = (delivering (reply packet story).story).accepted slot ∙ (answers packet story).accepted slot
 
 pub turn_codes : (packet : Packet) (story : Story) (place told : ℕ) (other : HandOut) → slice_get (turn packet story).story.handed_out place ≡ Some other → other.code ≡ Some told
@@ -249,34 +251,57 @@ turn_published packet story =
 
 -- ---- whom hand-outs go to
 
--- those that are new go to a member of their group
+slice_get_front : (xs ys : List HandOut) (k : ℕ) (x : HandOut) → slice_get xs k ≡ Some x → slice_get (xs ++ ys) k ≡ Some x
+slice_get_front [] ys k x there = absurd (none-some x there)
+slice_get_front (y ∷ xs) ys zero x there = there
+slice_get_front (y ∷ xs) ys (suc k) x there = slice_get_front xs ys k x there
+
+-- those that are new go to a member of their group, each under the least identifier that is free by then
 abbrev pub GoTo : Story → Story → Type 0
-GoTo one two = (place : ℕ) (other : HandOut) → length one.handed_out ≤ place → slice_get two.handed_out place ≡ Some other → two.membership ≡ Member other.slot
+GoTo one two =
+    (place : ℕ) (other : HandOut) → length one.handed_out ≤ place → slice_get two.handed_out place ≡ Some other
+    → (two.membership ≡ Member other.slot) × IsLeastFree (open_identifiers (take place two.handed_out)) other.identifier
 
 past_end : (story : Story) (place : ℕ) (other : HandOut) → length story.handed_out ≤ place → slice_get story.handed_out place ≡ Some other → ⊥
 past_end story place other past there = let within = slice_get_within story.handed_out place other there in absurd (omega (arith, within, past))
 
+take_front : (hand_outs later : List HandOut) → take (length hand_outs) (hand_outs ++ later) ≡ hand_outs
+take_front hand_outs later = take-append-le (length hand_outs) hand_outs later (omega arith) ∙ take_all (length hand_outs) hand_outs (omega arith)
+
+-- where it goes out, behind a story
+abbrev GoesOut : ℕ → Story → ℕ → HandOut → Type 0
+GoesOut slot behind place other = (other.slot ≡ slot) × IsLeastFree (open_identifiers (take place behind.handed_out)) other.identifier
+
 members_of : (slot : ℕ) (messages : List Message) (story : Story) → story.phase ≡ Connected → story.membership ≡ Member slot → messages ≡ due slot story
-    → (place : ℕ) (other : HandOut) → length story.handed_out ≤ place → slice_get (hand_out slot messages story).story.handed_out place ≡ Some other → other.slot ≡ slot
+    → (place : ℕ) (other : HandOut) → length story.handed_out ≤ place → slice_get (hand_out slot messages story).story.handed_out place ≡ Some other → GoesOut slot (hand_out slot messages story).story place other
 members_of slot [] story connected member is place other past there = absurd (past_end story place other past there)
 members_of slot (message ∷ messages) story connected member is place other past there =
     let next = least_free (unacknowledged story) in
     let behind = with_hand_out slot next story in
+    let last = (hand_out slot messages behind).story in
     let rest = due_behind slot story message messages is in
     let one = handed slot next None in
     ⊎_elim
     (λ (here : place ≡ length story.handed_out).
-    let lasts = lasts_handing slot messages behind connected member rest.3 (length story.handed_out) one (slice_get-push_same story.handed_out one) in
-    let same' : lasts.0 ≡ other = same_Some lasts.0 other (sym lasts.1 ∙ ap (slice_get (hand_out slot messages behind).story.handed_out) (sym here) ∙ there) in
-    ap (λ (h : HandOut). h.slot) (sym same') ∙ lasts.2.slot)
+    let later = appends_handing slot messages behind connected member rest.3 in
+    let all : last.handed_out ≡ story.handed_out ++ one ∷ later.0 = later.1 ∙ append_assoc story.handed_out (one ∷ []) later.0 in
+    let got : slice_get last.handed_out place ≡ Some one =
+    ap (slice_get last.handed_out) here ∙ ap (λ (l : List HandOut). slice_get l (length story.handed_out)) later.1
+    ∙ slice_get_front (story.handed_out ++ one ∷ []) later.0 (length story.handed_out) one (slice_get-push_same story.handed_out one) in
+    let same' : one ≡ other = same_Some one other (sym got ∙ there) in
+    let before : take place last.handed_out ≡ story.handed_out = (λ i. take (here i) (all i)) ∙ take_front story.handed_out (one ∷ later.0) in (
+      ap (λ (h : HandOut). h.slot) (sym same'),
+      subst (λ (h : HandOut). IsLeastFree (open_identifiers (take place last.handed_out)) h.identifier) same'
+          (subst (λ (l : List HandOut). IsLeastFree (open_identifiers l) next) (sym before) (is_least (unacknowledged story))),
+    ))
     (λ (later : place ≢ length story.handed_out). members_of slot messages behind connected member rest.3 place other (omega (arith, length_push story.handed_out one, past, later)) there)
     (cases_eq place (length story.handed_out))
 
 go_to : (membership : Membership ℕ) (story : Story) → story.phase ≡ Connected → story.membership ≡ membership → GoTo story (deliver_to membership story).story
 go_to NotMember story connected is place other past there = absurd (past_end story place other past there)
 go_to (Member slot) story connected is place other past there =
-    (hand_out_keeps slot (due slot story) story).membership ∙ is
-    ∙ ap (λ (n : ℕ). Member n) (sym (members_of slot (due slot story) story connected is refl place other past there))
+    let goes = members_of slot (due slot story) story connected is refl place other past there in
+    ((hand_out_keeps slot (due slot story) story).membership ∙ is ∙ ap (λ (n : ℕ). Member n) (sym goes.0), goes.1)
 go_to (Leaving slot) story connected is place other past there = absurd (past_end story place other past there)
 
 go_in : (phase : Phase) (story : Story) → story.phase ≡ phase → GoTo story (deliver_in phase story).story

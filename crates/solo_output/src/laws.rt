@@ -1,6 +1,6 @@
 //! Laws of the story: what `solo` writes is what it comes to, and what it comes to is lawful. Each is the contract of a function that does nothing,
 //! stated over the definitions that the contract of [`solo`](drive::solo) cites.
-ghost use Rattle.std.specs.Prelude.{◌≡◌, ◌⊎◌, ◌↔◌, ◌+◌, ◌≤◌, ℕ, List, [], ◌∷◌, ◌++◌, length, slice_get, Option, Some, None, Ok, Err};
+ghost use Rattle.std.specs.Prelude.{◌≡◌, ◌⊎◌, ◌↔◌, ◌+◌, ◌<◌, ◌≤◌, ℕ, min, List, [], ◌∷◌, ◌++◌, length, take, slice_get, Option, Some, None, Ok, Err};
 ghost use Rattle.std.specs.List.{AllByRecursion};
 ghost use Rattle.member_window.specs.Identifiers.{IsLeastFree, AreDistinct};
 ghost use Rattle.mqtt_wire.specs.declared.fault.StreamFault.{StreamFault};
@@ -21,15 +21,15 @@ ghost use Rattle.conn_rules.specs.Publishing.{publish_answer, puback_code};
 ghost use Rattle.local_server.specs.declared.setup.Setup.{Setup};
 ghost use Rattle.drive.specs.Streams.{client_script_of};
 ghost use Rattle.drive.specs.Transcripts.{IsSoloOutput, Writes, BeginsTo};
-ghost use Rattle.solo_output.specs.Groups.{Story, HandOut, opening, shares_of, accepted_in, handed_in, waiting_in, unacknowledged};
+ghost use Rattle.solo_output.specs.Groups.{Story, HandOut, opening, shares_of, accepted_in, handed_in, open_identifiers, waiting_in, unacknowledged};
 ghost use Rattle.solo_output.specs.Groups.Phase.{Connected, Closed};
 ghost use Rattle.solo_output.specs.HandOuts.{quota, least_free, sends_nothing};
 ghost use Rattle.solo_output.specs.Publishing.{matching};
-ghost use Rattle.solo_output.specs.Replies.{reply, turn, turns};
+ghost use Rattle.solo_output.specs.Replies.{farewell, reply, turn, turns};
 ghost use Rattle.solo_output.specs.Report.{fates_of};
 ghost use Rattle.solo_output.specs.Streams.{stream_of};
 ghost use Rattle.solo_output.specs.Output.{solo_output, IsOutputFor};
-ghost use Rattle.solo_output.specs.Runs.{run_of, takers, taken, published, sent_in, jobs_of, IsIn, IsStill, IsSettledBy};
+ghost use Rattle.solo_output.specs.Runs.{run_of, takers, taken, published, sent_in, jobs_of, IsInGroup, IsStill, IsSettledBy};
 
 /// **The output of [`solo`](drive::solo) is a function of what its client's stream is read as**, on a server with at most eight shares bound:
 /// the lines of the input spell a stream, that is read as packets and perhaps a fault, and the output is `solo_output` of these (`closed_form`);
@@ -55,7 +55,7 @@ pub fn one_output_law()
     ensures unique { (setup : Setup) (input one other : List ℕ) → IsOutputFor setup input one → IsOutputFor setup input other → one ≡ other }
 {}
 
-/// **A hand-out goes under the least identifier that is free** (2.2.1): what the story computes is so, and nothing else is.
+/// **The identifier that `least_free` computes** is the least that is free (2.2.1; that it is the least is the profile's), and no other is.
 pub fn identifier_law()
     ensures least { (used : List ℕ) → IsLeastFree used (least_free used) }
     ensures only { (used : List ℕ) (identifier : ℕ) → IsLeastFree used identifier → least_free used ≡ identifier }
@@ -64,27 +64,31 @@ pub fn identifier_law()
 /// **Every run is lawful**: what the story keeps on every setup, whatever packets come, of the client and of each group.
 ///
 /// - `receive_maximum`: no more hand-outs are unacknowledged than the Receive Maximum of the CONNECT, or than 65,535 where it has none
-///   (3.1.2.11.3, 4.9).
-/// - `quota`: nor more than the quota, which is 256 at most.
-/// - `identifiers`: the unacknowledged identifiers are 1 to 256, and no two are equal (2.2.1).
-/// - `groups`: eight shares at most are bound, of differing texts, where those of the setup are so; `slots`: each keeps its slot.
-/// - `accepted`: a group accepted the messages of the PUBLISH packets that were offered when its filter matched and it had room, in order, and no others
-///   (4.7); `heard`: the PUBACK says whether none matched, all that matched took the message, or some did not (3.4.2.1).
-/// - `waiting`: no group accepts more than its publisher may send in its life, and in none more messages wait than the capacity.
+///   (3.1.2.11.3, 4.9); and the quota of the connection is that, cut to 256 (profile). `quota`: nor more than the quota.
+/// - `identifiers`: the unacknowledged identifiers are 1 to 256 (profile), and no two are equal (2.2.1).
+/// - `groups`: eight shares at most are bound, of differing texts, where those of the setup are so (profile); `slots`: each keeps its slot.
+/// - `accepted`: a group accepted the messages of the PUBLISH packets that were offered when it was among those that take them: its filter matched
+///   (4.7), and it had room; in order, and no others. `answered`: the PUBACK of such a packet says whether no filter matched, all groups that match
+///   took the message, or some did not (3.4.2.1).
+/// - `waiting`: no group accepted more than 2^20 messages, the most that one connection may publish to a group, and in none more wait than the
+///   capacity (profile).
 /// - `in_order`: the PUBLISH packets that were sent are one for each hand-out, and those of a group are its first accepted messages, in order, each
-///   under the identifier of its hand-out. So none goes out twice, and none before an older one (4.6).
-/// - `members`: a hand-out goes to a member of its group, and `one_group`: what is unacknowledged is of the one group whose member the client is,
-///   or which it is leaving (4.8.2).
-/// - `settles`: a PUBACK gives its Reason Code to the hand-out that is unacknowledged under its identifier; `settled`: and a hand-out has a code only so (4.3.2).
+///   under the identifier of its hand-out, with DUP 0. So none goes out twice, and none before an older one (4.6).
+/// - `members`: what a packet brings out goes to a member of its group, under the least identifier that is free by then. `one_group`: what is
+///   unacknowledged is of the one group whose member the client is, or which it is leaving (profile); `bound`: that group is there.
+/// - `settles`: a PUBACK gives its Reason Code to the hand-out that is unacknowledged under its identifier; `settled`: and a hand-out has a code only so
+///   (4.3.2).
 /// - `for_good`: a hand-out keeps its group, its identifier and, once it has one, its Reason Code.
-/// - `one_fate`: the counts of a group's report add up to that of its accepted messages.
-/// - `eager`: while a client is connected and a member, a message of its group waits only where as many are unacknowledged as may be.
-/// - `closed`: behind the close nothing is sent, and nothing changes.
+/// - `one_fate`: the counts of a group's report add up to that of its accepted messages (profile).
+/// - `eager`: while a client is connected and a member, a message of its group waits only where the quota has no room (profile).
+/// - `closed`: once its connection is closed nothing is sent, also to a fault, and nothing changes.
 pub fn every_run_is_lawful()
     ensures receive_maximum { (setup : Setup) (connect : Connect) (packets : List Packet) →
-        length (unacknowledged (run_of setup (kinds.Connect connect ∷ packets)).story) ≤ or_else 65535 connect.properties.receive_maximum }
+        let asked = or_else 65535 connect.properties.receive_maximum in
+        let story = (run_of setup (kinds.Connect connect ∷ packets)).story in
+        (length (unacknowledged story) ≤ asked) × (story.phase ≡ Connected → quota story ≡ min asked 256) }
     ensures quota { (setup : Setup) (packets : List Packet) → let story = (run_of setup packets).story in
-        (length (unacknowledged story) ≤ quota story) × (quota story ≤ 256) }
+        length (unacknowledged story) ≤ quota story }
     ensures identifiers { (setup : Setup) (packets : List Packet) → let used = unacknowledged (run_of setup packets).story in
         AllByRecursion (λ identifier. (1 ≤ identifier) × (identifier ≤ 256)) used × AreDistinct used }
     ensures groups { (setup : Setup) (packets : List Packet) → length setup.groups ≤ 8 → HaveDistinctTexts setup.groups →
@@ -93,7 +97,7 @@ pub fn every_run_is_lawful()
         (later : List Share) × (shares_of (turns more story).story.groups ≡ shares_of story.groups ++ later) }
     ensures accepted { (setup : Setup) (packets : List Packet) (slot : ℕ) →
         accepted_in slot (run_of setup packets).story.groups ≡ taken packets slot (opening setup.capacity setup.groups) }
-    ensures heard { (story : Story) (publish : Publish) (identifier : ℕ) → story.phase ≡ Connected → publish_answer publish ≡ Offer identifier →
+    ensures answered { (story : Story) (publish : Publish) (identifier : ℕ) → story.phase ≡ Connected → publish_answer publish ≡ Offer identifier →
         (reply (kinds.Publish publish) story).packet
         ≡ Some (puback identifier (puback_code (length (matching publish.topic story)) (length (takers publish.topic story)))) }
     ensures waiting { (setup : Setup) (packets : List Packet) (slot : ℕ) → let story = (run_of setup packets).story in
@@ -104,9 +108,12 @@ pub fn every_run_is_lawful()
         × (sent_in slot (published run.sent) run.story.handed_out ≡ jobs_of accepted hand_outs) }
     ensures members { (setup : Setup) (packets : List Packet) (packet : Packet) (place : ℕ) (one : HandOut) →
         let story = (run_of setup packets).story in let next = (turn packet story).story in
-        length story.handed_out ≤ place → slice_get next.handed_out place ≡ Some one → next.membership ≡ Member one.slot }
+        length story.handed_out ≤ place → slice_get next.handed_out place ≡ Some one →
+        (next.membership ≡ Member one.slot) × IsLeastFree (open_identifiers (take place next.handed_out)) one.identifier }
     ensures one_group { (setup : Setup) (packets : List Packet) (place : ℕ) (one : HandOut) → let story = (run_of setup packets).story in
-        slice_get story.handed_out place ≡ Some one → one.code ≡ None → IsIn story.membership one.slot }
+        slice_get story.handed_out place ≡ Some one → one.code ≡ None → IsInGroup story.membership one.slot }
+    ensures bound { (setup : Setup) (packets : List Packet) (slot : ℕ) → let story = (run_of setup packets).story in
+        IsInGroup story.membership slot → slot < length story.groups }
     ensures settles { (setup : Setup) (packets : List Packet) (puback : Puback) (place : ℕ) (one : HandOut) →
         let story = (run_of setup packets).story in story.phase ≡ Connected →
         slice_get story.handed_out place ≡ Some one → one.code ≡ None → puback.packet_identifier ≡ one.identifier →
@@ -124,5 +131,6 @@ pub fn every_run_is_lawful()
     ensures eager { (setup : Setup) (packets : List Packet) (slot : ℕ) → let story = (run_of setup packets).story in
         story.phase ≡ Connected → story.membership ≡ Member slot →
         (waiting_in slot story ≡ []) ⊎ (length (unacknowledged story) ≡ quota story) }
-    ensures closed { (story : Story) (packets : List Packet) → story.phase ≡ Closed → turns packets story ≡ sends_nothing story }
+    ensures closed { (story : Story) (packets : List Packet) → story.phase ≡ Closed →
+        (turns packets story ≡ sends_nothing story) × ((fault : Option StreamFault) → farewell fault story ≡ None) }
 {}

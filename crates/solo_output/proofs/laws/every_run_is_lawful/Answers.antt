@@ -1,10 +1,9 @@
 -- What every run of a story keeps.
-use Rattle.std.proofs.Common.{arith}
 use Rattle.solo_output.specs.Runs.{run_of}
-use Rattle.solo_output.proofs.Taken.{heard}
+use Rattle.solo_output.proofs.Taken.{answered}
 use Rattle.solo_output.proofs.Lasting.{lasts_ran}
-use Rattle.solo_output.proofs.Turned.{turn_goes_to, closed_turns}
-use Rattle.solo_output.proofs.Lawful.{kept_of, fits_all, within_maximum, accepted_all, told_all, own_all, settles_one, settled_all, eager_all}
+use Rattle.solo_output.proofs.Turned.{turn_goes_to}
+use Rattle.solo_output.proofs.Lawful.{kept_of, fits_all, within_maximum, accepted_all, told_all, own_all, bound_all, silent, settles_one, settled_all, eager_all}
 use Rattle.solo_output.proofs.Grouped.{groups_all, slots_all, fates_all}
 use Rattle.solo_output.proofs.laws.every_run_is_lawful.Goals as goal
 
@@ -12,7 +11,7 @@ pub returns-clause-receive_maximum : goal.returns-clause-receive_maximum
 returns-clause-receive_maximum c = within_maximum
 
 pub returns-clause-quota : goal.returns-clause-quota
-returns-clause-quota c setup packets = ((kept_of setup packets).room, omega arith)
+returns-clause-quota c setup packets = (kept_of setup packets).room
 
 pub returns-clause-identifiers : goal.returns-clause-identifiers
 returns-clause-identifiers c setup packets = ((kept_of setup packets).small, (kept_of setup packets).distinct)
@@ -26,8 +25,8 @@ returns-clause-slots c = slots_all
 pub returns-clause-accepted : goal.returns-clause-accepted
 returns-clause-accepted c = accepted_all
 
-pub returns-clause-heard : goal.returns-clause-heard
-returns-clause-heard c story publish identifier connected answer = heard publish identifier story connected answer
+pub returns-clause-answered : goal.returns-clause-answered
+returns-clause-answered c story publish identifier connected answer = answered publish identifier story connected answer
 
 pub returns-clause-waiting : goal.returns-clause-waiting
 returns-clause-waiting c setup packets slot = ((kept_of setup packets).lives slot, fits_all setup packets slot)
@@ -40,6 +39,9 @@ returns-clause-members c setup packets packet = turn_goes_to packet (run_of setu
 
 pub returns-clause-one_group : goal.returns-clause-one_group
 returns-clause-one_group c = own_all
+
+pub returns-clause-bound : goal.returns-clause-bound
+returns-clause-bound c = bound_all
 
 pub returns-clause-settles : goal.returns-clause-settles
 returns-clause-settles c setup packets = settles_one (run_of setup packets).story
@@ -57,4 +59,4 @@ pub returns-clause-eager : goal.returns-clause-eager
 returns-clause-eager c = eager_all
 
 pub returns-clause-closed : goal.returns-clause-closed
-returns-clause-closed c story packets is = closed_turns packets story is
+returns-clause-closed c = silent
