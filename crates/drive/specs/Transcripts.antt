@@ -14,10 +14,14 @@ use Rattle.local_server.specs.declared.event.TimedEvent.{TimedEvent}
 use Rattle.local_server.specs.declared.setup.Setup.{Setup}
 use Rattle.local_server.specs.Servers.{ServerState, IsNewServer}
 use Rattle.local_server.specs.Happening.{HappensAll}
-use Rattle.line_io.specs.Lines.{hex_line}
+use Rattle.hex.specs.Hex.{encode_lower}
 use Rattle.line_io.specs.Passing.{Begins}
 use Rattle.drive.specs.Scripts.{script_of}
 use Rattle.drive.specs.Streams.{client_script_of}
+
+-- bytes in lower case hex, and 0A
+abbrev pub hex_line : List ℕ → List ℕ
+hex_line bytes = encode_lower bytes ++ 10 ∷ []
 
 -- a packet in a run of many connections: the number of its own, and its bytes in lower case hex
 abbrev pub packet_line : ℕ → Packet → List ℕ
@@ -67,9 +71,9 @@ pub record IsOutput (script : Result (List TimedEvent) ℕ) (lines : Said → Li
 abbrev pub IsDriveOutput : Setup → List ℕ → List ℕ → Type 0
 IsDriveOutput setup input output = IsOutput (script_of input) lines_said setup output
 
--- the output of `solo` for an input
-abbrev pub IsSoloOutput : Setup → List ℕ → List ℕ → Type 0
-IsSoloOutput setup input output = IsOutput (client_script_of input) client_lines setup output
+-- the output of `drive_client` for an input
+abbrev pub IsClientOutput : Setup → List ℕ → List ℕ → Type 0
+IsClientOutput setup input output = IsOutput (client_script_of input) client_lines setup output
 
 -- the writer got an output that is so, and nothing else
 pub record Writes (IsSo : List ℕ → Type 0) (old new : Option (List ℕ)) : Type 0 where

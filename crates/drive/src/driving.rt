@@ -4,11 +4,13 @@ ghost use Rattle.std.specs.List.{flat_map};
 ghost use Rattle.std.specs.Io.KnownBytes.{Keeps};
 ghost use Rattle.line_io.specs.declared.error.RunError.TheVariants.{Memory};
 ghost use Rattle.client_table.specs.Clients.{Said as Words};
-ghost use Rattle.local_server.specs.Servers.{ServerState};
+ghost use Rattle.local_server.specs.declared.setup.Setup.{Setup as Beginning};
+ghost use Rattle.local_server.specs.Servers.{IsNewServer, ServerState};
 ghost use Rattle.local_server.specs.Happening.{Happens, HappensAll};
+ghost use Rattle.local_server.specs.Sizes.{AllWritable};
 ghost use Rattle.drive.specs.Scripts.{script_of, NamesBadLine};
 ghost use Rattle.drive.specs.Streams.{client_script_of};
-ghost use Rattle.drive.specs.Transcripts.{ReportsFirst, IsTranscript, IsOutput, IsDriveOutput, IsSoloOutput, Writes, BeginsTo};
+ghost use Rattle.drive.specs.Transcripts.{ReportsFirst, IsTranscript, IsOutput, IsDriveOutput, IsClientOutput, Writes, BeginsTo};
 ghost use Rattle.drive.specs.Forms.{script_as, lines_as};
 
 use crate::form::Form;
@@ -50,15 +52,15 @@ pub fn drive_lines<R: Read, W: Write>(
     run(alloc, Form::Events, setup, reader, writer)
 }
 
-/// Runs one client against a server: reads its stream as lines of hex digits, a piece a line, and writes a line for each packet
-/// that it is sent; at the end the line of the report of each share that is bound. All happens at the moment 0.
+/// Drives a server by the stream of one client: reads it as lines of hex digits, a piece a line, and writes a line for each packet
+/// that the client is sent; at the end the line of the report of each share that is bound. All happens at the moment 0.
 ///
 /// It reads at most 2^20 times. Nothing is run where a line is not hex.
 ///
 /// # Errors
 ///
 /// [`RunError::Line`] for the first line that is not an even number of hex digits; the others as in [`drive_lines`].
-pub fn solo<R: Read, W: Write>(
+pub fn drive_client<R: Read, W: Write>(
     alloc: Global,
     setup: Setup,
     reader: &mut R,
@@ -66,13 +68,13 @@ pub fn solo<R: Read, W: Write>(
 ) -> Result<(), RunError>
     // What was written is what the client is sent and the reports, and nothing else.
     ensures ended { OnOk result (IfSome (R.remaining reader.old)
-        (λ input. Writes (IsSoloOutput setup input) (W.contents writer.old) (W.contents writer.new))) }
+        (λ input. Writes (IsClientOutput setup input) (W.contents writer.old) (W.contents writer.new))) }
     // A line that is named is the first that is not hex.
     ensures bad_line { (line : ℕ) → result ≡ Err (RunError.Line line) → IfSome (R.remaining reader.old)
         (λ input. client_script_of input ≡ Err line) }
     // Where the writer failed, what was written begins that; at each other error nothing was written.
     ensures begun { result ≡ Err RunError.WriteFailed → IfSome (R.remaining reader.old)
-        (λ input. BeginsTo (IsSoloOutput setup input) (W.contents writer.old) (W.contents writer.new)) }
+        (λ input. BeginsTo (IsClientOutput setup input) (W.contents writer.old) (W.contents writer.new)) }
     ensures kept { IfErr result (λ error. error ≢ RunError.WriteFailed → Keeps (W.contents writer.old) (W.contents writer.new)) }
 {
     run(alloc, Form::Client, setup, reader, writer)
@@ -138,6 +140,7 @@ fn play(
     server: &mut Server,
     events: &[TimedEvent],
 ) -> Result<Vec<u8>, RunError>
+    requires { (setup : Beginning) × IsNewServer setup server.old }
     ensures ok { IfOk result (λ text. (said : List Words) × (reports : List ℕ) × HappensAll server.old events.now said server.new
         × (text.items ≡ flat_map (lines_as form) said ++ reports) × ReportsFirst (length server.new.broker.routes) server.new.broker reports) }
     ensures err { IfErr result (λ error. error ≡ Memory) }
@@ -145,7 +148,7 @@ fn play(
     let mut transcript = Transcript::new(alloc);
     let mut said = Vec::new(alloc);
     for event in events {
-        happen(alloc, form, server, event, &mut said, &mut transcript)?;
+        happen(form, server, event, &mut said, &mut transcript)?;
     }
     transcript.report(alloc, server)?;
     Ok(transcript.into_text())
@@ -153,20 +156,22 @@ fn play(
 
 /// An event, and what is said in it.
 fn happen(
-    alloc: Global,
     form: Form,
     server: &mut Server,
     event: &TimedEvent,
     said: &mut Vec<Said>,
     transcript: &mut Transcript,
 ) -> Result<(), RunError>
+    // Whatever is said in it can be written.
+    requires { (words : List Words) (after : ServerState) →
+        Happens server.old event.now.moment event.now.event words (Ok tt) after → AllWritable words }
     ensures ok { OnOk result ((words : List Words) × Happens server.old event.now.moment event.now.event words (Ok tt) server.new
         × (transcript.new ≡ transcript.old ++ flat_map (lines_as form) words)) }
     ensures err { IfErr result (λ error. error ≡ Memory) }
 {
     said.clear();
     match server.happen(event.moment, &event.event, said) {
-        Ok(()) => transcript.tell(alloc, form, said),
+        Ok(()) => transcript.tell(form, said),
         Err(_) => Err(RunError::Memory),
     }
 }

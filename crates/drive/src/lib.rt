@@ -14,6 +14,8 @@
 //! What is written has a line `C HEX` for each packet, and `C close` or, where another connection took its session over, `C kicked`
 //! where a connection ends; at the end the report of each share that is bound.
 //!
+//! The stream of one client, a piece of hex digits a line, is read by [`drive_client`], which writes its packets alone: see `solo` of `solo_output`.
+//!
 //! ```
 //! let script: &[u8] = b"0 open 0\n0 bytes 0 100F00044D5154540502003C0000027731\n"; // a client connects
 //! let mut output = Vec::new(alloc);
@@ -31,4 +33,4 @@ mod stream;
 mod transcript;
 mod words;
 
-pub use driving::{drive_lines, solo};
+pub use driving::{drive_client, drive_lines};

@@ -1,8 +1,11 @@
 //! What is written of a run.
 ghost use Rattle.std.specs.Prelude.{◌≡◌, ◌<◌, ◌++◌, [], List, ℕ, length, IfErr, OnOk};
+ghost use Rattle.mqtt_wire.specs.Writing.{written};
 ghost use Rattle.local_broker.specs.Reporting.{TellsLine};
+ghost use Rattle.local_server.specs.Sizes.{AllWritable, IsWritable};
 ghost use Rattle.line_io.specs.declared.error.RunError.TheVariants.{Memory};
-ghost use Rattle.std.specs.List.{flat_map};
+ghost use Rattle.std.specs.Fmt.{decimal};
+ghost use Rattle.std.specs.List.{AllByRecursion, flat_map};
 ghost use Rattle.hex.specs.Hex.{encode_lower};
 ghost use Rattle.drive.specs.Transcripts.{packet_line, next_line, lines_said, client_line, ReportsFirst};
 ghost use Rattle.drive.specs.Forms.{lines_as};
@@ -10,9 +13,10 @@ ghost use Rattle.drive.specs.Forms.{lines_as};
 use crate::form::Form;
 use client_table::Said;
 use conn_engine::Then;
+use itoa::Buffer;
 use line_io::RunError;
 use local_server::Server;
-use mqtt_wire::{Packet, encode_into};
+use mqtt_wire::{Fault, Packet, encode_into};
 use std::alloc::Global;
 use std::marker::Model;
 
@@ -52,34 +56,37 @@ impl Transcript {
 
     /// Adds what was said.
     #[tactic(auto, using(crate::proofs::Texts::one_more))]
-    pub(crate) fn tell(&mut self, alloc: Global, form: Form, said: &[Said]) -> Result<(), RunError>
+    pub(crate) fn tell(&mut self, form: Form, said: &[Said]) -> Result<(), RunError>
+        requires { AllWritable said.now }
         ensures ok { OnOk result (self.new ≡ self.old ++ flat_map (lines_as form) said.now) }
         ensures err { IfErr result (λ error. error ≡ Memory) }
     {
-        for words in said {
+        for step in said {
             match form {
-                Form::Events => self.tell_step(alloc, words)?,
-                Form::Client => self.tell_client(words.packets())?,
+                Form::Events => self.tell_step(step)?,
+                Form::Client => self.tell_client(step.packets())?,
             }
         }
         Ok(())
     }
 
     /// Adds what one step of a connection wrote.
-    fn tell_step(&mut self, alloc: Global, said: &Said) -> Result<(), RunError>
+    fn tell_step(&mut self, said: &Said) -> Result<(), RunError>
+        requires { AllByRecursion IsWritable said.now.packets }
         ensures ok { OnOk result (self.new ≡ self.old ++ lines_said said.now) }
         ensures err { IfErr result (λ error. error ≡ Memory) }
     {
         let connection = said.connection();
         for packet in said.packets() {
-            self.tell_packet(alloc, connection, packet)?;
+            self.tell_packet(connection, packet)?;
         }
-        self.tell_next(alloc, connection, said.next())
+        self.tell_next(connection, said.next())
     }
 
     /// Adds what the one client is sent.
     #[tactic(auto, using(crate::proofs::Texts::one_more))]
     fn tell_client(&mut self, packets: &[Packet]) -> Result<(), RunError>
+        requires { AllByRecursion IsWritable packets.now }
         ensures ok { OnOk result (self.new ≡ self.old ++ flat_map client_line packets.now) }
         ensures err { IfErr result (λ error. error ≡ Memory) }
     {
@@ -90,35 +97,42 @@ impl Transcript {
     }
 
     /// Adds the line of a packet.
-    fn tell_packet(
-        &mut self,
-        alloc: Global,
-        connection: u8,
-        packet: &Packet,
-    ) -> Result<(), RunError>
+    fn tell_packet(&mut self, connection: u8, packet: &Packet) -> Result<(), RunError>
+        requires { IsWritable packet.now }
         ensures ok { OnOk result (self.new ≡ self.old ++ packet_line connection packet.now) }
         ensures err { IfErr result (λ error. error ≡ Memory) }
     {
-        let number = connection.to_string(alloc)?;
-        self.text.extend_from_slice(number.as_bytes())?;
+        self.tell_number(connection)?;
         self.text.push(b' ')?;
         self.tell_bytes(packet)
     }
 
+    /// Adds the number of a connection.
+    fn tell_number(&mut self, connection: u8) -> Result<(), RunError>
+        ensures ok { OnOk result (self.new ≡ self.old ++ decimal connection) }
+        ensures err { IfErr result (λ error. error ≡ Memory) }
+    {
+        let mut digits = Buffer::new();
+        self.text
+            .extend_from_slice(digits.format(connection).as_bytes())?;
+        Ok(())
+    }
+
     /// Adds the bytes of a packet.
     fn tell_bytes(&mut self, packet: &Packet) -> Result<(), RunError>
+        requires { IsWritable packet.now }
         ensures ok { OnOk result (self.new ≡ self.old ++ client_line packet.now) }
         ensures err { IfErr result (λ error. error ≡ Memory) }
     {
         self.packet.clear();
-        encode_into(&mut self.packet, packet)?;
+        write_packet(&mut self.packet, packet)?;
         add_digits(&mut self.text, &self.packet)?;
         self.text.push(b'\n')?;
         Ok(())
     }
 
     /// Adds a line where a connection has ended.
-    fn tell_next(&mut self, alloc: Global, connection: u8, next: Then) -> Result<(), RunError>
+    fn tell_next(&mut self, connection: u8, next: Then) -> Result<(), RunError>
         ensures ok { OnOk result (self.new ≡ self.old ++ next_line connection next) }
         ensures err { IfErr result (λ error. error ≡ Memory) }
     {
@@ -127,8 +141,7 @@ impl Transcript {
             Then::Close => " close\n",
             Then::Kicked => " kicked\n",
         };
-        let number = connection.to_string(alloc)?;
-        self.text.extend_from_slice(number.as_bytes())?;
+        self.tell_number(connection)?;
         self.text.extend_from_slice(word.as_bytes())?;
         Ok(())
     }
@@ -163,20 +176,28 @@ impl Transcript {
     }
 }
 
-/// Adds these bytes in lower case hex digits.
+/// Adds the bytes of a packet. It is not too long, so no fault is met but want of memory.
+fn write_packet(bytes: &mut Vec<u8>, packet: &Packet) -> Result<(), RunError>
+    requires { IsWritable packet.now }
+    ensures ok { OnOk result (bytes.new.items ≡ bytes.old.items ++ written packet.now) }
+    ensures err { IfErr result (λ error. error ≡ Memory) }
+{
+    match encode_into(bytes, packet) {
+        Ok(()) => Ok(()),
+        Err(Fault::Memory) => Err(RunError::Memory),
+        Err(Fault::Stream(_)) => unreachable!(),
+    }
+}
+
+/// Adds these bytes in lower case hex digits. Room for all of them is asked for first, so that no sum of lengths can be too great.
 fn add_digits(text: &mut Vec<u8>, bytes: &[u8]) -> Result<(), RunError>
     ensures ok { OnOk result (text.new.items ≡ text.old.items ++ encode_lower bytes.now) }
     ensures err { IfErr result (λ error. error ≡ Memory) }
 {
     let start = text.len();
-    let Some(end) = bytes
-        .len()
-        .checked_mul(2)
-        .and_then(|digits| start.checked_add(digits))
-    else {
-        return Err(RunError::Memory);
-    };
-    text.resize(end, 0)?;
+    let digits = 2 * bytes.len();
+    text.reserve(digits)?;
+    text.resize(start + digits, 0)?;
     match hex::encode_to_slice(bytes, &mut text[start..]) {
         Ok(()) => Ok(()),
         Err(_) => unreachable!(),

@@ -1,10 +1,11 @@
 //! Plays: lines of events, and behind `> ` what is written then.
 use bytes::Bytes;
-use drive::{drive_lines, solo};
+use drive::drive_lines;
 use line_io::RunError;
 use local_server::Setup;
 use mqtt_topic::{Routes, Share};
 use mqtt_wire::Text;
+use solo_output::solo;
 use std::alloc::Global;
 use std::process::Abort;
 

@@ -1,5 +1,6 @@
 //! Runs of one client whose bytes are known.
 use crate::acting::{answered, setup};
+use crate::subscriptions::SUBSCRIPTIONS;
 use std::alloc::{AllocError, Global};
 use std::process::Abort;
 use std::test::Fail;
@@ -18,8 +19,8 @@ const JOB_OUT: &[u8] = b"40020007\n320900036a6f6200010041\n";
 
 /// A run: its name, the lines that come in, and the lines that go out.
 pub(crate) struct Run {
-    name: &'static str,
-    input: &'static [&'static [u8]],
+    pub(crate) name: &'static str,
+    pub(crate) input: &'static [&'static [u8]],
     pub(crate) output: &'static [&'static [u8]],
 }
 
@@ -370,6 +371,9 @@ fn compare(
 #[test]
 fn runs(rt: HostRuntime) -> Result<(), Fail> {
     for run in RUNS.iter() {
+        compare(&rt, rt.alloc(), 1_024, &[], run)?;
+    }
+    for run in SUBSCRIPTIONS.iter() {
         compare(&rt, rt.alloc(), 1_024, &[], run)?;
     }
     Ok(())

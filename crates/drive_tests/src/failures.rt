@@ -1,8 +1,9 @@
 //! Runs whose lines are none, and runs whose reader or writer fails.
 use crate::acting::plain;
 use crate::clients::{CONNECT, JOB, RUNS, SUBSCRIBE, join};
-use drive::{drive_lines, solo};
+use drive::drive_lines;
 use line_io::RunError;
+use solo_output::solo;
 use std::alloc::Global;
 use std::io;
 use std::io::{ErrorKind, Read, Write};

@@ -41,6 +41,11 @@ unknown_property connected 320900036A6F62000701FF e00181
 property_length_not_minimal connected 821300018000000C2473686172652F672F6A6F6201 e00181
 expiry_at_the_end connected E00700051100000001 e00182
 unsubscribe connected A206000100000161 b00400010011
+share_without_a_filter connected 820E00010000082473686172652F6701 90040001008f
+filter_that_is_none connected 82080001000002612301 90040001008f
+at_most_once connected 8212000100000C2473686172652F672F6A6F6200 900400010083
+subscription_identifier connected 82090001020B0500016101 9004000100a1
+no_local connected 8212000100000C2473686172652F672F6A6F6205 e00182
 ";
 
 // What goes out for these digits, first or behind a CONNECT, without the CONNACK of that.

@@ -56,16 +56,20 @@ fn takeover(rt: HostRuntime) -> Result<(), Fail> {
         "0 open 0
         0 bytes 0 100F00044D5154540502003C0000027731
         > 0 200e00000b2401250027000100002900
+        0 bytes 0 8212000100000C2473686172652F672F6A6F6201
+        > 0 900400010001
         0 open 1
         5 bytes 1 100F00044D5154540502003C0000027731
         6 tick 1
-        7 tick 0
+        6 tick 0
         > 0 e0018e
         > 0 kicked
-        8 tick 1
+        7 tick 1
         > 1 200e00000b2401250027000100002900
-        9 bytes 1 E000
-        > 1 close",
+        9 close
+        > 1 e0018b
+        > 1 close
+        > $share/g/job accepted 0 acknowledged 0 refused 0 held 0 queued 0 returned 0",
     );
     Ok(())
 }

@@ -1,7 +1,7 @@
 -- Writes one after another.
 use Rattle.std.proofs.Common.{◌≡◌, ℕ, List, [], ◌++◌, take, drop, take-append-drop, subst, refl, ap, sym, ◌∙◌, Option, Some, None, Result, Ok, Err, OnErr, append_assoc, append-nil, IfSome}
 use Rattle.std.specs.Io.KnownBytes.{Appends, Keeps, Consumes, IsAtEnd}
-use Rattle.line_io.specs.Passing.{Passes, Begins}
+use Rattle.line_io.specs.Passing.{Begins}
 
 pub Appends-then : (old mid new : Option (List ℕ)) (a b : List ℕ) → Appends old mid a → Appends mid new b → Appends old new (a ++ b)
 Appends-then None mid new a b first second = tt
@@ -31,8 +31,14 @@ Consumes-all None new a consumed end = tt
 Consumes-all (Some xs) None a consumed end = absurd consumed
 Consumes-all (Some xs) (Some ys) a consumed end = sym (consumed ∙ ap (λ s. a ++ s) end ∙ append-nil a)
 
+-- The writer got the bytes of a text in front of this rest.
+pub record Passes (old new : Option (List ℕ)) (text rest : List ℕ) : Type 0 where
+  pub part : List ℕ
+  pub written : Appends old new part
+  pub whole : part ++ rest ≡ text
+
 -- One write more: the writer takes the first n bytes of what is left.
-pub Passes-write : (old mid new : Option (List ℕ)) (text rest : List ℕ) (n : ℕ) → Passes old mid [] text rest → Appends mid new (take n rest) → Passes old new [] text (drop n rest)
+pub Passes-write : (old mid new : Option (List ℕ)) (text rest : List ℕ) (n : ℕ) → Passes old mid text rest → Appends mid new (take n rest) → Passes old new text (drop n rest)
 Passes-write old mid new text rest n before write = record {
   part = before.part ++ take n rest;
   written = Appends-then old mid new before.part (take n rest) before.written write;
@@ -40,26 +46,26 @@ Passes-write old mid new text rest n before write = record {
 }
 
 -- A write that wrote nothing.
-pub Passes-keeps : (old mid new : Option (List ℕ)) (waiting text rest : List ℕ) → Passes old mid waiting text rest → Keeps mid new → Passes old new waiting text rest
-Passes-keeps old mid new waiting text rest before keeps = record {
+pub Passes-keeps : (old mid new : Option (List ℕ)) (text rest : List ℕ) → Passes old mid text rest → Keeps mid new → Passes old new text rest
+Passes-keeps old mid new text rest before keeps = record {
   part = before.part;
   written = subst (Appends old new) (append-nil before.part) (Appends-then old mid new before.part [] before.written (Appends-nothing mid new keeps));
   whole = before.whole;
 }
 
 -- Nothing is left.
-pub Passes-all : (old new : Option (List ℕ)) (text : List ℕ) → Passes old new [] text [] → Appends old new text
+pub Passes-all : (old new : Option (List ℕ)) (text : List ℕ) → Passes old new text [] → Appends old new text
 Passes-all old new text p = subst (Appends old new) (sym (append-nil p.part) ∙ p.whole) p.written
 
 -- Something may be left.
-pub Passes-begins : (old new : Option (List ℕ)) (text rest : List ℕ) → Passes old new [] text rest → Begins old new text
+pub Passes-begins : (old new : Option (List ℕ)) (text rest : List ℕ) → Passes old new text rest → Begins old new text
 Passes-begins old new text rest p = record { part = p.part; rest = rest; written = p.written; whole = p.whole }
 
 pub Keeps-refl : (known : Option (List ℕ)) → Keeps known known
 Keeps-refl None = tt
 Keeps-refl (Some xs) = refl
 
-pub Passes-nothing : (known : Option (List ℕ)) → Passes known known [] [] []
+pub Passes-nothing : (known : Option (List ℕ)) → Passes known known [] []
 Passes-nothing known = record { part = []; written = Appends-nothing known known (Keeps-refl known); whole = refl }
 
 -- Nothing was written.

@@ -1,6 +1,5 @@
--- Lines: those of an input, and those that are written (profile).
-use Rattle.std.specs.Prelude.{ℕ, ◌==◌, if◌then◌else◌, List, [], ◌∷◌, ◌++◌}
-use Rattle.hex.specs.Hex.{encode_lower}
+-- The lines of an input (profile).
+use Rattle.std.specs.Prelude.{ℕ, ◌==◌, if◌then◌else◌, List, [], ◌∷◌}
 
 -- a byte at the front of the first piece
 abbrev pub onto_first : ℕ → List (List ℕ) → List (List ℕ)
@@ -15,7 +14,3 @@ cut_at separator last (byte ∷ bytes) = if byte == separator then [] ∷ cut_at
 -- the lines: each ends at a byte 0A, and where nothing follows the last 0A, nothing is no line
 abbrev pub lines_of : List ℕ → List (List ℕ)
 lines_of input = cut_at 10 [] input
-
--- a line of output: bytes in lower case hex, and 0A
-abbrev pub hex_line : List ℕ → List ℕ
-hex_line bytes = encode_lower bytes ++ 10 ∷ []

@@ -3,7 +3,6 @@ ghost use Rattle.std.specs.Prelude.{◌≡◌};
 ghost use Rattle.line_io.specs.Status.{status_of};
 ghost use Rattle.line_io.specs.declared.error.RunError.TheVariants.{Memory};
 
-use mqtt_wire::Fault;
 use std::alloc::{AllocError, AllocFailed};
 
 /// Why a run did not end, and the status that the program ends with.
@@ -46,16 +45,6 @@ impl<T: Drop> From<AllocFailed<T>> for RunError {
     ghost from_gives = { λ _ e. e ≡ Memory };
 
     fn from(_: AllocFailed<T>) -> RunError {
-        RunError::Memory
-    }
-}
-
-impl From<Fault> for RunError {
-    ghost from_gives = { λ _ e. e ≡ Memory };
-
-    /// A packet whose Remaining Length would be over 268,435,455 (2.1.4) would count as one for which memory is refused. No packet of a
-    /// run is that long: see `size_law` of `local_server`.
-    fn from(_: Fault) -> RunError {
         RunError::Memory
     }
 }

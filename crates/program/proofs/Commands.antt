@@ -5,11 +5,11 @@ use Rattle.arguments.specs.declared.command.Request.{Request}
 use Rattle.line_io.specs.declared.error.RunError.{RunError}
 use Rattle.line_io.specs.declared.error.RunError.TheVariants.{ReadFailed, TooManyReads, WriteFailed, Memory, Line}
 use Rattle.drive.specs.Transcripts.{Writes, BeginsTo}
-use Rattle.program.specs.Ending.{events_for, IsOutputFor, Wrote}
+use Rattle.program.specs.Ending.{NamesBadLine, IsOutputFor, Wrote}
 
 pub wrote : (request : Request) (known : Option (List ℕ)) (ended : Result (Unit {0}) RunError) (old new : Option (List ℕ))
     → OnOk ended (IfSome known (λ input. Writes (IsOutputFor request input) old new))
-    → ((line : ℕ) → ended ≡ Err (Line line) → IfSome known (λ input. events_for request input ≡ Err line))
+    → ((line : ℕ) → ended ≡ Err (Line line) → IfSome known (λ input. NamesBadLine request input line))
     → (ended ≡ Err WriteFailed → IfSome known (λ input. BeginsTo (IsOutputFor request input) old new))
     → IfErr ended (λ error. error ≢ WriteFailed → Keeps old new)
     → IfSome known (λ input. Wrote request input ended old new)

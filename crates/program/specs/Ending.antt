@@ -1,7 +1,6 @@
 -- How the program ends: its status, and what then stands in its output and on its error output (profile).
 use Rattle.std.specs.Prelude.{◌≡◌, ℕ, List, Option, Result, Ok, Err, IfSome, string_bytes}
 use Rattle.std.specs.Io.KnownBytes.{Appends, Keeps}
-use Rattle.local_server.specs.declared.event.TimedEvent.{TimedEvent}
 use Rattle.arguments.specs.declared.command.Request.{Request}
 use Rattle.arguments.specs.declared.command.Request.TheVariants.{Solo, Drive}
 use Rattle.line_io.specs.declared.error.RunError.{RunError}
@@ -9,8 +8,9 @@ use Rattle.line_io.specs.declared.error.RunError.TheVariants.{ReadFailed, TooMan
 use Rattle.line_io.specs.Status.{status_of, error_line}
 use Rattle.line_io.specs.Passing.{Begins}
 use Rattle.drive.specs.Scripts.{script_of}
-use Rattle.drive.specs.Streams.{client_script_of}
-use Rattle.drive.specs.Transcripts.{IsDriveOutput, IsSoloOutput, Writes, BeginsTo}
+use Rattle.drive.specs.Transcripts.{IsDriveOutput, Writes, BeginsTo}
+use Rattle.solo_output.specs.Streams.{stream_of}
+use Rattle.solo_output.specs.Output as solo
 use Rattle.program.specs.declared.asking.Asked.{Asked}
 use Rattle.program.specs.declared.asking.Asked.TheVariants.{Run, Show, Refuse}
 
@@ -30,14 +30,14 @@ abbrev pub Tells : Result (Unit {0}) RunError → Option (List ℕ) → Option (
 Tells (Ok done) old new = Keeps old new
 Tells (Err error) old new = Begins old new (error_line error)
 
--- the events that an input spells for a command, or the number, from 1, of the first line that the command does not take
-abbrev pub events_for : Request → List ℕ → Result (List TimedEvent) ℕ
-events_for (Solo setup) input = client_script_of input
-events_for (Drive setup) input = script_of input
+-- of the lines of an input the first that a command does not take has this number, from 1
+abbrev pub NamesBadLine : Request → List ℕ → ℕ → Type 0
+NamesBadLine (Solo setup) input line = stream_of input ≡ Err line
+NamesBadLine (Drive setup) input line = script_of input ≡ Err line
 
 -- the output of a command for an input
 abbrev pub IsOutputFor : Request → List ℕ → List ℕ → Type 0
-IsOutputFor (Solo setup) input output = IsSoloOutput setup input output
+IsOutputFor (Solo setup) input output = solo.IsOutputFor setup input output
 IsOutputFor (Drive setup) input output = IsDriveOutput setup input output
 
 -- What a command wrote for an input: its output where it came to its end, and a beginning of it where the output failed; at every other error
@@ -48,7 +48,7 @@ Wrote request input (Err ReadFailed) old new = Keeps old new
 Wrote request input (Err TooManyReads) old new = Keeps old new
 Wrote request input (Err WriteFailed) old new = BeginsTo (IsOutputFor request input) old new
 Wrote request input (Err Memory) old new = Keeps old new
-Wrote request input (Err (Line number)) old new = (events_for request input ≡ Err number) × Keeps old new
+Wrote request input (Err (Line number)) old new = NamesBadLine request input number × Keeps old new
 
 -- A command came to its end, or to an error.
 pub record RunEnds (request : Request) (old new : Streams) (status : ℕ) : Type 0 where

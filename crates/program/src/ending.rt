@@ -6,8 +6,9 @@ ghost use Rattle.program.specs.Ending.{Ends, Streams, Tells, Wrote, status_at};
 
 use crate::asking::{Asked, asked_by};
 use arguments::Request;
-use drive::{drive_lines, solo};
+use drive::drive_lines;
 use line_io::{RunError, tell, write_all};
+use solo_output::solo;
 use std::alloc::Global;
 use std::io;
 use std::io::{Read, Write};

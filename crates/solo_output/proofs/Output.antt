@@ -14,7 +14,7 @@ use Rattle.local_server.specs.declared.event.TimedEvent.{TimedEvent}
 use Rattle.local_server.specs.declared.setup.Setup.{Setup}
 use Rattle.local_server.specs.Happening.{HappensAll}
 use Rattle.drive.specs.Streams.{client_script_of}
-use Rattle.drive.specs.Transcripts.{ReportsFirst, client_lines, IsSoloOutput, Writes, BeginsTo}
+use Rattle.drive.specs.Transcripts.{ReportsFirst, client_lines, IsClientOutput, Writes, BeginsTo}
 use Rattle.solo_output.specs.Groups.{Story, Bound, bound, opening}
 use Rattle.solo_output.specs.Replies.{turns}
 use Rattle.solo_output.specs.Report.{report_of, reports_from, reports}
@@ -62,7 +62,7 @@ lines_are : (said : List Said) → flat_map client_lines said ≡ lines_for (sen
 lines_are [] = refl
 lines_are (one ∷ said) = ap (λ (l : List ℕ). client_lines one ++ l) (lines_are said) ∙ sym (flat_map-append _ one.packets (sent_in said))
 
-pub closed : (setup : Setup) (input output : List ℕ) → length setup.groups ≤ 8 → IsSoloOutput setup input output → IsOutputFor setup input output
+pub closed : (setup : Setup) (input output : List ℕ) → length setup.groups ≤ 8 → IsClientOutput setup input output → IsOutputFor setup input output
 closed setup input output few is =
     let cut_up = cut input is.events is.spelled in
     let t = is.transcript in
@@ -86,7 +86,7 @@ is_ok : {A E : Type 0} (x y : A) → ◌≡◌ {A = Result A E} (Ok x) (Ok y) �
 is_ok x y e = cc
 
 -- whatever the stream is read as
-pub of_each : (setup : Setup) (input output stream : List ℕ) (packets : List Packet) (rest : List ℕ) (fault : Option StreamFault) → length setup.groups ≤ 8 → IsSoloOutput setup input output → stream_of input ≡ Ok stream → Reads stream packets rest fault
+pub of_each : (setup : Setup) (input output stream : List ℕ) (packets : List Packet) (rest : List ℕ) (fault : Option StreamFault) → length setup.groups ≤ 8 → IsClientOutput setup input output → stream_of input ≡ Ok stream → Reads stream packets rest fault
     → output ≡ solo_output setup packets fault
 of_each setup input output stream packets rest fault few is spelled reads =
     let got = closed setup input output few is in
@@ -96,10 +96,10 @@ of_each setup input output stream packets rest fault few is spelled reads =
 
 -- ---- what is written
 
-pub written : (setup : Setup) (input : List ℕ) (old new : Option (List ℕ)) → length setup.groups ≤ 8 → Writes (IsSoloOutput setup input) old new → Writes (IsOutputFor setup input) old new
+pub written : (setup : Setup) (input : List ℕ) (old new : Option (List ℕ)) → length setup.groups ≤ 8 → Writes (IsClientOutput setup input) old new → Writes (IsOutputFor setup input) old new
 written setup input old new few does = record { output = does.output; defined_by = closed setup input does.output few does.defined_by; written = does.written }
 
-pub begun : (setup : Setup) (input : List ℕ) (old new : Option (List ℕ)) → length setup.groups ≤ 8 → BeginsTo (IsSoloOutput setup input) old new → BeginsTo (IsOutputFor setup input) old new
+pub begun : (setup : Setup) (input : List ℕ) (old new : Option (List ℕ)) → length setup.groups ≤ 8 → BeginsTo (IsClientOutput setup input) old new → BeginsTo (IsOutputFor setup input) old new
 begun setup input old new few does = record { output = does.output; defined_by = closed setup input does.output few does.defined_by; begun = does.begun }
 
 -- ---- there is one output

@@ -1,5 +1,5 @@
-//! Laws of the story: what `solo` writes is what it comes to, and what it comes to is lawful. Each is the contract of a function that does nothing,
-//! stated over the definitions that the contract of [`solo`](drive::solo) cites.
+//! Laws of the story: it is what a server does, and what it comes to is lawful. Each is the contract of a function that does nothing,
+//! stated over the definitions that the contracts of [`solo`](crate::solo) and of [`drive_client`](drive::drive_client) cite.
 ghost use Rattle.std.specs.Prelude.{◌≡◌, ◌⊎◌, ◌↔◌, ◌+◌, ◌<◌, ◌≤◌, ℕ, min, List, [], ◌∷◌, ◌++◌, length, take, slice_get, Option, Some, None, Ok, Err};
 ghost use Rattle.std.specs.List.{AllByRecursion};
 ghost use Rattle.member_window.specs.Identifiers.{IsLeastFree, AreDistinct};
@@ -20,7 +20,7 @@ ghost use Rattle.conn_rules.specs.Packets.{puback};
 ghost use Rattle.conn_rules.specs.Publishing.{publish_answer, puback_code};
 ghost use Rattle.local_server.specs.declared.setup.Setup.{Setup};
 ghost use Rattle.drive.specs.Streams.{client_script_of};
-ghost use Rattle.drive.specs.Transcripts.{IsSoloOutput, Writes, BeginsTo};
+ghost use Rattle.drive.specs.Transcripts.{IsClientOutput};
 ghost use Rattle.solo_output.specs.Groups.{Story, HandOut, opening, shares_of, accepted_in, handed_in, open_identifiers, waiting_in, unacknowledged};
 ghost use Rattle.solo_output.specs.Groups.Phase.{Connected, Closed};
 ghost use Rattle.solo_output.specs.HandOuts.{quota, least_free, sends_nothing};
@@ -31,21 +31,17 @@ ghost use Rattle.solo_output.specs.Streams.{stream_of};
 ghost use Rattle.solo_output.specs.Output.{solo_output, IsOutputFor};
 ghost use Rattle.solo_output.specs.Runs.{run_of, takers, taken, published, sent_in, jobs_of, IsInGroup, IsStill, IsSettledBy};
 
-/// **The output of [`solo`](drive::solo) is a function of what its client's stream is read as**, on a server with at most eight shares bound:
-/// the lines of the input spell a stream, that is read as packets and perhaps a fault, and the output is `solo_output` of these (`closed_form`);
-/// and so for whatever the stream is read as (`each_reading`), of which there is one. Where a line is not hex, the events of the input and its stream name the same
-/// first such line (`bad_line`). So where `solo` ends, it wrote that output (`written`), and where its writer fails, a beginning of it (`begun`).
+/// **The output that [`solo`](crate::solo) writes is that of a run of a server**, with at most eight shares bound: what a server says and reports when the client's
+/// stream comes to it (`IsClientOutput`), which is what [`drive_client`](drive::drive_client) writes, is the output for the input: the lines spell a stream, that
+/// is read as packets and perhaps a fault, and the output is `solo_output` of these (`closed_form`); and so for whatever the stream is read as (`each_reading`),
+/// of which there is one. Where a line is not hex, the events of the input and its stream name the same first such line (`bad_line`).
 pub fn solo_output_law()
-    ensures closed_form { (setup : Setup) (input output : List ℕ) → length setup.groups ≤ 8 → IsSoloOutput setup input output →
+    ensures closed_form { (setup : Setup) (input output : List ℕ) → length setup.groups ≤ 8 → IsClientOutput setup input output →
         IsOutputFor setup input output }
     ensures each_reading { (setup : Setup) (input output stream : List ℕ) (packets : List Packet) (rest : List ℕ) (fault : Option StreamFault) →
-        length setup.groups ≤ 8 → IsSoloOutput setup input output → stream_of input ≡ Ok stream → Reads stream packets rest fault →
+        length setup.groups ≤ 8 → IsClientOutput setup input output → stream_of input ≡ Ok stream → Reads stream packets rest fault →
         output ≡ solo_output setup packets fault }
     ensures bad_line { (input : List ℕ) (line : ℕ) → (client_script_of input ≡ Err line) ↔ (stream_of input ≡ Err line) }
-    ensures written { (setup : Setup) (input : List ℕ) (old new : Option (List ℕ)) → length setup.groups ≤ 8 →
-        Writes (IsSoloOutput setup input) old new → Writes (IsOutputFor setup input) old new }
-    ensures begun { (setup : Setup) (input : List ℕ) (old new : Option (List ℕ)) → length setup.groups ≤ 8 →
-        BeginsTo (IsSoloOutput setup input) old new → BeginsTo (IsOutputFor setup input) old new }
 {}
 
 /// **Each input has one output**, or a first line that is not hex.

@@ -3,5 +3,7 @@
 #![tactic(auto)]
 
 mod laws;
+mod run;
 
 pub use laws::{every_run_is_lawful, identifier_law, one_output_law, solo_output_law};
+pub use run::solo;

@@ -8,8 +8,8 @@ use Rattle.drive.proofs.laws.one_output_law.Goals as goal
 pub returns-clause-transcript : goal.returns-clause-transcript
 returns-clause-transcript c lines setup events text text' h k = one_transcript lines setup events text text' h k
 
-pub returns-clause-drive : goal.returns-clause-drive
-returns-clause-drive c setup input output output' h k = one_output lines_said setup (script_of input) output output' h k
+pub returns-clause-lines : goal.returns-clause-lines
+returns-clause-lines c setup input output output' h k = one_output lines_said setup (script_of input) output output' h k
 
-pub returns-clause-solo : goal.returns-clause-solo
-returns-clause-solo c setup input output output' h k = one_output client_lines setup (client_script_of input) output output' h k
+pub returns-clause-client : goal.returns-clause-client
+returns-clause-client c setup input output output' h k = one_output client_lines setup (client_script_of input) output output' h k

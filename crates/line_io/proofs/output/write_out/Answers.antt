@@ -6,5 +6,5 @@ use Rattle.line_io.proofs.output.write_out.Goals.{in-Ok, in-Err}
 pub loop-preserved : goal.loop-preserved
 loop-preserved g c = elim c.match-write.branch [
   | in-Ok w ↦ rw w.rest-is (rw take_rest (Passes-write _ _ _ _ _ _ c.loop.invariant w.in-Ok.ensures.bytes))
-  | in-Err w ↦ rw w.rest-is (Passes-keeps _ _ _ _ _ _ c.loop.invariant w.in-Err.ensures.bytes)
+  | in-Err w ↦ rw w.rest-is (Passes-keeps _ _ _ _ _ c.loop.invariant w.in-Err.ensures.bytes)
 ]

@@ -1,6 +1,6 @@
--- What `solo` writes is what the story comes to.
+-- What a server says is what the story comes to.
 use Rattle.solo_output.proofs.Streams.{bad_lines}
-use Rattle.solo_output.proofs.Output.{closed, of_each, written, begun}
+use Rattle.solo_output.proofs.Output.{closed, of_each}
 use Rattle.solo_output.proofs.laws.solo_output_law.Goals as goal
 
 pub returns-clause-closed_form : goal.returns-clause-closed_form
@@ -11,9 +11,3 @@ returns-clause-each_reading c setup input output stream packets rest fault few i
 
 pub returns-clause-bad_line : goal.returns-clause-bad_line
 returns-clause-bad_line c input line = bad_lines input line
-
-pub returns-clause-written : goal.returns-clause-written
-returns-clause-written c setup input old new few does = written setup input old new few does
-
-pub returns-clause-begun : goal.returns-clause-begun
-returns-clause-begun c setup input old new few does = begun setup input old new few does

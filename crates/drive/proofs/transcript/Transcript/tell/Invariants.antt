@@ -4,5 +4,5 @@ use Rattle.std.specs.List.{flat_map}
 use Rattle.drive.specs.Forms.{lines_as}
 use Rattle.drive.proofs.transcript.Transcript.tell.Given as goal
 
-abbrev pub invariant-loop-words : goal.invariant-loop-words
-invariant-loop-words l = l.self ≡ l.fn.self ++ flat_map (lines_as l.form) (take l.words-index l.said)
+abbrev pub invariant-loop-step : goal.invariant-loop-step
+invariant-loop-step l = l.self ≡ l.fn.self ++ flat_map (lines_as l.form) (take l.step-index l.said)
