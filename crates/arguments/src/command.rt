@@ -1,9 +1,16 @@
 //! The command line.
-use crate::groups::{Refusal, add_group};
+ghost use Rattle.std.specs.Prelude.{◌≡◌, ◌⊎◌, ℕ, codes, IfOk, IfErr, [], map};
+ghost use Rattle.std.specs.String.{string_bytes};
+ghost use Rattle.clap.specs.Words.{app_of, first_of, found_of, kind_of, one_of, rows_of, rule_of};
+ghost use Rattle.arguments.specs.Groups.{RefusesOne};
+ghost use Rattle.arguments.specs.CommandLine.{capacity_option, group_option, command_named};
+ghost use Rattle.arguments.specs.CommandLine.{command_line, pairs_in, HaveCapacity, IsSetupBy};
+ghost use Rattle.arguments.specs.CommandLine.{AskFor, SpellNoRequest};
+
+use crate::groups::groups_of;
 use clap::error::ErrorKind;
 use clap::{Arg, ArgAction, ArgMatches, Command, Error, value_parser};
 use local_server::Setup;
-use mqtt_topic::Routes;
 use std::alloc::{AllocError, Global};
 
 /// What the words ask for.
@@ -20,25 +27,37 @@ pub enum Request {
 /// # Errors
 ///
 /// The text of a fault, of the help, or of the version, as clap has them; [`ErrorKind::OutOfMemory`] for want of memory.
-pub fn arguments(alloc: Global, words: &[String]) -> Result<Request, Error> {
+pub fn arguments(alloc: Global, words: &[String]) -> Result<Request, Error>
+    ensures ok { IfOk result (AskFor (map string_bytes words.now)) }
+    ensures err { IfErr result (λ error. (kind_of error ≡ ErrorKind.OutOfMemory)
+        ⊎ SpellNoRequest (map string_bytes words.now) (kind_of error)) }
+{
     let matches = command(alloc)?.try_get_matches_from(words)?;
-    match matches.subcommand() {
-        Some(("drive", options)) => Ok(Request::Drive(setup(alloc, options)?)),
-        Some((_, options)) => Ok(Request::Solo(setup(alloc, options)?)),
-        None => Err(command(alloc)?.error(ErrorKind::MissingSubcommand, "a command is wanted")?),
+    let Some((name, options)) = matches.subcommand() else {
+        return Err(command(alloc)?.error(ErrorKind::MissingSubcommand, "a command is wanted")?);
+    };
+    let setup = setup(alloc, options)?;
+    if name == "drive" {
+        Ok(Request::Drive(setup))
+    } else {
+        Ok(Request::Solo(setup))
     }
 }
 
 /// The commands and their options.
-fn command<'a>(alloc: Global) -> Result<Command<'a>, AllocError> {
-    let solo = Command::new(alloc, "solo")
-        .about("Runs one MQTT client, whose bytes stand on standard input as lines of hex digits")
-        .arg(capacity(alloc))?
-        .arg(group(alloc))?;
-    let drive = Command::new(alloc, "drive")
-        .about("Runs the events on standard input, one a line, over up to 64 connections")
-        .arg(capacity(alloc))?
-        .arg(group(alloc))?;
+fn command<'a>(alloc: Global) -> Result<Command<'a>, AllocError>
+    ensures { IfOk result (λ command. app_of command ≡ command_line) }
+{
+    let solo = command_named(
+        alloc,
+        "solo",
+        "Runs one MQTT client, whose bytes stand on standard input as lines of hex digits",
+    )?;
+    let drive = command_named(
+        alloc,
+        "drive",
+        "Runs the events on standard input, one a line, over up to 64 connections",
+    )?;
     Command::new(alloc, "share_broker")
         .about("A dispatcher for MQTT 5.0 shared subscriptions")
         .version("0.1.0")
@@ -47,8 +66,24 @@ fn command<'a>(alloc: Global) -> Result<Command<'a>, AllocError> {
         .subcommand(drive)
 }
 
+/// A command with the two options.
+fn command_named<'a>(
+    alloc: Global,
+    name: &'a str,
+    about: &'a str,
+) -> Result<Command<'a>, AllocError>
+    ensures { IfOk result (λ command. app_of command ≡ command_named name.now) }
+{
+    Command::new(alloc, name)
+        .about(about)
+        .arg(capacity(alloc))?
+        .arg(group(alloc))
+}
+
 /// `--capacity N`.
-fn capacity<'a>(alloc: Global) -> Arg<'a> {
+fn capacity<'a>(alloc: Global) -> Arg<'a>
+    ensures { rule_of result ≡ capacity_option }
+{
     Arg::new(alloc, "capacity")
         .long("capacity")
         .value_name("N")
@@ -58,7 +93,9 @@ fn capacity<'a>(alloc: Global) -> Arg<'a> {
 }
 
 /// `--group NAME:FILTER`.
-fn group<'a>(alloc: Global) -> Arg<'a> {
+fn group<'a>(alloc: Global) -> Arg<'a>
+    ensures { rule_of result ≡ group_option }
+{
     Arg::new(alloc, "group")
         .long("group")
         .value_name("NAME:FILTER")
@@ -67,18 +104,21 @@ fn group<'a>(alloc: Global) -> Arg<'a> {
 }
 
 /// What a server begins with, by the options of a command.
-fn setup(alloc: Global, options: &ArgMatches) -> Result<Setup, Error> {
+fn setup(alloc: Global, options: &ArgMatches) -> Result<Setup, Error>
+    requires capacity { (number : ℕ) × HaveCapacity (rows_of (found_of options.now)) number }
+    requires as_written { one_of (codes "capacity") (rows_of (found_of options.now))
+        ≡ first_of (codes "capacity") (rows_of (found_of options.now)) }
+    ensures ok { IfOk result (IsSetupBy (rows_of (found_of options.now))) }
+    ensures err { IfErr result (λ error. (kind_of error ≡ ErrorKind.OutOfMemory)
+        ⊎ ((kind_of error ≡ ErrorKind.ValueValidation)
+        × ((refusal : _) × RefusesOne [] (pairs_in (rows_of (found_of options.now))) refusal))) }
+{
     let capacity = options.get_one::<u32>("capacity").unwrap_or(1_024);
-    let mut groups = Routes::new(alloc);
-    if let Some(pairs) = options.get_strs("group") {
-        for pair in pairs {
-            if let Err(refusal) = add_group(alloc, &mut groups, pair)? {
-                return Err(command(alloc)?.error(ErrorKind::ValueValidation, refusal.text())?);
-            }
-        }
+    match groups_of(alloc, options.get_strs("group").unwrap_or(&[]))? {
+        Ok(groups) => Ok(Setup {
+            capacity: capacity as usize,
+            groups,
+        }),
+        Err(refusal) => { Err(command(alloc)?.error(ErrorKind::ValueValidation, refusal.text())?) }
     }
-    Ok(Setup {
-        capacity: capacity as usize,
-        groups,
-    })
 }

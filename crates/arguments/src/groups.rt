@@ -1,6 +1,6 @@
 //! The groups that are there from the start.
-ghost use Rattle.std.specs.Prelude.{◌≡◌, IfOk};
-ghost use Rattle.arguments.specs.Groups.{share_named, Adds};
+ghost use Rattle.std.specs.Prelude.{◌≡◌, [], map, IfOk, MatchResult};
+ghost use Rattle.arguments.specs.Groups.{share_named, Adds, AddsEach, RefusesOne};
 
 use bytes::Bytes;
 use mqtt_topic::{Routes, Share, TopicError};
@@ -29,8 +29,26 @@ impl Refusal {
     }
 }
 
+/// The groups that are named by the pairs `NAME:FILTER`, in order; or why the first that is refused is.
+pub(crate) fn groups_of(
+    alloc: Global,
+    pairs: &[&str],
+) -> Result<Result<Routes, Refusal>, AllocError>
+    ensures { IfOk result (λ answer. MatchResult answer
+        (λ groups. AddsEach [] (map (λ pair. pair.now) pairs.now) groups)
+        (λ refusal. RefusesOne [] (map (λ pair. pair.now) pairs.now) refusal)) }
+{
+    let mut groups = Routes::new(alloc);
+    for pair in pairs {
+        if let Err(refusal) = add_group(alloc, &mut groups, pair)? {
+            return Ok(Err(refusal));
+        }
+    }
+    Ok(Ok(groups))
+}
+
 /// Adds the group `NAME:FILTER`.
-pub(crate) fn add_group(
+fn add_group(
     alloc: Global,
     groups: &mut Routes,
     pair: &str,

@@ -8,5 +8,6 @@
 
 mod command;
 mod groups;
+pub mod laws;
 
 pub use command::{Request, arguments};

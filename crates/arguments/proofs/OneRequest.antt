@@ -1,0 +1,80 @@
+-- Words ask for one thing.
+use Rattle.std.proofs.Common.{◌≡◌, ◌∙◌, ℕ, List, [], ◌∷◌, Option, Some, None, Ok, Err, ap, arith, codes, inl, inr, ap₂, rules, subst, sym}
+use Rattle.std.specs.Prelude.{IsSome, unwrap_or}
+use Rattle.std.specs.Str.Parse.{digits_value, without_leading_plus}
+use Rattle.mqtt_topic.specs.Names.{Share}
+use Rattle.clap.specs.Words.{IsAmong, Row, Text, fault_of, subcommand_of}
+use Rattle.clap.specs.Kinds.{Kinds}
+use Rattle.clap.specs.declared.error.kind.ErrorKind.{ErrorKind}
+use Rattle.local_server.specs.declared.setup.Setup.{Setup}
+use Rattle.arguments.specs.Groups.{Adds, AddsEach, RefusesOne, share_named}
+use Rattle.arguments.specs.CommandLine.{AreReadAs, AskFor, HaveCapacity, IsSetupBy, SpellNoRequest, command_line, pairs_in}
+use Rattle.arguments.specs.declared.command.Request.{Request}
+use Rattle.arguments.specs.declared.command.Request.TheVariants.{Drive, Solo}
+use Rattle.arguments.specs.declared.groups.Refusal.{Refusal}
+use Rattle.arguments.specs.declared.groups.Refusal.TheVariants.{Ninth, NoShare, Twice}
+use Rattle.arguments.proofs.Taken.{same_pair}
+
+adds_one : (old : List Share) (share : Option Share) (a b : List Share) → Adds old share (Ok tt) a → Adds old share (Ok tt) b → b ≡ a
+adds_one old None a b (bad, same) h = cc
+adds_one old (Some share) a b h i = i.2 ∙ sym h.2
+
+each_one : (pairs : List Text) (old a b : List Share) → AddsEach old pairs a → AddsEach old pairs b → a ≡ b
+each_one [] old a b h i = h ∙ sym i
+each_one (pair ∷ pairs) old a b (next, first, others) (next', first', others') =
+    each_one pairs next a b others (subst (λ groups. AddsEach groups pairs b) (adds_one old (share_named pair) next next' first first') others')
+
+never_both : (old new : List Share) (share : Option Share) (refusal : Refusal) → Adds old share (Ok tt) new → Adds old share (Err refusal) old → ⊥
+never_both old new None refusal (bad, same) i = cc
+never_both old new (Some share) NoShare h i = i
+never_both old new (Some share) Twice h i =
+    let some : IsSome {T = ℕ} None = subst (IsSome {T = ℕ}) h.0 i.0 in
+    absurd (search (rules, some))
+never_both old new (Some share) Ninth h i = omega (arith, h.1, i.1)
+
+each_or_refused : (pairs : List Text) (old new : List Share) (refusal : Refusal) → AddsEach old pairs new → RefusesOne old pairs refusal → ⊥
+each_or_refused [] old new refusal h i = i
+each_or_refused (pair ∷ pairs) old new refusal (next, first, others) (inl refused) = never_both old next (share_named pair) refusal first refused
+each_or_refused (pair ∷ pairs) old new refusal (next, first, others) (inr (next', first', refused)) =
+    each_or_refused pairs next new refusal others (subst (λ groups. RefusesOne groups pairs refusal) (adds_one old (share_named pair) next next' first first') refused)
+
+one_number : (rows : List Row) (a b : ℕ) → HaveCapacity rows a → HaveCapacity rows b → a ≡ b
+one_number rows a b h i =
+    let both : Some h.text ≡ Some i.text = sym h.value ∙ i.value in
+    let same : h.text ≡ i.text = ap (λ (o : Option Text). unwrap_or o h.text) both in
+    h.spelled.1 ∙ ap (λ (text : Text). digits_value 10 (without_leading_plus text)) same ∙ sym i.spelled.1
+
+one_setup : (rows : List Row) (a b : Setup) → IsSetupBy rows a → IsSetupBy rows b → a ≡ b
+one_setup rows a b h i =
+    let made : ℕ → List Share → Setup = λ capacity groups. record { capacity = capacity; groups = groups } in
+    ap₂ made (one_number rows a.capacity b.capacity h.0 i.0) (each_one (pairs_in rows) [] a.groups b.groups h.1 i.1)
+
+one_reading : (words : List Text) (a b : Text) (x y : List Row) → AreReadAs words a x → AreReadAs words b y → (a ≡ b) × (y ≡ x)
+one_reading words a b x y h i = same_pair (subcommand_of command_line words) a b x y h.1 i.1
+
+not_drive : codes "solo" ≡ codes "drive" → ⊥
+not_drive e = cc
+
+pub one : (words : List Text) (a b : Request) → AskFor words a → AskFor words b → a ≡ b
+one words (Solo a) (Solo b) (x, read, setup) (y, read', setup') =
+    let same = one_reading words (codes "solo") (codes "solo") x y read read' in
+    ap Solo (one_setup x a b setup (subst (λ rows. IsSetupBy rows b) same.1 setup'))
+one words (Solo a) (Drive b) (x, read, setup) (y, read', setup') = absurd (not_drive (one_reading words (codes "solo") (codes "drive") x y read read').0)
+one words (Drive a) (Solo b) (x, read, setup) (y, read', setup') = absurd (not_drive (sym (one_reading words (codes "drive") (codes "solo") x y read read').0))
+one words (Drive a) (Drive b) (x, read, setup) (y, read', setup') =
+    let same = one_reading words (codes "drive") (codes "drive") x y read read' in
+    ap Drive (one_setup x a b setup (subst (λ rows. IsSetupBy rows b) same.1 setup'))
+
+among_none : (kind : ErrorKind) (kinds : Kinds) → kinds ≡ [] → IsAmong kind kinds → ⊥
+among_none kind [] none among = among
+among_none kind (k ∷ ks) none among = cc
+
+read_exclusive : (words : List Text) (kind : ErrorKind) (name : Text) (rows : List Row) (setup : Setup) → AreReadAs words name rows → IsSetupBy rows setup → SpellNoRequest words kind → ⊥
+read_exclusive words kind name rows setup read by (inl fault) = among_none kind (fault_of command_line words) read.0 fault
+read_exclusive words kind name rows setup read by (inr (is, (name', rows', refusal, read', refused))) =
+    let same = one_reading words name name' rows rows' read read' in
+    each_or_refused (pairs_in rows) [] setup.groups refusal by.1 (subst (λ rows. RefusesOne [] (pairs_in rows) refusal) same.1 refused)
+
+pub exclusive : (words : List Text) (request : Request) (kind : ErrorKind) → AskFor words request → SpellNoRequest words kind → ⊥
+exclusive words (Solo setup) kind (rows, read, by) none = read_exclusive words kind (codes "solo") rows setup read by none
+exclusive words (Drive setup) kind (rows, read, by) none = read_exclusive words kind (codes "drive") rows setup read by none

@@ -1,0 +1,123 @@
+-- What clap reads of words in which it finds no fault.
+use Rattle.std.proofs.Common.{◌≡◌, ◌∙◌, ◌⊎◌, ◌||◌, ap₂, Bool, cond, true, false, List, [], ◌∷◌, Option, Some, None, ap, codes, drop, inl, inr, is_some, option_map, refl, sym, subst}
+use Rattle.std.specs.Option.{option_map_or}
+use Rattle.std.specs.Prelude.{unwrap_or}
+use Rattle.std.specs.Str.{bytes_eq}
+use Rattle.std.proofs.lemmas.Slice.Eq.{bytes_eq-Decides}
+use Rattle.clap.specs.Words.{App, HasMatchesOf, Row, Text, app_of, built, fault_of, is_simple, is_simple_and_free, subcommand_name_of, subcommand_of, subcommand_rows_of}
+use Rattle.clap.specs.Walk.{finished, nothing_held, rows_after, walk, walk_from}
+use Rattle.clap.specs.Simple.{Shape, built_leaf, entered, help_shape, names_of, rows_at}
+use Rattle.clap.specs.Faults.{check_fault, entered_fault, level_fault}
+use Rattle.clap.specs.declared.builder.command.Command.{Command}
+use Rattle.clap.specs.declared.error.kind.ErrorKind.TheVariants.{MissingSubcommand}
+use Rattle.clap.specs.declared.parser.matches.ArgMatches.{ArgMatches, out-ArgMatches}
+use Rattle.clap.proofs.OnLiterals.{clap_on_literals}
+use Rattle.arguments.specs.CommandLine.{AreReadAs, command_line}
+use Rattle.arguments.proofs.Faultless.{level_parts}
+use Rattle.arguments.proofs.Numbers.{HasCapacity, leaf, leaf_capacity, options}
+use Rattle.arguments.proofs.Stops.{IsNoHelp, walk_stop}
+
+abbrev line : App
+line = built command_line
+
+-- one of the two commands, with a capacity
+abbrev IsCommand : Option (Text × List Row) → Type 0
+IsCommand o = (rows : List Row) × ((o ≡ Some (codes "solo", rows)) ⊎ (o ≡ Some (codes "drive", rows))) × HasCapacity rows
+
+abbrev chosen : Bool → Bool → Bool → Option Shape
+chosen solo drive help = cond (solo || false) (Some (leaf (codes "solo")))
+    (cond (drive || false) (Some (leaf (codes "drive"))) (cond (help || false) (Some (built_leaf help_shape)) None))
+
+enters : (stop : Option (Text × List Text)) → IsNoHelp stop → entered_fault line stop ≡ [] → is_some (entered line stop) ≡ true → IsCommand (entered line stop)
+enters None good e some = cc
+enters (Some p) good e some = go (bytes_eq (codes "solo") p.0) (bytes_eq (codes "drive") p.0) (bytes_eq (codes "help") p.0) refl e some
+  where
+    go : (a b c : Bool) → bytes_eq (codes "help") p.0 ≡ c → option_map_or (λ s. level_fault s [] nothing_held p.1 false []) (chosen a b c) [] ≡ []
+        → is_some (option_map (λ s. rows_at s p.1) (chosen a b c)) ≡ true → IsCommand (option_map (λ s. rows_at s p.1) (chosen a b c))
+    go true b c is e some = (rows_after options [] p.1, inl refl, leaf_capacity (codes "solo") p.1 e)
+    go false true c is e some = (rows_after options [] p.1, inr refl, leaf_capacity (codes "drive") p.1 e)
+    go false false true is e some = absurd (good (sym ((bytes_eq-Decides (codes "help") p.0).0 is)))
+    go false false false is e some = cc
+
+wanted : (has : Bool) (rows : List Row) → check_fault line.top rows has ≡ [] → has ≡ true
+wanted true rows e = refl
+wanted false rows e =
+    let bad : MissingSubcommand ∷ [] ≡ [] = e in
+    cc
+
+-- words without a fault name one of the two commands, with a capacity
+taken : (words : List Text) → fault_of command_line words ≡ [] → IsCommand (subcommand_of command_line words)
+taken words e =
+    let stop = (walk line.top.rules (names_of line) nothing_held (drop 1 words)).stopped in
+    let p = level_parts line.top (names_of line) nothing_held (drop 1 words) (is_some (entered line stop)) (entered_fault line stop) e in
+    enters stop (walk_stop line.top (names_of line) (walk_from nothing_held) (drop 1 words) refl p.0 tt) p.1 (wanted (is_some (entered line stop)) (finished line.top.rules (walk line.top.rules (names_of line) nothing_held (drop 1 words)).held) p.3)
+
+-- ---- of the matches that a parse gave
+
+is_free : is_simple_and_free command_line ≡ true
+unfolding clap_on_literals
+is_free = refl
+
+is_plain : is_simple command_line ≡ true
+unfolding clap_on_literals
+is_plain = refl
+
+pub no_fault : (command : Command) (words : List Text) → app_of command ≡ command_line → (is_simple_and_free (app_of command) ≡ true → fault_of (app_of command) words ≡ [])
+    → fault_of command_line words ≡ []
+no_fault command words line fault = sym (ap (λ (a : App). fault_of a words) line) ∙ fault (ap is_simple_and_free line ∙ is_free)
+
+-- the command that was entered is the one that the words name
+entered_is : (command : Command) (words : List Text) (matches : ArgMatches) → app_of command ≡ command_line → HasMatchesOf (app_of command) words matches
+    → subcommand_rows_of matches ≡ subcommand_of command_line words
+entered_is command words matches line has = (has (ap is_simple line ∙ is_plain)).1 ∙ ap (λ (a : App). subcommand_of a words) line
+
+mapped : {B : Type 0} (f : B → Text) (g : B → List Row) (o : Option B) (name : Text) (rows : List Row) → Some name ≡ option_map f o
+    → Some rows ≡ option_map (λ (p : Text × List Row). p.1) (option_map {T = B} {U = Text × List Row} (λ b. (f b, g b)) o) → option_map {T = B} {U = Text × List Row} (λ b. (f b, g b)) o ≡ Some (name, rows)
+mapped f g None name rows named held = cc
+mapped f g (Some b) name rows named held =
+    ap₂ (λ (n : Text) (r : List Row). Some (n, r)) (ap (λ (o : Option Text). unwrap_or o name) (sym named)) (ap (λ (o : Option (List Row)). unwrap_or o rows) (sym held))
+
+-- what was entered is what clap reads in the words
+pub read_as : (command : Command) (words : List Text) (matches : ArgMatches) (name : Text) (rows : List Row) → app_of command ≡ command_line
+    → (is_simple_and_free (app_of command) ≡ true → fault_of (app_of command) words ≡ []) → HasMatchesOf (app_of command) words matches
+    → Some name ≡ subcommand_name_of matches → Some rows ≡ option_map (λ p. p.1) (subcommand_rows_of matches) → AreReadAs words name rows
+read_as command words matches name rows line fault has named held = (
+  no_fault command words line fault,
+  sym (entered_is command words matches line has) ∙ mapped _ _ (out-ArgMatches matches).subcommand name rows named held,
+)
+
+none_some : (o : Option (Text × List Row)) (p : Text × List Row) → None ≡ option_map (λ (p : Text × List Row). p.1) o → o ≡ Some p → ⊥
+none_some None p none some = cc
+none_some (Some q) p none some = cc
+
+-- something was entered
+pub some_command : (command : Command) (words : List Text) (matches : ArgMatches) → app_of command ≡ command_line
+    → (is_simple_and_free (app_of command) ≡ true → fault_of (app_of command) words ≡ []) → HasMatchesOf (app_of command) words matches
+    → None ≡ option_map (λ p. p.1) (subcommand_rows_of matches) → ⊥
+some_command command words matches line fault has none = go (taken words (no_fault command words line fault))
+  where
+    none_here : None ≡ option_map (λ (p : Text × List Row). p.1) (subcommand_of command_line words)
+    none_here = none ∙ ap (option_map (λ (p : Text × List Row). p.1)) (entered_is command words matches line has)
+
+    go : IsCommand (subcommand_of command_line words) → ⊥
+    go (rows, inl is, capacity) = none_some (subcommand_of command_line words) (codes "solo", rows) none_here is
+    go (rows, inr is, capacity) = none_some (subcommand_of command_line words) (codes "drive", rows) none_here is
+
+pub same_pair : (o : Option (Text × List Row)) (a b : Text) (x y : List Row) → o ≡ Some (a, x) → o ≡ Some (b, y) → (a ≡ b) × (y ≡ x)
+same_pair o a b x y e f =
+    let both : Some (a, x) ≡ Some (b, y) = sym e ∙ f in (
+      ap (λ (o : Option (Text × List Row)). (unwrap_or o (a, x)).0) both,
+      sym (ap (λ (o : Option (Text × List Row)). (unwrap_or o (a, x)).1) both),
+    )
+
+-- it is one of the two commands, with a capacity
+pub command_facts : (words : List Text) (name : Text) (rows : List Row) → AreReadAs words name rows → ((name ≡ codes "solo") ⊎ (name ≡ codes "drive")) × HasCapacity rows
+command_facts words name rows (faultless, is) = go (taken words faultless)
+  where
+    go : IsCommand (subcommand_of command_line words) → ((name ≡ codes "solo") ⊎ (name ≡ codes "drive")) × HasCapacity rows
+    go (held, inl solo, capacity) =
+        let p = same_pair (subcommand_of command_line words) name (codes "solo") rows held is solo in
+        (inl p.0, subst HasCapacity p.1 capacity)
+    go (held, inr drive, capacity) =
+        let p = same_pair (subcommand_of command_line words) name (codes "drive") rows held is drive in
+        (inr p.0, subst HasCapacity p.1 capacity)
