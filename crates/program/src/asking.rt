@@ -1,8 +1,8 @@
 //! What words ask for.
-ghost use Rattle.std.specs.Prelude.{◌≡◌, IfOk, IfErr};
+ghost use Rattle.std.specs.Prelude.{◌≡◌, map, string_bytes, IfOk, IfErr};
 ghost use Rattle.clap.specs.Values.{kind_of};
 ghost use Rattle.line_io.specs.declared.error.RunError.TheVariants.{Memory};
-ghost use Rattle.program.specs.Asking.{IsAnswerTo};
+ghost use Rattle.program.specs.Asking.{Asks, IsAnswerTo};
 
 use arguments::{Request, arguments};
 use clap::Error;
@@ -32,7 +32,7 @@ pub enum Asked {
 ///
 /// [`RunError::Memory`].
 pub fn asked_by(alloc: Global, words: io::Result<Vec<String>>) -> Result<Asked, RunError>
-    ensures err { IfErr result (λ error. error ≡ Memory) }
+    ensures { Asks words (λ given. map string_bytes given.items) result }
 {
     match words {
         Ok(words) => match arguments(alloc, &words) {

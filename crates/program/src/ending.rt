@@ -1,7 +1,8 @@
 //! The words, what they ask for, and the status.
-ghost use Rattle.std.specs.Prelude.{◌≡◌, Result, IfSome};
+ghost use Rattle.std.specs.Prelude.{◌≡◌, map, string_bytes, Result, IfSome};
 ghost use Rattle.line_io.specs.declared.error.RunError.{RunError as Stop};
 ghost use Rattle.program.specs.declared.asking.Asked.{Asked as Wish};
+ghost use Rattle.program.specs.Asking.{Asks};
 ghost use Rattle.program.specs.Ending.{Ends, Streams, Tells, Wrote, status_at};
 
 use crate::asking::{Asked, asked_by};
@@ -37,8 +38,8 @@ pub fn run<R: Read, W: Write, E: Write>(
     output: &mut W,
     errors: &mut E,
 ) -> u8
-    // It ends as what the words ask for ends.
-    ensures ends { (wish : Result Wish Stop) × Ends wish
+    // It ends as what its words ask for ends.
+    ensures ends { (wish : Result Wish Stop) × Asks words (λ given. map string_bytes given.items) wish × Ends wish
         (record { input = R.remaining reader.old; output = W.contents output.old; errors = E.contents errors.old })
         (record { input = R.remaining reader.new; output = W.contents output.new; errors = E.contents errors.new }) result }
 {
