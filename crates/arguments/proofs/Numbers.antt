@@ -1,24 +1,19 @@
 -- Where clap finds no fault in words, `--capacity` has a number from 1 to 65536.
 use Rattle.std.proofs.Common.{◌≡◌, ◌∙◌, ap₂, ◌||◌, ◌&&◌, ◌==◌, ◌≤◌, Bool, cond, true, false, not, List, [], ◌∷◌, ◌++◌, ℕ, zero, suc, Option, Some, None, refl, ap, codes, fold, sym, subst, is_some, length, drop, arith, eqb-true, option_map, append-nil}
 use Rattle.std.specs.Option.{option_map_or}
-use Rattle.std.specs.Prelude.{IfSome, encode_utf8, find, pos, slice_get}
+use Rattle.std.specs.Prelude.{IfSome, encode_utf8, find, pos, slice_get, unwrap_or, option_and_then}
 use Rattle.std.specs.Str.{bytes_eq, chars}
 use Rattle.std.specs.Str.Parse.{digits_value, starts_with_minus, without_leading_plus}
-use Rattle.std.specs.Prelude.{unwrap_or}
 use Rattle.std.proofs.lemmas.Slice.Eq.{bytes_eq-Decides}
 use Rattle.std.proofs.lemmas.Int.{ints}
 use Rattle.clap.specs.Lexer.{long_of, short_of, without_minus}
 use Rattle.clap.specs.Values.{read_as}
-use Rattle.std.specs.Prelude.{option_and_then}
-use Rattle.clap.specs.Walk.{has_long, has_short, row_text, values_or_missing}
-use Rattle.clap.specs.Kinds.{value_kinds}
-use Rattle.clap.specs.Faults.{repeat_fault, set_fault, values_fault}
+use Rattle.clap.specs.Walk.{has_long, has_short, row_text, values_or_missing, Held, Outcome, Step, Waiting, Walk, after_flag, after_step, arg_by_id, arg_by_long, arg_by_short, at_row, more_values, attached_value, bundle, bundle_met, bundle_step, done, finished, has_row, idle, long_met, long_or_other, next, nothing_held, option, option_met, option_word, plain, plain_word, positional, reacted, refused, rows_after, settled, settled_rows, short_met, short_or_plain, subcommand, subcommand_met, subcommand_or_other, trailing, used, used_by_id, value, waits, walk, walk_from, walked, walked_from, with_default, with_values, without, word_met}
+use Rattle.clap.specs.Kinds.{value_kinds, Kinds, range_kinds}
+use Rattle.clap.specs.Faults.{repeat_fault, set_fault, values_fault, bundle_fault, bundle_step_fault, flag_word_fault, flags_fault, level_fault, long_fault, option_fault, other_fault, react_fault, settle_fault, short_fault, turn_fault, use_fault, walk_fault, word_fault}
 use Rattle.clap.specs.Words.{IsSignedIn, Row, Rule, Text, first_of, one_of}
-use Rattle.clap.specs.Walk.{Held, Outcome, Step, Waiting, Walk, after_flag, after_step, arg_by_id, arg_by_long, arg_by_short, at_row, more_values, attached_value, bundle, bundle_met, bundle_step, done, finished, has_row, idle, long_met, long_or_other, next, nothing_held, option, option_met, option_word, plain, plain_word, positional, reacted, refused, rows_after, settled, settled_rows, short_met, short_or_plain, subcommand, subcommand_met, subcommand_or_other, trailing, used, used_by_id, value, waits, walk, walk_from, walked, walked_from, with_default, with_values, without, word_met}
 use Rattle.clap.specs.Simple.{Shape, built_leaf, filled, help_rule, inherited, marked_built, with_index, with_leaf_noted}
-use Rattle.clap.specs.Kinds.{Kinds, range_kinds}
 use Rattle.clap.specs.ValueTests.{is_signed_in}
-use Rattle.clap.specs.Faults.{bundle_fault, bundle_step_fault, flag_word_fault, flags_fault, level_fault, long_fault, option_fault, other_fault, react_fault, settle_fault, short_fault, turn_fault, use_fault, walk_fault, word_fault}
 use Rattle.clap.specs.declared.builder.value_parser.Reading.{Reading}
 use Rattle.clap.specs.declared.builder.value_parser.Reading.TheVariants.{AsWritten, WithoutMinus}
 use Rattle.clap.specs.declared.builder.value_parser.ValueParser.TheVariants.{Signed}
