@@ -1,7 +1,7 @@
 //! What the words of a command line ask for.
 //!
 //! ```
-//! let words = ["share_broker", "drive", "--capacity", "2", "--group", "g:job"];
+//! // The words are those of: share_broker drive --capacity 2 --group g:job
 //! let asked = arguments(alloc, &words)?; // `Request::Drive`, with $share/g/job in slot 0
 //! ```
 #![tactic(auto)]
