@@ -1,5 +1,5 @@
 -- The lines of an input (profile).
-use Rattle.std.specs.Prelude.{ℕ, ◌==◌, if◌then◌else◌, List, [], ◌∷◌}
+use Rattle.std.specs.Prelude.{ℕ, ◌==◌, if◌then◌else◌, List, [], ◌∷◌, ◌++◌}
 
 -- a byte at the front of the first piece
 abbrev pub onto_first : ℕ → List (List ℕ) → List (List ℕ)
@@ -14,3 +14,7 @@ cut_at separator last (byte ∷ bytes) = if byte == separator then [] ∷ cut_at
 -- the lines: each ends at a byte 0A, and where nothing follows the last 0A, nothing is no line
 abbrev pub lines_of : List ℕ → List (List ℕ)
 lines_of input = cut_at 10 [] input
+
+-- a line and the 0A that ends it
+abbrev pub with_end : List ℕ → List ℕ
+with_end line = line ++ 10 ∷ []

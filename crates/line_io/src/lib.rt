@@ -9,6 +9,7 @@
 
 mod error;
 mod input;
+pub mod laws;
 mod output;
 mod telling;
 
