@@ -17,7 +17,7 @@ use Rattle.local_broker.specs.Broker.{Broker}
 use Rattle.local_broker.specs.Calls.{Calls, AsksDesk}
 use Rattle.local_broker.specs.Reporting.{TellsLine}
 use Rattle.solo_output.specs.Groups.{Story, Bound, shares_of, accepted_in, handed_in, open_identifiers}
-use Rattle.solo_output.specs.Report.{fates_of, line_of, report_of}
+use Rattle.solo_output.specs.Report.{counts_of, line_of, report_of}
 use Rattle.solo_output.proofs.Groups.{ShowsGroup, IsEnding, ending, one_back, good_of, bad_of}
 use Rattle.solo_output.proofs.Reported.{fates_are, line_is}
 use Rattle.solo_output.proofs.Brokers.{ShowsBroker, entries_at, in_group, entries_none}
@@ -39,7 +39,7 @@ pub record IsTold (slot : ℕ) (story : Story) (group : Group) : Type 0 where
   pub ends : EndsAs story slot returned entries group
   pub fates : fates_are (good_of (handed_in slot story.handed_out)) (bad_of (handed_in slot story.handed_out)) (length entries)
       (length (accepted_in slot story.groups) - length (handed_in slot story.handed_out)) returned
-      ≡ fates_of story.terms.session_expiry_interval (length (accepted_in slot story.groups)) (handed_in slot story.handed_out)
+      ≡ counts_of story.terms.session_expiry_interval (length (accepted_in slot story.groups)) (handed_in slot story.handed_out)
 
 -- and so does each
 pub record ShowsEnd (story : Story) (b : Broker) : Type 0 where
@@ -102,7 +102,7 @@ line_told story b shows slot line tells_line own there =
     ∙ line_is (length (accepted_in slot story.groups)) (good_of hand_outs) (bad_of hand_outs) (length (accepted_in slot story.groups) - length hand_outs) told.returned slot told.entries
     tells_line.group told.ends tells_line.is_line.report tells_line.is_line.reports tells_line.share
     ∙ ap (line_of tells_line.share (length (accepted_in slot story.groups))) told.fates
-    ∙ (λ i. line_of (share i) (length (accepted i)) (fates_of expiry (length (accepted i)) hand_outs))
+    ∙ (λ i. line_of (share i) (length (accepted i)) (counts_of expiry (length (accepted i)) hand_outs))
 
 -- a client that was never connected
 pub ends_idle : (story : Story) (b : Broker) → ShowsBroker story [] b → ShowsEnd story b

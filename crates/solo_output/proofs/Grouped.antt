@@ -10,7 +10,7 @@ use Rattle.mqtt_topic.proofs.RouteLaws.{none_has, distinct_more}
 use Rattle.local_server.specs.declared.setup.Setup.{Setup}
 use Rattle.solo_output.specs.Groups.{Story, HandOut, Bound, bound, opening, shares_of, accepted_in, handed_in, open_identifiers, acknowledges, refuses, with_message, with_share}
 use Rattle.solo_output.specs.Replies.{turns}
-use Rattle.solo_output.specs.Report.{fates_of}
+use Rattle.solo_output.specs.Report.{counts_of}
 use Rattle.solo_output.specs.Runs.{run_of}
 use Rattle.solo_output.proofs.Brokers.{shares_kept, length-accepting, length-shares, shares_first}
 use Rattle.solo_output.proofs.Lists.{handed}
@@ -114,7 +114,7 @@ held_or_back true n = omega arith
 held_or_back false n = omega arith
 
 pub fates_all : (setup : Setup) (packets : List Packet) (slot : ℕ) → let story = (run_of setup packets).story in let accepted = length (accepted_in slot story.groups) in
-    let fates = fates_of story.terms.session_expiry_interval accepted (handed_in slot story.handed_out) in fates.acknowledged + fates.refused + fates.held + fates.queued + fates.returned ≡ accepted
+    let fates = counts_of story.terms.session_expiry_interval accepted (handed_in slot story.handed_out) in fates.acknowledged + fates.refused + fates.held + fates.queued + fates.returned ≡ accepted
 fates_all setup packets slot =
     let story = (run_of setup packets).story in
     let own = handed_in slot story.handed_out in

@@ -26,3 +26,7 @@ pub mod Lasting
 pub mod Turned
 pub mod Lawful
 pub mod Grouped
+pub mod Joined
+pub mod Left
+pub mod Parted
+pub mod Members

@@ -6,4 +6,5 @@ pub mod Replies
 pub mod Report
 pub mod Streams
 pub mod Runs
+pub mod Memberships
 pub mod Output

@@ -14,8 +14,8 @@ pub record Fates : Type 0 where
 
 -- Each accepted message is acknowledged, refused, held, queued or returned: what is unacknowledged at the end of the connection is
 -- returned where the session ends with it, and else held (3.1.2.11.2).
-abbrev pub fates_of : ℕ → ℕ → List HandOut → Fates
-fates_of expiry accepted hand_outs = record {
+abbrev pub counts_of : ℕ → ℕ → List HandOut → Fates
+counts_of expiry accepted hand_outs = record {
   acknowledged = count_by (λ hand_out. acknowledges hand_out.code) hand_outs;
   refused = count_by (λ hand_out. refuses hand_out.code) hand_outs;
   held = if expiry == 0 then 0 else length (open_identifiers hand_outs);
@@ -33,7 +33,7 @@ line_of share accepted fates =
 -- the group of this slot
 abbrev pub report_of : ℕ → Bound → Story → List ℕ
 report_of slot group story =
-    line_of group.share (length group.accepted) (fates_of story.terms.session_expiry_interval (length group.accepted) (handed_in slot story.handed_out))
+    line_of group.share (length group.accepted) (counts_of story.terms.session_expiry_interval (length group.accepted) (handed_in slot story.handed_out))
 
 -- a line for each of these groups, the first having this slot
 abbrev pub reports_from : ℕ → List Bound → Story → List ℕ

@@ -1,6 +1,6 @@
 //! Laws of the story: it is what a server does, and what it comes to is lawful. Each is the contract of a function that does nothing,
 //! stated over the definitions that the contracts of [`solo`](crate::solo) and of [`drive_client`](drive::drive_client) cite.
-ghost use Rattle.std.specs.Prelude.{◌≡◌, ◌⊎◌, ◌↔◌, ◌+◌, ◌<◌, ◌≤◌, ℕ, min, List, [], ◌∷◌, ◌++◌, length, take, slice_get, Option, Some, None, Ok, Err};
+ghost use Rattle.std.specs.Prelude.{◌≡◌, ◌≢◌, ◌⊎◌, ◌↔◌, ◌+◌, ◌<◌, ◌≤◌, ℕ, min, List, [], ◌∷◌, ◌++◌, length, take, slice_get, Option, Some, None, Ok, Err};
 ghost use Rattle.std.specs.List.{AllByRecursion};
 ghost use Rattle.member_window.specs.Identifiers.{IsLeastFree, AreDistinct};
 ghost use Rattle.mqtt_wire.specs.declared.fault.StreamFault.{StreamFault};
@@ -9,11 +9,13 @@ ghost use Rattle.mqtt_wire.specs.declared.packet.Packet.{Packet};
 ghost use Rattle.mqtt_wire.specs.declared.packet.Packet.TheVariants as kinds;
 ghost use Rattle.mqtt_wire.specs.declared.packet.Puback.{Puback};
 ghost use Rattle.mqtt_wire.specs.declared.packet.Publish.{Publish};
+ghost use Rattle.mqtt_wire.specs.declared.packet.Subscribe.{Subscribe};
+ghost use Rattle.mqtt_wire.specs.declared.packet.Unsubscribe.{Unsubscribe};
 ghost use Rattle.mqtt_wire.specs.Stream.{Reads};
 ghost use Rattle.mqtt_topic.specs.Names.{Share};
-ghost use Rattle.mqtt_topic.specs.Routes.{AreDistinct as HaveDistinctTexts};
+ghost use Rattle.mqtt_topic.specs.Routes.{most_routes, slot_of, AreDistinct as HaveDistinctTexts};
 ghost use Rattle.local_group.specs.Groups.{life};
-ghost use Rattle.session_desk.specs.declared.session.Membership.TheVariants.{Member};
+ghost use Rattle.session_desk.specs.declared.session.Membership.TheVariants.{NotMember, Member, Leaving};
 ghost use Rattle.conn_rules.specs.declared.publishing.PublishAnswer.TheVariants.{Offer};
 ghost use Rattle.conn_rules.specs.Connecting.{or_else};
 ghost use Rattle.conn_rules.specs.Packets.{puback};
@@ -26,9 +28,10 @@ ghost use Rattle.solo_output.specs.Groups.Phase.{Connected, Closed};
 ghost use Rattle.solo_output.specs.HandOuts.{quota, least_free, sends_nothing};
 ghost use Rattle.solo_output.specs.Publishing.{matching};
 ghost use Rattle.solo_output.specs.Replies.{farewell, reply, turn, turns};
-ghost use Rattle.solo_output.specs.Report.{fates_of};
+ghost use Rattle.solo_output.specs.Report.{counts_of};
 ghost use Rattle.solo_output.specs.Streams.{stream_of};
 ghost use Rattle.solo_output.specs.Output.{solo_output, IsOutputFor};
+ghost use Rattle.solo_output.specs.Memberships.{AsksFor, AsksToLeave, Joins, Leaves};
 ghost use Rattle.solo_output.specs.Runs.{run_of, takers, taken, published, sent_in, jobs_of, IsInGroup, IsStill, IsSettledBy};
 
 /// **The output that [`solo`](crate::solo) writes is that of a run of a server**, with at most eight shares bound: what a server says and reports when the client's
@@ -60,7 +63,7 @@ pub fn identifier_law()
 /// **Every run is lawful**: what the story keeps on every setup, whatever packets come, of the client and of each group.
 ///
 /// - `receive_maximum`: no more hand-outs are unacknowledged than the Receive Maximum of the CONNECT, or than 65,535 where it has none
-///   (3.1.2.11.3, 4.9); and the quota of the connection is that, cut to 256 (profile). `quota`: nor more than the quota.
+///   (3.1.2.11.3, 4.9); and while the client is connected, the quota is that, cut to 256 (profile). `quota`: nor more than the quota.
 /// - `identifiers`: the unacknowledged identifiers are 1 to 256 (profile), and no two are equal (2.2.1).
 /// - `groups`: eight shares at most are bound, of differing texts, where those of the setup are so (profile); `slots`: each keeps its slot.
 /// - `accepted`: a group accepted the messages of the PUBLISH packets that were offered when it was among those that take them: its filter matched
@@ -122,11 +125,48 @@ pub fn every_run_is_lawful()
         (other : HandOut) × (slice_get (turns more story).story.handed_out place ≡ Some other) × IsStill one other }
     ensures one_fate { (setup : Setup) (packets : List Packet) (slot : ℕ) → let story = (run_of setup packets).story in
         let accepted = length (accepted_in slot story.groups) in
-        let fates = fates_of story.terms.session_expiry_interval accepted (handed_in slot story.handed_out) in
+        let fates = counts_of story.terms.session_expiry_interval accepted (handed_in slot story.handed_out) in
         fates.acknowledged + fates.refused + fates.held + fates.queued + fates.returned ≡ accepted }
     ensures eager { (setup : Setup) (packets : List Packet) (slot : ℕ) → let story = (run_of setup packets).story in
         story.phase ≡ Connected → story.membership ≡ Member slot →
         (waiting_in slot story ≡ []) ⊎ (length (unacknowledged story) ≡ quota story) }
     ensures closed { (story : Story) (packets : List Packet) → story.phase ≡ Closed →
         (turns packets story ≡ sends_nothing story) × ((fault : Option StreamFault) → farewell fault story ≡ None) }
+{}
+
+/// **How a client comes into a group, and out of it**, on every setup and whatever packets come (sections 3.8 to 3.11, 4.8.2).
+///
+/// - `joins`: where the SUBACK has 01 for the text of a share, the client is a member of the group of that share; `joined`: and it becomes one only so
+///   (3.8.3, 3.9.3). `admits`: a client in no group that asks for a share which is served joins a group, where that share is bound or there is a slot
+///   for it; `readmits`: and one that is in the group of the share, also one that is leaving it, joins that group (profile).
+/// - `leaves`: the UNSUBACK has 00 only for the share of the member's own group, and the client is then leaving it, or in no group where nothing is
+///   unacknowledged; `left`, `leaving`: and a member ceases to be one, and a client is leaving, only so. `releases`: a member that asks to leave does
+///   (3.10.3, 3.11.3).
+/// - `parts`: who is leaving a group is in it behind the next packet too, or in none with nothing unacknowledged; `owes`: and while it is leaving,
+///   something is unacknowledged (3.10.4).
+pub fn membership_is_lawful()
+    ensures joins { (story : Story) (packet : Packet) (slot : ℕ) → let next = (turn packet story).story in
+        Joins packet (reply packet story) slot → next.membership ≡ Member slot }
+    ensures joined { (story : Story) (packet : Packet) (slot : ℕ) → let next = (turn packet story).story in
+        next.membership ≡ Member slot → (story.membership ≡ Member slot) ⊎ Joins packet (reply packet story) slot }
+    ensures admits { (story : Story) (subscribe : Subscribe) (share : Share) → let packet = kinds.Subscribe subscribe in
+        AsksFor subscribe share story → story.membership ≡ NotMember →
+        (slot_of share.text (shares_of story.groups) ≢ None) ⊎ (length story.groups < most_routes) →
+        (slot : ℕ) × Joins packet (reply packet story) slot }
+    ensures readmits { (story : Story) (subscribe : Subscribe) (share : Share) (slot : ℕ) → let packet = kinds.Subscribe subscribe in
+        AsksFor subscribe share story → IsInGroup story.membership slot → slot_of share.text (shares_of story.groups) ≡ Some slot →
+        Joins packet (reply packet story) slot }
+    ensures leaves { (story : Story) (packet : Packet) (slot : ℕ) → let next = (turn packet story).story in
+        Leaves packet (reply packet story) slot →
+        (story.membership ≡ Member slot) × ((next.membership ≡ Leaving slot) ⊎ ((next.membership ≡ NotMember) × (unacknowledged next ≡ []))) }
+    ensures left { (story : Story) (packet : Packet) (slot : ℕ) → let next = (turn packet story).story in
+        story.membership ≡ Member slot → (next.membership ≡ Member slot) ⊎ Leaves packet (reply packet story) slot }
+    ensures leaving { (story : Story) (packet : Packet) (slot : ℕ) → let next = (turn packet story).story in
+        next.membership ≡ Leaving slot → (story.membership ≡ Leaving slot) ⊎ Leaves packet (reply packet story) slot }
+    ensures releases { (story : Story) (unsubscribe : Unsubscribe) (slot : ℕ) → let packet = kinds.Unsubscribe unsubscribe in
+        AsksToLeave unsubscribe slot story → story.membership ≡ Member slot → Leaves packet (reply packet story) slot }
+    ensures parts { (story : Story) (packet : Packet) (slot : ℕ) → let next = (turn packet story).story in
+        story.membership ≡ Leaving slot → IsInGroup next.membership slot ⊎ ((next.membership ≡ NotMember) × (unacknowledged next ≡ [])) }
+    ensures owes { (setup : Setup) (packets : List Packet) (slot : ℕ) → let story = (run_of setup packets).story in
+        story.membership ≡ Leaving slot → unacknowledged story ≢ [] }
 {}

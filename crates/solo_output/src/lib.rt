@@ -5,5 +5,7 @@
 mod laws;
 mod run;
 
-pub use laws::{every_run_is_lawful, identifier_law, one_output_law, solo_output_law};
+pub use laws::{
+    every_run_is_lawful, identifier_law, membership_is_lawful, one_output_law, solo_output_law,
+};
 pub use run::solo;
