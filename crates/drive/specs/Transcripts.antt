@@ -1,8 +1,8 @@
 -- What is written of a run: what each step of a connection wrote, and the reports (profile).
-use Rattle.std.specs.Prelude.{◌≡◌, ◌⊎◌, ℕ, zero, suc, codes, List, [], ◌∷◌, ◌++◌, length, Option, Result, Ok}
+use Rattle.std.specs.Prelude.{◌≡◌, ℕ, zero, suc, codes, List, [], ◌∷◌, ◌++◌, length, Option, Result, Ok}
 use Rattle.std.specs.List.{flat_map}
 use Rattle.std.specs.Fmt.{decimal}
-use Rattle.std.specs.Io.KnownBytes.{Appends, Keeps}
+use Rattle.std.specs.Io.KnownBytes.{Appends}
 use Rattle.mqtt_wire.specs.declared.packet.Packet.{Packet}
 use Rattle.mqtt_wire.specs.Writing.{written}
 use Rattle.conn_engine.specs.declared.input.Then.{Then}

@@ -1,5 +1,5 @@
 -- A command wrote what its clauses say, in each of the three cases.
-use Rattle.std.proofs.Common.{ℕ, List, Option, IfSome, subst, sym}
+use Rattle.std.proofs.Common.{IfSome, subst, sym}
 use Rattle.arguments.specs.declared.command.Request.TheVariants.{Solo, Drive}
 use Rattle.program.specs.Ending.{Wrote}
 use Rattle.program.proofs.Commands.{wrote}
