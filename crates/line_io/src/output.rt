@@ -8,6 +8,8 @@ use crate::error::RunError;
 use std::io::{ErrorKind, Write};
 
 /// Writes all of the bytes. At a failure the writer has a beginning of them.
+//
+// `Write::write_all` does not say what was written at a failure. The turns are counted, so that the loop ends whatever the writer answers.
 fn write_out<W: Write>(writer: &mut W, bytes: &[u8]) -> Result<(), RunError>
     ensures ok { OnOk result (Appends (W.contents writer.old) (W.contents writer.new) bytes.now) }
     ensures err { OnErr result (Begins (W.contents writer.old) (W.contents writer.new) bytes.now) }
