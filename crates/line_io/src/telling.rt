@@ -1,8 +1,9 @@
 //! What is said of an error.
-ghost use Rattle.std.specs.Prelude.{◌≡◌, OnOk, OnErr};
+ghost use Rattle.std.specs.Prelude.{◌≡◌, ◌⊎◌, IfErr, OnOk, OnErr};
 ghost use Rattle.std.specs.Io.KnownBytes.{Appends};
 ghost use Rattle.line_io.specs.Passing.{Begins};
 ghost use Rattle.line_io.specs.Status.{error_line};
+ghost use Rattle.line_io.specs.declared.error.RunError.TheVariants.{Memory, WriteFailed};
 
 use crate::error::RunError;
 use crate::output::write_all;
@@ -17,6 +18,7 @@ use std::io::Write;
 pub fn tell<W: Write>(alloc: Global, error: RunError, writer: &mut W) -> Result<(), RunError>
     ensures ok { OnOk result (Appends (W.contents writer.old) (W.contents writer.new) (error_line error)) }
     ensures err { OnErr result (Begins (W.contents writer.old) (W.contents writer.new) (error_line error)) }
+    ensures cause { IfErr result (λ failure. (failure ≡ WriteFailed) ⊎ (failure ≡ Memory)) }
 {
     match error {
         RunError::ReadFailed | RunError::TooManyReads | RunError::WriteFailed => {
