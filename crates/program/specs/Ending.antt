@@ -1,5 +1,5 @@
 -- How the program ends: its status, and what then stands in its output and on its error output (profile).
-use Rattle.std.specs.Prelude.{◌≡◌, ℕ, List, Option, Result, Ok, Err, IfSome, string_bytes}
+use Rattle.std.specs.Prelude.{◌≡◌, ◌⊎◌, ℕ, List, Option, Result, Ok, Err, IfSome, string_bytes}
 use Rattle.std.specs.Io.KnownBytes.{Appends, Keeps}
 use Rattle.arguments.specs.declared.command.Request.{Request}
 use Rattle.arguments.specs.declared.command.Request.TheVariants.{Solo, Drive}
@@ -11,6 +11,7 @@ use Rattle.drive.specs.Scripts.{script_of}
 use Rattle.drive.specs.Transcripts.{IsDriveOutput, Writes, BeginsTo}
 use Rattle.solo_output.specs.Streams.{stream_of}
 use Rattle.solo_output.specs.Output as solo
+use Rattle.program.specs.declared.ending.Exit.{Exit}
 use Rattle.program.specs.declared.asking.Asked.{Asked}
 use Rattle.program.specs.declared.asking.Asked.TheVariants.{Run, Show, Refuse}
 
@@ -25,10 +26,15 @@ abbrev pub status_at : Result (Unit {0}) RunError → ℕ
 status_at (Ok done) = 0
 status_at (Err error) = status_of error
 
--- on the error output nothing where all was done, and else the line of the error, or a beginning of it
-abbrev pub Tells : Result (Unit {0}) RunError → Option (List ℕ) → Option (List ℕ) → Type 0
-Tells (Ok done) old new = Keeps old new
-Tells (Err error) old new = Begins old new (error_line error)
+-- a text was said on the error output, or it was not, since that failed or memory was refused for the text: then a beginning of it stands there
+abbrev pub IsSaid : List ℕ → Result (Unit {0}) RunError → Option (List ℕ) → Option (List ℕ) → Type 0
+IsSaid text (Ok done) old new = Appends old new text
+IsSaid text (Err failure) old new = ((failure ≡ WriteFailed) ⊎ (failure ≡ Memory)) × Begins old new text
+
+-- on the error output nothing where all was done, and else the line of the error
+abbrev pub Tells : Result (Unit {0}) RunError → Result (Unit {0}) RunError → Option (List ℕ) → Option (List ℕ) → Type 0
+Tells (Ok done) told old new = (told ≡ Ok tt) × Keeps old new
+Tells (Err error) told old new = IsSaid (error_line error) told old new
 
 -- of the lines of an input the first that a command does not take has this number, from 1
 abbrev pub NamesBadLine : Request → List ℕ → ℕ → Type 0
@@ -51,11 +57,11 @@ Wrote request input (Err Memory) old new = Keeps old new
 Wrote request input (Err (Line number)) old new = NamesBadLine request input number × Keeps old new
 
 -- A command came to its end, or to an error.
-pub record RunEnds (request : Request) (old new : Streams) (status : ℕ) : Type 0 where
+pub record RunEnds (request : Request) (old new : Streams) (exit : Exit) : Type 0 where
   pub ended : Result (Unit {0}) RunError
   pub wrote : IfSome old.input (λ input. Wrote request input ended old.output new.output)
-  pub told : Tells ended old.errors new.errors
-  pub ends_with : status ≡ status_at ended
+  pub told : Tells ended exit.told old.errors new.errors
+  pub ends_with : exit.status ≡ status_at ended
 
 -- a text is shown: all of it, or a beginning
 abbrev pub Shown : List ℕ → Result (Unit {0}) RunError → Option (List ℕ) → Option (List ℕ) → Type 0
@@ -63,23 +69,23 @@ Shown text (Ok done) old new = Appends old new text
 Shown text (Err error) old new = (error ≡ WriteFailed) × Begins old new text
 
 -- A text was shown, or the output failed; nothing was read.
-pub record ShowEnds (text : List ℕ) (old new : Streams) (status : ℕ) : Type 0 where
+pub record ShowEnds (text : List ℕ) (old new : Streams) (exit : Exit) : Type 0 where
   pub ended : Result (Unit {0}) RunError
   pub read : Keeps old.input new.input
   pub shown : Shown text ended old.output new.output
-  pub told : Tells ended old.errors new.errors
-  pub ends_with : status ≡ status_at ended
+  pub told : Tells ended exit.told old.errors new.errors
+  pub ends_with : exit.status ≡ status_at ended
 
--- Nothing was read and nothing written but this text, or a beginning of it, on the error output.
-pub record NothingBut (text : List ℕ) (old new : Streams) : Type 0 where
+-- Nothing was read and nothing written but this text on the error output.
+pub record NothingBut (text : List ℕ) (told : Result (Unit {0}) RunError) (old new : Streams) : Type 0 where
   pub read : Keeps old.input new.input
   pub written : Keeps old.output new.output
-  pub said : Begins old.errors new.errors text
+  pub said : IsSaid text told old.errors new.errors
 
 -- The program ends as its words say: a command is run, a text is shown, wrong words are refused with status 2; and where memory was refused
 -- before anything was known of them, it says so.
-abbrev pub Ends : Result Asked RunError → Streams → Streams → ℕ → Type 0
-Ends (Ok (Run request)) old new status = RunEnds request old new status
-Ends (Ok (Show text)) old new status = ShowEnds (string_bytes text) old new status
-Ends (Ok (Refuse text)) old new status = NothingBut (string_bytes text) old new × (status ≡ 2)
-Ends (Err error) old new status = NothingBut (error_line error) old new × (status ≡ status_of error)
+abbrev pub Ends : Result Asked RunError → Streams → Streams → Exit → Type 0
+Ends (Ok (Run request)) old new exit = RunEnds request old new exit
+Ends (Ok (Show text)) old new exit = ShowEnds (string_bytes text) old new exit
+Ends (Ok (Refuse text)) old new exit = NothingBut (string_bytes text) exit.told old new × (exit.status ≡ 2)
+Ends (Err error) old new exit = NothingBut (error_line error) exit.told old new × (exit.status ≡ status_of error)

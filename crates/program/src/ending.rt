@@ -17,7 +17,17 @@ use std::io::{Read, Write};
 /// The status that the program ends with where its words are wrong.
 const USAGE: u8 = 2;
 
-/// The program: does what its words ask for, its own name in front, and gives the status that it ends with.
+/// How the program ends.
+#[derive(Debug, Drop)]
+pub struct Exit {
+    /// The status that it ends with: 0, 2, 3, 4 or 5, as [`run`] has it.
+    pub status: u8,
+    /// Whether all that was to be said on the error output stands there. An error is [`RunError::WriteFailed`] where that failed, or
+    /// [`RunError::Memory`]; a beginning stands there then.
+    pub told: Result<(), RunError>,
+}
+
+/// The program: does what its words ask for, its own name in front, and says how it ends.
 ///
 /// | Status | |
 /// |---|---|
@@ -28,7 +38,7 @@ const USAGE: u8 = 2;
 /// | 5 | a line of the input is none that the command takes; nothing was run |
 ///
 /// At 3, 4 and 5 the error output has `device`, `memory` or `input line N`, on a line. Where it fails, or memory for that line is
-/// refused, it has a beginning of that.
+/// refused, it has a beginning of that, and [`Exit::told`] says so.
 ///
 /// The words are an error where one of them is no UTF-8 text, which ends as wrong words do, or where memory was refused for them.
 pub fn run<R: Read, W: Write, E: Write>(
@@ -37,7 +47,7 @@ pub fn run<R: Read, W: Write, E: Write>(
     reader: &mut R,
     output: &mut W,
     errors: &mut E,
-) -> u8
+) -> Exit
     // It ends as what its words ask for ends.
     ensures ends { (wish : Result Wish Stop) × Asks words (λ given. map string_bytes given.items) wish × Ends wish
         (record { input = R.remaining reader.old; output = W.contents output.old; errors = E.contents errors.old })
@@ -46,14 +56,14 @@ pub fn run<R: Read, W: Write, E: Write>(
     perform(alloc, asked_by(alloc, words), reader, output, errors)
 }
 
-/// Does what was asked for, and gives the status that the program ends with, as [`run`].
+/// Does what was asked for, and says how the program ends, as [`run`].
 pub fn perform<R: Read, W: Write, E: Write>(
     alloc: Global,
     asked: Result<Asked, RunError>,
     reader: &mut R,
     output: &mut W,
     errors: &mut E,
-) -> u8
+) -> Exit
     ensures ends { Ends asked
         (record { input = R.remaining reader.old; output = W.contents output.old; errors = E.contents errors.old })
         (record { input = R.remaining reader.new; output = W.contents output.new; errors = E.contents errors.new }) result }
@@ -61,17 +71,17 @@ pub fn perform<R: Read, W: Write, E: Write>(
     match asked {
         Ok(Asked::Run(request)) => {
             let ended = command(alloc, request, reader, output);
-            status(alloc, ended, errors)
+            exit(alloc, ended, errors)
         }
         Ok(Asked::Show(text)) => {
             let ended = write_all(output, text.as_bytes());
-            status(alloc, ended, errors)
+            exit(alloc, ended, errors)
         }
-        Ok(Asked::Refuse(text)) => {
-            let _ = write_all(errors, text.as_bytes());
-            USAGE
-        }
-        Err(error) => status(alloc, Err(error), errors),
+        Ok(Asked::Refuse(text)) => Exit {
+            status: USAGE,
+            told: write_all(errors, text.as_bytes()),
+        },
+        Err(error) => exit(alloc, Err(error), errors),
     }
 }
 
@@ -90,16 +100,19 @@ fn command<R: Read, W: Write>(
     }
 }
 
-/// The status of what came to an end so, once an error is told.
-fn status<E: Write>(alloc: Global, ended: Result<(), RunError>, errors: &mut E) -> u8
-    ensures status { result ≡ status_at ended }
-    ensures told { Tells ended (E.contents errors.old) (E.contents errors.new) }
+/// How the program ends where what it did came to an end so: an error is told.
+fn exit<E: Write>(alloc: Global, ended: Result<(), RunError>, errors: &mut E) -> Exit
+    ensures status { result.status ≡ status_at ended }
+    ensures told { Tells ended result.told (E.contents errors.old) (E.contents errors.new) }
 {
     match ended {
-        Ok(()) => 0,
-        Err(error) => {
-            let _ = tell(alloc, error, errors);
-            error.status()
-        }
+        Ok(()) => Exit {
+            status: 0,
+            told: Ok(()),
+        },
+        Err(error) => Exit {
+            status: error.status(),
+            told: tell(alloc, error, errors),
+        },
     }
 }

@@ -1,7 +1,7 @@
-//! The program as one call: of its words, a reader, an output and an error output, to the status that it ends with.
+//! The program as one call: of its words, a reader, an output and an error output, to how it ends.
 //!
 //! ```
-//! let status = run(alloc, Ok(words), &mut reader, &mut output, &mut errors); // 0, 2, 3, 4 or 5
+//! let exit = run(alloc, Ok(words), &mut reader, &mut output, &mut errors); // exit.status is 0, 2, 3, 4 or 5
 //! ```
 #![tactic(auto)]
 
@@ -9,4 +9,4 @@ mod asking;
 mod ending;
 
 pub use asking::{Asked, asked_by};
-pub use ending::{perform, run};
+pub use ending::{Exit, perform, run};

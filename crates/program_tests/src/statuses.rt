@@ -34,9 +34,9 @@ fn ran<R: Read>(alloc: Global, line: &str, reader: &mut R) -> Result<Ended, Allo
     let words = words_of(alloc, line)?;
     let mut output = Vec::new(alloc);
     let mut errors = Vec::new(alloc);
-    let status = run(alloc, Ok(words), reader, &mut output, &mut errors);
+    let exit = run(alloc, Ok(words), reader, &mut output, &mut errors);
     Ok(Ended {
-        status,
+        status: exit.status,
         output,
         errors,
     })
@@ -160,8 +160,9 @@ fn no_words(rt: HostRuntime) -> Result<(), Fail> {
         let mut output = Vec::new(rt.alloc());
         let mut errors = Vec::new(rt.alloc());
         let words = Err(io::Error::from(*kind));
-        let ended = run(rt.alloc(), words, &mut Broken, &mut output, &mut errors);
-        assert_eq!(rt; ended, *status);
+        let exit = run(rt.alloc(), words, &mut Broken, &mut output, &mut errors);
+        assert_eq!(rt; exit.status, *status);
+        assert!(rt; exit.told.is_ok());
         assert_eq!(rt; output.len(), 0);
         assert_eq!(rt; errors.as_slice(), text.as_bytes());
     }
@@ -187,14 +188,14 @@ fn output_fails(rt: HostRuntime) -> Result<(), Fail> {
         };
         let mut errors = Vec::new(rt.alloc());
         let words = words_of(rt.alloc(), "share_broker solo")?;
-        let status = run(
+        let exit = run(
             rt.alloc(),
             Ok(words),
             &mut &CONNECTED[..],
             &mut output,
             &mut errors,
         );
-        assert_eq!(rt; status, 3);
+        assert_eq!(rt; exit.status, 3);
         assert_eq!(rt; output.taken.as_slice(), &CONNACK.as_bytes()[..room]);
         assert_eq!(rt; errors.as_slice(), "device\n".as_bytes());
     }
@@ -204,8 +205,8 @@ fn output_fails(rt: HostRuntime) -> Result<(), Fail> {
     };
     let mut errors = Vec::new(rt.alloc());
     let words = words_of(rt.alloc(), "share_broker --version")?;
-    let status = run(rt.alloc(), Ok(words), &mut Broken, &mut output, &mut errors);
-    assert_eq!(rt; status, 3);
+    let exit = run(rt.alloc(), Ok(words), &mut Broken, &mut output, &mut errors);
+    assert_eq!(rt; exit.status, 3);
     assert_eq!(rt; output.taken.as_slice(), "share_broker".as_bytes());
     assert_eq!(rt; errors.as_slice(), "device\n".as_bytes());
     Ok(())
@@ -225,14 +226,15 @@ fn error_output_fails(rt: HostRuntime) -> Result<(), Fail> {
             room: 5,
         };
         let words = words_of(rt.alloc(), line)?;
-        let ended = run(
+        let exit = run(
             rt.alloc(),
             Ok(words),
             &mut &b"0"[..],
             &mut output,
             &mut errors,
         );
-        assert_eq!(rt; ended, *status);
+        assert_eq!(rt; exit.status, *status);
+        assert!(rt; exit.told.is_err());
         assert_eq!(rt; output.len(), 0);
         assert_eq!(rt; errors.taken.as_slice(), text.as_bytes());
     }

@@ -9,14 +9,14 @@ fn main(rt: HostRuntime) -> ExitCode {
     let words = words(&rt);
     let mut output = io::writer(&rt);
     let errors = rt.stderr();
-    let status = run(
+    let exit = run(
         rt.alloc(),
         words,
         &mut rt.reader(),
         &mut output,
         &mut io::writer(&errors),
     );
-    ExitCode::from(status)
+    ExitCode::from(exit.status)
 }
 
 /// The words of the command line; an error where one is no UTF-8 text, or memory was refused.
