@@ -13,7 +13,7 @@ use Rattle.conn_laws.proofs.Calling.{joins}
 use Rattle.conn_laws.proofs.Stepping.{stepped}
 use Rattle.conn_laws.proofs.Failing.{failed}
 use Rattle.client_table.specs.Cells.{Receives, TicksFor, EndsFor, Abandons, AbandonsAll, AbandonsEach}
-use Rattle.client_table.specs.Clients.{ClientState, Said, Moves, FailsToMove, IsGivenUp}
+use Rattle.client_table.specs.Clients.{ClientState, moment_of, Said, Moves, FailsToMove, IsGivenUp}
 use Rattle.client_table.specs.Deliveries.{fresh_said, Delivers}
 use Rattle.client_table.specs.Streams.{fed, Reads, FailsToReadOne, FailsToRead, Ticks, FailsToTick}
 
@@ -49,12 +49,12 @@ module _ {S P : Type 0} (call : S → Fact P → S → Type 0) (slot_of : P → 
   pub moves : (old new : S) (client after : ClientState P) (now : ℕ) (input : Input) (said : Said) → Moves call slot_of old client now input said after new
       → Delivers call old (said ∷ []) new
   moves old new client after now input said moved =
-      let calls = stepped call slot_of old new client.conn.number now client.conn.standing after.conn.standing input said.packets said.next moved.stepped in
+      let calls = stepped call slot_of old new client.conn.number (moment_of client now) client.conn.standing after.conn.standing input said.packets said.next moved.stepped in
       record { facts = calls.facts; made = calls.made; told = append-nil (fresh_messages said.packets) ∙ calls.hands }
 
   fails_to_move : (old new : S) (client after : ClientState P) (now : ℕ) (input : Input) → FailsToMove call slot_of old client now input after new → CallsLead call old new
   fails_to_move old new client after now input fails =
-      let calls = failed call slot_of old new client.conn.number now client.conn.standing input fails.failed in
+      let calls = failed call slot_of old new client.conn.number (moment_of client now) client.conn.standing input fails.failed in
       (calls.facts, calls.made)
 
   pub given_up : (old new : S) (client after : ClientState P) (now : ℕ) (input : Input) → IsGivenUp call slot_of old client now input after new → CallsLead call old new

@@ -6,7 +6,7 @@ use Rattle.conn_engine.specs.Facts.{Fact}
 use Rattle.conn_laws.specs.Asking.{OneAnswer}
 use Rattle.conn_laws.specs.Behind.{IsLast}
 use Rattle.conn_laws.proofs.Ended.{ends_by}
-use Rattle.client_table.specs.Clients.{ClientState, Said, Moves}
+use Rattle.client_table.specs.Clients.{ClientState, moment_of, Said, Moves}
 use Rattle.client_table.specs.Streams.{fed}
 use Rattle.client_table.specs.Cells.{kept, InCell, Opens, Receives, TicksFor, EndsFor}
 use Rattle.client_table.proofs.OneReading.{gone, moved, read, ticked}
@@ -48,7 +48,7 @@ module _ {S P : Type 0} (call : S → Fact P → S → Type 0) (AreAlike : S →
 
   over : (a a' : S) (client c : ClientState P) (now : ℕ) (input : Input) (x : Said) → IsLast input → Moves call slot_of a client now input x c a' → kept c ≡ None
   over a a' client c now input x last h =
-      gone c (ends_by call slot_of a a' client.conn.number now client.conn.standing c.conn.standing input x.packets x.next h.stepped last)
+      gone c (ends_by call slot_of a a' client.conn.number (moment_of client now) client.conn.standing c.conn.standing input x.packets x.next h.stepped last)
 
   pub ended_for : (before : Option (ClientState P)) (a a' b b' : S) (now : ℕ) (input : Input) (xs ys : List Said) (after then : Option (ClientState P)) → IsLast input → AreAlike a b
       → EndsFor call slot_of a before now input xs (Ok tt) after a' → EndsFor call slot_of b before now input ys (Ok tt) then b' → AreOne xs ys after then a' b'

@@ -17,7 +17,7 @@ use Rattle.conn_engine.specs.Standings.{IsWaiting}
 use Rattle.conn_engine.specs.Step.{Steps}
 use Rattle.conn_laws.proofs.OneStep.{stepped}
 use Rattle.conn_laws.proofs.Ended.{ends}
-use Rattle.client_table.specs.Clients.{ClientState, Said, Moves}
+use Rattle.client_table.specs.Clients.{ClientState, moment_of, Said, Moves}
 use Rattle.client_table.specs.Streams.{IsRead, IsInFront, Closes, ReadsOne, ReadsLast, Reads, Ticks}
 use Rattle.client_table.specs.Cells.{kept, kept_as}
 
@@ -103,7 +103,7 @@ module _ {S P : Type 0} (call : S → Fact P → S → Type 0) (slot_of : P → 
 
   not_read : (client c : ClientState P) (input : Input) (u : Unread) (a a' : S) (now : ℕ) (x : Said) → IsRead client → IsInFront client.unread input u → Moves call slot_of a client now input x c a' → ⊥
   not_read client c input u a a' now x (inl waits) front moves =
-      waits_for_none client.conn.standing client.unread u input a a' client.conn.number now x.packets x.next c.conn.standing waits front moves.stepped
+      waits_for_none client.conn.standing client.unread u input a a' client.conn.number (moment_of client now) x.packets x.next c.conn.standing waits front moves.stepped
   not_read client c input u a a' now x (inr is) front moves = front_not_read client.unread u input front is
 
   not_read_on : {A : Type 0} (client c : ClientState P) (a a' : S) (now : ℕ) (x : Said) (xs : List Said) → IsRead client → Reads call slot_of a client now (x ∷ xs) c a' → A
@@ -115,9 +115,9 @@ module _ {S P : Type 0} (call : S → Fact P → S → Type 0) (AreAlike : S →
   pub moved : (a a' b b' : S) (client c d : ClientState P) (now : ℕ) (input : Input) (x y : Said) → AreAlike a b
       → Moves call slot_of a client now input x c a' → Moves call slot_of b client now input y d b' → (x ≡ y) × (c.conn ≡ d.conn) × AreAlike a' b'
   moved a a' b b' client c d now input x y alike h k =
-      let one = stepped call AreAlike answers slot_of a a' b b' client.conn.number client.conn.standing now input x.packets y.packets x.next y.next c.conn.standing d.conn.standing alike h.stepped k.stepped in (
+      let one = stepped call AreAlike answers slot_of a a' b b' client.conn.number client.conn.standing (moment_of client now) input x.packets y.packets x.next y.next c.conn.standing d.conn.standing alike h.stepped k.stepped in (
         λ i. record { connection = (h.told ∙ sym k.told) i; packets = one.0 i; next = one.1 i },
-        λ i. record { number = (h.same ∙ sym k.same) i; standing = one.2 i },
+        λ i. record { number = (h.same ∙ sym k.same) i; latest = (h.latest ∙ sym k.latest) i; standing = one.2 i },
         one.3,
       )
 
@@ -175,7 +175,7 @@ module _ {S P : Type 0} (call : S → Fact P → S → Type 0) (AreAlike : S →
   -- a connection that does not go on has ended
   stopped : (a a' : S) (client c : ClientState P) (now : ℕ) (input : Input) (x : Said) → Moves call slot_of a client now input x c a' → x.next ≢ Go → kept c ≡ None
   stopped a a' client c now input x h stops =
-      gone c ((ends call slot_of a a' client.conn.number now client.conn.standing c.conn.standing input x.packets x.next h.stepped).1 stops)
+      gone c ((ends call slot_of a a' client.conn.number (moment_of client now) client.conn.standing c.conn.standing input x.packets x.next h.stepped).1 stops)
 
   pub ticked : (xs ys : List Said) (a a' b b' : S) (client c d : ClientState P) (now : ℕ) → AreAlike a b
       → Ticks call slot_of a client now xs c a' → Ticks call slot_of b client now ys d b' → (xs ≡ ys) × (kept c ≡ kept d) × AreAlike a' b'

@@ -7,7 +7,7 @@ use Rattle.conn_engine.specs.Facts.{Fact}
 use Rattle.conn_laws.specs.Publishers.{CallsFrom}
 use Rattle.conn_laws.proofs.Publishers.{none, behind, stepped, failed}
 use Rattle.client_table.specs.Cells.{Receives, TicksFor, EndsFor}
-use Rattle.client_table.specs.Clients.{ClientState, Said, Moves, FailsToMove, IsGivenUp}
+use Rattle.client_table.specs.Clients.{ClientState, moment_of, Said, Moves, FailsToMove, IsGivenUp}
 use Rattle.client_table.specs.Numbers.{IsNumbered}
 use Rattle.client_table.specs.Streams.{fed, Reads, FailsToReadOne, FailsToRead, Ticks, FailsToTick}
 
@@ -16,12 +16,12 @@ module _ {S P : Type 0} (call : S → Fact P → S → Type 0) (slot_of : P → 
       → Moves call slot_of old client now input said after new → CallsFrom call number old new
   moves number old new client after now input said is moved =
       subst (λ n. CallsFrom call n old new) is
-      (stepped call slot_of old new client.conn.number now client.conn.standing after.conn.standing input said.packets said.next moved.stepped)
+      (stepped call slot_of old new client.conn.number (moment_of client now) client.conn.standing after.conn.standing input said.packets said.next moved.stepped)
 
   fails_to_move : (number : ℕ) (old new : S) (client after : ClientState P) (now : ℕ) (input : Input) → client.conn.number ≡ number
       → FailsToMove call slot_of old client now input after new → CallsFrom call number old new
   fails_to_move number old new client after now input is fails =
-      subst (λ n. CallsFrom call n old new) is (failed call slot_of old new client.conn.number now client.conn.standing input fails.failed)
+      subst (λ n. CallsFrom call n old new) is (failed call slot_of old new client.conn.number (moment_of client now) client.conn.standing input fails.failed)
 
   given_up : (number : ℕ) (old new : S) (client after : ClientState P) (now : ℕ) (input : Input) → client.conn.number ≡ number
       → IsGivenUp call slot_of old client now input after new → CallsFrom call number old new

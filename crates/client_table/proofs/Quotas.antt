@@ -9,7 +9,7 @@ use Rattle.conn_engine.specs.Facts.{Fact}
 use Rattle.conn_laws.specs.Quotas.{IsWithinQuota}
 use Rattle.conn_laws.proofs.Quotas as steps
 use Rattle.client_table.specs.Cells.{kept, kept_as, Opens, Receives, TicksFor, EndsFor}
-use Rattle.client_table.specs.Clients.{ClientState, Said, Moves, FailsToMove, IsGivenUp}
+use Rattle.client_table.specs.Clients.{ClientState, moment_of, Said, Moves, FailsToMove, IsGivenUp}
 use Rattle.client_table.specs.Quotas.{IsCellWithinQuota}
 use Rattle.client_table.specs.Streams.{fed, Reads, FailsToRead, Ticks, FailsToTick}
 
@@ -28,7 +28,7 @@ becomes_within client after is within = subst IsCellWithinQuota (sym is) (kept_w
 module _ {S P : Type 0} (call : S → Fact P → S → Type 0) (slot_of : P → ℕ) where
   moves : (old new : S) (client after : ClientState P) (now : ℕ) (input : Input) (said : Said) → Moves call slot_of old client now input said after new → IsWithin client → IsWithin after
   moves old new client after now input said moved within =
-      steps.within call slot_of client.conn.number now client.conn.standing after.conn.standing input said.packets said.next old new moved.stepped within
+      steps.within call slot_of client.conn.number (moment_of client now) client.conn.standing after.conn.standing input said.packets said.next old new moved.stepped within
 
   fails_to_move : (old new : S) (client after : ClientState P) (now : ℕ) (input : Input) → FailsToMove call slot_of old client now input after new → IsWithin after
   fails_to_move old new client after now input fails = subst IsWithinQuota (sym fails.over) tt

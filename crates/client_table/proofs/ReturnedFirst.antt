@@ -8,17 +8,17 @@ use Rattle.conn_laws.specs.ReturnedFirst.{CallsReturnedFirst}
 use Rattle.conn_laws.proofs.ReturnedFirst.{none, behind, stepped}
 use Rattle.conn_laws.proofs.ReturnedFirstFailing.{failed}
 use Rattle.client_table.specs.Cells.{Receives, TicksFor, EndsFor}
-use Rattle.client_table.specs.Clients.{ClientState, Said, Moves, FailsToMove, IsGivenUp}
+use Rattle.client_table.specs.Clients.{ClientState, moment_of, Said, Moves, FailsToMove, IsGivenUp}
 use Rattle.client_table.specs.Streams.{fed, Reads, FailsToReadOne, FailsToRead, Ticks, FailsToTick}
 
 module _ {S P : Type 0} (call : S → Fact P → S → Type 0) (slot_of : P → ℕ) where
   moves : (old new : S) (client after : ClientState P) (now : ℕ) (input : Input) (said : Said) → Moves call slot_of old client now input said after new
       → CallsReturnedFirst call old new
   moves old new client after now input said moved =
-      stepped call slot_of old new client.conn.number now client.conn.standing after.conn.standing input said.packets said.next moved.stepped
+      stepped call slot_of old new client.conn.number (moment_of client now) client.conn.standing after.conn.standing input said.packets said.next moved.stepped
 
   fails_to_move : (old new : S) (client after : ClientState P) (now : ℕ) (input : Input) → FailsToMove call slot_of old client now input after new → CallsReturnedFirst call old new
-  fails_to_move old new client after now input fails = failed call slot_of old new client.conn.number now client.conn.standing input fails.failed
+  fails_to_move old new client after now input fails = failed call slot_of old new client.conn.number (moment_of client now) client.conn.standing input fails.failed
 
   given_up : (old new : S) (client after : ClientState P) (now : ℕ) (input : Input) → IsGivenUp call slot_of old client now input after new → CallsReturnedFirst call old new
   given_up old new client after now input (inl moved) = moves old new client after now input moved.0 moved.1

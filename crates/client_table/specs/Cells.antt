@@ -30,7 +30,7 @@ pub record InCell {P : Type 0} (old : List (Option (ClientState P))) (number : �
 
 -- a connection is opened where none of its number is; else nothing happens
 abbrev pub Opens : {P : Type 0} → ℕ → ℕ → Option (ClientState P) → Option (ClientState P) → Type 0
-Opens number now None after = after ≡ Some (arrived (record { number = number; standing = Unconnected now }))
+Opens number now None after = after ≡ Some (arrived (record { number = number; latest = now; standing = Unconnected now }))
 Opens number now (Some client) after = after ≡ Some client
 
 module _ {S P : Type 0} (Does : ClientState P → List Said → ClientState P → S → Type 0) where

@@ -1,5 +1,5 @@
 -- A client: its connection, and the stream of its bytes.
-use Rattle.std.specs.Prelude.{◌≡◌, ℕ, ◌⊎◌, List, [], None}
+use Rattle.std.specs.Prelude.{◌≡◌, ℕ, ◌⊎◌, max, List, [], None}
 use Rattle.mqtt_wire.specs.declared.packet.Packet.{Packet}
 use Rattle.mqtt_wire.specs.Stream.{Unread}
 use Rattle.conn_engine.specs.declared.input.Input.{Input}
@@ -24,18 +24,28 @@ pub record Said : Type 0 where
   pub packets : List Packet
   pub next : Then
 
+-- these packets were written in a step of the connection with this number, and this became of it
+abbrev pub words : ℕ → List Packet → Then → Said
+words connection packets next = record { connection = connection; packets = packets; next = next }
+
+-- the moment of a step: where the clock went back, the latest one of the connection
+abbrev pub moment_of : {P : Type 0} → ClientState P → ℕ → ℕ
+moment_of client now = max client.conn.latest now
+
 module _ {S P : Type 0} (call : S → Fact P → S → Type 0) (slot_of : P → ℕ) where
   -- one step of a client's connection; what is unread is another matter
   pub record Moves (old : S) (client : ClientState P) (now : ℕ) (input : Input) (said : Said) (client' : ClientState P) (new : S) : Type 0 where
     pub told : said.connection ≡ client.conn.number
     pub same : client'.conn.number ≡ client.conn.number
-    pub stepped : Steps call slot_of old client.conn.number client.conn.standing now input said.packets said.next client'.conn.standing new
+    pub latest : client'.conn.latest ≡ moment_of client now
+    pub stepped : Steps call slot_of old client.conn.number client.conn.standing (moment_of client now) input said.packets said.next client'.conn.standing new
 
   -- memory was wanted in a step: nothing was written, and the connection has ended
   pub record FailsToMove (old : S) (client : ClientState P) (now : ℕ) (input : Input) (client' : ClientState P) (new : S) : Type 0 where
     pub same : client'.conn.number ≡ client.conn.number
+    pub latest : client'.conn.latest ≡ moment_of client now
     pub over : client'.conn.standing ≡ Ended
-    pub failed : FailsToStep call slot_of old client.conn.number client.conn.standing now input new
+    pub failed : FailsToStep call slot_of old client.conn.number client.conn.standing (moment_of client now) input new
 
   -- memory was wanted between two steps: this input ends the connection, and nothing is written of it
   abbrev pub IsGivenUp : S → ClientState P → ℕ → Input → ClientState P → S → Type 0

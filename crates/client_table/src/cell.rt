@@ -1,5 +1,5 @@
 //! The cell of a number, in which a client may be.
-ghost use Rattle.std.specs.Prelude.{◌≡◌, ◌++◌, List, Some};
+ghost use Rattle.std.specs.Prelude.{◌≡◌, ◌<◌, ◌++◌, List, Some, true};
 ghost use Rattle.conn_engine.specs.declared.input.Input.TheVariants as inputs;
 ghost use Rattle.client_table.specs.Clients.{ClientState, Said as Words};
 ghost use Rattle.client_table.specs.Cells.{kept, Opens, Receives, TicksFor, EndsFor};
@@ -24,7 +24,8 @@ fn let_go_of_ended<P>(cell: &mut Option<Client<P>>)
 }
 
 /// A connection is opened, where none is.
-pub(crate) fn open<P>(cell: &mut Option<Client<P>>, alloc: Global, number: u8, now: u64)
+pub(crate) fn open<P>(cell: &mut Option<Client<P>>, alloc: Global, number: u16, now: u64)
+    requires { number < 1024 }
     ensures { Opens number now cell.old cell.new }
 {
     if cell.is_none() {
@@ -43,8 +44,10 @@ pub(crate) fn receive<P: Place, S: Supply<P>>(
     piece: &[u8],
     said: &mut Vec<Said>,
 ) -> Result<(), NoMemory>
-    ensures { (more : List Words) × (said.new.items ≡ said.old.items ++ more)
+    requires visiting { S.visiting supply.old ≡ true }
+    ensures received { (more : List Words) × (said.new.items ≡ said.old.items ++ more)
         × Receives S.call P.slot_of supply.old cell.old now piece.now more result cell.new supply.new }
+    ensures visiting { S.visiting supply.new ≡ S.visiting supply.old }
 {
     let Some(client) = cell else {
         return Ok(());
@@ -61,8 +64,10 @@ pub(crate) fn tick<P: Place, S: Supply<P>>(
     now: u64,
     said: &mut Vec<Said>,
 ) -> Result<(), NoMemory>
-    ensures { (more : List Words) × (said.new.items ≡ said.old.items ++ more)
+    requires visiting { S.visiting supply.old ≡ true }
+    ensures ticked { (more : List Words) × (said.new.items ≡ said.old.items ++ more)
         × TicksFor S.call P.slot_of supply.old cell.old now more result cell.new supply.new }
+    ensures visiting { S.visiting supply.new ≡ S.visiting supply.old }
 {
     let Some(client) = cell else {
         return Ok(());
@@ -79,8 +84,9 @@ pub(crate) fn end_of_input<P: Place, S: Supply<P>>(
     now: u64,
     said: &mut Vec<Said>,
 ) -> Result<(), NoMemory>
-    ensures { (more : List Words) × (said.new.items ≡ said.old.items ++ more)
+    ensures ended { (more : List Words) × (said.new.items ≡ said.old.items ++ more)
         × EndsFor S.call P.slot_of supply.old cell.old now inputs.EndOfInput more result cell.new supply.new }
+    ensures visiting { S.visiting supply.new ≡ S.visiting supply.old }
 {
     let Some(client) = cell else {
         return Ok(());
@@ -97,8 +103,9 @@ pub(crate) fn closing<P: Place, S: Supply<P>>(
     now: u64,
     said: &mut Vec<Said>,
 ) -> Result<(), NoMemory>
-    ensures { (more : List Words) × (said.new.items ≡ said.old.items ++ more)
+    ensures closed { (more : List Words) × (said.new.items ≡ said.old.items ++ more)
         × EndsFor S.call P.slot_of supply.old cell.old now inputs.Closing more result cell.new supply.new }
+    ensures visiting { S.visiting supply.new ≡ S.visiting supply.old }
 {
     let Some(client) = cell else {
         return Ok(());

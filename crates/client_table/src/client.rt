@@ -1,10 +1,13 @@
 //! A client: its connection, and the stream of its bytes.
-ghost use Rattle.std.specs.Prelude.{◌≡◌, ◌<◌, ◌++◌, ◌↔◌, ◌⊎◌, ◌∷◌, [], List, IsTrue, MatchResult, None, vec_capacity, vec_len};
-ghost use Rattle.conn_engine.specs.Step.{IsNoPacket, IsWanted};
+ghost use Rattle.std.specs.Prelude.{◌≡◌, ◌<◌, ◌≤◌, ◌^◌, ◌++◌, ◌↔◌, ◌⊎◌, ◌∷◌, [], ℕ, List, IsTrue, OnOk, OnErr, MatchOption, MatchResult, None, true, vec_capacity, vec_len};
+ghost use Rattle.conn_engine.specs.Step.{IsNoPacket, IsWanted, NeedsVisit};
+ghost use Rattle.conn_engine.specs.declared.input.Input.{Input as Asked};
 ghost use Rattle.conn_engine.specs.declared.input.Input.TheVariants as inputs;
+ghost use Rattle.conn_engine.specs.Looking.{IsSilentTooLong, TakesAt};
+ghost use Rattle.conn_engine.specs.Standings.{IsWaiting};
 ghost use Rattle.conn_engine.specs.declared.standing.Standing.TheVariants as standings;
-ghost use Rattle.client_table.specs.Clients.{ClientState, Said as Words, arrived, Moves, FailsToMove, IsGivenUp};
-ghost use Rattle.client_table.specs.Streams.{fed, reading_behind, ReadsAs, FailsToReadOne, Reads, FailsToRead, Ticks, FailsToTick, Leaves};
+ghost use Rattle.client_table.specs.Clients.{ClientState, Said as Words, words, arrived, Moves, FailsToMove, IsGivenUp};
+ghost use Rattle.client_table.specs.Streams.{fed, IsRead, IsInFront, reading_behind, ReadsAs, FailsToReadOne, Reads, FailsToRead, Ticks, FailsToTick, Leaves};
 
 use crate::said::Said;
 use conn_engine::{Conn, Input, NoMemory, Supply, Then};
@@ -40,7 +43,7 @@ impl Reading {
 ///
 /// Its connection may have a session, so it can't be dropped until the connection has ended.
 pub struct Client<P> {
-    number: u8,
+    number: u16,
     conn: Conn<P>,
     stream: Splitter,
     // The packets of a step. Where it writes none, their room serves the next one.
@@ -60,13 +63,14 @@ impl<P> Model for Client<P> {
 }
 
 impl<P> Client<P> {
-    /// A client whose connection, of this number, was opened at this moment in milliseconds.
-    pub fn open(alloc: Global, number: u8, now: u64) -> Client<P>
-        ensures { result ≡ arrived (record { number = number; standing = standings.Unconnected now }) }
+    /// A client whose connection, of this number, below 1,024, was opened at this moment in milliseconds.
+    pub fn open(alloc: Global, number: u16, now: u64) -> Client<P>
+        requires { number < 1024 }
+        ensures { result ≡ arrived (record { number = number; latest = now; standing = standings.Unconnected now }) }
     {
         Client {
             number,
-            conn: Conn::open(alloc, u16::from(number), now),
+            conn: Conn::open(alloc, number, now),
             stream: Splitter::new(alloc),
             packets: Vec::new(alloc),
             alloc,
@@ -96,8 +100,137 @@ impl<P> Client<P> {
 }
 
 impl<P: Place> Client<P> {
+    /// Takes a further piece of its stream, which may be empty, to be read step by step.
+    ///
+    /// # Errors
+    ///
+    /// [`NoMemory`]: nothing has changed; [`Client::step_by`] with [`Input::EndOfInput`] ends the connection.
+    pub fn feed(&mut self, piece: &[u8]) -> Result<(), NoMemory>
+        ensures taken { OnOk result (self.new ≡ fed self.old piece.now) }
+        ensures unchanged { OnErr result (self.new ≡ self.old) }
+    {
+        match self.stream.feed(piece) {
+            Ok(()) => Ok(()),
+            Err(Fault::Stream(_)) => Ok(()),
+            Err(Fault::Memory) => Err(NoMemory),
+        }
+    }
+
+    /// Steps its connection by what stands in front of its stream, the packet or the fault, at this moment in milliseconds, within a visit of the
+    /// supply. The packets that are sent take the place of those in the list. `None` where nothing whole stands in front, or the connection
+    /// waits for a session: nothing is sent then, and nothing done.
+    ///
+    /// So what one step sends can be written before the next one is made.
+    ///
+    /// # Errors
+    ///
+    /// [`NoMemory`]: the connection has ended, and its session is parked or ending, with all that it holds; nothing is sent.
+    #[tactic(auto, using(crate::proofs::Waits::waits))]
+    pub fn step_front<S: Supply<P>>(
+        &mut self,
+        supply: &mut S,
+        now: u64,
+        packets: &mut Vec<Packet>,
+    ) -> Result<Option<Then>, NoMemory>
+        requires visiting { S.visiting supply.old ≡ true }
+        ensures stepped { MatchResult result
+            (λ stepped. MatchOption stepped
+            ((packets.new.items ≡ []) × IsRead self.old × (self.new ≡ self.old) × (supply.new ≡ supply.old))
+            (λ next. (input : Asked) × IsInFront self.old.unread input self.new.unread
+            × Moves S.call P.slot_of supply.old self.old now input (words self.old.conn.number packets.new.items next) self.new supply.new))
+            (λ _. FailsToReadOne S.call P.slot_of supply.old self.old now self.new supply.new) }
+        ensures visiting { S.visiting supply.new ≡ S.visiting supply.old }
+    {
+        packets.clear();
+        if !self.conn.wants_input() {
+            return Ok(None);
+        }
+        match self.stream.next() {
+            Ok(None) => Ok(None),
+            Ok(Some(packet)) => match self.step_into(supply, now, Input::Packet(packet), packets) {
+                Ok(next) => Ok(Some(next)),
+                Err(NoMemory) => Err(NoMemory),
+            },
+            Err(Fault::Stream(fault)) => {
+                match self.step_into(supply, now, Input::Fault(fault), packets) {
+                    Ok(next) => Ok(Some(next)),
+                    Err(NoMemory) => Err(NoMemory),
+                }
+            }
+            Err(Fault::Memory) => Err(self.give_up(supply, now, Input::EndOfInput)),
+        }
+    }
+
+    /// Steps its connection by a Tick, within a visit of the supply, by the end of its stream or by the close of the broker, at this moment in
+    /// milliseconds. The packets that are sent take the place of those in the list.
+    ///
+    /// # Errors
+    ///
+    /// As [`Client::step_front`].
+    pub fn step_by<S: Supply<P>>(
+        &mut self,
+        supply: &mut S,
+        now: u64,
+        input: Input,
+        packets: &mut Vec<Packet>,
+    ) -> Result<Then, NoMemory>
+        requires wanted { IsNoPacket input }
+        requires visiting { NeedsVisit input → S.visiting supply.old ≡ true }
+        ensures stepped { MatchResult result
+            (λ next. Moves S.call P.slot_of supply.old self.old now input (words self.old.conn.number packets.new.items next) self.new supply.new)
+            (λ _. FailsToMove S.call P.slot_of supply.old self.old now input self.new supply.new) }
+        ensures unread { self.new.unread ≡ self.old.unread }
+        ensures visiting { S.visiting supply.new ≡ S.visiting supply.old }
+    {
+        self.step_into(supply, now, input, packets)
+    }
+
+    /// Whether its connection takes what stands in front of its stream: not while it waits for a session.
+    pub fn wants_input(&self) -> bool
+        ensures { IsTrue result ↔ ¬ IsWaiting self.now.conn.standing }
+    {
+        self.conn.wants_input()
+    }
+
+    /// The moment, in milliseconds, from which a Tick ends the connection for silence: see [`Conn::deadline`].
+    pub fn deadline(&self) -> Option<u64>
+        ensures { MatchOption result
+            ((now : ℕ) → now < 2 ^ 64 → ¬ IsSilentTooLong self.now.conn.standing now)
+            (λ deadline. (now : ℕ) → IsSilentTooLong self.now.conn.standing now ↔ deadline ≤ now) }
+    {
+        self.conn.deadline()
+    }
+
+    /// The slot of the group that it would be handed a message of now: see [`Conn::takes_from`].
+    pub fn takes_from(&self) -> Option<u8>
+        ensures { MatchOption result
+            ((place : P) → ¬ TakesAt self.now.conn.standing place)
+            (λ slot. (place : P) × TakesAt self.now.conn.standing place × (P.slot_of place ≡ slot)) }
+    {
+        self.conn.takes_from()
+    }
+
+    /// One step of its connection.
+    fn step_into<S: Supply<P>>(
+        &mut self,
+        supply: &mut S,
+        now: u64,
+        input: Input,
+        packets: &mut Vec<Packet>,
+    ) -> Result<Then, NoMemory>
+        requires wanted { IsWanted self.old.conn.standing input }
+        requires visiting { NeedsVisit input → S.visiting supply.old ≡ true }
+        ensures stepped { MatchResult result
+            (λ next. Moves S.call P.slot_of supply.old self.old now input (words self.old.conn.number packets.new.items next) self.new supply.new)
+            (λ _. FailsToMove S.call P.slot_of supply.old self.old now input self.new supply.new) }
+        ensures unread { self.new.unread ≡ self.old.unread }
+        ensures visiting { S.visiting supply.new ≡ S.visiting supply.old }
+    {
+        self.conn.step(supply, now, input, packets)
+    }
+
     /// Takes a further piece of its stream, which may be empty, and steps its connection by each packet that is whole, at this
-    /// moment in milliseconds. What each step wrote goes behind what was said before.
+    /// moment in milliseconds, within a visit of the supply. What each step wrote goes behind what was said before.
     ///
     /// # Errors
     ///
@@ -110,11 +243,13 @@ impl<P: Place> Client<P> {
         piece: &[u8],
         said: &mut Vec<Said>,
     ) -> Result<(), NoMemory>
-        ensures { (more : List Words) × (said.new.items ≡ said.old.items ++ more)
+        requires visiting { S.visiting supply.old ≡ true }
+        ensures received { (more : List Words) × (said.new.items ≡ said.old.items ++ more)
             × MatchResult result
             (λ _. Reads S.call P.slot_of supply.old (fed self.old piece.now) now more self.new supply.new)
             (λ _. (IsGivenUp S.call P.slot_of supply.old self.old now inputs.EndOfInput self.new supply.new × (more ≡ []))
             ⊎ FailsToRead S.call P.slot_of supply.old (fed self.old piece.now) now more self.new supply.new) }
+        ensures visiting { S.visiting supply.new ≡ S.visiting supply.old }
     {
         match self.stream.feed(piece) {
             Ok(()) => self.read(supply, now, said),
@@ -135,10 +270,12 @@ impl<P: Place> Client<P> {
         now: u64,
         said: &mut Vec<Said>,
     ) -> Result<(), NoMemory>
-        ensures { (more : List Words) × (said.new.items ≡ said.old.items ++ more)
+        requires visiting { S.visiting supply.old ≡ true }
+        ensures read { (more : List Words) × (said.new.items ≡ said.old.items ++ more)
             × MatchResult result
             (λ _. Reads S.call P.slot_of supply.old self.old now more self.new supply.new)
             (λ _. FailsToRead S.call P.slot_of supply.old self.old now more self.new supply.new) }
+        ensures visiting { S.visiting supply.new ≡ S.visiting supply.old }
     {
         'packets: loop {
             match self.read_one(supply, now, said) {
@@ -158,9 +295,11 @@ impl<P: Place> Client<P> {
         now: u64,
         said: &mut Vec<Said>,
     ) -> Result<Reading, NoMemory>
-        ensures { MatchResult result
+        requires visiting { S.visiting supply.old ≡ true }
+        ensures read { MatchResult result
             (λ reading. ReadsAs S.call P.slot_of reading supply.old self.old now said.old.items said.new.items self.new supply.new)
             (λ _. (said.new.items ≡ said.old.items) × FailsToReadOne S.call P.slot_of supply.old self.old now self.new supply.new) }
+        ensures visiting { S.visiting supply.new ≡ S.visiting supply.old }
     {
         if !self.conn.wants_input() {
             return Ok(Reading::Nothing);
@@ -192,11 +331,13 @@ impl<P: Place> Client<P> {
     ) -> Result<Then, NoMemory>
         requires wanted { IsWanted self.old.conn.standing input }
         requires room { vec_len said.old < vec_capacity said.old }
+        requires visiting { NeedsVisit input → S.visiting supply.old ≡ true }
         ensures stepped { MatchResult result
             (λ next. (words : Words) × (words.next ≡ next) × (said.new.items ≡ said.old.items ++ (words ∷ []))
             × Moves S.call P.slot_of supply.old self.old now input words self.new supply.new)
             (λ _. (said.new ≡ said.old) × FailsToMove S.call P.slot_of supply.old self.old now input self.new supply.new) }
         ensures unread { self.new.unread ≡ self.old.unread }
+        ensures visiting { S.visiting supply.new ≡ S.visiting supply.old }
     {
         match self.conn.step(supply, now, input, &mut self.packets) {
             Ok(next) => {
@@ -211,8 +352,10 @@ impl<P: Place> Client<P> {
     /// This input ends its connection, since memory was wanted.
     #[tactic(auto, using(crate::proofs::Given::unsaid))]
     fn give_up<S: Supply<P>>(&mut self, supply: &mut S, now: u64, input: Input) -> NoMemory
-        requires { IsNoPacket input }
-        ensures { IsGivenUp S.call P.slot_of supply.old self.old now input self.new supply.new }
+        requires wanted { IsNoPacket input }
+        requires quiet { ¬ NeedsVisit input }
+        ensures given { IsGivenUp S.call P.slot_of supply.old self.old now input self.new supply.new }
+        ensures visiting { S.visiting supply.new ≡ S.visiting supply.old }
     {
         let mut packets = Vec::new(self.alloc);
         match self.conn.step(supply, now, input, &mut packets) {
@@ -234,10 +377,12 @@ impl<P: Place> Client<P> {
         now: u64,
         said: &mut Vec<Said>,
     ) -> Result<(), NoMemory>
-        ensures { (more : List Words) × (said.new.items ≡ said.old.items ++ more)
+        requires visiting { S.visiting supply.old ≡ true }
+        ensures ticked { (more : List Words) × (said.new.items ≡ said.old.items ++ more)
             × MatchResult result
             (λ _. Ticks S.call P.slot_of supply.old self.old now more self.new supply.new)
             (λ _. FailsToTick S.call P.slot_of supply.old self.old now more self.new supply.new) }
+        ensures visiting { S.visiting supply.new ≡ S.visiting supply.old }
     {
         if said.reserve(1).is_err() {
             return Err(self.give_up(supply, now, Input::EndOfInput));
@@ -261,7 +406,8 @@ impl<P: Place> Client<P> {
         now: u64,
         said: &mut Vec<Said>,
     ) -> Result<(), NoMemory>
-        ensures { Leaves S.call P.slot_of supply.old self.old now inputs.EndOfInput said.old.items result said.new.items self.new supply.new }
+        ensures ended { Leaves S.call P.slot_of supply.old self.old now inputs.EndOfInput said.old.items result said.new.items self.new supply.new }
+        ensures visiting { S.visiting supply.new ≡ S.visiting supply.old }
     {
         self.leave(supply, now, Input::EndOfInput, said)
     }
@@ -277,7 +423,8 @@ impl<P: Place> Client<P> {
         now: u64,
         said: &mut Vec<Said>,
     ) -> Result<(), NoMemory>
-        ensures { Leaves S.call P.slot_of supply.old self.old now inputs.Closing said.old.items result said.new.items self.new supply.new }
+        ensures closed { Leaves S.call P.slot_of supply.old self.old now inputs.Closing said.old.items result said.new.items self.new supply.new }
+        ensures visiting { S.visiting supply.new ≡ S.visiting supply.old }
     {
         self.leave(supply, now, Input::Closing, said)
     }
@@ -285,7 +432,8 @@ impl<P: Place> Client<P> {
     /// Lets go of a client: its connection ends as where the broker closes, and nothing is written of it.
     #[tactic(auto, using(crate::proofs::Over::is_over))]
     pub fn abandon<S: Supply<P>>(mut self, supply: &mut S, now: u64)
-        ensures { (client : ClientState P) × IsGivenUp S.call P.slot_of supply.old self now inputs.Closing client supply.new }
+        ensures abandoned { (client : ClientState P) × IsGivenUp S.call P.slot_of supply.old self now inputs.Closing client supply.new }
+        ensures visiting { S.visiting supply.new ≡ S.visiting supply.old }
     {
         let _unsaid = self.give_up(supply, now, Input::Closing);
         self.end();
@@ -299,8 +447,10 @@ impl<P: Place> Client<P> {
         input: Input,
         said: &mut Vec<Said>,
     ) -> Result<(), NoMemory>
-        requires { IsNoPacket input }
-        ensures { Leaves S.call P.slot_of supply.old self.old now input said.old.items result said.new.items self.new supply.new }
+        requires wanted { IsNoPacket input }
+        requires quiet { ¬ NeedsVisit input }
+        ensures left { Leaves S.call P.slot_of supply.old self.old now input said.old.items result said.new.items self.new supply.new }
+        ensures visiting { S.visiting supply.new ≡ S.visiting supply.old }
     {
         if said.reserve(1).is_err() {
             return Err(self.give_up(supply, now, input));

@@ -8,7 +8,7 @@ use std::marker::Model;
 /// What one step of a connection wrote, and what became of the connection.
 #[derive(Drop)]
 pub struct Said {
-    connection: u8,
+    connection: u16,
     packets: Vec<Packet>,
     next: Then,
 }
@@ -23,7 +23,7 @@ impl Model for Said {
 
 impl Said {
     /// What the connection with this number wrote in a step.
-    pub(crate) fn new(connection: u8, packets: Vec<Packet>, next: Then) -> Said
+    pub(crate) fn new(connection: u16, packets: Vec<Packet>, next: Then) -> Said
         ensures { result ≡ record { connection = connection; packets = packets.items; next = next } }
     {
         Said {
@@ -34,7 +34,7 @@ impl Said {
     }
 
     /// The number of the connection.
-    pub fn connection(&self) -> u8
+    pub fn connection(&self) -> u16
         ensures { result ≡ self.now.connection }
     {
         self.connection

@@ -1,5 +1,5 @@
 //! The clients of a broker, by the numbers of their connections.
-ghost use Rattle.std.specs.Prelude.{◌≡◌, ◌<◌, ◌++◌, List, IfOk, None, replicate};
+ghost use Rattle.std.specs.Prelude.{◌≡◌, ◌<◌, ◌++◌, List, IfOk, None, replicate, true};
 ghost use Rattle.conn_engine.specs.declared.input.Input.TheVariants as inputs;
 ghost use Rattle.client_table.specs.Clients.{Said as Words};
 ghost use Rattle.client_table.specs.Cells.{Abandons, AbandonsEach, InCell, Opens, Receives, TicksFor, EndsFor};
@@ -54,7 +54,7 @@ impl<P> ClientTable<P> {
         cell::open(
             &mut self.cells[usize::from(number)],
             self.alloc,
-            number,
+            u16::from(number),
             now,
         );
     }
@@ -76,10 +76,12 @@ impl<P: Place> ClientTable<P> {
         piece: &[u8],
         said: &mut Vec<Said>,
     ) -> Result<(), NoMemory>
-        requires { number < 64 }
-        ensures { (more : List Words) × (said.new.items ≡ said.old.items ++ more)
+        requires known { number < 64 }
+        requires visiting { S.visiting supply.old ≡ true }
+        ensures received { (more : List Words) × (said.new.items ≡ said.old.items ++ more)
             × InCell self.old number
             (λ before after. Receives S.call P.slot_of supply.old before now piece.now more result after supply.new) self.new }
+        ensures visiting { S.visiting supply.new ≡ S.visiting supply.old }
     {
         cell::receive(
             &mut self.cells[usize::from(number)],
@@ -102,9 +104,11 @@ impl<P: Place> ClientTable<P> {
         now: u64,
         said: &mut Vec<Said>,
     ) -> Result<(), NoMemory>
-        requires { number < 64 }
-        ensures { (more : List Words) × (said.new.items ≡ said.old.items ++ more)
+        requires known { number < 64 }
+        requires visiting { S.visiting supply.old ≡ true }
+        ensures ticked { (more : List Words) × (said.new.items ≡ said.old.items ++ more)
             × InCell self.old number (λ before after. TicksFor S.call P.slot_of supply.old before now more result after supply.new) self.new }
+        ensures visiting { S.visiting supply.new ≡ S.visiting supply.old }
     {
         cell::tick(&mut self.cells[usize::from(number)], supply, now, said)
     }
@@ -122,9 +126,10 @@ impl<P: Place> ClientTable<P> {
         said: &mut Vec<Said>,
     ) -> Result<(), NoMemory>
         requires { number < 64 }
-        ensures { (more : List Words) × (said.new.items ≡ said.old.items ++ more)
+        ensures ended { (more : List Words) × (said.new.items ≡ said.old.items ++ more)
             × InCell self.old number
             (λ before after. EndsFor S.call P.slot_of supply.old before now inputs.EndOfInput more result after supply.new) self.new }
+        ensures visiting { S.visiting supply.new ≡ S.visiting supply.old }
     {
         cell::end_of_input(&mut self.cells[usize::from(number)], supply, now, said)
     }
@@ -142,9 +147,10 @@ impl<P: Place> ClientTable<P> {
         said: &mut Vec<Said>,
     ) -> Result<(), NoMemory>
         requires { number < 64 }
-        ensures { (more : List Words) × (said.new.items ≡ said.old.items ++ more)
+        ensures closed { (more : List Words) × (said.new.items ≡ said.old.items ++ more)
             × InCell self.old number
             (λ before after. EndsFor S.call P.slot_of supply.old before now inputs.Closing more result after supply.new) self.new }
+        ensures visiting { S.visiting supply.new ≡ S.visiting supply.old }
     {
         cell::closing(&mut self.cells[usize::from(number)], supply, now, said)
     }
@@ -152,7 +158,8 @@ impl<P: Place> ClientTable<P> {
     /// Lets go of the clients: each connection that is open ends as where the broker closes, that of the greatest number first,
     /// and nothing is written of it.
     pub fn abandon<S: Supply<P>>(self, supply: &mut S, now: u64)
-        ensures { AbandonsEach S.call P.slot_of supply.old self now supply.new }
+        ensures abandoned { AbandonsEach S.call P.slot_of supply.old self now supply.new }
+        ensures visiting { S.visiting supply.new ≡ S.visiting supply.old }
     {
         let ClientTable { cells, alloc: _ } = self;
         abandon_each(cells, supply, now);
@@ -162,7 +169,8 @@ impl<P: Place> ClientTable<P> {
 /// Lets go of the clients in these cells, the last one first.
 #[tactic(auto, using(crate::proofs::Leaving::last_first))]
 fn abandon_each<P: Place, S: Supply<P>>(mut cells: Vec<Option<Client<P>>>, supply: &mut S, now: u64)
-    ensures { AbandonsEach S.call P.slot_of supply.old cells.items now supply.new }
+    ensures abandoned { AbandonsEach S.call P.slot_of supply.old cells.items now supply.new }
+    ensures visiting { S.visiting supply.new ≡ S.visiting supply.old }
 {
     match cells.pop() {
         None => cells.destroy_empty(),
@@ -175,7 +183,8 @@ fn abandon_each<P: Place, S: Supply<P>>(mut cells: Vec<Option<Client<P>>>, suppl
 
 /// Lets go of the client in a cell.
 fn abandon<P: Place, S: Supply<P>>(cell: Option<Client<P>>, supply: &mut S, now: u64)
-    ensures { Abandons S.call P.slot_of supply.old cell now supply.new }
+    ensures abandoned { Abandons S.call P.slot_of supply.old cell now supply.new }
+    ensures visiting { S.visiting supply.new ≡ S.visiting supply.old }
 {
     if let Some(client) = cell {
         client.abandon(supply, now);

@@ -3,7 +3,7 @@ ghost use Rattle.std.specs.Prelude.{◌<◌};
 
 use crate::refusing::{Refused, Refusing};
 use client_table::{ClientTable, Said};
-use conn_engine::NoMemory;
+use conn_engine::{NoMemory, Supply};
 use local_broker::LocalPlace;
 use mqtt_topic::Routes;
 use mqtt_wire::encode_into;
@@ -18,6 +18,8 @@ pub(crate) struct Hall {
     supply: Refusing,
     clients: ClientTable<LocalPlace>,
     said: Vec<Said>,
+    // The moment of what happens next, in milliseconds.
+    now: u64,
     alloc: Global,
 }
 
@@ -32,15 +34,21 @@ impl Hall {
             supply: Refusing::open(alloc, Routes::new(alloc), refused).expect(rt, "memory"),
             clients,
             said: Vec::new(alloc),
+            now: 0,
             alloc,
         }
+    }
+
+    /// What happens from now on happens at this moment, in milliseconds.
+    pub(crate) fn at(&mut self, now: u64) {
+        self.now = now;
     }
 
     /// A connection of this number is opened anew.
     pub(crate) fn reopen(&mut self, number: u8)
         requires { number < 64 }
     {
-        self.clients.open(number, 0);
+        self.clients.open(number, self.now);
     }
 
     /// A piece of a client's stream comes, and these bytes are written.
@@ -90,8 +98,14 @@ impl Hall {
         requires { number < 64 }
     {
         self.said.clear();
-        self.clients
-            .receive(&mut self.supply, number, 0, piece, &mut self.said)
+        if !self.supply.begin() {
+            return Ok(());
+        }
+        let received =
+            self.clients
+                .receive(&mut self.supply, number, self.now, piece, &mut self.said);
+        self.supply.end();
+        received
     }
 
     /// Time goes on.
@@ -99,8 +113,14 @@ impl Hall {
         requires { number < 64 }
     {
         self.said.clear();
-        self.clients
-            .tick(&mut self.supply, number, 0, &mut self.said)
+        if !self.supply.begin() {
+            return Ok(());
+        }
+        let ticked = self
+            .clients
+            .tick(&mut self.supply, number, self.now, &mut self.said);
+        self.supply.end();
+        ticked
     }
 
     /// What was said in the last event is written as these bytes, one part after the other.
@@ -125,14 +145,15 @@ impl Hall {
     }
 
     /// Lets go of the broker and its clients.
-    pub(crate) fn end(self) {
+    pub(crate) fn abandon(self) {
         let Hall {
             mut supply,
             clients,
             said: _,
+            now,
             alloc: _,
         } = self;
-        clients.abandon(&mut supply, 0);
-        supply.end();
+        clients.abandon(&mut supply, now);
+        supply.abandon();
     }
 }

@@ -1,4 +1,5 @@
-//! Memory refused in turn for each message that is offered, taken and given back: nothing is lost, and nothing is doubled unseen.
+//! Memory refused in turn for each message that is offered, taken and given back: nothing is lost, and nothing is doubled unseen. And a clock that
+//! goes back.
 use crate::acting::Hall;
 use crate::refusing::Refused;
 
@@ -98,7 +99,7 @@ fn each_give_back(rt: HostRuntime) {
             &rt,
             "$share/g/job accepted 3 acknowledged 0 refused 0 held 3 queued 0 returned 0\n",
         );
-        hall.end();
+        hall.abandon();
     }
 }
 
@@ -124,7 +125,7 @@ fn each_take(rt: HostRuntime) {
             &rt,
             "$share/g/job accepted 3 acknowledged 0 refused 0 held 3 queued 0 returned 0\n",
         );
-        hall.end();
+        hall.abandon();
     }
 }
 
@@ -156,6 +157,25 @@ fn each_offer(rt: HostRuntime) {
         hall.bytes(&rt, 2, PUBLISHER, &[NEW]);
         hall.bytes_refused(&rt, 2, JOBS, written);
         hall.report(&rt, report);
-        hall.end();
+        hall.abandon();
     }
+}
+
+// A client with a keep alive of 60 seconds, whose clock goes back: its PINGREQ counts as of the latest moment before it, so it is silent from 89,999 on,
+// and is told so when 90 seconds have gone by since.
+#[test]
+fn a_clock_that_goes_back(rt: HostRuntime) {
+    let mut hall = Hall::open(&rt, rt.alloc(), Refused::NONE);
+    hall.bytes(&rt, 2, PUBLISHER, &[NEW]);
+    hall.at(89_999);
+    hall.tick(&rt, 2, &[]);
+    hall.at(50_000);
+    hall.bytes(&rt, 2, PINGREQ, &[PINGRESP]);
+    hall.at(140_000);
+    hall.tick(&rt, 2, &[]);
+    hall.at(179_998);
+    hall.tick(&rt, 2, &[]);
+    hall.at(179_999);
+    hall.tick(&rt, 2, &[b"\xE0\x01\x8D"]);
+    hall.abandon();
 }

@@ -1,5 +1,6 @@
 //! A broker on one thread that refuses memory where it is told to.
 ghost use Rattle.std.specs.Prelude.{◌≡◌, [], false, IfSome, ⊤};
+ghost use Rattle.local_broker.specs.Broker.{is_open};
 ghost use Rattle.member_window.specs.Contents.{held_of};
 
 use conn_engine::{BindRefusal, NoMemory, OfferRefusal, Supply};
@@ -49,9 +50,9 @@ impl Refusing {
     }
 
     /// Lets go of the broker.
-    pub(crate) fn end(self) {
+    pub(crate) fn abandon(self) {
         let Refusing { broker, refused: _ } = self;
-        broker.end();
+        broker.abandon();
     }
 }
 
@@ -66,8 +67,20 @@ fn is_due(left: &mut u32) -> bool {
 impl Supply<LocalPlace> for Refusing {
     ghost call = { λ _ _ _. ⊤ };
 
+    ghost visiting = { λ r. is_open r.broker };
+
+    ghost turn = { λ _ _. ⊤ };
+
+    fn begin(&mut self) -> bool {
+        self.broker.begin()
+    }
+
     fn is_open(&self) -> bool {
         self.broker.is_open()
+    }
+
+    fn end(&mut self) {
+        self.broker.end();
     }
 
     fn attach(
@@ -96,26 +109,30 @@ impl Supply<LocalPlace> for Refusing {
         requires { session.window.retired ≡ false }
         ensures same { IfSome result (λ back. back ≡ session) }
         ensures called { ⊤ }
+        ensures visiting { is_open self.new.broker ≡ is_open self.old.broker }
     {
         self.broker.park(session, now)
     }
 
     fn park_as_is(&mut self, session: Session<Envelope, LocalPlace>)
         requires { session.window.retired ≡ false }
-        ensures { ⊤ }
+        ensures called { ⊤ }
+        ensures visiting { is_open self.new.broker ≡ is_open self.old.broker }
     {
         self.broker.park_as_is(session);
     }
 
     fn keep(&mut self, session: Session<Envelope, LocalPlace>)
-        ensures { ⊤ }
+        ensures called { ⊤ }
+        ensures visiting { is_open self.new.broker ≡ is_open self.old.broker }
     {
         self.broker.keep(session);
     }
 
     fn bury(&mut self, session: Session<Envelope, LocalPlace>)
         requires { held_of session.window ≡ [] }
-        ensures { ⊤ }
+        ensures called { ⊤ }
+        ensures visiting { is_open self.new.broker ≡ is_open self.old.broker }
     {
         self.broker.bury(session);
     }

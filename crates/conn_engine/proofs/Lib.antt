@@ -1,3 +1,6 @@
+pub mod Again
+pub mod Offering
+pub mod Silence
 pub mod Copies
 pub mod Topics
 pub mod Windows

@@ -18,6 +18,11 @@ SendsAgain old (packet ∷ packets) new =
     (entry : ℕ × Held) × IsNextResend old (Some entry) × (packet ≡ job true entry.1.message entry.0)
     × SendsAgain (after_resend old (Some entry)) packets new
 
+-- these are sent again, the oldest first, while the quota lets it: a beginning of all that would be
+abbrev pub SendsSomeAgain : Contents Held → List (ℕ × Held) → Contents Held → Type 0
+SendsSomeAgain old [] new = new ≡ old
+SendsSomeAgain old (entry ∷ entries) new = IsNextResend old (Some entry) × SendsSomeAgain (after_resend old (Some entry)) entries new
+
 -- all that is held stays, in its order, with the same quota
 pub record KeepsHeld (old new : Contents Held) : Type 0 where
   pub held : held_of new ≡ held_of old
@@ -88,19 +93,20 @@ module _ {S P : Type 0} (call : S → Fact P → S → Type 0) where
     pub sent_again : SendsAgain window again between
     pub sent_fresh : HandsFresh old membership between fresh membership' window' new
 
-  -- where memory was wanted, what is held stays, and these messages were put behind it
+  -- where memory was wanted, what is held stays, and these messages were put behind it, each where there was room
   abbrev pub TakesSome : S → P → Contents Held → List Held → P → Contents Held → S → Type 0
   TakesSome old place window [] place' window' new =
-      (window' ≡ window) × (((place' ≡ place) × (new ≡ old)) ⊎ IsRefused old place place' new)
+      (window' ≡ window) × (((place' ≡ place) × (new ≡ old)) ⊎ (HasRoom window × IsRefused old place place' new))
   TakesSome old place window (envelope ∷ envelopes) place' window' new =
       (identifier : ℕ) × (between : P) × (mid : S) × AsksFor old place (Some envelope) between mid
-      × IsLeastFree (identifiers (held_of window)) identifier
+      × IsLeastFree (identifiers (held_of window)) identifier × HasRoom window
       × TakesSome mid between (after_put window identifier envelope) envelopes place' window' new
 
-  -- where memory was wanted: nothing that is held is lost, and a member was handed these messages
+  -- where memory was wanted, what was done is a beginning of what is due: of what waits these were sent again; or all that could be, and then a
+  -- member was handed these messages
   abbrev pub HandsSome : S → Membership P → Contents Held → Membership P → Contents Held → S → Type 0
   HandsSome old membership window membership' window' new =
-      (KeepsHeld window window' × (membership' ≡ membership) × (new ≡ old))
+      ((again : List (ℕ × Held)) × SendsSomeAgain window again window' × (membership' ≡ membership) × (new ≡ old))
       ⊎ ((place : P) × (place' : P) × (between : Contents Held) × (taken : List Held)
-      × (membership ≡ Member place) × (membership' ≡ Member place') × KeepsHeld window between
+      × (membership ≡ Member place) × (membership' ≡ Member place') × ((again : List Packet) × SendsAgain window again between)
       × TakesSome old place between taken place' window' new)

@@ -11,3 +11,4 @@ pub mod Standings
 pub mod Connecting
 pub mod Answering
 pub mod Step
+pub mod Looking

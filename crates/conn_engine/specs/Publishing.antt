@@ -30,14 +30,15 @@ module _ {S P : Type 0} (call : S → Fact P → S → Type 0) where
       × call old (Offer slot connection message answer) mid × Took answer first
       × Offers mid connection message slots rest new × (taken ≡ first + rest)
 
-  -- the message is offered once to each of some of these groups, from the first on: at least one
+  -- the message is offered once to each of these groups, from the first on, until one of them has no memory for it
   abbrev pub OffersFirst : S → ℕ → Message → List ℕ → S → Type 0
   OffersFirst old connection message [] new = ⊥
   OffersFirst old connection message (slot ∷ slots) new =
-      (answer : Result Stamp OfferRefusal) × (mid : S) × call old (Offer slot connection message answer) mid
-      × ((new ≡ mid) ⊎ OffersFirst mid connection message slots new)
+      call old (Offer slot connection message (Err refusal.Memory)) new
+      ⊎ ((answer : Result Stamp OfferRefusal) × (mid : S) × (taken : ℕ) × call old (Offer slot connection message answer) mid × Took answer taken
+      × OffersFirst mid connection message slots new)
 
-  -- to some of them, or to none
+  -- so, or to none: what else takes memory is made before the first is asked
   abbrev pub OffersSome : S → ℕ → Message → List ℕ → S → Type 0
   OffersSome old connection message slots new = (new ≡ old) ⊎ OffersFirst old connection message slots new
 
@@ -59,7 +60,7 @@ module _ {S P : Type 0} (call : S → Fact P → S → Type 0) where
   abbrev pub Publishes : S → ℕ → Publish → Reply → S → Type 0
   Publishes old connection publish reply new = AnswersPublish old connection publish (publish_answer publish) reply new
 
-  -- what may have been done where memory was wanted: the message was offered to some of the groups that match
+  -- what was done where memory was wanted: the message was offered to none of the groups that match, or to each of them up to one that had no memory for it
   pub record IsCutShort (old : S) (connection : ℕ) (publish : Publish) (new : S) : Type 0 where
     pub slots : List ℕ
     pub mid : S

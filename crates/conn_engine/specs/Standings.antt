@@ -25,7 +25,8 @@ IsConnected (Waiting request ticks) = ⊥
 IsConnected (Connected link) = ⊤
 IsConnected Ended = ⊥
 
--- a connection: its number, and how far it has come
+-- a connection: its number, the latest moment at which something came to it, and how far it has come
 pub record ConnState (P : Type 0) : Type 0 where
   pub number : ℕ
+  pub latest : ℕ
   pub standing : Standing P

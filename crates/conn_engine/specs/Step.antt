@@ -73,6 +73,14 @@ IsNoPacket inputs.Tick = ⊤
 IsNoPacket inputs.EndOfInput = ⊤
 IsNoPacket inputs.Closing = ⊤
 
+-- a packet or a Tick is stepped within a visit of the supply: messages may be offered and handed out
+abbrev pub NeedsVisit : Input → Type 0
+NeedsVisit (inputs.Packet packet) = ⊤
+NeedsVisit (inputs.Fault fault) = ⊥
+NeedsVisit inputs.Tick = ⊤
+NeedsVisit inputs.EndOfInput = ⊥
+NeedsVisit inputs.Closing = ⊥
+
 -- what comes in while a connection waits for a session is stepped once the wait is over
 abbrev pub IsWanted : {P : Type 0} → Standing P → Input → Type 0
 IsWanted standing input = IsWaiting standing → IsNoPacket input
@@ -172,6 +180,21 @@ module _ {S P : Type 0} (call : S → Fact P → S → Type 0) (slot_of : P → 
   GivesUp old number (Connected link) now new = Parts call old link.session now new
   GivesUp old number Ended now new = new ≡ old
 
+  -- a connection that ends as the broker closes: its session is parked as it is, and it waits for none
+  abbrev pub ShutsDown : S → ℕ → Standing P → S → Type 0
+  ShutsDown old number (Unconnected opened) new = new ≡ old
+  ShutsDown old number (Waiting request ticks) new = call old (Withdraw number) new
+  ShutsDown old number (Connected link) new = call old (ParkAsIs (down link.session)) new
+  ShutsDown old number Ended new = new ≡ old
+
+  -- a connection that ends at an input, since there is no memory to answer it
+  abbrev pub CutsOff : S → ℕ → Standing P → ℕ → Input → S → Type 0
+  CutsOff old number standing now (inputs.Packet packet) new = GivesUp old number standing now new
+  CutsOff old number standing now (inputs.Fault fault) new = GivesUp old number standing now new
+  CutsOff old number standing now inputs.Tick new = GivesUp old number standing now new
+  CutsOff old number standing now inputs.EndOfInput new = GivesUp old number standing now new
+  CutsOff old number standing now inputs.Closing new = ShutsDown old number standing new
+
   -- where memory was wanted for the answer to a packet
   abbrev pub FailsOnPacket : S → ℕ → Link P → ℕ → Packet → S → Type 0
   FailsOnPacket old number link now packet new =
@@ -209,4 +232,4 @@ module _ {S P : Type 0} (call : S → Fact P → S → Type 0) (slot_of : P → 
   -- where memory was wanted in a step
   abbrev pub FailsToStep : S → ℕ → Standing P → ℕ → Input → S → Type 0
   FailsToStep old number standing now input new =
-      GivesUp old number standing now new ⊎ (FailsToReact old number standing now input new ⊎ FailsToHand old number standing now input new)
+      CutsOff old number standing now input new ⊎ (FailsToReact old number standing now input new ⊎ FailsToHand old number standing now input new)

@@ -20,10 +20,10 @@ use Rattle.conn_engine.specs.Facts.Fact.{Bind, Find, LendPlace}
 use Rattle.conn_engine.specs.Replies.{going_on, closing_with}
 
 module _ {S P : Type 0} (call : S → Fact P → S → Type 0) (slot_of : P → ℕ) where
-  -- a place in the group of this slot is asked for: 97 where none is free
+  -- a place in the group of this slot is asked for, and is of that group: 97 where none is free
   abbrev pub IsLent : S → ℕ → Option P → ℕ → Membership P → S → Type 0
   IsLent old slot None code membership new = call old (LendPlace slot None) new × (code ≡ 0x97) × (membership ≡ NotMember)
-  IsLent old slot (Some place) code membership new = call old (LendPlace slot (Some place)) new × (code ≡ 1) × (membership ≡ Member place)
+  IsLent old slot (Some place) code membership new = call old (LendPlace slot (Some place)) new × (code ≡ 1) × (membership ≡ Member place) × (slot_of place ≡ slot)
 
   -- who is no member is bound to the share's group, if there is a slot for it: else 97
   abbrev pub EntersAs : S → Share → Result ℕ BindRefusal → ℕ → Membership P → S → Type 0

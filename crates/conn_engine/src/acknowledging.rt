@@ -7,11 +7,11 @@ use conn_rules::fate_of;
 use group_jobs::Envelope;
 use member_window::Window;
 use mqtt_wire::{PacketIdentifier, ReasonCode};
-use session_desk::{Membership, Session};
+use session_desk::{Membership, Place, Session};
 
 /// A PUBACK settles the message under its identifier: it is acknowledged, or refused by a code from 80 hex on. A PUBACK whose
 /// identifier the session does not hold is ignored.
-pub(crate) fn acknowledge<P, S: Supply<P>>(
+pub(crate) fn acknowledge<P: Place, S: Supply<P>>(
     supply: &mut S,
     session: &mut Session<Envelope, P>,
     identifier: PacketIdentifier,
@@ -20,6 +20,7 @@ pub(crate) fn acknowledge<P, S: Supply<P>>(
     requires { session.old.window.retired ≡ false }
     ensures acknowledged { Acknowledges S.call supply.old session.old identifier code session.new supply.new }
     ensures sound { session.new.window.retired ≡ false }
+    ensures visiting { S.visiting supply.new ≡ S.visiting supply.old }
 {
     match &mut session.membership {
         Membership::NotMember => {}
@@ -29,7 +30,7 @@ pub(crate) fn acknowledge<P, S: Supply<P>>(
 }
 
 /// The place settles the message under this identifier of the window, if there is one.
-fn settle<P, S: Supply<P>>(
+fn settle<P: Place, S: Supply<P>>(
     supply: &mut S,
     place: &mut P,
     window: &mut Window<Envelope>,
@@ -39,6 +40,7 @@ fn settle<P, S: Supply<P>>(
     requires { window.old.retired ≡ false }
     ensures settled { SettlesIn S.call supply.old place.old window.old identifier code place.new window.new supply.new }
     ensures sound { window.new.retired ≡ false }
+    ensures visiting { S.visiting supply.new ≡ S.visiting supply.old }
 {
     if let Some(envelope) = window.ack(identifier.get()) {
         supply.settle(place, envelope, fate_of(code));

@@ -1,5 +1,5 @@
 //! The answers to the packets of a client that has its session (chapter 3).
-ghost use Rattle.std.specs.Prelude.{◌≡◌, false, MatchResult};
+ghost use Rattle.std.specs.Prelude.{◌≡◌, false, MatchResult, true};
 ghost use Rattle.mqtt_wire.specs.declared.packet.Packet.TheVariants as packets;
 ghost use Rattle.conn_engine.specs.Answering.{Disconnects, Answers, FailsToAnswer};
 
@@ -25,11 +25,13 @@ pub(crate) fn answer<P: Place, S: Supply<P>>(
     link: &mut Link<P>,
     packet: Packet,
 ) -> Result<Reply, NoMemory>
-    requires { link.old.session.window.retired ≡ false }
+    requires sound { link.old.session.window.retired ≡ false }
+    requires visiting { S.visiting supply.old ≡ true }
     ensures answered { MatchResult result
         (λ reply. Answers S.call P.slot_of supply.old number link.old packet link.new reply supply.new)
         (λ _. FailsToAnswer S.call P.slot_of supply.old number link.old packet link.new supply.new) }
     ensures sound { link.new.session.window.retired ≡ false }
+    ensures visiting { S.visiting supply.new ≡ S.visiting supply.old }
 {
     match packet {
         Packet::Publish(packet) => publish(supply, alloc, number, packet),
@@ -66,6 +68,7 @@ fn join<P: Place, S: Supply<P>>(
         (λ reply. Answers S.call P.slot_of supply.old 0 link.old (packets.Subscribe packet) link.new reply supply.new)
         (λ _. FailsToAnswer S.call P.slot_of supply.old 0 link.old (packets.Subscribe packet) link.new supply.new) }
     ensures sound { link.new.session.window.retired ≡ false }
+    ensures visiting { S.visiting supply.new ≡ S.visiting supply.old }
 {
     let membership = link.take_membership();
     let (membership, replied) = subscribe(supply, alloc, membership, &link.terms, packet);
@@ -85,6 +88,7 @@ fn leave<P: Place, S: Supply<P>>(
         (λ reply. Answers S.call P.slot_of supply.old 0 link.old (packets.Unsubscribe packet) link.new reply supply.new)
         (λ _. FailsToAnswer S.call P.slot_of supply.old 0 link.old (packets.Unsubscribe packet) link.new supply.new) }
     ensures sound { link.new.session.window.retired ≡ false }
+    ensures visiting { S.visiting supply.new ≡ S.visiting supply.old }
 {
     let membership = link.take_membership();
     let (membership, replied) = unsubscribe(supply, alloc, membership, packet);

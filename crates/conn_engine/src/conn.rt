@@ -1,14 +1,15 @@
 //! A connection, step by step.
-ghost use Rattle.std.specs.Prelude.{◌≡◌, ◌<◌, ◌↔◌, ◌++◌, [], false, List, IsTrue, MatchResult, vec_capacity, vec_len};
+ghost use Rattle.std.specs.Prelude.{◌≡◌, ◌<◌, ◌≤◌, ◌^◌, ◌↔◌, ◌++◌, [], false, true, ℕ, List, IsTrue, MatchOption, MatchResult, max, vec_capacity, vec_len};
 ghost use Rattle.mqtt_wire.specs.declared.packet.Packet.{Packet};
 ghost use Rattle.conn_engine.specs.declared.standing.Standing.TheVariants as standings;
-ghost use Rattle.conn_engine.specs.Standings.{IsSoundStanding, IsWaiting};
+ghost use Rattle.conn_engine.specs.Standings.{IsSoundStanding, IsWaiting, IsConnected};
 ghost use Rattle.std.specs.Option.{option_to_list};
 ghost use Rattle.conn_engine.specs.HandOuts.{HandsSome};
-ghost use Rattle.conn_engine.specs.Step.{IsWanted, Hands, HandsLess, Steps, FailsToStep, after_hand_out};
+ghost use Rattle.conn_engine.specs.Looking.{IsSilentTooLong, TakesAt};
+ghost use Rattle.conn_engine.specs.Step.{IsWanted, NeedsVisit, Hands, HandsLess, Steps, FailsToStep, after_hand_out};
 
 use crate::connecting::is_waiting;
-use crate::ending::give_up;
+use crate::ending::{cut_off, give_up};
 use crate::hand_outs::hand_out;
 use crate::input::{Input, Then};
 use crate::reacting::react;
@@ -29,6 +30,8 @@ const ROOM_AT_FIRST: usize = 3;
 /// It has a session while its client does, so it can't be dropped until it has ended.
 pub struct Conn<P> {
     number: u16,
+    // The latest moment at which something came to it, in milliseconds.
+    latest: u64,
     standing: Standing<P>,
     alloc: Global,
 }
@@ -39,7 +42,7 @@ impl<P> Model for Conn<P> {
 
     ghost Value = { ConnState P };
 
-    ghost view = { λ c. record { number = c.number; standing = c.standing } };
+    ghost view = { λ c. record { number = c.number; latest = c.latest; standing = c.standing } };
 
     ghost invariant = { λ c. (c.number < 1024) × IsSoundStanding c.standing };
 }
@@ -49,10 +52,11 @@ impl<P> Conn<P> {
     /// connections of the broker.
     pub fn open(alloc: Global, number: u16, now: u64) -> Conn<P>
         requires { number < 1024 }
-        ensures { result ≡ record { number = number; standing = standings.Unconnected now } }
+        ensures { result ≡ record { number = number; latest = now; standing = standings.Unconnected now } }
     {
         Conn {
             number,
+            latest: now,
             standing: Standing::Unconnected { opened: now },
             alloc,
         }
@@ -73,12 +77,23 @@ impl<P> Conn<P> {
         !is_waiting(&self.standing)
     }
 
+    /// The moment, in milliseconds, from which a Tick ends the connection, where no packet comes before: ten seconds after it was opened, or one and
+    /// a half times its keep alive after its last packet (sections 3.1.2.10 and 3.1.4). `None` where there is no such moment below 2^64.
+    pub fn deadline(&self) -> Option<u64>
+        ensures { MatchOption result
+            ((now : ℕ) → now < 2 ^ 64 → ¬ IsSilentTooLong self.now.standing now)
+            (λ deadline. (now : ℕ) → IsSilentTooLong self.now.standing now ↔ deadline ≤ now) }
+    {
+        self.standing.deadline()
+    }
+
     /// Lets go of a connection that has ended, as [`Conn::has_ended`] tells.
     pub fn end(self)
         requires { self.standing ≡ standings.Ended }
     {
         let Conn {
             number: _,
+            latest: _,
             standing,
             alloc: _,
         } = self;
@@ -87,14 +102,24 @@ impl<P> Conn<P> {
 }
 
 impl<P: Place> Conn<P> {
+    /// The slot of the group that its client would be handed a message of now: it is a member there, and has room for one.
+    pub fn takes_from(&self) -> Option<u8>
+        ensures { MatchOption result
+            ((place : P) → ¬ TakesAt self.now.standing place)
+            (λ slot. (place : P) × TakesAt self.now.standing place × (P.slot_of place ≡ slot)) }
+    {
+        self.standing.takes_from()
+    }
+
     /// What comes to the connection at this moment, in milliseconds: the packets that are sent, in their order, take the place of
-    /// those in the list.
+    /// those in the list. Where the moment is less than an earlier one of this connection, the latest of those stands.
     ///
-    /// A packet or a fault may come while [`Conn::wants_input`] says so.
+    /// A packet or a fault may come while [`Conn::wants_input`] says so, a packet or a Tick within a visit of the supply.
     ///
     /// # Errors
     ///
-    /// 801 [`NoMemory`]: no packet is sent, the connection has ended, and its session is parked or ending, with all that it holds.
+    /// 801 [`NoMemory`]: no packet is sent, the connection has ended, and its session is parked or ending, with all that it holds;
+    /// where the broker closes, it is parked as it is.
     pub fn step<S: Supply<P>>(
         &mut self,
         supply: &mut S,
@@ -103,16 +128,41 @@ impl<P: Place> Conn<P> {
         packets: &mut Vec<Packet>,
     ) -> Result<Then, NoMemory>
         requires wanted { IsWanted self.old.standing input }
+        requires visiting { NeedsVisit input → S.visiting supply.old ≡ true }
         ensures number { self.new.number ≡ self.old.number }
+        ensures latest { self.new.latest ≡ max self.old.latest now }
+        ensures stepped { MatchResult result
+            (λ next. Steps S.call P.slot_of supply.old self.old.number self.old.standing (max self.old.latest now) input packets.new.items next self.new.standing supply.new)
+            (λ _. (self.new.standing ≡ standings.Ended) × (packets.new.items ≡ [])
+            × FailsToStep S.call P.slot_of supply.old self.old.number self.old.standing (max self.old.latest now) input supply.new) }
+        ensures visiting { S.visiting supply.new ≡ S.visiting supply.old }
+    {
+        let now = self.latest.max(now);
+        self.latest = now;
+        self.step_at(supply, now, input, packets)
+    }
+
+    /// What comes to the connection at a moment that is not less than an earlier one.
+    fn step_at<S: Supply<P>>(
+        &mut self,
+        supply: &mut S,
+        now: u64,
+        input: Input,
+        packets: &mut Vec<Packet>,
+    ) -> Result<Then, NoMemory>
+        requires wanted { IsWanted self.old.standing input }
+        requires visiting { NeedsVisit input → S.visiting supply.old ≡ true }
+        ensures number { self.new.number ≡ self.old.number }
+        ensures latest { self.new.latest ≡ self.old.latest }
         ensures stepped { MatchResult result
             (λ next. Steps S.call P.slot_of supply.old self.old.number self.old.standing now input packets.new.items next self.new.standing supply.new)
             (λ _. (self.new.standing ≡ standings.Ended) × (packets.new.items ≡ [])
             × FailsToStep S.call P.slot_of supply.old self.old.number self.old.standing now input supply.new) }
+        ensures visiting { S.visiting supply.new ≡ S.visiting supply.old }
     {
         packets.clear();
         if packets.reserve_exact(ROOM_AT_FIRST).is_err() {
-            drop(input);
-            give_up(supply, self.number, &mut self.standing, now);
+            cut_off(supply, self.number, &mut self.standing, now, input);
             return Err(NoMemory);
         }
         match react(
@@ -167,11 +217,13 @@ fn hand<P: Place, S: Supply<P>>(
     now: u64,
     packets: &mut Vec<Packet>,
 ) -> Result<(), NoMemory>
-    requires { IsSoundStanding standing.old }
+    requires sound { IsSoundStanding standing.old }
+    requires visiting { IsConnected standing.old → S.visiting supply.old ≡ true }
     ensures handed { MatchResult result
         (λ _. (sent : List Packet) × (packets.new.items ≡ packets.old.items ++ sent) × Hands S.call P.slot_of supply.old standing.old sent standing.new supply.new)
         (λ _. (standing.new ≡ standings.Ended) × HandsLess S.call P.slot_of supply.old standing.old now supply.new) }
     ensures sound { IsSoundStanding standing.new }
+    ensures visiting { S.visiting supply.new ≡ S.visiting supply.old }
 {
     let Standing::Connected(link) = standing else {
         return Ok(());
@@ -192,13 +244,15 @@ fn hand_to<P: Place, S: Supply<P>>(
     link: &mut Link<P>,
     packets: &mut Vec<Packet>,
 ) -> Result<(), NoMemory>
-    requires { link.old.session.window.retired ≡ false }
+    requires sound { link.old.session.window.retired ≡ false }
+    requires visiting { S.visiting supply.old ≡ true }
     ensures handed { MatchResult result
         (λ _. (sent : List Packet) × (packets.new.items ≡ packets.old.items ++ sent)
         × Hands S.call P.slot_of supply.old (standings.Connected link.old) sent (standings.Connected link.new) supply.new)
         (λ _. HandsSome S.call supply.old link.old.session.membership link.old.session.window link.new.session.membership link.new.session.window supply.new
         × (link.new ≡ after_hand_out link.old link.new.session.membership link.new.session.window)) }
     ensures sound { link.new.session.window.retired ≡ false }
+    ensures visiting { S.visiting supply.new ≡ S.visiting supply.old }
 {
     let membership = link.take_membership();
     let window = &mut link.session.window;

@@ -12,7 +12,7 @@ use crate::supply::{NoMemory, Supply};
 use conn_rules::{accepting, refusing};
 use group_jobs::Envelope;
 use mqtt_wire::{ConnectRefusal, Text};
-use session_desk::{Attached, DeskError, Identity, Membership, Session};
+use session_desk::{Attached, DeskError, Identity, Membership, Place, Session};
 
 /// For how many Ticks a connection waits for a session.
 const MOST_TICKS: u8 = 100;
@@ -22,7 +22,7 @@ const MOST_TICKS: u8 = 100;
 /// # Errors
 ///
 /// Want of memory. The connection has ended then, and a session that was lent is parked or ending.
-pub(crate) fn attach<P, S: Supply<P>>(
+pub(crate) fn attach<P: Place, S: Supply<P>>(
     supply: &mut S,
     number: u16,
     now: u64,
@@ -35,6 +35,7 @@ pub(crate) fn attach<P, S: Supply<P>>(
         (λ reply. Attaches S.call supply.old number now request ticks result.0 reply supply.new)
         (λ _. (result.0 ≡ Ended) × FailsToAttach S.call supply.old number now request supply.new) }
     ensures sound { IsSoundStanding result.0 }
+    ensures visiting { S.visiting supply.new ≡ S.visiting supply.old }
 {
     match supply.attach(number, &request.client, request.clean_start, now) {
         Ok(Attached::New { session, ended }) => {
@@ -55,7 +56,7 @@ pub(crate) fn attach<P, S: Supply<P>>(
 /// # Errors
 ///
 /// Want of memory. The connection has ended then, and a session that was lent is parked or ending.
-pub(crate) fn try_again<P, S: Supply<P>>(
+pub(crate) fn try_again<P: Place, S: Supply<P>>(
     supply: &mut S,
     number: u16,
     now: u64,
@@ -69,6 +70,7 @@ pub(crate) fn try_again<P, S: Supply<P>>(
         (λ reply. TriesAgain S.call supply.old number now request ticks result.0 reply supply.new)
         (λ _. (result.0 ≡ Ended) × FailsAgain S.call supply.old number now request supply.new) }
     ensures sound { IsSoundStanding result.0 }
+    ensures visiting { S.visiting supply.new ≡ S.visiting supply.old }
 {
     let (standing, replied) = attach(supply, number, now, request, ticks + 1);
     if !is_waiting(&standing) {
@@ -111,8 +113,9 @@ pub(crate) fn refuse<P>(refusal: ConnectRefusal) -> (Standing<P>, Result<Reply, 
 }
 
 /// Retires the session that a client had, where it had one.
-fn retire_earlier<P, S: Supply<P>>(supply: &mut S, ended: Option<Session<Envelope, P>>)
-    ensures { RetiresEarlier S.call supply.old ended supply.new }
+fn retire_earlier<P: Place, S: Supply<P>>(supply: &mut S, ended: Option<Session<Envelope, P>>)
+    ensures retired { RetiresEarlier S.call supply.old ended supply.new }
+    ensures visiting { S.visiting supply.new ≡ S.visiting supply.old }
 {
     if let Some(ended) = ended {
         retire(supply, ended);
@@ -120,7 +123,7 @@ fn retire_earlier<P, S: Supply<P>>(supply: &mut S, ended: Option<Session<Envelop
 }
 
 /// The connection begins with the session that the client had; but a member's is not for a client that does not take every packet.
-fn resume<P, S: Supply<P>>(
+fn resume<P: Place, S: Supply<P>>(
     supply: &mut S,
     now: u64,
     request: ConnectRequest,
@@ -131,6 +134,7 @@ fn resume<P, S: Supply<P>>(
         (λ reply. ResumesAs S.call (has_place session.membership && not request.terms.takes_all_packets) supply.old request session result.0 reply supply.new)
         (λ _. (result.0 ≡ Ended) × Parts S.call supply.old (opened session request.terms) now supply.new) }
     ensures sound { IsSoundStanding result.0 }
+    ensures visiting { S.visiting supply.new ≡ S.visiting supply.old }
 {
     if has_place(&session.membership) && !request.terms.takes_all_packets {
         part_as_is(supply, session);
@@ -152,7 +156,7 @@ fn has_place<P>(membership: &Membership<P>) -> bool
 }
 
 /// The connection begins with this session.
-fn accept<P, S: Supply<P>>(
+fn accept<P: Place, S: Supply<P>>(
     supply: &mut S,
     now: u64,
     request: ConnectRequest,
@@ -164,6 +168,7 @@ fn accept<P, S: Supply<P>>(
         (λ reply. Accepts request present session result.0 reply × (supply.new ≡ supply.old))
         (λ _. (result.0 ≡ Ended) × Parts S.call supply.old (opened session request.terms) now supply.new) }
     ensures sound { IsSoundStanding result.0 }
+    ensures visiting { S.visiting supply.new ≡ S.visiting supply.old }
 {
     session.window.up(request.terms.receive_maximum);
     session.expiry.seconds = request.terms.session_expiry_interval;

@@ -6,8 +6,9 @@ ghost use Rattle.member_window.specs.Contents.{held_of, IsDown};
 ghost use Rattle.conn_engine.specs.Facts.Fact.{ParkAsIs};
 ghost use Rattle.conn_engine.specs.Ending.{down, ending, GivesBack, Ends, Retires, Parts, Sweeps};
 ghost use Rattle.conn_engine.specs.Standings.{IsSoundStanding};
-ghost use Rattle.conn_engine.specs.Step.{GivesUp};
+ghost use Rattle.conn_engine.specs.Step.{GivesUp, ShutsDown, CutsOff};
 
+use crate::input::Input;
 use crate::standing::Standing;
 use crate::supply::Supply;
 use group_jobs::Envelope;
@@ -25,6 +26,7 @@ pub(crate) fn give_up<P: Place, S: Supply<P>>(
     requires { IsSoundStanding standing.old }
     ensures given { GivesUp S.call P.slot_of supply.old number standing.old now supply.new }
     ensures over { standing.new ≡ standings.Ended }
+    ensures visiting { S.visiting supply.new ≡ S.visiting supply.old }
 {
     match mem::replace(standing, Standing::Ended) {
         Standing::Unconnected { opened: _opened } => {}
@@ -37,10 +39,54 @@ pub(crate) fn give_up<P: Place, S: Supply<P>>(
     }
 }
 
+/// A connection is cut off at an input that there is no memory to answer. Where the broker closes, its session is kept as it is.
+pub(crate) fn cut_off<P: Place, S: Supply<P>>(
+    supply: &mut S,
+    number: u16,
+    standing: &mut Standing<P>,
+    now: u64,
+    input: Input,
+)
+    requires { IsSoundStanding standing.old }
+    ensures cut { CutsOff S.call P.slot_of supply.old number standing.old now input supply.new }
+    ensures over { standing.new ≡ standings.Ended }
+    ensures visiting { S.visiting supply.new ≡ S.visiting supply.old }
+{
+    match input {
+        Input::Packet(packet) => {
+            drop(packet);
+            give_up(supply, number, standing, now);
+        }
+        Input::Fault(_) => give_up(supply, number, standing, now),
+        Input::Tick => give_up(supply, number, standing, now),
+        Input::EndOfInput => give_up(supply, number, standing, now),
+        Input::Closing => shut_down(supply, number, standing),
+    }
+}
+
+/// A connection ends as the broker closes.
+fn shut_down<P: Place, S: Supply<P>>(supply: &mut S, number: u16, standing: &mut Standing<P>)
+    requires { IsSoundStanding standing.old }
+    ensures shut { ShutsDown S.call P.slot_of supply.old number standing.old supply.new }
+    ensures over { standing.new ≡ standings.Ended }
+    ensures visiting { S.visiting supply.new ≡ S.visiting supply.old }
+{
+    match mem::replace(standing, Standing::Ended) {
+        Standing::Unconnected { opened: _opened } => {}
+        Standing::Waiting {
+            request: _request,
+            ticks: _ticks,
+        } => supply.withdraw(number),
+        Standing::Connected(link) => part_as_is(supply, link.into_session()),
+        Standing::Ended => {}
+    }
+}
+
 /// The connection of a session has ended: the desk parks it, and it is retired where it ends with its connection.
-pub(crate) fn part<P, S: Supply<P>>(supply: &mut S, mut session: Session<Envelope, P>, now: u64)
+pub(crate) fn part<P: Place, S: Supply<P>>(supply: &mut S, mut session: Session<Envelope, P>, now: u64)
     requires { session.window.retired ≡ false }
-    ensures { Parts S.call supply.old session now supply.new }
+    ensures parted { Parts S.call supply.old session now supply.new }
+    ensures visiting { S.visiting supply.new ≡ S.visiting supply.old }
 {
     session.window.down();
     if let Some(session) = supply.park(session, now) {
@@ -49,24 +95,27 @@ pub(crate) fn part<P, S: Supply<P>>(supply: &mut S, mut session: Session<Envelop
 }
 
 /// The broker closes: the session of a connection is kept as it is.
-pub(crate) fn part_as_is<P, S: Supply<P>>(supply: &mut S, mut session: Session<Envelope, P>)
+pub(crate) fn part_as_is<P: Place, S: Supply<P>>(supply: &mut S, mut session: Session<Envelope, P>)
     requires { session.window.retired ≡ false }
-    ensures { S.call supply.old (ParkAsIs (down session)) supply.new }
+    ensures parked { S.call supply.old (ParkAsIs (down session)) supply.new }
+    ensures visiting { S.visiting supply.new ≡ S.visiting supply.old }
 {
     session.window.down();
     supply.park_as_is(session);
 }
 
 /// Retires the sessions that are due at this moment, until none is due or memory was wanted.
-pub(crate) fn sweep<P, S: Supply<P>>(supply: &mut S, now: u64)
-    ensures { Sweeps S.call supply.old now 256 supply.new }
+pub(crate) fn sweep<P: Place, S: Supply<P>>(supply: &mut S, now: u64)
+    ensures swept { Sweeps S.call supply.old now 256 supply.new }
+    ensures visiting { S.visiting supply.new ≡ S.visiting supply.old }
 {
     sweep_most(supply, now, ROWS);
 }
 
 /// Retires the sessions that are due at this moment, so many at most.
-fn sweep_most<P, S: Supply<P>>(supply: &mut S, now: u64, most: usize)
-    ensures { Sweeps S.call supply.old now most supply.new }
+fn sweep_most<P: Place, S: Supply<P>>(supply: &mut S, now: u64, most: usize)
+    ensures swept { Sweeps S.call supply.old now most supply.new }
+    ensures visiting { S.visiting supply.new ≡ S.visiting supply.old }
 {
     if most == 0 {
         return;
@@ -80,8 +129,9 @@ fn sweep_most<P, S: Supply<P>>(supply: &mut S, now: u64, most: usize)
 
 /// Retires a session: it gives back what it holds, the oldest first, and is gone. Where memory is wanted, it is kept with the
 /// rest, to be retired later. Says whether it is gone.
-pub fn retire<P, S: Supply<P>>(supply: &mut S, session: Session<Envelope, P>) -> bool
-    ensures { Retires S.call supply.old session result supply.new }
+pub fn retire<P: Place, S: Supply<P>>(supply: &mut S, session: Session<Envelope, P>) -> bool
+    ensures retired { Retires S.call supply.old session result supply.new }
+    ensures visiting { S.visiting supply.new ≡ S.visiting supply.old }
 {
     let Session {
         identity,
@@ -113,10 +163,11 @@ pub fn retire<P, S: Supply<P>>(supply: &mut S, session: Session<Envelope, P>) ->
 }
 
 /// A place gives back what the window holds, the oldest first, until memory is wanted: what is left stays in the window.
-fn give_back<P, S: Supply<P>>(supply: &mut S, place: &mut P, window: &mut Window<Envelope>)
+fn give_back<P: Place, S: Supply<P>>(supply: &mut S, place: &mut P, window: &mut Window<Envelope>)
     requires { IsDown window.old }
-    ensures { (left : List (ℕ × Held)) × GivesBack S.call supply.old place.old (held_of window.old) place.new left supply.new
+    ensures given { (left : List (ℕ × Held)) × GivesBack S.call supply.old place.old (held_of window.old) place.new left supply.new
         × (window.new ≡ ending left) }
+    ensures visiting { S.visiting supply.new ≡ S.visiting supply.old }
 {
     let Some((identifier, envelope)) = window.take_first() else {
         return;
@@ -128,8 +179,9 @@ fn give_back<P, S: Supply<P>>(supply: &mut S, place: &mut P, window: &mut Window
 }
 
 /// An ending session that holds nothing is gone, and any other is kept. Says whether it is gone.
-fn end<P, S: Supply<P>>(supply: &mut S, session: Session<Envelope, P>) -> bool
-    ensures { Ends S.call supply.old session result supply.new }
+fn end<P: Place, S: Supply<P>>(supply: &mut S, session: Session<Envelope, P>) -> bool
+    ensures ended { Ends S.call supply.old session result supply.new }
+    ensures visiting { S.visiting supply.new ≡ S.visiting supply.old }
 {
     if session.window.is_empty() {
         supply.bury(session);

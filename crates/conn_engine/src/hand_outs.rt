@@ -5,14 +5,14 @@ ghost use Rattle.group_jobs.specs.Stamps.{Held};
 ghost use Rattle.member_window.specs.Identifiers.{identifiers, IsLeastFree};
 ghost use Rattle.member_window.specs.Contents.{held_of, HasRoom, IsNextResend, after_put, after_resend};
 ghost use Rattle.conn_rules.specs.Packets.{job};
-ghost use Rattle.conn_engine.specs.HandOuts.{SendsAgain, AsksFor, IsRefused, SendsOne, SendsNone, SendsFresh, LeavesWith, HandsFresh, HandsOut, KeepsHeld, HoldsMore, TakesSome, HandsSome};
+ghost use Rattle.conn_engine.specs.HandOuts.{SendsAgain, SendsSomeAgain, AsksFor, IsRefused, SendsOne, SendsNone, SendsFresh, LeavesWith, HandsFresh, HandsOut, KeepsHeld, HoldsMore, TakesSome, HandsSome};
 
 use crate::supply::{NoMemory, Supply};
 use conn_rules::job;
 use group_jobs::Envelope;
 use member_window::Window;
 use mqtt_wire::{Packet, PacketIdentifier};
-use session_desk::Membership;
+use session_desk::{Membership, Place};
 use std::alloc::Global;
 
 /// Hands out to a session what is due: what waits is sent again; then a member is handed messages while there is room, and who
@@ -21,18 +21,20 @@ use std::alloc::Global;
 /// # Errors
 ///
 /// Want of memory. Nothing that the session holds is lost.
-pub(crate) fn hand_out<P, S: Supply<P>>(
+pub(crate) fn hand_out<P: Place, S: Supply<P>>(
     supply: &mut S,
     alloc: Global,
     membership: Membership<P>,
     window: &mut Window<Envelope>,
     packets: &mut Vec<Packet>,
 ) -> (Membership<P>, Result<(), NoMemory>)
+    requires visiting { S.visiting supply.old ≡ true }
     ensures handed { MatchResult result.1
         (λ _. (sent : List Packet) × (packets.new.items ≡ packets.old.items ++ sent)
         × HandsOut S.call supply.old membership window.old sent result.0 window.new supply.new)
         (λ _. HandsSome S.call supply.old membership window.old result.0 window.new supply.new) }
     ensures sound { window.new.retired ≡ window.old.retired }
+    ensures visiting { S.visiting supply.new ≡ S.visiting supply.old }
 {
     if let Err(NoMemory) = send_again(alloc, window, packets) {
         return (membership, Err(NoMemory));
@@ -56,14 +58,17 @@ fn send_again(
     packets: &mut Vec<Packet>,
 ) -> Result<(), NoMemory>
     ensures sent { OnOk result ((sent : List Packet) × (packets.new.items ≡ packets.old.items ++ sent) × SendsAgain window.old sent window.new) }
+    ensures begun { OnErr result ((again : List (ℕ × Held)) × SendsSomeAgain window.old again window.new) }
     ensures kept { KeepsHeld window.old window.new }
 {
-    let Some(packet) = next_again(alloc, window)? else {
-        return Ok(());
-    };
-    packets.push(packet)?;
-    send_again(alloc, window, packets)?;
-    Ok(())
+    match next_again(alloc, window) {
+        Ok(Some(packet)) => match packets.push(packet) {
+            Ok(()) => send_again(alloc, window, packets),
+            Err(_unsent) => Err(NoMemory),
+        },
+        Ok(None) => Ok(()),
+        Err(NoMemory) => Err(NoMemory),
+    }
 }
 
 /// Sends the oldest message that waits again, where there is one and the quota lets it, and gives its packet.
@@ -72,14 +77,17 @@ fn next_again(alloc: Global, window: &mut Window<Envelope>) -> Result<Option<Pac
         (IsNextResend window.old None × (window.new ≡ window.old))
         (λ packet. (entry : ℕ × Held) × IsNextResend window.old (Some entry) × (window.new ≡ after_resend window.old (Some entry))
         × (packet ≡ job true entry.1.message entry.0))) }
+    ensures begun { OnErr result ((again : List (ℕ × Held)) × SendsSomeAgain window.old again window.new) }
     ensures kept { KeepsHeld window.old window.new }
 {
     let _held = window.len();
     let Some((identifier, envelope)) = window.next_resend() else {
         return Ok(None);
     };
-    let packet = job(alloc, true, envelope.message(), identifier_of(identifier))?;
-    Ok(Some(packet))
+    match job(alloc, true, envelope.message(), identifier_of(identifier)) {
+        Ok(packet) => Ok(Some(packet)),
+        Err(_) => Err(NoMemory),
+    }
 }
 
 /// The packet identifier of this number.
@@ -95,17 +103,19 @@ fn identifier_of(number: u16) -> PacketIdentifier
 
 /// Hands messages to a place, and sends them, while there is room.
 #[tactic(auto, using(crate::proofs::Fresh::one_more_sent))]
-fn send_fresh<P, S: Supply<P>>(
+fn send_fresh<P: Place, S: Supply<P>>(
     supply: &mut S,
     alloc: Global,
     place: &mut P,
     window: &mut Window<Envelope>,
     packets: &mut Vec<Packet>,
 ) -> Result<(), NoMemory>
+    requires visiting { S.visiting supply.old ≡ true }
     ensures sent { OnOk result ((sent : List Packet) × (packets.new.items ≡ packets.old.items ++ sent)
         × SendsFresh S.call supply.old place.old window.old sent place.new window.new supply.new) }
     ensures kept { OnErr result ((taken : List Held) × TakesSome S.call supply.old place.old window.old taken place.new window.new supply.new) }
     ensures sound { window.new.retired ≡ window.old.retired }
+    ensures visiting { S.visiting supply.new ≡ S.visiting supply.old }
 {
     packets.reserve(1)?;
     let Some(packet) = next_fresh(supply, alloc, place, window)? else {
@@ -119,17 +129,19 @@ fn send_fresh<P, S: Supply<P>>(
 }
 
 /// Hands a message to a place, where there is room and a message, and gives its packet.
-fn next_fresh<P, S: Supply<P>>(
+fn next_fresh<P: Place, S: Supply<P>>(
     supply: &mut S,
     alloc: Global,
     place: &mut P,
     window: &mut Window<Envelope>,
 ) -> Result<Option<Packet>, NoMemory>
+    requires visiting { S.visiting supply.old ≡ true }
     ensures sent { IfOk result (λ sent. MatchOption sent
         (SendsNone S.call supply.old place.old window.old place.new window.new supply.new)
         (λ packet. SendsOne S.call supply.old place.old window.old packet place.new window.new supply.new × HoldsMore window.old window.new)) }
     ensures kept { OnErr result ((taken : List Held) × TakesSome S.call supply.old place.old window.old taken place.new window.new supply.new) }
     ensures sound { window.new.retired ≡ window.old.retired }
+    ensures visiting { S.visiting supply.new ≡ S.visiting supply.old }
 {
     if !window.room() {
         return Ok(None);
@@ -162,9 +174,11 @@ fn put(alloc: Global, window: &mut Window<Envelope>, envelope: Envelope) -> Resu
 }
 
 /// Asks for a message for a place: one that was given back, or else the oldest that is queued.
-fn ask<P, S: Supply<P>>(supply: &mut S, place: &mut P) -> Result<Option<Envelope>, NoMemory>
+fn ask<P: Place, S: Supply<P>>(supply: &mut S, place: &mut P) -> Result<Option<Envelope>, NoMemory>
+    requires visiting { S.visiting supply.old ≡ true }
     ensures asked { IfOk result (λ found. AsksFor S.call supply.old place.old found place.new supply.new) }
     ensures refused { OnErr result (IsRefused S.call supply.old place.old place.new supply.new) }
+    ensures visiting { S.visiting supply.new ≡ S.visiting supply.old }
 {
     match supply.take_back(place)? {
         Some(envelope) => Ok(Some(envelope)),
@@ -173,8 +187,9 @@ fn ask<P, S: Supply<P>>(supply: &mut S, place: &mut P) -> Result<Option<Envelope
 }
 
 /// Whoever leaves is no member once it holds nothing.
-fn leave<P, S: Supply<P>>(supply: &mut S, place: P, window: &Window<Envelope>) -> Membership<P>
-    ensures { LeavesWith S.call supply.old place window.now result supply.new }
+fn leave<P: Place, S: Supply<P>>(supply: &mut S, place: P, window: &Window<Envelope>) -> Membership<P>
+    ensures left { LeavesWith S.call supply.old place window.now result supply.new }
+    ensures visiting { S.visiting supply.new ≡ S.visiting supply.old }
 {
     if window.is_empty() {
         supply.take_place(place);

@@ -22,6 +22,7 @@ mod connecting;
 mod ending;
 mod hand_outs;
 mod input;
+mod looking;
 mod publishing;
 mod reacting;
 mod reply;

@@ -1,10 +1,11 @@
 //! The answer to a PUBLISH (section 3.3).
-ghost use Rattle.std.specs.Prelude.{◌≡◌, ◌≤◌, ◌+◌, Ok, [], length, All, IfOk, OnOk, OnErr, vec_len};
+ghost use Rattle.std.specs.Prelude.{◌≡◌, ◌≤◌, ◌+◌, Ok, Err, [], length, All, IfOk, OnOk, OnErr, vec_len, true};
 ghost use Rattle.mqtt_topic.specs.Names.{name_of};
 ghost use Rattle.conn_rules.specs.Publishing.{message_of, publish_answer};
 ghost use Rattle.conn_rules.specs.declared.publishing.PublishAnswer.TheVariants as answers;
+ghost use Rattle.conn_engine.specs.declared.supply.OfferRefusal.TheVariants as refusals;
 ghost use Rattle.conn_engine.specs.Facts.Fact.{Match, Offer};
-ghost use Rattle.conn_engine.specs.Publishing.{Took, Offers, OffersSome, IsOffered, IsCutShort, Publishes};
+ghost use Rattle.conn_engine.specs.Publishing.{Took, Offers, OffersFirst, OffersSome, IsOffered, IsCutShort, Publishes};
 
 use crate::reply::Reply;
 use crate::supply::{NoMemory, OfferRefusal, Supply};
@@ -12,21 +13,24 @@ use conn_rules::{PublishAnswer, answer_to_publish, message_of, puback_code};
 use group_jobs::{Message, SharedMessage};
 use mqtt_topic::{SlotIter, Slots, TopicName};
 use mqtt_wire::{PacketIdentifier, Publish, Text};
+use session_desk::Place;
 use std::alloc::Global;
 
 /// Answers a PUBLISH of this connection.
 ///
 /// # Errors
 ///
-/// Want of memory; the message may have been offered to some of the groups that match.
-pub(crate) fn publish<P, S: Supply<P>>(
+/// Want of memory: of the groups that match, the message was offered to none, or to each up to one that had no memory for it.
+pub(crate) fn publish<P: Place, S: Supply<P>>(
     supply: &mut S,
     alloc: Global,
     connection: u16,
     publish: Publish,
 ) -> Result<Reply, NoMemory>
+    requires visiting { S.visiting supply.old ≡ true }
     ensures replied { IfOk result (λ reply. Publishes S.call supply.old connection publish reply supply.new) }
     ensures cut_short { OnErr result (IsCutShort S.call supply.old connection publish supply.new) }
+    ensures visiting { S.visiting supply.new ≡ S.visiting supply.old }
 {
     match answer_to_publish(&publish) {
         PublishAnswer::Close(code) => {
@@ -45,16 +49,18 @@ pub(crate) fn publish<P, S: Supply<P>>(
 
 /// Offers the message of a PUBLISH to the groups that match, and answers by a PUBACK.
 #[tactic(auto, using(crate::proofs::Topics::offered_is_named))]
-fn offer<P, S: Supply<P>>(
+fn offer<P: Place, S: Supply<P>>(
     supply: &mut S,
     alloc: Global,
     connection: u16,
     identifier: PacketIdentifier,
     mut publish: Publish,
 ) -> Result<Reply, NoMemory>
-    requires { publish_answer publish ≡ answers.Offer identifier }
+    requires offered { publish_answer publish ≡ answers.Offer identifier }
+    requires visiting { S.visiting supply.old ≡ true }
     ensures replied { IfOk result (λ reply. IsOffered S.call supply.old connection publish identifier reply supply.new) }
     ensures cut_short { OnErr result (IsCutShort S.call supply.old connection publish supply.new) }
+    ensures visiting { S.visiting supply.new ≡ S.visiting supply.old }
 {
     let (slots, topic) = matching(supply, publish.topic);
     publish.topic = topic;
@@ -70,10 +76,11 @@ fn offer<P, S: Supply<P>>(
 }
 
 /// The slots of the groups that match a topic, and the topic.
-fn matching<P, S: Supply<P>>(supply: &mut S, topic: Text) -> (Slots, Text)
+fn matching<P: Place, S: Supply<P>>(supply: &mut S, topic: Text) -> (Slots, Text)
     requires { name_of topic ≡ Ok topic }
     ensures asked { S.call supply.old (Match topic result.0) supply.new }
     ensures topic { result.1 ≡ topic }
+    ensures visiting { S.visiting supply.new ≡ S.visiting supply.old }
 {
     let name = TopicName::known(topic);
     let slots = supply.matching(&name);
@@ -81,15 +88,17 @@ fn matching<P, S: Supply<P>>(supply: &mut S, topic: Text) -> (Slots, Text)
 }
 
 /// Offers a message to all these groups, and says how many took it. All copies are made before the first is offered.
-fn offer_to_all<P, S: Supply<P>>(
+fn offer_to_all<P: Place, S: Supply<P>>(
     supply: &mut S,
     alloc: Global,
     connection: u16,
     slots: &Slots,
     message: Message,
 ) -> Result<usize, NoMemory>
+    requires visiting { S.visiting supply.old ≡ true }
     ensures offered { IfOk result (λ taken. Offers S.call supply.old connection message slots.now taken supply.new) }
     ensures cut_short { OnErr result (OffersSome S.call supply.old connection message slots.now supply.new) }
+    ensures visiting { S.visiting supply.new ≡ S.visiting supply.old }
 {
     let message = SharedMessage::new(alloc, message)?;
     let copies = copies_of(alloc, &message, slots.len().saturating_sub(1))?;
@@ -134,7 +143,7 @@ fn copy_into(
 
 /// Offers a message to these groups, in their order: a copy to each but the last.
 #[tactic(auto, using(crate::proofs::Copies::alike_popped))]
-fn offer_each<P, S: Supply<P>>(
+fn offer_each<P: Place, S: Supply<P>>(
     supply: &mut S,
     connection: u16,
     mut slots: SlotIter,
@@ -143,9 +152,11 @@ fn offer_each<P, S: Supply<P>>(
 ) -> Result<usize, NoMemory>
     requires enough { length slots ≤ vec_len copies + 1 }
     requires alike { All (λ copy. copy ≡ message) copies.items }
+    requires visiting { S.visiting supply.old ≡ true }
     ensures offered { IfOk result (λ taken. Offers S.call supply.old connection message slots taken supply.new) }
-    ensures cut_short { OnErr result (OffersSome S.call supply.old connection message slots supply.new) }
+    ensures cut_short { OnErr result (OffersFirst S.call supply.old connection message slots supply.new) }
     ensures few { IfOk result (λ taken. taken ≤ length slots) }
+    ensures visiting { S.visiting supply.new ≡ S.visiting supply.old }
 {
     let Some(slot) = slots.next() else {
         return Ok(0);
@@ -154,21 +165,26 @@ fn offer_each<P, S: Supply<P>>(
         None => offer_one(supply, connection, slot, message),
         Some(copy) => {
             let first = offer_one(supply, connection, slot, copy)?;
-            let rest = offer_each(supply, connection, slots, message, copies)?;
-            Ok(first + rest)
+            match offer_each(supply, connection, slots, message, copies) {
+                Ok(rest) => Ok(first + rest),
+                Err(NoMemory) => Err(NoMemory),
+            }
         }
     }
 }
 
 /// Offers a message to one group, and says whether that took it: 1 or 0.
-fn offer_one<P, S: Supply<P>>(
+fn offer_one<P: Place, S: Supply<P>>(
     supply: &mut S,
     connection: u16,
     slot: u8,
     message: SharedMessage,
 ) -> Result<usize, NoMemory>
+    requires visiting { S.visiting supply.old ≡ true }
     ensures offered { (answer : _) × S.call supply.old (Offer slot connection message answer) supply.new
         × IfOk result (λ taken. Took answer taken × (taken ≤ 1)) }
+    ensures refused { OnErr result (S.call supply.old (Offer slot connection message (Err refusals.Memory)) supply.new) }
+    ensures visiting { S.visiting supply.new ≡ S.visiting supply.old }
 {
     match supply.offer(slot, connection, message) {
         Ok(_) => Ok(1),

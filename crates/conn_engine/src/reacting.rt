@@ -1,5 +1,5 @@
 //! What an input does to a connection, before anything is handed out.
-ghost use Rattle.std.specs.Prelude.{◌≡◌, ◌<◌, ◌≤◌, ◌↔◌, Ok, false, length, IfOk, IsOk, IsTrue, MatchResult};
+ghost use Rattle.std.specs.Prelude.{◌≡◌, ◌<◌, ◌≤◌, ◌↔◌, Ok, false, length, IfOk, IsOk, IsTrue, MatchResult, true};
 ghost use Rattle.conn_rules.specs.Connecting.{first_answer};
 ghost use Rattle.conn_rules.specs.Packets.{disconnect};
 ghost use Rattle.conn_rules.specs.declared.connecting.FirstAnswer.TheVariants as first;
@@ -8,7 +8,7 @@ ghost use Rattle.conn_engine.specs.Ending.{down};
 ghost use Rattle.conn_engine.specs.Facts.Fact.{ParkAsIs};
 ghost use Rattle.conn_engine.specs.Replies.{taken_over};
 ghost use Rattle.conn_engine.specs.Standings.{IsSoundStanding, IsConnected};
-ghost use Rattle.conn_engine.specs.Step.{request_of, IsNoPacket, IsWanted, IsClosed, AnswersFirst, AnswersPacket, AnswersTick, GoesOn, Reacts, FailsOnPacket, FailsFirst, FailsToReact};
+ghost use Rattle.conn_engine.specs.Step.{request_of, IsNoPacket, IsWanted, NeedsVisit, IsClosed, AnswersFirst, AnswersPacket, AnswersTick, GoesOn, Reacts, FailsOnPacket, FailsFirst, FailsToReact};
 
 use crate::answering::answer;
 use crate::connecting::{attach, refuse, try_again};
@@ -42,10 +42,13 @@ pub(crate) fn react<P: Place, S: Supply<P>>(
     requires known { number < 1024 }
     requires sound { IsSoundStanding standing.old }
     requires wanted { IsWanted standing.old input }
+    requires visiting { NeedsVisit input → S.visiting supply.old ≡ true }
     ensures reacted { MatchResult result
         (λ reply. Reacts S.call P.slot_of supply.old number standing.old now input standing.new reply supply.new)
         (λ _. (standing.new ≡ standings.Ended) × FailsToReact S.call P.slot_of supply.old number standing.old now input supply.new) }
+    ensures visited { IsConnected standing.new → NeedsVisit input }
     ensures sound { IsSoundStanding standing.new }
+    ensures visiting { S.visiting supply.new ≡ S.visiting supply.old }
 {
     if standing.is_connected() {
         return react_connected(supply, alloc, number, standing, now, input);
@@ -68,10 +71,13 @@ fn react_before<P: Place, S: Supply<P>>(
     requires sound { IsSoundStanding standing }
     requires wanted { IsWanted standing input }
     requires before { ¬ IsConnected standing }
+    requires visiting { NeedsVisit input → S.visiting supply.old ≡ true }
     ensures reacted { MatchResult result.1
         (λ reply. Reacts S.call P.slot_of supply.old number standing now input result.0 reply supply.new)
         (λ _. (result.0 ≡ standings.Ended) × FailsToReact S.call P.slot_of supply.old number standing now input supply.new) }
+    ensures visited { IsConnected result.0 → NeedsVisit input }
     ensures sound { IsSoundStanding result.0 }
+    ensures visiting { S.visiting supply.new ≡ S.visiting supply.old }
 {
     match standing {
         Standing::Unconnected { opened } => {
@@ -106,10 +112,13 @@ fn react_unconnected<P: Place, S: Supply<P>>(
     input: Input,
 ) -> (Standing<P>, Result<Reply, NoMemory>)
     requires known { number < 1024 }
+    requires visiting { NeedsVisit input → S.visiting supply.old ≡ true }
     ensures reacted { MatchResult result.1
         (λ reply. Reacts S.call P.slot_of supply.old number (standings.Unconnected opened) now input result.0 reply supply.new)
         (λ _. (result.0 ≡ standings.Ended) × FailsToReact S.call P.slot_of supply.old number (standings.Unconnected opened) now input supply.new) }
+    ensures visited { IsConnected result.0 → NeedsVisit input }
     ensures sound { IsSoundStanding result.0 }
+    ensures visiting { S.visiting supply.new ≡ S.visiting supply.old }
 {
     match input {
         Input::Packet(packet) => answer_first(supply, number, now, packet),
@@ -142,6 +151,7 @@ fn answer_first<P: Place, S: Supply<P>>(
         (λ reply. AnswersFirst S.call P.slot_of (first_answer packet) supply.old number now packet result.0 reply supply.new)
         (λ _. (result.0 ≡ standings.Ended) × FailsFirst S.call P.slot_of supply.old number now packet supply.new) }
     ensures sound { IsSoundStanding result.0 }
+    ensures visiting { S.visiting supply.new ≡ S.visiting supply.old }
 {
     match answer_to_first(&packet) {
         FirstAnswer::Close => {
@@ -170,6 +180,7 @@ fn connect<P: Place, S: Supply<P>>(
         (λ reply. AnswersFirst S.call P.slot_of first.Attach supply.old number now packet result.0 reply supply.new)
         (λ _. (result.0 ≡ standings.Ended) × FailsFirst S.call P.slot_of supply.old number now packet supply.new) }
     ensures sound { IsSoundStanding result.0 }
+    ensures visiting { S.visiting supply.new ≡ S.visiting supply.old }
 {
     match packet {
         Packet::Connect(connect) => {
@@ -211,10 +222,13 @@ fn react_waiting<P: Place, S: Supply<P>>(
     requires short { length request.client ≤ 128 }
     requires few { ticks < 100 }
     requires wanted { IsNoPacket input }
+    requires visiting { NeedsVisit input → S.visiting supply.old ≡ true }
     ensures reacted { MatchResult result.1
         (λ reply. Reacts S.call P.slot_of supply.old number (standings.Waiting request ticks) now input result.0 reply supply.new)
         (λ _. (result.0 ≡ standings.Ended) × FailsToReact S.call P.slot_of supply.old number (standings.Waiting request ticks) now input supply.new) }
+    ensures visited { IsConnected result.0 → NeedsVisit input }
     ensures sound { IsSoundStanding result.0 }
+    ensures visiting { S.visiting supply.new ≡ S.visiting supply.old }
 {
     match input {
         Input::Tick => {
@@ -245,10 +259,13 @@ fn react_connected<P: Place, S: Supply<P>>(
 ) -> Result<Reply, NoMemory>
     requires sound { IsSoundStanding standing.old }
     requires connected { IsConnected standing.old }
+    requires visiting { NeedsVisit input → S.visiting supply.old ≡ true }
     ensures reacted { MatchResult result
         (λ reply. Reacts S.call P.slot_of supply.old number standing.old now input standing.new reply supply.new)
         (λ _. (standing.new ≡ standings.Ended) × FailsToReact S.call P.slot_of supply.old number standing.old now input supply.new) }
+    ensures visited { IsConnected standing.new → NeedsVisit input }
     ensures sound { IsSoundStanding standing.new }
+    ensures visiting { S.visiting supply.new ≡ S.visiting supply.old }
 {
     match input {
         Input::Packet(packet) => {
@@ -297,6 +314,7 @@ fn shut_down<P: Place, S: Supply<P>>(supply: &mut S, standing: &mut Standing<P>)
     requires connected { IsConnected standing.old }
     ensures parked { (link : Link P) → standing.old ≡ standings.Connected link → S.call supply.old (ParkAsIs (down link.session)) supply.new }
     ensures over { standing.new ≡ standings.Ended }
+    ensures visiting { S.visiting supply.new ≡ S.visiting supply.old }
 {
     match mem::replace(standing, Standing::Ended) {
         Standing::Connected(link) => part_as_is(supply, link.into_session()),
@@ -315,10 +333,12 @@ fn answer_packet<P: Place, S: Supply<P>>(
 ) -> Result<Reply, NoMemory>
     requires sound { IsSoundStanding standing.old }
     requires connected { IsConnected standing.old }
+    requires visiting { S.visiting supply.old ≡ true }
     ensures answered { (link : Link P) → standing.old ≡ standings.Connected link → MatchResult result
         (λ reply. AnswersPacket S.call P.slot_of supply.old number link now packet standing.new reply supply.new)
         (λ _. (standing.new ≡ standings.Ended) × FailsOnPacket S.call P.slot_of supply.old number link now packet supply.new) }
     ensures sound { IsSoundStanding standing.new }
+    ensures visiting { S.visiting supply.new ≡ S.visiting supply.old }
 {
     let Standing::Connected(link) = standing else {
         unreachable!()
@@ -353,6 +373,7 @@ fn tick<P: Place, S: Supply<P>>(
     requires connected { IsConnected standing.old }
     ensures ticked { (link : Link P) → standing.old ≡ standings.Connected link → AnswersTick S.call P.slot_of supply.old link now standing.new result supply.new }
     ensures sound { IsSoundStanding standing.new }
+    ensures visiting { S.visiting supply.new ≡ S.visiting supply.old }
 {
     sweep(supply, now);
     let Standing::Connected(link) = standing else {

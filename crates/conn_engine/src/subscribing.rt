@@ -33,9 +33,10 @@ pub(crate) fn subscribe<P: Place, S: Supply<P>>(
     terms: &Terms,
     subscribe: Subscribe,
 ) -> (Membership<P>, Result<Reply, NoMemory>)
-    ensures { MatchResult result.1
+    ensures answered { MatchResult result.1
         (λ reply. Subscribes S.call P.slot_of terms.now supply.old membership subscribe reply result.0 supply.new)
         (λ _. AnswersSome S.call P.slot_of (is_some subscribe.properties.subscription_identifier) terms.now supply.old membership subscribe.subscriptions result.0 supply.new) }
+    ensures visiting { S.visiting supply.new ≡ S.visiting supply.old }
 {
     if let Some(code) = subscribe_refusal(&subscribe) {
         return (membership, Ok(Reply::closing_with(alloc, code)));
@@ -81,10 +82,11 @@ fn answer_entries<P: Place, S: Supply<P>>(
 ) -> (Membership<P>, Result<(), NoMemory>)
     requires room { vec_len codes.old + into_iter_len entries ≤ vec_capacity codes.old }
     requires counted { length (into_iter_items entries) ≡ into_iter_len entries }
-    ensures { MatchResult result.1
+    ensures answered { MatchResult result.1
         (λ _. (rest : List ℕ) × AnswersEntries S.call P.slot_of identified terms.now supply.old membership (into_iter_items entries) rest result.0 supply.new
         × (codes.new.items ≡ codes.old.items ++ rest) × (length rest ≡ into_iter_len entries))
         (λ _. AnswersFirst S.call P.slot_of identified terms.now supply.old membership (into_iter_items entries) result.0 supply.new) }
+    ensures visiting { S.visiting supply.new ≡ S.visiting supply.old }
 {
     let Some(entry) = entries.next() else {
         return (membership, Ok(()));
@@ -108,9 +110,10 @@ fn answer_entry<P: Place, S: Supply<P>>(
     membership: Membership<P>,
     answer: EntryAnswer,
 ) -> (Membership<P>, Result<ReasonCode, NoMemory>)
-    ensures { MatchResult result.1
+    ensures answered { MatchResult result.1
         (λ code. AnswersEntry S.call P.slot_of supply.old membership answer code result.0 supply.new)
         (λ _. IsUnbound S.call P.slot_of supply.old membership result.0 supply.new) }
+    ensures visiting { S.visiting supply.new ≡ S.visiting supply.old }
 {
     match answer {
         EntryAnswer::Refuse(code) => (membership, Ok(code)),
@@ -124,9 +127,10 @@ fn join<P: Place, S: Supply<P>>(
     membership: Membership<P>,
     share: Share,
 ) -> (Membership<P>, Result<ReasonCode, NoMemory>)
-    ensures { MatchResult result.1
+    ensures joined { MatchResult result.1
         (λ code. Joins S.call P.slot_of supply.old membership share code result.0 supply.new)
         (λ _. IsUnbound S.call P.slot_of supply.old membership result.0 supply.new) }
+    ensures visiting { S.visiting supply.new ≡ S.visiting supply.old }
 {
     match membership {
         Membership::NotMember => enter(supply, share),
@@ -142,8 +146,9 @@ fn join<P: Place, S: Supply<P>>(
 
 /// Whether a place is in the group of a share.
 fn is_in<P: Place, S: Supply<P>>(supply: &mut S, place: &P, share: &Share) -> bool
-    ensures { (found : Option ℕ) × S.call supply.old (Find share.now found) supply.new
+    ensures asked { (found : Option ℕ) × S.call supply.old (Find share.now found) supply.new
         × (IsTrue result ↔ (found ≡ Some (P.slot_of place.now))) }
+    ensures visiting { S.visiting supply.new ≡ S.visiting supply.old }
 {
     supply.find(share) == Some(place.slot())
 }
@@ -153,9 +158,10 @@ fn enter<P: Place, S: Supply<P>>(
     supply: &mut S,
     share: Share,
 ) -> (Membership<P>, Result<ReasonCode, NoMemory>)
-    ensures { MatchResult result.1
+    ensures joined { MatchResult result.1
         (λ code. Joins S.call P.slot_of supply.old NotMember share code result.0 supply.new)
         (λ _. IsUnbound S.call P.slot_of supply.old NotMember result.0 supply.new) }
+    ensures visiting { S.visiting supply.new ≡ S.visiting supply.old }
 {
     match supply.bind(share) {
         Ok(slot) => match supply.lend_place(slot) {
@@ -178,9 +184,10 @@ pub(crate) fn unsubscribe<P: Place, S: Supply<P>>(
     membership: Membership<P>,
     unsubscribe: Unsubscribe,
 ) -> (Membership<P>, Result<Reply, NoMemory>)
-    ensures { MatchResult result.1
+    ensures answered { MatchResult result.1
         (λ reply. Unsubscribes S.call P.slot_of supply.old membership unsubscribe reply result.0 supply.new)
         (λ _. (result.0 ≡ membership) × (supply.new ≡ supply.old)) }
+    ensures visiting { S.visiting supply.new ≡ S.visiting supply.old }
 {
     if let Some(code) = unsubscribe_refusal(&unsubscribe) {
         return (membership, Ok(Reply::closing_with(alloc, code)));
@@ -213,8 +220,9 @@ fn leave_each<P: Place, S: Supply<P>>(
     codes: &mut Vec<ReasonCode>,
 ) -> Membership<P>
     requires { vec_len codes.old + into_iter_len filters ≤ vec_capacity codes.old }
-    ensures { (rest : List ℕ) × LeavesByAll S.call P.slot_of supply.old membership (into_iter_items filters) rest result supply.new
+    ensures left { (rest : List ℕ) × LeavesByAll S.call P.slot_of supply.old membership (into_iter_items filters) rest result supply.new
         × (codes.new.items ≡ codes.old.items ++ rest) × (length rest ≡ into_iter_len filters) }
+    ensures visiting { S.visiting supply.new ≡ S.visiting supply.old }
 {
     let Some(filter) = filters.next() else {
         return membership;
@@ -230,7 +238,8 @@ fn leave<P: Place, S: Supply<P>>(
     membership: Membership<P>,
     filter: Text,
 ) -> (Membership<P>, ReasonCode)
-    ensures { LeavesBy S.call P.slot_of supply.old membership (share_of filter) result.1 result.0 supply.new }
+    ensures left { LeavesBy S.call P.slot_of supply.old membership (share_of filter) result.1 result.0 supply.new }
+    ensures visiting { S.visiting supply.new ≡ S.visiting supply.old }
 {
     let Ok(share) = Share::parse(filter) else {
         return (membership, ReasonCode::NO_SUBSCRIPTION_EXISTED);

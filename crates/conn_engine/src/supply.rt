@@ -1,5 +1,5 @@
 //! What a connection asks: who has which session, which share is bound to which slot, and who has which message.
-ghost use Rattle.std.specs.Prelude.{◌≡◌, ◌<◌, ◌≤◌, [], length, IfOk, IfErr, IfSome, false, ⊤};
+ghost use Rattle.std.specs.Prelude.{◌≡◌, ◌<◌, ◌≤◌, [], length, IfOk, IfErr, IfSome, Bool, true, false, ⊤};
 ghost use Rattle.conn_engine.specs.Facts.{Fact};
 ghost use Rattle.conn_engine.specs.Facts.Fact.{Attach, Withdraw, Kicked, Park, ParkAsIs, Keep, Bury, Sweep, LendPlace, TakePlace, Bind, Find, Match, Offer, Take, TakeBack, Settle, GiveBack};
 ghost use Rattle.conn_engine.specs.Ready.{IsReady};
@@ -9,7 +9,7 @@ ghost use Rattle.session_desk.specs.Attaching.{asked};
 use group_jobs::{Envelope, Fate, JobError, SharedMessage, Stamp};
 use mqtt_topic::{Share, Slots, TopicName};
 use mqtt_wire::Text;
-use session_desk::{Attached, DeskError, Session};
+use session_desk::{Attached, DeskError, Place, Session};
 use std::alloc::{AllocError, AllocFailed};
 use thiserror::Error;
 
@@ -72,15 +72,35 @@ pub enum OfferRefusal {
 
 /// What connections share: the desk of all sessions, the routes, and the groups. `P` is a place in a group.
 ///
-/// Each call but [`Supply::is_open`], which only asks and which no step makes, is one fact, which the relation `call` ties to the
+/// Each call but [`Supply::begin`], [`Supply::is_open`] and [`Supply::end`], which no step makes, is one fact, which the relation `call` ties to the
 /// supply before and after it. So what is proved of a connection over every supply holds of the calls that were made, in their
 /// order, and of no others.
-pub trait Supply<P> {
+///
+/// Messages are offered and asked for within a visit alone: so none is refused, and none withheld, since a visit was forgotten. No call begins or ends
+/// one.
+pub trait Supply<P: Place> {
     /// What a call with these arguments and this answer makes of the supply.
     ghost call: { Self → Fact P → Self → Type 0 };
 
-    /// Whether the broker accepts messages and hands them out. It does not any more once it was closed.
-    fn is_open(&self) -> bool;
+    /// Whether a visit is going on.
+    ghost visiting: { Self → Bool };
+
+    /// What the beginning or the end of a visit makes of the supply.
+    ghost turn: { Self → Self → Type 0 };
+
+    /// A visit begins, unless the broker was closed: says whether one does. Messages are accepted and handed out in a visit, and the packets and Ticks of a
+    /// connection are stepped in one.
+    fn begin(&mut self) -> bool
+        ensures told { result ≡ visiting self.new }
+        ensures turned { turn self.old self.new };
+
+    /// Whether a visit is going on.
+    fn is_open(&self) -> bool
+        ensures { result ≡ visiting self.now };
+
+    /// A visit ends, where one is going on.
+    fn end(&mut self)
+        ensures { turn self.old self.new };
 
     /// A session for a connection, as of this moment in milliseconds: see [`Desk::attach`](session_desk::Desk::attach). The
     /// connection's number is below 1,024, and the identifier of its client has at most 128 bytes.
@@ -94,60 +114,74 @@ pub trait Supply<P> {
         requires known { connection < 1024 }
         requires short { length client.now ≤ 128 }
         ensures ready { IfOk result IsReady }
-        ensures called { call self.old (Attach (asked connection client.now clean now) result) self.new };
+        ensures called { call self.old (Attach (asked connection client.now clean now) result) self.new }
+        ensures visiting { visiting self.new ≡ visiting self.old };
 
     /// The connection waits for no session from now on.
     fn withdraw(&mut self, connection: u16)
-        ensures { call self.old (Withdraw connection) self.new };
+        ensures called { call self.old (Withdraw connection) self.new }
+        ensures visiting { visiting self.new ≡ visiting self.old };
 
     /// Whether another connection asked for this connection's session since it was lent.
     fn kicked(&mut self, connection: u16) -> bool
-        ensures { call self.old (Kicked connection result) self.new };
+        ensures called { call self.old (Kicked connection result) self.new }
+        ensures visiting { visiting self.new ≡ visiting self.old };
 
     /// A session whose connection has ended is kept until its client comes back or its time is over. One that ends with its
     /// connection comes back, and is to be retired.
     fn park(&mut self, session: Session<Envelope, P>, now: u64) -> Option<Session<Envelope, P>>
         requires { session.window.retired ≡ false }
         ensures same { IfSome result (λ back. back ≡ session) }
-        ensures called { call self.old (Park session now result) self.new };
+        ensures called { call self.old (Park session now result) self.new }
+        ensures visiting { visiting self.new ≡ visiting self.old };
 
     /// A session whose connection has ended is kept as it is, whatever its expiry.
     fn park_as_is(&mut self, session: Session<Envelope, P>)
         requires { session.window.retired ≡ false }
-        ensures { call self.old (ParkAsIs session) self.new };
+        ensures called { call self.old (ParkAsIs session) self.new }
+        ensures visiting { visiting self.new ≡ visiting self.old };
 
     /// An ending session is kept until it is handed out again by a sweep.
     fn keep(&mut self, session: Session<Envelope, P>)
-        ensures { call self.old (Keep session) self.new };
+        ensures called { call self.old (Keep session) self.new }
+        ensures visiting { visiting self.new ≡ visiting self.old };
 
     /// An ending session that holds nothing any more is gone: its place, if it has one, is free.
     fn bury(&mut self, session: Session<Envelope, P>)
         requires { held_of session.window ≡ [] }
-        ensures { call self.old (Bury session) self.new };
+        ensures called { call self.old (Bury session) self.new }
+        ensures visiting { visiting self.new ≡ visiting self.old };
 
     /// A session that is to be retired: one that is kept, or one that is over by time at this moment.
     fn sweep(&mut self, now: u64) -> Option<Session<Envelope, P>>
-        ensures { call self.old (Sweep now result) self.new };
+        ensures called { call self.old (Sweep now result) self.new }
+        ensures visiting { visiting self.new ≡ visiting self.old };
 
     /// The least free place of the group of this slot.
     fn lend_place(&mut self, slot: u8) -> Option<P>
-        ensures { call self.old (LendPlace slot result) self.new };
+        ensures slot { IfSome result (λ place. P.slot_of place ≡ slot) }
+        ensures called { call self.old (LendPlace slot result) self.new }
+        ensures visiting { visiting self.new ≡ visiting self.old };
 
     /// A place is free from now on.
     fn take_place(&mut self, place: P)
-        ensures { call self.old (TakePlace place) self.new };
+        ensures called { call self.old (TakePlace place) self.new }
+        ensures visiting { visiting self.new ≡ visiting self.old };
 
     /// The slot of the share's group: the one that is there, or the least free one.
     fn bind(&mut self, share: Share) -> Result<u8, BindRefusal>
-        ensures { call self.old (Bind share result) self.new };
+        ensures called { call self.old (Bind share result) self.new }
+        ensures visiting { visiting self.new ≡ visiting self.old };
 
     /// The slot of the share's group, where it has one.
     fn find(&mut self, share: &Share) -> Option<u8>
-        ensures { call self.old (Find share.now result) self.new };
+        ensures called { call self.old (Find share.now result) self.new }
+        ensures visiting { visiting self.new ≡ visiting self.old };
 
     /// The slots of the groups whose filter matches the topic.
     fn matching(&mut self, topic: &TopicName) -> Slots
-        ensures { call self.old (Match topic.now result) self.new };
+        ensures called { call self.old (Match topic.now result) self.new }
+        ensures visiting { visiting self.new ≡ visiting self.old };
 
     /// Offers a message of a connection to the group of this slot.
     fn offer(
@@ -156,22 +190,30 @@ pub trait Supply<P> {
         connection: u16,
         message: SharedMessage,
     ) -> Result<Stamp, OfferRefusal>
-        ensures { call self.old (Offer slot connection message result) self.new };
+        requires { visiting self.old ≡ true }
+        ensures called { call self.old (Offer slot connection message result) self.new }
+        ensures visiting { visiting self.new ≡ visiting self.old };
 
     /// Hands the oldest queued message to a place; `None` where nothing is queued, or the broker is closed.
     fn take(&mut self, place: &mut P) -> Result<Option<Envelope>, NoMemory>
-        ensures { call self.old (Take place.old place.new result) self.new };
+        requires { visiting self.old ≡ true }
+        ensures called { call self.old (Take place.old place.new result) self.new }
+        ensures visiting { visiting self.new ≡ visiting self.old };
 
     /// Hands the message that was given back first to a place; `None` where none is there, or the broker is closed.
     fn take_back(&mut self, place: &mut P) -> Result<Option<Envelope>, NoMemory>
-        ensures { call self.old (TakeBack place.old place.new result) self.new };
+        requires { visiting self.old ≡ true }
+        ensures called { call self.old (TakeBack place.old place.new result) self.new }
+        ensures visiting { visiting self.new ≡ visiting self.old };
 
     /// The place settles a message that it was handed.
     fn settle(&mut self, place: &mut P, envelope: Envelope, fate: Fate)
-        ensures { call self.old (Settle place.old place.new envelope fate) self.new };
+        ensures called { call self.old (Settle place.old place.new envelope fate) self.new }
+        ensures visiting { visiting self.new ≡ visiting self.old };
 
     /// The place gives a message back that it was handed. A want of memory hands it back, and changes nothing.
     fn give_back(&mut self, place: &mut P, envelope: Envelope) -> Result<(), Envelope>
         ensures same { IfErr result (λ back. back ≡ envelope) }
-        ensures called { call self.old (GiveBack place.old place.new envelope result) self.new };
+        ensures called { call self.old (GiveBack place.old place.new envelope result) self.new }
+        ensures visiting { visiting self.new ≡ visiting self.old };
 }

@@ -151,14 +151,14 @@ module _ {S P : Type 0} (call : S → Fact P → S → Type 0) where
   HandsSomething old new = (given : List Message) × Plain given old new
 
   taken : (envelopes : List Held) (old new : S) (place place' : P) (window window' : Contents Held) → TakesSome call old place window envelopes place' window' new → HandsSomething old new
-  taken [] old new place place' window window' takes = ([], ⊎_elim (λ none. still old new none.1) (λ no. refused old new place place' no) takes.1)
+  taken [] old new place place' window window' takes = ([], ⊎_elim (λ none. still old new none.1) (λ no. refused old new place place' no.1) takes.1)
   taken (envelope ∷ envelopes) old new place place' window window' takes =
-      let later = taken envelopes takes.2 new takes.1 place' (after_put window takes.0 envelope) window' takes.5 in
+      let later = taken envelopes takes.2 new takes.1 place' (after_put window takes.0 envelope) window' takes.6 in
       (envelope.message ∷ later.0, after (envelope.message ∷ []) later.0 old takes.2 new (plain _ old takes.2 (hand_outs.asked_for call (Some envelope) old takes.2 place takes.1 takes.3).calls) later.1)
 
   pub handed_some : (old new : S) (membership : Membership P) (window : Contents Held) (membership' : Membership P) (window' : Contents Held)
       → HandsSome call old membership window membership' window' new → HandsSomething old new
-  handed_some old new membership window membership' window' (inl none) = ([], still old new none.2)
+  handed_some old new membership window membership' window' (inl none) = ([], still old new none.3)
   handed_some old new membership window membership' window' (inr some) = taken some.3 old new some.0 some.1 some.2 window' some.7
 
   -- shares are joined and left

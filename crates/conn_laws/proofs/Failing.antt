@@ -18,7 +18,7 @@ use Rattle.conn_engine.specs.Facts.Fact.{Match, Offer}
 use Rattle.conn_engine.specs.Answering.{FailsToAnswer}
 use Rattle.conn_laws.specs.Calls.{offer_of, match_of, settlement_of, offered, matched, settled, MakesAll, OffersToEach, OffersNone, SettlesOne, SettlesNone, OffersToSome, FailedCalls}
 use Rattle.conn_engine.specs.Publishing.{OffersFirst, OffersSome, IsCutShort}
-use Rattle.conn_engine.specs.Step.{hearing, after_hand_out, GivesUp, FailsToReact, HandsLess, FailsToHand, FailsToStep}
+use Rattle.conn_engine.specs.Step.{hearing, after_hand_out, GivesUp, ShutsDown, CutsOff, FailsToReact, HandsLess, FailsToHand, FailsToStep}
 use Rattle.conn_laws.proofs.Calling.{Plain, HandsSomething, still, one, behind, after, joins, parted, swept, failed_to_attach, failed_again, handed_some, some_answered}
 use Rattle.conn_laws.proofs.Stepping.{Walked, none_behind, none_before, further, reacted}
 
@@ -66,6 +66,21 @@ module _ {S P : Type 0} (call : S → Fact P → S → Type 0) where
   none_of slots old new number message same =
       record { these = []; others = slots; parts = refl; facts = []; made = same; match = refl; offers = refl; settles = refl }
 
+  -- that has no memory for it
+  last_of : (slot : ℕ) (slots : List ℕ) (old new : S) (number : ℕ) (message : Message) (answer : Result Stamp OfferRefusal) → call old (Offer slot number message answer) new
+      → OffersPart old number message (slot ∷ slots) new
+  last_of slot slots old new number message answer offers =
+      record {
+        these = slot ∷ [];
+        others = slots;
+        parts = refl;
+        facts = Offer slot number message answer ∷ [];
+        made = (new, offers, refl);
+        match = refl;
+        offers = refl;
+        settles = refl;
+      }
+
   one_and : (slot : ℕ) (slots : List ℕ) (old mid new : S) (number : ℕ) (message : Message) (answer : Result Stamp OfferRefusal) → call old (Offer slot number message answer) mid
       → OffersPart mid number message slots new → OffersPart old number message (slot ∷ slots) new
   one_and slot slots old mid new number message answer offers rest =
@@ -82,12 +97,9 @@ module _ {S P : Type 0} (call : S → Fact P → S → Type 0) where
 
   first_of : (slots : List ℕ) (old new : S) (number : ℕ) (message : Message) → OffersFirst call old number message slots new → OffersPart old number message slots new
   first_of [] old new number message offers = absurd offers
-  first_of (slot ∷ slots) old new number message offers =
-      one_and slot slots old offers.1 new number message offers.0 offers.2 (
-      ⊎_elim
-      (λ (last : new ≡ offers.1). none_of slots offers.1 new number message last)
-      (λ (more : OffersFirst call offers.1 number message slots new). first_of slots offers.1 new number message more)
-      offers.3)
+  first_of (slot ∷ slots) old new number message (inl last) = last_of slot slots old new number message _ last
+  first_of (slot ∷ slots) old new number message (inr offers) =
+      one_and slot slots old offers.1 new number message offers.0 offers.3 (first_of slots offers.1 new number message offers.5)
 
   part_of : (slots : List ℕ) (old new : S) (number : ℕ) (message : Message) → OffersSome call old number message slots new → OffersPart old number message slots new
   part_of slots old new number message (inl none) = none_of slots old new number message none
@@ -122,6 +134,19 @@ module _ {S P : Type 0} (call : S → Fact P → S → Type 0) where
     given_up (Waiting request ticks) old new number now gives = one call old new _ gives refl refl refl refl
     given_up (Connected link) old new number now gives = parted call old new link.session now gives
     given_up Ended old new number now gives = still call old new gives
+
+    shut_down : (standing : Standing P) (old new : S) (number : ℕ) → ShutsDown call slot_of old number standing new → Plain call [] old new
+    shut_down (Unconnected opened) old new number shuts = still call old new shuts
+    shut_down (Waiting request ticks) old new number shuts = one call old new _ shuts refl refl refl refl
+    shut_down (Connected link) old new number shuts = one call old new _ shuts refl refl refl refl
+    shut_down Ended old new number shuts = still call old new shuts
+
+    cut_off : (input : Input) (standing : Standing P) (old new : S) (number now : ℕ) → CutsOff call slot_of old number standing now input new → Plain call [] old new
+    cut_off (inputs.Packet packet) standing old new number now cuts = given_up standing old new number now cuts
+    cut_off (inputs.Fault fault) standing old new number now cuts = given_up standing old new number now cuts
+    cut_off inputs.Tick standing old new number now cuts = given_up standing old new number now cuts
+    cut_off inputs.EndOfInput standing old new number now cuts = given_up standing old new number now cuts
+    cut_off inputs.Closing standing old new number now cuts = shut_down standing old new number cuts
 
     -- memory was wanted for the answer to a packet
     failed_to_answer : (packet : Packet) (old before after new : S) (number now : ℕ) (link link' : Link P) → Plain call [] old before
@@ -184,7 +209,7 @@ module _ {S P : Type 0} (call : S → Fact P → S → Type 0) where
     handed_less Ended old new now hands = absurd hands
 
     pub failed : (old new : S) (number now : ℕ) (standing : Standing P) (input : Input) → FailsToStep call slot_of old number standing now input new → FailedCalls call old number standing input new
-    failed old new number now standing input (inl gives) = plain [] old new number standing input (given_up standing old new number now gives)
+    failed old new number now standing input (inl cuts) = plain [] old new number standing input (cut_off input standing old new number now cuts)
     failed old new number now standing input (inr fails) =
         ⊎_elim
         (λ (reply : FailsToReact call slot_of old number standing now input new). failed_to_react standing input old new number now reply)

@@ -1,5 +1,5 @@
 -- What is handed out behind a reply: the calls of the supply, those of the session's window, and the marks that these make.
-use Rattle.std.proofs.Common.{◌≡◌, true, false, List, [], ◌∷◌, ◌++◌, map, Option, Some, None, Ok, refl, sym, ap, subst, ◌∙◌, inl, inr, ⊎_elim}
+use Rattle.std.proofs.Common.{◌≡◌, ℕ, true, false, List, [], ◌∷◌, ◌++◌, map, Option, Some, None, Ok, refl, sym, ap, subst, ◌∙◌, inl, inr, ⊎_elim}
 use Rattle.std.specs.List.{AllByRecursion}
 use Rattle.std.proofs.lemmas.List.Elements.{filter_map-append}
 use Rattle.mqtt_wire.specs.declared.packet.Packet.{Packet}
@@ -17,7 +17,7 @@ use Rattle.conn_engine.specs.Facts.Fact.{TakeBack, Take}
 use Rattle.conn_engine.specs.HandOuts.{SendsAgain, AsksFor, SendsNone, SendsFresh, LeavesWith, HandsFresh, HandsOut}
 use Rattle.conn_laws.specs.Calls.{messages_of, fresh_message, fresh_messages}
 use Rattle.conn_laws.specs.Marks.{publishes_in, publishes_of, fresh_of, acknowledged_of, IsWithin}
-use Rattle.conn_laws.specs.Transcripts.{KeepsPlaces}
+use Rattle.conn_laws.specs.Transcripts.{HasOneAs, KeepsNumbers}
 use Rattle.conn_laws.proofs.Aside.{Aside, still, hand, one, after, behind}
 
 -- calls of a window whose marks are these PUBLISH packets; these items go out for the first time
@@ -62,7 +62,7 @@ module _ {S P : Type 0} (call : S → Fact P → S → Type 0) where
   pub record Asked (old : S) (place : P) (found : Option Held) (place' : P) (new : S) : Type 0 where
     pub from : P
     pub calls : Aside call (given_in from found) old new
-    pub stays : KeepsPlaces call → (from ≡ place) × (place' ≡ place)
+    pub stays : (of : P → ℕ) → KeepsNumbers call of → (of from ≡ of place) × (of place' ≡ of place)
 
   asked_later : (found : Option Held) (old mid new : S) (place between place' : P) → call old (TakeBack place between (Ok None)) mid → call mid (Take between place' (Ok found)) new
       → Asked old place found place' new
@@ -70,13 +70,13 @@ module _ {S P : Type 0} (call : S → Fact P → S → Type 0) where
       record {
         from = between;
         calls = behind call old mid new (one call old mid _ first tt refl refl refl refl) (one call mid new _ last tt refl refl refl refl);
-        stays = λ keeps. (keeps old mid _ first, keeps mid new _ last ∙ keeps old mid _ first);
+        stays = λ of keeps. (keeps old mid _ first, keeps mid new _ last ∙ keeps old mid _ first);
       }
   asked_later (Some envelope) old mid new place between place' first last =
       record {
         from = between;
         calls = after call [] ((between, envelope) ∷ []) old mid new (one call old mid _ first tt refl refl refl refl) (hand call (Some (between, envelope)) mid new _ last tt refl refl refl refl);
-        stays = λ keeps. (keeps old mid _ first, keeps mid new _ last ∙ keeps old mid _ first);
+        stays = λ of keeps. (keeps old mid _ first, keeps mid new _ last ∙ keeps old mid _ first);
       }
 
   pub asked_for : (found : Option Held) (old new : S) (place place' : P) → AsksFor call old place found place' new → Asked old place found place' new
@@ -84,7 +84,7 @@ module _ {S P : Type 0} (call : S → Fact P → S → Type 0) where
       record {
         from = place;
         calls = subst (λ f. Aside call (given_in place f) old new) (sym back.1) (hand call (Some (place, back.0)) old new _ back.2 tt refl refl refl refl);
-        stays = λ keeps. (refl, keeps old new _ back.2);
+        stays = λ of keeps. (refl, keeps old new _ back.2);
       }
   asked_for found old new place place' (inr queued) = asked_later found old queued.1 new place queued.0 place' queued.2 queued.3
 
@@ -93,27 +93,27 @@ module _ {S P : Type 0} (call : S → Fact P → S → Type 0) where
     pub given : List (P × Held)
     pub calls : Aside call given old new
     pub sends : Sends window sent (map (λ (h : P × Held). h.1) given) window'
-    pub own : KeepsPlaces call → AllByRecursion (λ (h : P × Held). membership' ≡ Member h.0) given
+    pub own : (of : P → ℕ) → KeepsNumbers call of → AllByRecursion (λ (h : P × Held). HasOneAs of membership' h.0) given
     pub messages : fresh_messages sent ≡ messages_of given
 
   hands_none : (old new : S) (window : Contents Held) (sent : List Packet) (membership' : Membership P) (window' : Contents Held) → sent ≡ [] → window' ≡ window → Aside call [] old new
       → Handed old window sent membership' window' new
   hands_none old new window sent membership' window' none same calls =
       subst (λ packets. Handed old window packets membership' window' new) (sym none)
-      (record { given = []; calls = calls; sends = sends_none window window' same; own = λ keeps. tt; messages = refl })
+      (record { given = []; calls = calls; sends = sends_none window window' same; own = λ of keeps. tt; messages = refl })
 
-  -- with the place, which stays what it is
+  -- with the place, which keeps its numbers
   abbrev HandsAt : S → P → Contents Held → List Packet → P → Membership P → Contents Held → S → Type 0
-  HandsAt old place window sent place' membership' window' new = Handed old window sent membership' window' new × (KeepsPlaces call → place' ≡ place)
+  HandsAt old place window sent place' membership' window' new = Handed old window sent membership' window' new × ((of : P → ℕ) → KeepsNumbers call of → of place' ≡ of place)
 
   sent_none : (old new : S) (place place' : P) (window window' : Contents Held) (membership' : Membership P) → SendsNone call old place window place' window' new
       → HandsAt old place window [] place' membership' window' new
   sent_none old new place place' window window' membership' sends =
       ⊎_elim
-      (λ (full : ¬ HasRoom window × (place' ≡ place) × (new ≡ old)). (hands_none old new window [] membership' window' refl sends.0 (still call old new full.2), λ (keeps : KeepsPlaces call). full.1))
+      (λ (full : ¬ HasRoom window × (place' ≡ place) × (new ≡ old)). (hands_none old new window [] membership' window' refl sends.0 (still call old new full.2), λ (of : P → ℕ) (keeps : KeepsNumbers call of). ap of full.1))
       (λ (none : HasRoom window × AsksFor call old place None place' new).
       let asked = asked_for None old new place place' none.1 in
-      (hands_none old new window [] membership' window' refl sends.0 asked.calls, λ (keeps : KeepsPlaces call). (asked.stays keeps).1))
+      (hands_none old new window [] membership' window' refl sends.0 asked.calls, λ (of : P → ℕ) (keeps : KeepsNumbers call of). (asked.stays of keeps).1))
       sends.1
 
   sent_fresh : (packets : List Packet) (old new : S) (place place' : P) (window window' : Contents Held) (membership' : Membership P) → membership' ≡ Member place'
@@ -135,10 +135,10 @@ module _ {S P : Type 0} (call : S → Fact P → S → Type 0) where
             fresh_are = ap (λ items. first.envelope ∷ items) rest.sends.fresh_are;
             none_acked = rest.sends.none_acked;
           };
-          own = λ keeps. (is ∙ ap Member (others.1 keeps ∙ (asked.stays keeps).1 ∙ sym (asked.stays keeps).0), rest.own keeps);
+          own = λ of keeps. ((place', is, others.1 of keeps ∙ (asked.stays of keeps).1 ∙ sym (asked.stays of keeps).0), rest.own of keeps);
           messages = ap (λ p. fresh_messages (p ∷ packets)) first.sent ∙ ap (λ (ms : List Message). first.envelope.message ∷ ms) rest.messages;
         },
-        λ keeps. others.1 keeps ∙ (asked.stays keeps).1,
+        λ of keeps. others.1 of keeps ∙ (asked.stays of keeps).1,
       )
 
   left_with : (old new : S) (place : P) (window : Contents Held) (membership : Membership P) → LeavesWith call old place window membership new → Aside call [] old new

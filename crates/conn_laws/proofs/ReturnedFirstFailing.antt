@@ -5,7 +5,7 @@ use Rattle.mqtt_wire.specs.declared.packet.Packet.TheVariants as packets
 use Rattle.mqtt_wire.specs.declared.packet.Publish.{Publish}
 use Rattle.group_jobs.specs.declared.message.Message.{Message}
 use Rattle.group_jobs.specs.Stamps.{Held}
-use Rattle.member_window.specs.Contents.{Contents, after_put}
+use Rattle.member_window.specs.Contents.{Contents, HasRoom, after_put}
 use Rattle.session_desk.specs.declared.session.Membership.{Membership}
 use Rattle.conn_rules.specs.Publishing.{message_of}
 use Rattle.conn_engine.specs.declared.input.Input.{Input}
@@ -18,7 +18,7 @@ use Rattle.conn_engine.specs.Facts.Fact.{Match, Offer, Withdraw, Kicked}
 use Rattle.conn_engine.specs.Answering.{FailsToAnswer}
 use Rattle.conn_engine.specs.HandOuts.{IsRefused, TakesSome, HandsSome}
 use Rattle.conn_engine.specs.Publishing.{OffersFirst, OffersSome, IsCutShort}
-use Rattle.conn_engine.specs.Step.{hearing, after_hand_out, GivesUp, FailsToReact, HandsLess, FailsToHand, FailsToStep}
+use Rattle.conn_engine.specs.Step.{hearing, after_hand_out, GivesUp, ShutsDown, CutsOff, FailsToReact, HandsLess, FailsToHand, FailsToStep}
 use Rattle.conn_laws.specs.ReturnedFirst.{CallsReturnedFirst}
 use Rattle.conn_laws.proofs.Calling.{parted, swept, failed_to_attach, failed_again, some_answered}
 use Rattle.conn_laws.proofs.ReturnedFirst.{none, one, behind, plain, asked_for, reacts}
@@ -27,12 +27,9 @@ module _ {S P : Type 0} (call : S → Fact P → S → Type 0) where
   -- a message is offered to some groups
   offered_first : (slots : List ℕ) (old new : S) (number : ℕ) (message : Message) → OffersFirst call old number message slots new → CallsReturnedFirst call old new
   offered_first [] old new number message offers = absurd offers
-  offered_first (slot ∷ slots) old new number message offers =
-      behind call old offers.1 new (one call old offers.1 (Offer slot number message offers.0) offers.2 tt) (
-      ⊎_elim
-      (λ (last : new ≡ offers.1). none call offers.1 new last)
-      (λ (more : OffersFirst call offers.1 number message slots new). offered_first slots offers.1 new number message more)
-      offers.3)
+  offered_first (slot ∷ slots) old new number message (inl last) = one call old new _ last tt
+  offered_first (slot ∷ slots) old new number message (inr offers) =
+      behind call old offers.1 new (one call old offers.1 (Offer slot number message offers.0) offers.3 tt) (offered_first slots offers.1 new number message offers.5)
 
   offered_some : (slots : List ℕ) (old new : S) (number : ℕ) (message : Message) → OffersSome call old number message slots new → CallsReturnedFirst call old new
   offered_some slots old new number message (inl nobody) = none call old new nobody
@@ -52,15 +49,15 @@ module _ {S P : Type 0} (call : S → Fact P → S → Type 0) where
   taken [] old new place place' window window' takes =
       ⊎_elim
       (λ (nothing : (place' ≡ place) × (new ≡ old)). none call old new nothing.1)
-      (λ (no : IsRefused call old place place' new). refused old new place place' no)
+      (λ (no : HasRoom window × IsRefused call old place place' new). refused old new place place' no.1)
       takes.1
   taken (envelope ∷ envelopes) old new place place' window window' takes =
       behind call old takes.2 new (asked_for call (Some envelope) old takes.2 place takes.1 takes.3)
-      (taken envelopes takes.2 new takes.1 place' (after_put window takes.0 envelope) window' takes.5)
+      (taken envelopes takes.2 new takes.1 place' (after_put window takes.0 envelope) window' takes.6)
 
   handed_some : (old new : S) (membership : Membership P) (window : Contents Held) (membership' : Membership P) (window' : Contents Held)
       → HandsSome call old membership window membership' window' new → CallsReturnedFirst call old new
-  handed_some old new membership window membership' window' (inl nothing) = none call old new nothing.2
+  handed_some old new membership window membership' window' (inl nothing) = none call old new nothing.3
   handed_some old new membership window membership' window' (inr some) = taken some.3 old new some.0 some.1 some.2 window' some.7
 
   module _ (slot_of : P → ℕ) where
@@ -69,6 +66,19 @@ module _ {S P : Type 0} (call : S → Fact P → S → Type 0) where
     given_up (Waiting request ticks) old new number now gives = one call old new (Withdraw number) gives tt
     given_up (Connected link) old new number now gives = plain call old new (parted call old new link.session now gives)
     given_up Ended old new number now gives = none call old new gives
+
+    shut_down : (standing : Standing P) (old new : S) (number : ℕ) → ShutsDown call slot_of old number standing new → CallsReturnedFirst call old new
+    shut_down (Unconnected opened) old new number shuts = none call old new shuts
+    shut_down (Waiting request ticks) old new number shuts = one call old new (Withdraw number) shuts tt
+    shut_down (Connected link) old new number shuts = one call old new _ shuts tt
+    shut_down Ended old new number shuts = none call old new shuts
+
+    cut_off : (input : Input) (standing : Standing P) (old new : S) (number now : ℕ) → CutsOff call slot_of old number standing now input new → CallsReturnedFirst call old new
+    cut_off (inputs.Packet packet) standing old new number now cuts = given_up standing old new number now cuts
+    cut_off (inputs.Fault fault) standing old new number now cuts = given_up standing old new number now cuts
+    cut_off inputs.Tick standing old new number now cuts = given_up standing old new number now cuts
+    cut_off inputs.EndOfInput standing old new number now cuts = given_up standing old new number now cuts
+    cut_off inputs.Closing standing old new number now cuts = shut_down standing old new number cuts
 
     failed_to_answer : (packet : Packet) (old new : S) (number now : ℕ) (link link' : Link P) → FailsToAnswer call slot_of old number (hearing link now) packet link' new
         → CallsReturnedFirst call old new
@@ -100,7 +110,7 @@ module _ {S P : Type 0} (call : S → Fact P → S → Type 0) where
 
     pub failed : (old new : S) (number now : ℕ) (standing : Standing P) (input : Input) → FailsToStep call slot_of old number standing now input new
         → CallsReturnedFirst call old new
-    failed old new number now standing input (inl gives) = given_up standing old new number now gives
+    failed old new number now standing input (inl cuts) = cut_off input standing old new number now cuts
     failed old new number now standing input (inr fails) =
         ⊎_elim
         (λ (reply : FailsToReact call slot_of old number standing now input new). failed_to_react standing input old new number now reply)

@@ -22,7 +22,7 @@ use Rattle.conn_engine.specs.Facts.{Fact}
 use Rattle.conn_engine.specs.Step.{after_hand_out, Hands, Steps}
 use Rattle.conn_laws.specs.Calls.{settlement_of, hand_out_of, settled, handed}
 use Rattle.conn_laws.specs.Marks.{as_publish, publishes_in, publish_of, publishes_of, fresh_in, fresh_of, acknowledged_in, acknowledged_of, IsWithin}
-use Rattle.conn_laws.specs.Transcripts.{link_of, IsNotEnding, IsMemberAt, IsAside, LeadsAside, SessionTurns, Transcribes}
+use Rattle.conn_laws.specs.Transcripts.{link_of, IsNotEnding, HasOneAs, IsMemberAt, IsAside, LeadsAside, SessionTurns, Transcribes}
 use Rattle.conn_laws.proofs.Aside.{all_of_both, joins}
 use Rattle.conn_laws.proofs.HandingOut.{Handed, handed_out}
 use Rattle.conn_laws.proofs.Reacting.{SettlesAs, Turned, reacted}
@@ -105,7 +105,7 @@ module _ {S P : Type 0} (call : S → Fact P → S → Type 0) where
         facts = turned.facts;
         made = turned.made;
         hands = ap (map (λ (h : P × Held). h.1)) turned.hands ∙ sym turned.none_fresh;
-        own = λ keeps. subst (AllByRecursion (λ (h : P × Held). IsMemberAt (link_of standing') h.0)) (sym turned.hands) tt;
+        own = λ of keeps. subst (AllByRecursion (λ (h : P × Held). IsMemberAt of (link_of standing') h.0)) (sym turned.hands) tt;
         settles = turned.settles;
       }
 
@@ -136,7 +136,7 @@ module _ {S P : Type 0} (call : S → Fact P → S → Type 0) where
         hands =
             ap (map (λ (h : P × Held). h.1)) these ∙ out.sends.fresh_are
             ∙ sym (filter_map-append fresh_in turned.marks more ∙ ap (λ (items : List Held). items ++ fresh_of more) turned.none_fresh);
-        own = λ keeps. subst (AllByRecursion (λ (h : P × Held). membership ≡ Member h.0)) (sym these) (out.own keeps);
+        own = λ of keeps. subst (AllByRecursion (λ (h : P × Held). HasOneAs of membership h.0)) (sym these) (out.own of keeps);
         settles = settles_on standing input next turned.marks more turned.facts out.calls.facts turned.settles out.sends.none_acked out.calls.settles;
       }
 

@@ -13,6 +13,7 @@ use Rattle.session_desk.specs.declared.attached.Attached.{Attached}
 use Rattle.session_desk.specs.declared.attached.Attached.TheVariants.{New, Resumed, Replace, Busy}
 use Rattle.session_desk.specs.declared.error.DeskError.{DeskError}
 use Rattle.session_desk.specs.declared.session.Session.{Session}
+use Rattle.session_desk.specs.declared.session.Membership.{Membership}
 use Rattle.session_desk.specs.declared.session.Membership.TheVariants.{Member}
 use Rattle.conn_engine.specs.declared.input.Input.{Input}
 use Rattle.conn_engine.specs.declared.input.Then.{Then}
@@ -39,10 +40,14 @@ IsNotEnding (Waiting request ticks) = ⊤
 IsNotEnding (Connected link) = link.session.window.retired ≡ false
 IsNotEnding Ended = ⊤
 
--- the session of a connection is a member with this place
-abbrev pub IsMemberAt : {P : Type 0} → Option (Link P) → P → Type 0
-IsMemberAt None place = ⊥
-IsMemberAt (Some link) place = link.session.membership ≡ Member place
+-- this place is the member's, as far as this number of a place tells, its slot or its number in the group
+abbrev pub HasOneAs : {P : Type 0} → (P → ℕ) → Membership P → P → Type 0
+HasOneAs {P} of membership place = (its : P) × (membership ≡ Member its) × (of its ≡ of place)
+
+-- and so is it the place of the session of a connection
+abbrev pub IsMemberAt : {P : Type 0} → (P → ℕ) → Option (Link P) → P → Type 0
+IsMemberAt of None place = ⊥
+IsMemberAt of (Some link) place = HasOneAs of link.session.membership place
 
 -- the session that was handed out to whoever asked for one
 abbrev pub session_given : {P : Type 0} → Result (Attached Held P) DeskError → Option (Session Held P)
@@ -59,15 +64,15 @@ IsAside (Park session now answer) = ⊥
 IsAside (ParkAsIs session) = ⊥
 IsAside other = ⊤
 
--- a place that is asked for a message stays what it is
-abbrev pub KeepsPlace : {P : Type 0} → Fact P → Type 0
-KeepsPlace (Take place place' answer) = place' ≡ place
-KeepsPlace (TakeBack place place' answer) = place' ≡ place
-KeepsPlace other = ⊤
+-- a place that is asked for a message has the same number of this kind behind it
+abbrev pub KeepsNumber : {P : Type 0} → (P → ℕ) → Fact P → Type 0
+KeepsNumber of (Take place place' answer) = of place' ≡ of place
+KeepsNumber of (TakeBack place place' answer) = of place' ≡ of place
+KeepsNumber of other = ⊤
 
 module _ {S P : Type 0} (call : S → Fact P → S → Type 0) where
-  abbrev pub KeepsPlaces : Type 0
-  KeepsPlaces = (old new : S) (fact : Fact P) → call old fact new → KeepsPlace fact
+  abbrev pub KeepsNumbers : (P → ℕ) → Type 0
+  KeepsNumbers of = (old new : S) (fact : Fact P) → call old fact new → KeepsNumber of fact
 
   -- calls by which no session is asked for, and none is handed in that may be asked for again
   pub record LeadsAside (old new : S) : Type 0 where
@@ -145,10 +150,10 @@ module _ {S P : Type 0} (call : S → Fact P → S → Type 0) where
     pub publishes : publishes_in sent ≡ publishes_of marks
     pub facts : List (Fact P)
     pub made : MakesAll call old facts new
-    -- what is handed out is what is sent for the first time, in that order; and, where a place that is asked for a message stays what it is, to
-    -- the place of this session
+    -- what is handed out is what is sent for the first time, in that order; and to the place of this session, as far as any number of a place
+    -- tells that stays where the place is asked for a message: its slot, its number in the group
     pub hands : map (λ (h : P × Held). h.1) (handed facts) ≡ fresh_of marks
-    pub own : KeepsPlaces → AllByRecursion (λ (h : P × Held). IsMemberAt (link_of standing') h.0) (handed facts)
+    pub own : (of : P → ℕ) → KeepsNumbers of → AllByRecursion (λ (h : P × Held). IsMemberAt of (link_of standing') h.0) (handed facts)
     -- what is acknowledged is settled, by the PUBACK that came; and nothing else is. No PUBACK for what the session holds is passed over, unless
     -- another connection took the session
     pub settles : (SettlesOne standing input facts × ((acked : ℕ × ℕ) × (acknowledged_of marks ≡ acked ∷ []) × IsAckedBy input acked))

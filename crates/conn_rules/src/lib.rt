@@ -19,7 +19,9 @@ mod terms;
 
 pub use acknowledging::fate_of;
 pub use connecting::{FirstAnswer, answer_to_connect, answer_to_first, offer};
-pub use ending::{fault_code, fault_refusal, is_late, is_overdue};
+pub use ending::{
+    CONNECT_TIMEOUT, fault_code, fault_refusal, is_late, is_overdue, longest_silence,
+};
 pub use packets::{accepting, disconnect, job, message_of, puback, refusing, suback, unsuback};
 pub use publishing::{PublishAnswer, answer_to_publish, closing_code, puback_code};
 pub use subscribing::{EntryAnswer, answer_to_entry, subscribe_refusal, unsubscribe_refusal};

@@ -97,7 +97,7 @@ impl Transcript {
     }
 
     /// Adds the line of a packet.
-    fn tell_packet(&mut self, connection: u8, packet: &Packet) -> Result<(), RunError>
+    fn tell_packet(&mut self, connection: u16, packet: &Packet) -> Result<(), RunError>
         requires { IsWritable packet.now }
         ensures ok { OnOk result (self.new ≡ self.old ++ packet_line connection packet.now) }
         ensures err { IfErr result (λ error. error ≡ Memory) }
@@ -108,7 +108,7 @@ impl Transcript {
     }
 
     /// Adds the number of a connection.
-    fn tell_number(&mut self, connection: u8) -> Result<(), RunError>
+    fn tell_number(&mut self, connection: u16) -> Result<(), RunError>
         ensures ok { OnOk result (self.new ≡ self.old ++ decimal connection) }
         ensures err { IfErr result (λ error. error ≡ Memory) }
     {
@@ -132,7 +132,7 @@ impl Transcript {
     }
 
     /// Adds a line where a connection has ended.
-    fn tell_next(&mut self, connection: u8, next: Then) -> Result<(), RunError>
+    fn tell_next(&mut self, connection: u16, next: Then) -> Result<(), RunError>
         ensures ok { OnOk result (self.new ≡ self.old ++ next_line connection next) }
         ensures err { IfErr result (λ error. error ≡ Memory) }
     {

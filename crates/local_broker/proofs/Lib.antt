@@ -1,6 +1,7 @@
 pub mod Desks
 pub mod Opened
 pub mod Closed
+pub mod Visits
 pub mod Events
 pub mod Happened
 pub mod HandedOut

@@ -22,11 +22,25 @@ const PORTS: u16 = 64;
 impl Supply<LocalPlace> for LocalSupply {
     ghost call = { Calls };
 
+    ghost visiting = { is_open };
+
+    // One thread has the broker to itself: a visit goes on until the close.
+    ghost turn = { λ old new. new ≡ old };
+
+    fn begin(&mut self) -> bool
+        ensures told { result ≡ is_open self.new }
+        ensures turned { self.new ≡ self.old }
+    {
+        self.is_open()
+    }
+
     fn is_open(&self) -> bool
         ensures { result ≡ is_open self.now }
     {
         self.groups.iter().all(|group| !group.is_closed())
     }
+
+    fn end(&mut self) {}
 
     fn attach(
         &mut self,
@@ -55,26 +69,30 @@ impl Supply<LocalPlace> for LocalSupply {
         requires { session.window.retired ≡ false }
         ensures same { IfSome result (λ back. back ≡ session) }
         ensures called { Calls self.old (Park session now result) self.new }
+        ensures visiting { is_open self.new ≡ is_open self.old }
     {
         self.desk.park(session, now)
     }
 
     fn park_as_is(&mut self, session: Session<Envelope, LocalPlace>)
         requires { session.window.retired ≡ false }
-        ensures { Calls self.old (ParkAsIs session) self.new }
+        ensures called { Calls self.old (ParkAsIs session) self.new }
+        ensures visiting { is_open self.new ≡ is_open self.old }
     {
         dissolve(self.desk.park_as_is(session));
     }
 
     fn keep(&mut self, session: Session<Envelope, LocalPlace>)
-        ensures { Calls self.old (Keep session) self.new }
+        ensures called { Calls self.old (Keep session) self.new }
+        ensures visiting { is_open self.new ≡ is_open self.old }
     {
         dissolve(self.desk.keep(session));
     }
 
     fn bury(&mut self, session: Session<Envelope, LocalPlace>)
         requires { held_of session.window ≡ [] }
-        ensures { Calls self.old (Bury session) self.new }
+        ensures called { Calls self.old (Bury session) self.new }
+        ensures visiting { is_open self.new ≡ is_open self.old }
     {
         dissolve(self.desk.bury(session));
     }

@@ -71,8 +71,8 @@ impl LocalSupply {
         close_each(&mut self.groups);
     }
 
-    /// Ends the broker: all that its sessions and its groups have is let go. It takes no memory.
-    pub fn end(self) {
+    /// Lets go of the broker, and of all that its sessions and its groups have. It takes no memory.
+    pub fn abandon(self) {
         let LocalSupply {
             desk,
             routes: _,

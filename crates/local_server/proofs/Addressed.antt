@@ -20,7 +20,8 @@ use Rattle.local_server.specs.declared.event.Event.TheVariants as events
 use Rattle.local_server.specs.declared.event.TimedEvent.{TimedEvent}
 use Rattle.local_server.specs.declared.setup.Setup.{Setup}
 use Rattle.local_server.specs.Servers.{Clients, ServerState, IsNewServer}
-use Rattle.local_server.specs.Happening.{slot_of, EndsAt, EndsFirst, ClosesAll, Does, DoesIf, Happens, HappensAll}
+use Rattle.local_server.specs.Happening.{slot_of, EndsAt, EndsFirst, ClosesAll, Does, DoesIf, Happens}
+use Rattle.local_server.specs.Undergoing.{Undergoes}
 use Rattle.local_server.specs.Addressed.{AreNumbered, AreSaidTo, Answers}
 
 -- a client that keeps this number, and to which all is said
@@ -189,7 +190,7 @@ nobody_at (suc count) (suc number) client has = nobody_at count number client ha
 pub new_numbered : (setup : Setup) (server : ServerState) → IsNewServer setup server → AreNumbered server.clients
 new_numbered setup server new number client has = absurd (nobody_at 64 number client (ap (λ l. slice_get l number) (sym new.clients) ∙ has))
 
-pub numbered : (events : List TimedEvent) (said : List Said) (old new : ServerState) → AreNumbered old.clients → HappensAll old events said new → AreNumbered new.clients
-numbered [] said old new all happens = subst (λ s. AreNumbered s.clients) (sym happens.1) all
-numbered (first ∷ others) said old new all happens =
-    numbered others happens.2 happens.0 new (answered first.moment first.event happens.1 (Ok tt) old happens.0 all happens.3).0 happens.4
+pub numbered : (events : List TimedEvent) (old new : ServerState) → AreNumbered old.clients → Undergoes old events new → AreNumbered new.clients
+numbered [] old new all undergoes = subst (λ s. AreNumbered s.clients) (sym undergoes) all
+numbered (first ∷ others) old new all undergoes =
+    numbered others undergoes.0 new (answered first.moment first.event undergoes.1 undergoes.2 old undergoes.0 all undergoes.3).0 undergoes.4

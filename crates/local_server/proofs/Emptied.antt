@@ -9,7 +9,7 @@ use Rattle.conn_engine.specs.declared.standing.Standing.{Standing}
 use Rattle.conn_engine.specs.declared.standing.Standing.TheVariants.{Ended}
 use Rattle.conn_laws.proofs.Ended.{ends_by}
 use Rattle.client_table.specs.Cells.{kept_as, EndsFor}
-use Rattle.client_table.specs.Clients.{ClientState, Said, Moves, FailsToMove, IsGivenUp}
+use Rattle.client_table.specs.Clients.{ClientState, moment_of, Said, Moves, FailsToMove, IsGivenUp}
 use Rattle.local_broker.specs.Places.{GroupPlace}
 use Rattle.local_broker.specs.Broker.{Broker, is_open}
 use Rattle.local_broker.specs.Calls.{Calls}
@@ -24,7 +24,7 @@ gone_as standing client over = ap (λ s. kept_as s client) over
 has_ended : (client client' : ClientState GroupPlace) (old new : Broker) (now : ℕ) (said : Said) → Moves Calls slot_of old client now inputs.Closing said client' new
     → client'.conn.standing ≡ Ended
 has_ended client client' old new now said moved =
-    ends_by Calls slot_of old new client.conn.number now client.conn.standing client'.conn.standing inputs.Closing said.packets said.next moved.stepped tt
+    ends_by Calls slot_of old new client.conn.number (moment_of client now) client.conn.standing client'.conn.standing inputs.Closing said.packets said.next moved.stepped tt
 
 was_given_up : (client client' : ClientState GroupPlace) (old new : Broker) (now : ℕ) → IsGivenUp Calls slot_of old client now inputs.Closing client' new
     → client'.conn.standing ≡ Ended

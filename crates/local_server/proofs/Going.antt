@@ -13,7 +13,7 @@ use Rattle.conn_laws.specs.Behind.{IsLast, KeepsOrEnds}
 use Rattle.conn_laws.specs.Transcripts.{link_of}
 use Rattle.conn_laws.proofs.Ended.{ends, ends_by, keeping}
 use Rattle.client_table.specs.Cells.{kept_as, kept}
-use Rattle.client_table.specs.Clients.{ClientState, Said, Moves}
+use Rattle.client_table.specs.Clients.{ClientState, moment_of, Said, Moves}
 use Rattle.client_table.specs.Streams.{Closes}
 use Rattle.local_broker.specs.Places.{GroupPlace}
 use Rattle.local_broker.specs.Broker.{Broker}
@@ -63,12 +63,12 @@ pub stopped : (old new : Broker) (client after : ClientState GroupPlace) (now : 
     → said.next ≢ Go → kept after ≡ None
 stopped old new client after now input said moved stops =
     gone after
-    ((ends Calls slot_of old new client.conn.number now client.conn.standing after.conn.standing input said.packets said.next moved.stepped).1 stops)
+    ((ends Calls slot_of old new client.conn.number (moment_of client now) client.conn.standing after.conn.standing input said.packets said.next moved.stepped).1 stops)
 
 pub ended_by : (old new : Broker) (client after : ClientState GroupPlace) (now : ℕ) (input : Input) (said : Said) → Moves Calls slot_of old client now input said after new
     → IsLast input → kept after ≡ None
 ended_by old new client after now input said moved last =
-    gone after (ends_by Calls slot_of old new client.conn.number now client.conn.standing after.conn.standing input said.packets said.next moved.stepped last)
+    gone after (ends_by Calls slot_of old new client.conn.number (moment_of client now) client.conn.standing after.conn.standing input said.packets said.next moved.stepped last)
 
 pub closed_by : (old new : Broker) (client after : ClientState GroupPlace) (now : ℕ) (input : Input) (said : Said) → Moves Calls slot_of old client now input said after new
     → Closes input said.next → kept after ≡ None

@@ -13,7 +13,7 @@ use Rattle.conn_engine.specs.declared.standing.Standing.{Standing}
 use Rattle.conn_engine.specs.declared.standing.Standing.TheVariants.{Unconnected, Waiting, Connected, Ended}
 use Rattle.conn_engine.specs.Step.{Reacts, Hands}
 use Rattle.client_table.specs.Cells.{EndsFor}
-use Rattle.client_table.specs.Clients.{ClientState, Said, Moves}
+use Rattle.client_table.specs.Clients.{ClientState, moment_of, Said, Moves}
 use Rattle.local_broker.specs.Places.{GroupPlace}
 use Rattle.local_broker.specs.Groups.{ClosesEach}
 use Rattle.local_broker.specs.Broker.{Broker, is_open}
@@ -39,7 +39,7 @@ reacts Ended between old new number now reply is = (is.0.over, ap (λ b. b.group
 moves : (client client' : ClientState GroupPlace) (old new : Broker) (now : ℕ) (said : Said) → Moves Calls slot_of old client now inputs.Closing said client' new → Keep old new
 moves client client' old new now said moved =
     let steps = moved.stepped in
-    let told = reacts client.conn.standing steps.between old steps.mid client.conn.number now steps.reply steps.reacts in
+    let told = reacts client.conn.standing steps.between old steps.mid client.conn.number (moment_of client now) steps.reply steps.reacts in
     let none : Hands Calls slot_of steps.mid Ended steps.sent client'.conn.standing new =
     subst (λ s. Hands Calls slot_of steps.mid s steps.sent client'.conn.standing new) told.0 steps.hands in
     ap (λ b. b.groups) none.2 ∙ told.1

@@ -7,7 +7,7 @@ use Rattle.conn_engine.specs.declared.standing.Link.{Link}
 use Rattle.conn_engine.specs.Facts.{Fact}
 use Rattle.conn_engine.specs.Facts.Fact.{Take, TakeBack}
 use Rattle.conn_laws.specs.Calls.{hand_out_of, handed, MakesAll}
-use Rattle.conn_laws.specs.Transcripts.{IsMemberAt, KeepsPlaces}
+use Rattle.conn_laws.specs.Transcripts.{IsMemberAt, KeepsNumbers}
 use Rattle.local_group.specs.declared.waiting.Waiting.{Waiting}
 use Rattle.local_group.specs.Groups.{Group, held_by}
 use Rattle.local_broker.specs.Places.{GroupPlace}
@@ -16,17 +16,26 @@ use Rattle.local_broker.specs.Calls.{Calls}
 use Rattle.local_broker.specs.HandOuts.{HandOut}
 use Rattle.local_broker.specs.Histories.{Called, AreRunning, IsRunning}
 use Rattle.local_broker.proofs.Happened.{running_all}
+use Rattle.session_desk.specs.declared.session.Membership.{Membership}
+use Rattle.session_desk.specs.declared.session.Membership.TheVariants.{Member}
 use Rattle.local_server.specs.Turns.{Turn, turns_of}
 use Rattle.local_server.specs.Transcripts.{place_in, place_of, last_place, IsAt}
 use Rattle.local_server.proofs.Turns.{own_place, other_turns}
 use Rattle.local_server.proofs.Sessions.{with_link, link_here, link_beside}
 use Rattle.local_server.proofs.Stepping.{Links}
 
+-- the group of a place, and its number there
+abbrev slot_in : GroupPlace → ℕ
+slot_in place = place.slot
+
+abbrev number_in : GroupPlace → ℕ
+number_in place = place.number
+
 -- a place that is asked for a message stays what it is
-pub keeps_places : KeepsPlaces Calls
-keeps_places old new (Take place place' answer) does = does.1
-keeps_places old new (TakeBack place place' answer) does = does.1
-keeps_places old new other does = tt
+keeps_numbers : (of : GroupPlace → ℕ) → KeepsNumbers Calls of
+keeps_numbers of old new (Take place place' answer) does = ap of does.1
+keeps_numbers of old new (TakeBack place place' answer) does = ap of does.1
+keeps_numbers of old new other does = tt
 
 -- what is handed out has the place
 abbrev IsItsOwn : HandOut → Type 0
@@ -54,17 +63,29 @@ all_handed (fact ∷ facts) old new running made =
     first_and (hand_out_of fact) (handed facts) (one_handed fact old made.0 running made.1)
     (all_handed facts made.0 new (running_all (Called fact ∷ []) old made.0 running (made.0, made.1, refl)) made.2)
 
--- and it is the place of the session
-of_session : (link : Option (Link GroupPlace)) (hand_outs : List HandOut) → AllByRecursion (λ (h : HandOut). IsMemberAt link h.0) hand_outs → AllByRecursion IsItsOwn hand_outs
-    → AllByRecursion (IsAt (place_of link)) (map (λ (h : HandOut). h.1) hand_outs)
-of_session link [] members own = tt
-of_session None (hand_out ∷ others) members own = absurd members.0
-of_session (Some link) (hand_out ∷ others) members own =
-    (subst (λ (o : Option GroupPlace). IsAt o hand_out.1) (sym (ap place_in members.0)) own.0, of_session (Some link) others members.1 own.1)
+-- and it is the place of the session, by its group and its number there
+abbrev pub AreMembers : (GroupPlace → ℕ) → Option (Link GroupPlace) → List HandOut → Type 0
+AreMembers of link hand_outs = AllByRecursion (λ (h : HandOut). IsMemberAt of link h.0) hand_outs
+
+same_Member : (one other : GroupPlace) → (let whole : Membership GroupPlace = Member one in whole ≡ Member other) → one ≡ other
+same_Member one other is = cc
+
+of_session : (link : Option (Link GroupPlace)) (hand_outs : List HandOut) → AreMembers slot_in link hand_outs → AreMembers number_in link hand_outs
+    → AllByRecursion IsItsOwn hand_outs → AllByRecursion (IsAt (place_of link)) (map (λ (h : HandOut). h.1) hand_outs)
+of_session link [] slots numbers own = tt
+of_session None (hand_out ∷ others) slots numbers own = absurd slots.0
+of_session (Some link) (hand_out ∷ others) slots numbers own =
+    let one = slots.0 in
+    let other = numbers.0 in
+    let numbered : one.0.number ≡ hand_out.0.number = ap number_in (same_Member one.0 other.0 (sym one.1 ∙ other.1)) ∙ other.2 in (
+      subst (λ (o : Option GroupPlace). IsAt o hand_out.1) (sym (ap place_in one.1)) (own.0.0 ∙ sym one.2, own.0.1 ∙ sym numbered),
+      of_session (Some link) others slots.1 numbers.1 own.1,
+    )
 
 pub sends_own : (facts : List (Fact GroupPlace)) (old new : Broker) (link : Option (Link GroupPlace)) → AreRunning old → MakesAll Calls old facts new
-    → AllByRecursion (λ (h : HandOut). IsMemberAt link h.0) (handed facts) → AllByRecursion (IsAt (place_of link)) (map (λ (h : HandOut). h.1) (handed facts))
-sends_own facts old new link running made members = of_session link (handed facts) members (all_handed facts old new running made)
+    → ((of : GroupPlace → ℕ) → KeepsNumbers Calls of → AreMembers of link (handed facts)) → AllByRecursion (IsAt (place_of link)) (map (λ (h : HandOut). h.1) (handed facts))
+sends_own facts old new link running made members =
+    of_session link (handed facts) (members slot_in (keeps_numbers slot_in)) (members number_in (keeps_numbers number_in)) (all_handed facts old new running made)
 
 -- where the turns of each connection lead, behind one more turn
 pub leads_to : (turns : List Turn) (turn : Turn) (links : Links) (number : ℕ) (after : Option (Link GroupPlace)) → turn.connection ≡ number → turn.place ≡ place_of after

@@ -22,7 +22,7 @@ use Rattle.conn_laws.proofs.Aside.{all_of_both}
 use Rattle.packet_sizes.specs.Sizes.{IsShort, IsLight}
 use Rattle.packet_sizes.proofs.Sending.{kept_short}
 use Rattle.packet_sizes.proofs.Sending as sending
-use Rattle.client_table.specs.Clients.{ClientState, Said, Moves}
+use Rattle.client_table.specs.Clients.{ClientState, moment_of, Said, Moves}
 use Rattle.client_table.specs.Numbers.{IsNumbered}
 use Rattle.client_table.specs.Streams.{fed, IsInFront, Reads, Ticks}
 use Rattle.client_table.specs.Cells.{kept_as, kept, Receives, TicksFor, EndsFor}
@@ -46,7 +46,7 @@ use Rattle.local_server.specs.Sizes.{AllShort}
 use Rattle.local_server.proofs.Light.{IsSpelled, AllLight, brought_light, known_light, marks_short, packets_short}
 use Rattle.local_server.proofs.Known.{Log, IsKnown, stays_known}
 use Rattle.local_server.proofs.Accepted.{accept_on, more_sent}
-use Rattle.local_server.proofs.Placed.{keeps_places, sends_own, leads_to}
+use Rattle.local_server.proofs.Placed.{sends_own, leads_to}
 use Rattle.local_server.proofs.SentAsAccepted.{sends}
 use Rattle.local_server.proofs.Acknowledged.{settled_on, settle_on}
 use Rattle.local_server.proofs.Confirmed.{turn_hears}
@@ -168,7 +168,7 @@ stepped first turns links old new number standing standing' input said now its s
     let own : SendsItsOwn adds.turn =
     subst (λ (place : Option GroupPlace). AllByRecursion (IsAt place) (fresh_of adds.turn.marks)) (sym adds.place_is)
     (subst (AllByRecursion (IsAt (place_of (link_of standing')))) (step.hands ∙ ap fresh_of (sym adds.marks_are))
-    (sends_own step.facts old new (link_of standing') keeps.owns.running step.made (step.own keeps_places))) in
+    (sends_own step.facts old new (link_of standing') keeps.owns.running step.made step.own)) in
     let light = all_of_both (λ (a : Accepted). IsLight a.message) keeps.accepted acts.accepted keeps.light (brought_light acts.accepted number input spelled acts.brought.each) in
     let publishes = marks_short adds.turn.marks (λ envelope has. known_light (keeps.accepted ++ acts.accepted) envelope light (sends_known envelope has)) in
     record {
@@ -214,10 +214,10 @@ pub moves : (first : Broker) (turns : List Turn) (links : Links) (old new : Brok
     → Moves Calls slot_of old client now input said after new
     → Says first turns (said ∷ []) (IsTurn number input said.next) (with_link links number (link_of after.conn.standing)) new
 moves first turns links old new number client after now input said is spelled keeps moved =
-    let steps = subst (λ (n : ℕ). Steps Calls slot_of old n client.conn.standing now input said.packets said.next after.conn.standing new) is moved.stepped in
+    let steps = subst (λ (n : ℕ). Steps Calls slot_of old n client.conn.standing (moment_of client now) input said.packets said.next after.conn.standing new) is moved.stepped in
     let sound = not_ending client.conn.standing (λ link has. (keeps.sessions.linked number link (link_here links number (link_of client.conn.standing) ∙ has)).leads.goes_on) in
-    stepped first turns links old new number client.conn.standing after.conn.standing input said now (moved.told ∙ is) spelled steps
-    (transcribed Calls slot_of old new number now client.conn.standing after.conn.standing input said.packets said.next steps sound) keeps
+    stepped first turns links old new number client.conn.standing after.conn.standing input said (moment_of client now) (moved.told ∙ is) spelled steps
+    (transcribed Calls slot_of old new number (moment_of client now) client.conn.standing after.conn.standing input said.packets said.next steps sound) keeps
 
 -- what stands in front of a stream was read
 front_spelled : (input : Input) (unread unread' : Unread) → IsInFront unread input unread' → IsSpelled input

@@ -138,19 +138,20 @@ pub fn quota_law()
         IsNewServer setup first → Undergoes first events last → AllWithinQuota last.clients }
 {}
 
-/// **What is said in an event of a connection is said to that one**, behind whatever events, and whether memory was wanted or not.
+/// **What is said in an event of a connection is said to that one**, behind whatever events, whether memory was wanted in it, or in any before it, or
+/// not.
 pub fn addressing_law()
-    ensures { (setup : Setup) (events : List TimedEvent) (earlier said : List Said) (moment : ℕ) (event : Event) (result : Result (Unit {0}) NoMemory)
+    ensures { (setup : Setup) (events : List TimedEvent) (said : List Said) (moment : ℕ) (event : Event) (result : Result (Unit {0}) NoMemory)
         (first old new : ServerState) →
-        IsNewServer setup first → HappensAll first events earlier old → Happens old moment event said result new → Answers event said }
+        IsNewServer setup first → Undergoes first events old → Happens old moment event said result new → Answers event said }
 {}
 
 /// **A port is its publisher's connection**: whatever a group accepts in an event of a connection, it accepts through the port of that connection's number, and
-/// in a close it accepts nothing; behind whatever events, and whether memory was wanted or not.
+/// in a close it accepts nothing; behind whatever events, whether memory was wanted in it, or in any before it, or not.
 pub fn publisher_law()
-    ensures { (setup : Setup) (events : List TimedEvent) (earlier said : List Said) (moment : ℕ) (event : Event) (result : Result (Unit {0}) NoMemory)
+    ensures { (setup : Setup) (events : List TimedEvent) (said : List Said) (moment : ℕ) (event : Event) (result : Result (Unit {0}) NoMemory)
         (first old new : ServerState) →
-        IsNewServer setup first → HappensAll first events earlier old → Happens old moment event said result new → AcceptsFrom event old.broker new.broker }
+        IsNewServer setup first → Undergoes first events old → Happens old moment event said result new → AcceptsFrom event old.broker new.broker }
 {}
 
 /// **A close ends every connection**, whether memory was wanted or not: none of the 64 is open behind it.

@@ -1,6 +1,7 @@
 //! A server on one thread.
-ghost use Rattle.std.specs.Prelude.{◌≡◌, ◌≤◌, ◌++◌, length, List, MatchOption, IfOk, None, slice_get};
+ghost use Rattle.std.specs.Prelude.{◌≡◌, ◌≤◌, ◌++◌, length, List, MatchOption, IfOk, None, true, slice_get};
 ghost use Rattle.client_table.specs.Clients.{Said as Words};
+ghost use Rattle.local_broker.specs.Broker.{is_open};
 ghost use Rattle.local_broker.specs.Reporting.{TellsLine};
 ghost use Rattle.local_server.specs.Servers.{IsNewServer};
 ghost use Rattle.local_server.specs.Happening.{ClosesAll, Does, Happens};
@@ -51,7 +52,7 @@ impl Server {
                 clock: 0,
             }),
             Err(refused) => {
-                supply.end();
+                supply.abandon();
                 Err(refused)
             }
         }
@@ -76,10 +77,12 @@ impl Server {
         ensures { (more : List Words) × (said.new.items ≡ said.old.items ++ more) × Happens self.old moment event.now more result self.new }
     {
         self.clock = self.clock.max(moment);
-        if !self.supply.is_open() {
+        if !self.supply.begin() {
             return Ok(());
         }
-        serve(&mut self.supply, &mut self.clients, self.clock, event, said)
+        let served = serve(&mut self.supply, &mut self.clients, self.clock, event, said);
+        self.supply.end();
+        served
     }
 
     /// The shares that are bound, the one of slot n at place n.
@@ -109,7 +112,7 @@ impl Server {
             clock,
         } = self;
         clients.abandon(&mut supply, clock);
-        supply.end();
+        supply.abandon();
     }
 }
 
@@ -121,6 +124,7 @@ fn serve(
     event: &Event,
     said: &mut Vec<Said>,
 ) -> Result<(), NoMemory>
+    requires { is_open supply.old ≡ true }
     ensures { (more : List Words) × (said.new.items ≡ said.old.items ++ more)
         × Does event.now supply.old clients.old now more result clients.new supply.new }
 {

@@ -26,7 +26,7 @@ use Rattle.conn_engine.specs.declared.standing.Standing.{Standing}
 use Rattle.conn_engine.specs.declared.standing.Standing.TheVariants as standings
 use Rattle.conn_engine.specs.Standings.{IsWaiting}
 use Rattle.conn_engine.specs.Step.{Steps}
-use Rattle.client_table.specs.Clients.{ClientState, Said, Moves, arrived}
+use Rattle.client_table.specs.Clients.{ClientState, moment_of, Said, Moves, arrived}
 use Rattle.client_table.specs.Cells.{kept, kept_as, InCell}
 use Rattle.client_table.specs.Streams.{longer, fed, IsInFront, Closes, Reads}
 use Rattle.local_group.specs.Groups.{Group}
@@ -157,8 +157,8 @@ module _ (capacity : ℕ) (shares : List Share) (few : length shares ≤ 8) wher
       → IsInFront client.unread input client'.unread → Closes input said.next → Moves Calls slot_at old client now input said client' new → (client'.conn.standing ≡ standings.Ended → (after ≡ []) × (last ≡ new))
       → (after ≡ []) × Concluded story (client.unread.bytes ++ more) said.packets last
   closes_by (inputs.Packet packet) story client client' old new now said more after last number sound bytes shown taken closes moved ended =
-      let steps = subst (λ (n : ℕ). Steps Calls slot_at old n client.conn.standing now (inputs.Packet packet) said.packets said.next client'.conn.standing new) number moved.stepped in
-      let step = stepped story client.conn.standing old now packet said.packets said.next client'.conn.standing new shown steps in
+      let steps = subst (λ (n : ℕ). Steps Calls slot_at old n client.conn.standing (moment_of client now) (inputs.Packet packet) said.packets said.next client'.conn.standing new) number moved.stepped in
+      let step = stepped story client.conn.standing old (moment_of client now) packet said.packets said.next client'.conn.standing new shown steps in
       ⊎_elim
       (λ (goes : Goes (turn packet story).story client'.conn.standing said.next new). absurd (closes goes.2))
       (λ (is_over : IsOver (turn packet story).story client'.conn.standing said.next new).
@@ -170,8 +170,8 @@ module _ (capacity : ℕ) (shares : List Share) (few : length shares ≤ 8) wher
       ))
       step.stands
   closes_by (inputs.Fault fault) story client client' old new now said more after last number sound bytes shown stops closes moved ended =
-      let steps = subst (λ (n : ℕ). Steps Calls slot_at old n client.conn.standing now (inputs.Fault fault) said.packets said.next client'.conn.standing new) number moved.stepped in
-      let part = parted story client.conn.standing old now (Some fault) (inputs.Fault fault) said.packets said.next client'.conn.standing new shown refl steps in
+      let steps = subst (λ (n : ℕ). Steps Calls slot_at old n client.conn.standing (moment_of client now) (inputs.Fault fault) said.packets said.next client'.conn.standing new) number moved.stepped in
+      let part = parted story client.conn.standing old (moment_of client now) (Some fault) (inputs.Fault fault) said.packets said.next client'.conn.standing new shown refl steps in
       let out = ended part.over in
       let at : FaultAt fault client.unread.bytes =
       ⊎_elim
@@ -202,8 +202,8 @@ module _ (capacity : ℕ) (shares : List Share) (few : length shares ≤ 8) wher
       subst (λ (l : List Packet). Concluded story (client.unread.bytes ++ more) l last) (sym (alone said rest later none got.0)) got.1
   reads (said ∷ rest) story client client' old new now more later last number sound bytes shown (inr (between, mid, does, behind)) goes ended =
       let packet = does.packet in
-      let steps = subst (λ (n : ℕ). Steps Calls slot_at old n client.conn.standing now (inputs.Packet packet) said.packets said.next between.conn.standing mid) number does.moved.stepped in
-      let step = stepped story client.conn.standing old now packet said.packets said.next between.conn.standing mid shown steps in
+      let steps = subst (λ (n : ℕ). Steps Calls slot_at old n client.conn.standing (moment_of client now) (inputs.Packet packet) said.packets said.next between.conn.standing mid) number does.moved.stepped in
+      let step = stepped story client.conn.standing old (moment_of client now) packet said.packets said.next between.conn.standing mid shown steps in
       let left = does.taken.front in
       ⊎_elim
       (λ (goes_on : Goes (turn packet story).story between.conn.standing said.next mid).
@@ -289,8 +289,8 @@ module _ (capacity : ℕ) (shares : List Share) (few : length shares ≤ 8) wher
       let got = (in_cell old.clients mid.clients _ (Some client) cell does).1 in
       let one = got.1.0 in
       let moved = got.1.2 in
-      let steps = subst (λ (n : ℕ). Steps Calls slot_at old.broker n client.conn.standing mid.clock inputs.EndOfInput one.packets one.next got.0.conn.standing mid.broker) number moved.stepped in
-      let part = parted capacity shares few story client.conn.standing old.broker mid.clock None inputs.EndOfInput one.packets one.next got.0.conn.standing mid.broker shown tt steps in
+      let steps = subst (λ (n : ℕ). Steps Calls slot_at old.broker n client.conn.standing (moment_of client mid.clock) inputs.EndOfInput one.packets one.next got.0.conn.standing mid.broker) number moved.stepped in
+      let part = parted capacity shares few story client.conn.standing old.broker (moment_of client mid.clock) None inputs.EndOfInput one.packets one.next got.0.conn.standing mid.broker shown tt steps in
       let sent : sent_in said ≡ one.packets = ap sent_in (all ∙ (λ i. got.1.1 i ++ none i)) ∙ append-nil one.packets in
       let ended = last_one story client.unread.bytes None one.packets got.0.conn.standing mid.broker (refl, open_) part in
       subst (λ (l : List ℕ). Concluded story l (sent_in said) last.broker) (sym (append-nil client.unread.bytes))

@@ -22,5 +22,5 @@ pub returns-in-Err-put-clause-kept : goal.returns-in-Err-put-clause-kept
 returns-in-Err-put-clause-kept g c =
     let put = c.in-Err-put.ensures.put in
     taken_one g.S.Supply.call c.args.supply.now c.ask.new.supply c.args.place.now c.ask.new.place c.args.window.now c.put.new.window
-    c.in-Ok-Some.envelope put.0
+    c.in-Ok-Some.envelope put.0 (search rules)
     (rw (sym c.in-Ok-Some.field-0-is) c.in-Ok-Some.ensures.asked) put.1 put.2

@@ -5,7 +5,7 @@ use Rattle.local_server.proofs.server.close.Goals as goal
 
 pub numbers-preserved : goal.numbers-preserved
 numbers-preserved c =
-    let told = c.closing.ensures in
+    let told = c.closing.ensures.closed in
     more_ended c.numbers.number c.close.new.self c.numbers.supply c.closing.new.supply c.args.clients.now c.numbers.clients c.closing.new.self c.args.now
     c.args.said.now.items c.numbers.said.items c.closing.new.said.items told.0 c.numbers.ended c.closing.result c.and-ended.result c.numbers.invariant told.1 told.2 c.and-ended.ensures
 

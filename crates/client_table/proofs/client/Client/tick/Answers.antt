@@ -3,12 +3,12 @@ use Rattle.std.proofs.Common.{rules, inl, inr}
 use Rattle.client_table.proofs.Ticking.{fails_at_tick}
 use Rattle.client_table.proofs.client.Client.tick.Goals as goal
 
-pub returns-then-is_err : goal.returns-then-is_err
-returns-then-is_err g c =
+pub returns-then-is_err-clause-ticked : goal.returns-then-is_err-clause-ticked
+returns-then-is_err-clause-ticked g c =
     fails_at_tick g.S.Supply.call g.P.Place.slot_of c.args.supply.now c.give_up.new.supply c.args.self.now c.give_up.new.self c.args.now c.args.said.now.items c.reserve.new.self.items
     (search rules) (inl (search rules))
 
-pub returns-in-Err : goal.returns-in-Err
-returns-in-Err g c =
+pub returns-in-Err-clause-ticked : goal.returns-in-Err-clause-ticked
+returns-in-Err-clause-ticked g c =
     fails_at_tick g.S.Supply.call g.P.Place.slot_of c.args.supply.now c.step.new.supply c.args.self.now c.step.new.self c.args.now c.args.said.now.items c.step.new.said.items
     (search rules) (inr (search rules))

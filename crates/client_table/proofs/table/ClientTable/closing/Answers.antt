@@ -3,9 +3,9 @@ use Rattle.std.proofs.Common.{rules}
 use Rattle.client_table.proofs.InCells.{in_cell}
 use Rattle.client_table.proofs.table.ClientTable.closing.Goals as goal
 
-pub returns : goal.returns
-returns g c =
-    let told = c.closing.ensures in (
+pub returns-clause-closed : goal.returns-clause-closed
+returns-clause-closed g c =
+    let told = c.closing.ensures.closed in (
       told.0,
       told.1,
       in_cell c.args.self.now c.self.inside.cells.items c.args.number c.from.result c.index_mut.result.now c.closing.new.cell _ c.self.view_is c.self.invariant (search rules)

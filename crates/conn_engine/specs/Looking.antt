@@ -1,0 +1,21 @@
+-- What can be told of a connection without a step: when silence ends it, and whose messages it would take.
+use Rattle.std.specs.Prelude.{◌≡◌, ℕ, ◌-◌, true}
+use Rattle.session_desk.specs.declared.session.Membership.TheVariants.{Member}
+use Rattle.member_window.specs.Contents.{HasRoom}
+use Rattle.conn_rules.specs.Ending.{is_overdue, is_late}
+use Rattle.conn_engine.specs.declared.standing.Standing.{Standing}
+use Rattle.conn_engine.specs.declared.standing.Standing.TheVariants.{Unconnected, Waiting, Connected, Ended}
+
+-- a Tick at this moment ends the connection: no CONNECT came in time (3.1.4), or no packet for one and a half times the keep alive (3.1.2.10)
+abbrev pub IsSilentTooLong : {P : Type 0} → Standing P → ℕ → Type 0
+IsSilentTooLong (Unconnected opened) now = is_late (now - opened) ≡ true
+IsSilentTooLong (Waiting request ticks) now = ⊥
+IsSilentTooLong (Connected link) now = is_overdue link.terms.keep_alive (now - link.heard) ≡ true
+IsSilentTooLong Ended now = ⊥
+
+-- its client is a member with this place, and there is room for a message
+abbrev pub TakesAt : {P : Type 0} → Standing P → P → Type 0
+TakesAt (Unconnected opened) place = ⊥
+TakesAt (Waiting request ticks) place = ⊥
+TakesAt (Connected link) place = (link.session.membership ≡ Member place) × HasRoom link.session.window
+TakesAt Ended place = ⊥
