@@ -1,16 +1,36 @@
 //! Sessions: one client comes and goes beside others, and sweeps find nothing that is due.
 
 use bytes::Bytes;
-use session_desk::{Attached, Desk, Session};
+use session_desk::{Attached, Desk, Place, Session};
 use std::alloc::Global;
 
-/// A session that holds numbers, and has a number for a place.
-type Plain = Session<u32, u32>;
+/// A place, which no session here has.
+#[derive(Drop)]
+struct Seat;
+
+impl Place for Seat {
+    ghost slot_of = { λ _. 0 };
+
+    ghost number_of = { λ _. 0 };
+
+    fn slot(&self) -> u8 {
+        0
+    }
+
+    fn number(&self) -> u8 {
+        0
+    }
+}
+
+/// A session that holds numbers.
+type Plain = Session<u32, Seat>;
+
+type PlainDesk = Desk<u32, Seat>;
 
 /// How often a client found its session, of so many times that it came and went beside so many parked ones; `None` where
 /// memory is refused.
 pub(crate) fn resumed(alloc: Global, others: u32, times: u32) -> Option<u64> {
-    let mut desk = Desk::new(alloc).ok()?;
+    let mut desk: PlainDesk = Desk::new(alloc).ok()?;
     let counted = fill(alloc, &mut desk, others).and_then(|()| come_and_go(&mut desk, times));
     desk.abandon();
     counted
@@ -18,14 +38,14 @@ pub(crate) fn resumed(alloc: Global, others: u32, times: u32) -> Option<u64> {
 
 /// How many of so many sweeps found nothing, at a desk with so many parked sessions; `None` where memory is refused.
 pub(crate) fn idle_sweeps(alloc: Global, sessions: u32, sweeps: u32) -> Option<u64> {
-    let mut desk = Desk::new(alloc).ok()?;
+    let mut desk: PlainDesk = Desk::new(alloc).ok()?;
     let counted = fill(alloc, &mut desk, sessions).map(|()| swept(&mut desk, sweeps));
     desk.abandon();
     counted
 }
 
 /// Parks a session of each of so many clients.
-fn fill(alloc: Global, desk: &mut Desk<u32, u32>, clients: u32) -> Option<()> {
+fn fill(alloc: Global, desk: &mut PlainDesk, clients: u32) -> Option<()> {
     for number in 0..clients {
         let client = Bytes::copy_from_slice(alloc, &number.to_be_bytes()).ok()?;
         visit(desk, &client)?;
@@ -34,7 +54,7 @@ fn fill(alloc: Global, desk: &mut Desk<u32, u32>, clients: u32) -> Option<()> {
 }
 
 /// One client comes and goes so many times, and finds its session each time but the first.
-fn come_and_go(desk: &mut Desk<u32, u32>, times: u32) -> Option<u64> {
+fn come_and_go(desk: &mut PlainDesk, times: u32) -> Option<u64> {
     let client = Bytes::from_static(b"device");
     let mut found = 0u64;
     for _ in 0..times {
@@ -46,7 +66,7 @@ fn come_and_go(desk: &mut Desk<u32, u32>, times: u32) -> Option<u64> {
 }
 
 /// A client comes and goes; whether it found its session. `None` where memory is refused.
-fn visit(desk: &mut Desk<u32, u32>, client: &Bytes) -> Option<bool> {
+fn visit(desk: &mut PlainDesk, client: &Bytes) -> Option<bool> {
     if client.len() > 128 {
         return None;
     }
@@ -65,7 +85,7 @@ fn visit(desk: &mut Desk<u32, u32>, client: &Bytes) -> Option<bool> {
 }
 
 /// Parks a session for an hour.
-fn park(desk: &mut Desk<u32, u32>, mut session: Plain) -> Option<()> {
+fn park(desk: &mut PlainDesk, mut session: Plain) -> Option<()> {
     session.expiry.seconds = 3_600;
     if session.window.retired() {
         session.abandon();
@@ -81,7 +101,7 @@ fn park(desk: &mut Desk<u32, u32>, mut session: Plain) -> Option<()> {
 }
 
 /// How many of so many sweeps find nothing.
-fn swept(desk: &mut Desk<u32, u32>, sweeps: u32) -> u64 {
+fn swept(desk: &mut PlainDesk, sweeps: u32) -> u64 {
     let mut idle = 0u64;
     for _ in 0..sweeps {
         match desk.sweep(1) {

@@ -11,3 +11,4 @@ pub mod Marked
 pub mod LastIn
 pub mod OneClient
 pub mod OneAnswer
+pub mod Everywhere

@@ -311,7 +311,7 @@ module _ {P : Type 0} (cell : P → ℕ) where
       let rest = rows_all made.1.0 new calls n (does.law law) made.1.2 in
       omega arith
 
-no_row : {E P : Type 0} (n : ℕ) (row : Row E P) → HasRow (map.empty {R = nat_cmp}) n row → ⊥
+pub no_row : {E P : Type 0} (n : ℕ) (row : Row E P) → HasRow (map.empty {R = nat_cmp}) n row → ⊥
 no_row {E} {P} n row has = let none = get-empty {X = Row E P} nat_cmp n in cc
 
 -- a new desk keeps the law

@@ -9,10 +9,11 @@ use Rattle.std.proofs.lemmas.Option.{slice_get_within}
 use Rattle.std.proofs.lemmas.Bool.{eqb-true, cases_eq}
 use Rattle.std.specs.FinMap as map
 use Rattle.session_desk.specs.declared.row.Row.{Row}
+use Rattle.session_desk.specs.declared.row.Standing.TheVariants.{Parked, Kept}
 use Rattle.session_desk.specs.declared.sweeping.Due.{Due}
-use Rattle.session_desk.specs.Rows.{HasRow, IsOverdue, NoRow, IsOldest}
+use Rattle.session_desk.specs.Rows.{Rows, HasRow, IsKept, IsOverdue, NoRow, IsOldest}
 use Rattle.session_desk.specs.Names.{HasName}
-use Rattle.session_desk.specs.Sweeping.{Fits}
+use Rattle.session_desk.specs.Sweeping.{Fits, HandsOut, SweepsNothing}
 use Rattle.session_desk.specs.Layout.{seen}
 use Rattle.session_desk.proofs.Seen.{get_seen, found_row}
 
@@ -146,3 +147,15 @@ none_named_end es client so named =
 pub named_at : {E P : Type 0} (es : List (ℕ × Row E P)) (i : ℕ) (client : List ℕ) (n : ℕ) (row : Row E P) → IsDistinct nat_eq (keys_of es)
     → slice_get es i ≡ Some (n, row) → row.client ≡ client → HasName (seen es) client
 named_at es i client n row distinct here its = (n, row, get_seen es n ∙ lookup_from_place nat_eq_equiv es i n row distinct here, its)
+
+-- where no row is due, a sweep hands out nothing
+pub nothing_due : {E P : Type 0} (rows : Rows E P) (now : ℕ) → NoRow rows IsKept → NoRow rows (IsOverdue now) → SweepsNothing rows now
+nothing_due rows now kept over None after swept = (refl, swept.2)
+nothing_due rows now kept over (Some session) after swept =
+    absurd
+    (
+    ⊎_elim
+    (λ (h : HandsOut rows IsKept (Kept session) after). kept h.number h.oldest.row h.oldest.has h.oldest.is_so)
+    (λ (h : NoRow rows IsKept × HandsOut rows (IsOverdue now) (Parked session) after). over h.1.number h.1.oldest.row h.1.oldest.has h.1.oldest.is_so)
+    swept
+    )

@@ -11,6 +11,7 @@ pub mod Keeping
 pub mod Calls
 pub mod Asking
 pub mod Hands
+pub mod Everywhere
 pub mod AskedBack
 pub mod Stored
 pub mod Everything

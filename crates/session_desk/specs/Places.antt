@@ -32,3 +32,17 @@ LendsPlace old slot None new = NoneFree old slot × (new ≡ old)
 abbrev pub TakesPlace : {P : Type 0} → List (Option P) → ℕ → P → Option P → List (Option P) → Type 0
 TakesPlace old cell place None new = (slice_get old cell ≡ Some None) × (new ≡ slice_set old cell (Some place))
 TakesPlace {P} old cell place (Some back) new = (back ≡ place) × ((other : P) × IsFreeAt old cell other) × (new ≡ old)
+
+-- this place's own cell is this one
+pub record IsOwnCell {P : Type 0} (slot_of number_of : P → ℕ) (cell : ℕ) (place : P) : Type 0 where
+  pub at : cell ≡ cell_at (slot_of place) (number_of place)
+  pub small : number_of place < 32
+
+-- each free place lies in the cell of its own slot and number
+abbrev pub LieInOwnCells : {P : Type 0} → (P → ℕ) → (P → ℕ) → List (Option P) → Type 0
+LieInOwnCells {P} slot_of number_of free = (cell : ℕ) (place : P) → IsFreeAt free cell place → IsOwnCell slot_of number_of cell place
+
+-- a place of the group with this slot, one of 32
+pub record IsOfSlot {P : Type 0} (slot_of number_of : P → ℕ) (slot : ℕ) (place : P) : Type 0 where
+  pub its : slot_of place ≡ slot
+  pub small : number_of place < 32

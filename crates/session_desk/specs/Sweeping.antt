@@ -21,6 +21,10 @@ Sweeps old now (Some session) new =
     HandsOut old IsKept (Kept session) new ⊎ (NoRow old IsKept × HandsOut old (IsOverdue now) (Parked session) new)
 Sweeps old now None new = NoRow old IsKept × NoRow old (IsOverdue now) × (new ≡ old)
 
+-- a sweep at this moment hands out nothing, and changes nothing
+abbrev pub SweepsNothing : {E P : Type 0} → Rows E P → ℕ → Type 0
+SweepsNothing {E} {P} rows now = (answer : Option (Session E P)) (after : Rows E P) → Sweeps rows now answer after → (answer ≡ None) × (after ≡ rows)
+
 -- what a search among the rows looks for
 abbrev pub Fits : {E P : Type 0} → Due → Row E P → Type 0
 Fits due.Kept row = IsKept row

@@ -1,5 +1,5 @@
 //! The desk.
-ghost use Rattle.std.specs.Prelude.{◌≡◌, ◌↔◌, IsTrue, MatchResult, None, false, replicate};
+ghost use Rattle.std.specs.Prelude.{◌≡◌, ◌↔◌, ◌<◌, ℕ, IsTrue, MatchResult, IfSome, None, false, replicate};
 ghost use Rattle.std.specs.FinMap as map;
 ghost use Rattle.session_desk.specs.declared.error.DeskError.TheVariants.{Memory};
 
@@ -22,7 +22,7 @@ pub const ROWS: usize = 256;
 pub const CONNECTIONS: usize = 1_024;
 
 /// Who has which session of a broker.
-pub struct Desk<E, P> {
+pub struct Desk<E, P: Place> {
     // The rows of the sessions.
     table: Table<E, P>,
     // The session that each connection waits for.
@@ -37,7 +37,7 @@ pub struct Desk<E, P> {
     alloc: Global,
 }
 
-impl<E, P> Model for Desk<E, P> {
+impl<E, P: Place> Model for Desk<E, P> {
     ghost use Rattle.std.specs.Prelude.{◌≤◌, ◌<◌};
     ghost use Rattle.std.specs.FinMap as map;
     ghost use Rattle.std.specs.Coded.{codes};
@@ -53,12 +53,12 @@ impl<E, P> Model for Desk<E, P> {
     ghost invariant = { λ d. AreFew d.table.rows d.assigned };
 }
 
-impl<E, P> Desk<E, P> {
+impl<E, P: Place> Desk<E, P> {
     ghost use Rattle.session_desk.specs.Books.{new_books, IsKicked, after_withdraw, with_free, with_rows};
     ghost use Rattle.session_desk.specs.Keeping.{Keeps, Parks, ParksAsIs};
-    ghost use Rattle.session_desk.specs.Places.{LendsPlace};
+    ghost use Rattle.session_desk.specs.Places.{IsOfSlot, LendsPlace};
     ghost use Rattle.session_desk.specs.Everything.{HasAll};
-    ghost use Rattle.session_desk.specs.Sweeping.{Sweeps};
+    ghost use Rattle.session_desk.specs.Sweeping.{Sweeps, SweepsNothing};
 
     /// A desk without sessions and without free places. Takes the memory for [`ROWS`] rows, with a wait in each, for
     /// what is noted of [`CONNECTIONS`] connections, and for the free places of eight groups.
@@ -181,6 +181,15 @@ impl<E, P> Desk<E, P> {
         self.table.sweep(now)
     }
 
+    /// The moment in milliseconds from which on a [`Desk::sweep`] may have something to hand out; before it a sweep answers `None` and
+    /// changes nothing. It may be earlier than need be, until a sweep finds nothing. Only [`Desk::park`], [`Desk::park_as_is`] and
+    /// [`Desk::keep`] make it earlier.
+    pub fn soonest(&self) -> u64
+        ensures { (now : ℕ) → now < result → SweepsNothing self.now.rows now }
+    {
+        self.table.soonest()
+    }
+
     /// Ends the desk: all places and all items that it has. A want of memory hands the desk back.
     pub fn into_all(self) -> Result<All<E, P>, Desk<E, P>>
         ensures { MatchResult result (λ all. HasAll self all.places.items all.envelopes.items) (λ back. back ≡ self) }
@@ -206,10 +215,11 @@ impl<E, P> Desk<E, P> {
         Ok(All { places, envelopes })
     }
 
-    /// Lends the least free place of the group with this slot; `None` is 702
-    /// [`DeskError::NoPlace`](crate::DeskError::NoPlace).
+    /// Lends the least free place of the group with this slot: its slot is this one, and its number below
+    /// [`PLACES`](crate::PLACES). `None` is 702 [`DeskError::NoPlace`](crate::DeskError::NoPlace).
     pub fn lend_place(&mut self, slot: u8) -> Option<P>
-        ensures { (free : _) × LendsPlace self.old.free slot result free × (self.new ≡ with_free self.old free) }
+        ensures least { (free : _) × LendsPlace self.old.free slot result free × (self.new ≡ with_free self.old free) }
+        ensures own { IfSome result (IsOfSlot P.slot_of P.number_of slot) }
     {
         self.free.lend(slot)
     }
@@ -262,7 +272,7 @@ impl<E, P: Place> Desk<E, P> {
     }
 }
 
-impl<E, P: Drop> Desk<E, P> {
+impl<E, P: Place + Drop> Desk<E, P> {
     /// Ends the desk: lets go of all places, and gives each item that it has to who lets go of that. It takes no memory: for who
     /// finds none for [`Desk::into_all`].
     pub fn abandon_with<F: Fn(E)>(self, let_go: &F)
@@ -281,7 +291,7 @@ impl<E, P: Drop> Desk<E, P> {
     }
 }
 
-impl<E: Drop, P: Drop> Desk<E, P> {
+impl<E: Drop, P: Place + Drop> Desk<E, P> {
     /// Ends the desk and lets go of all places and all items that it has, as [`Desk::abandon_with`] does.
     pub fn abandon(self) {
         self.abandon_with(&|_item| {});

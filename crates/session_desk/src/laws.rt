@@ -1,17 +1,22 @@
 //! Laws: what holds of every list of calls of a desk. Each is the contract of a function that does nothing. They are
 //! stated over the definitions that the contracts of [`Desk`](crate::Desk) cite, so they are about what its methods do.
-ghost use Rattle.std.specs.Prelude.{◌≡◌, ◌↔◌, ℕ, ◌+◌, ◌<◌, nat_lt, if◌then◌else◌, List, [], Some, Result, Err};
+ghost use Rattle.std.specs.Prelude.{◌≡◌, ◌↔◌, ℕ, ◌+◌, ◌<◌, nat_lt, if◌then◌else◌, List, [], Some, Result, Err, ⊤};
 ghost use Rattle.session_desk.specs.AskedBack.{IsAskedBack};
 ghost use Rattle.session_desk.specs.Asking.{IsSameQuestion, HadMemory};
 ghost use Rattle.session_desk.specs.Attaching.{Attaches, Request};
 ghost use Rattle.session_desk.specs.Books.{Books, IsKicked, new_books};
 ghost use Rattle.session_desk.specs.Calls.{Call, Makes, MakesAll};
+ghost use Rattle.session_desk.specs.Everywhere.{AllGoIn, ComesOut, GoesIn, IsEverywhere};
+ghost use Rattle.session_desk.specs.Places.{IsFreeAt, LieInOwnCells, cell_at};
 ghost use Rattle.session_desk.specs.Stored.{TakesOut, last_in};
 ghost use Rattle.session_desk.specs.declared.attached.Attached.{Attached};
 ghost use Rattle.session_desk.specs.declared.error.DeskError.{DeskError};
 ghost use Rattle.session_desk.specs.declared.error.DeskError.TheVariants.{NoName};
 ghost use Rattle.session_desk.specs.declared.session.Session.{Session};
 ghost use Rattle.session_desk.specs.Hands.{handed_out, handed_in, buried, total, outs, rows_of, DeskLaw};
+
+use crate::places::Place;
+use crate::rule::Rule;
 
 /// **The desk law** is kept by every call, whatever calls are made of a new desk: at most 256 rows, each of a session that
 /// was new; no two that are lent or parked are of one client; what a row keeps is its own session; and no parked
@@ -69,4 +74,32 @@ pub fn one_answer_law<E, P>()
     ensures { (cell : P → ℕ) (old new new' : Books E P) (call other : Call E P) →
         DeskLaw old.rows old.made → IsSameQuestion call other → HadMemory call → HadMemory other →
         Makes cell old call new → Makes cell old other new' → (call ≡ other) × (new ≡ new') }
+{}
+
+/// **A free place lies in the cell of its own slot and number**: at a new desk, and after each call where it was so before and a place
+/// that is handed in has a number below [`PLACES`](crate::PLACES), as [`Place::number`] says. So two free places of a group have distinct
+/// numbers.
+pub fn own_cells_law<E, P: Place>()
+    ensures kept { (calls : List (Call E P)) (b : Books E P) →
+        MakesAll (λ place. cell_at (P.slot_of place) (P.number_of place)) new_books calls b →
+        AllGoIn (λ _. ⊤) (λ place. P.number_of place < 32) calls → LieInOwnCells P.slot_of P.number_of b.free }
+    ensures onward { (call : Call E P) (old new : Books E P) →
+        Makes (λ place. cell_at (P.slot_of place) (P.number_of place)) old call new →
+        GoesIn (λ _. ⊤) (λ place. P.number_of place < 32) call →
+        LieInOwnCells P.slot_of P.number_of old.free → LieInOwnCells P.slot_of P.number_of new.free }
+    ensures apart { (b : Books E P) → LieInOwnCells P.slot_of P.number_of b.free → (cell other : ℕ) (place another : P) →
+        IsFreeAt b.free cell place → IsFreeAt b.free other another → P.slot_of place ≡ P.slot_of another →
+        P.number_of place ≡ P.number_of another → cell ≡ other }
+{}
+
+/// **What holds of all that goes into a desk holds of all that it has and of all that comes out of it**, call by call, whatever was
+/// called before. It is so at a new desk; and where it was so, and holds of what a call hands in, it is so after the call, and holds of
+/// what the call hands out: a session that is new, resumed, ended or swept, with its place, a place that is lent, and what is handed
+/// back. So who shares a desk behind a lock knows what comes out of it by what holds there whenever the lock is taken.
+pub fn everywhere_law<E, P, R: Rule<E, P>>()
+    ensures first { IsEverywhere R.holds R.fits new_books }
+    ensures onward { (cell : P → ℕ) (call : Call E P) (old new : Books E P) → Makes cell old call new →
+        IsEverywhere R.holds R.fits old → GoesIn R.holds R.fits call → IsEverywhere R.holds R.fits new }
+    ensures out { (cell : P → ℕ) (call : Call E P) (old new : Books E P) → Makes cell old call new →
+        IsEverywhere R.holds R.fits old → GoesIn R.holds R.fits call → ComesOut R.holds R.fits call }
 {}

@@ -1,7 +1,7 @@
 //! The free places of the groups.
-ghost use Rattle.std.specs.Prelude.{◌≡◌, ℕ, ◌+◌, ◌<◌, ◌≤◌, ◌↔◌, sum_by, vec_capacity, IfOk, IsTrue, MatchOption, None, Some, length, slice_get, slice_set, replicate};
+ghost use Rattle.std.specs.Prelude.{◌≡◌, ℕ, ◌+◌, ◌<◌, ◌≤◌, ◌↔◌, sum_by, vec_capacity, IfOk, IfSome, IsTrue, MatchOption, None, Some, length, slice_get, slice_set, replicate};
 ghost use Rattle.session_desk.specs.Everything.{free_in};
-ghost use Rattle.session_desk.specs.Places.{cell_at, IsLeast, NoneFree, LendsPlace, TakesPlace};
+ghost use Rattle.session_desk.specs.Places.{cell_at, IsLeast, IsOfSlot, NoneFree, LendsPlace, TakesPlace};
 
 use crate::drained::drain_cells;
 use crate::session::Membership;
@@ -36,15 +36,16 @@ pub trait Place {
         ensures small { result < 32 };
 }
 
-/// The places that nobody has.
-pub(crate) struct FreePlaces<P> {
+/// The places that nobody has, each in the cell of its own slot and number.
+pub(crate) struct FreePlaces<P: Place> {
     // The place of slot s with number n, where it is free, is at 32 s + n.
     cells: Vec<Option<P>>,
 }
 
-impl<P> Model for FreePlaces<P> {
+impl<P: Place> Model for FreePlaces<P> {
     ghost use Rattle.std.specs.Prelude.{◌≡◌, List, Option, length};
     ghost use Rattle.std.specs.Coded.{coded_list, coded_option};
+    ghost use Rattle.session_desk.specs.Places.{LieInOwnCells};
 
     ghost Value = { List (Option P) };
 
@@ -52,10 +53,10 @@ impl<P> Model for FreePlaces<P> {
 
     ghost view = { λ f. f.cells.items };
 
-    ghost invariant = { λ f. length f.cells.items ≡ 256 };
+    ghost invariant = { λ f. (length f.cells.items ≡ 256) × LieInOwnCells P.slot_of P.number_of f.cells.items };
 }
 
-impl<P> FreePlaces<P> {
+impl<P: Place> FreePlaces<P> {
     /// None is free.
     pub(crate) fn new(alloc: Global) -> Result<FreePlaces<P>, AllocError>
         ensures { IfOk result (λ free. free ≡ replicate 256 None) }
@@ -79,7 +80,8 @@ impl<P> FreePlaces<P> {
 
     /// Lends the least free place of the group with this slot.
     pub(crate) fn lend(&mut self, slot: u8) -> Option<P>
-        ensures { LendsPlace self.old slot result self.new }
+        ensures lends { LendsPlace self.old slot result self.new }
+        ensures own { IfSome result (IsOfSlot P.slot_of P.number_of slot) }
     {
         let cell = self.least(slot)?;
         self.cells[cell].take()
@@ -167,7 +169,7 @@ impl<P: Place> FreePlaces<P> {
     }
 }
 
-impl<P: Drop> FreePlaces<P> {
+impl<P: Place + Drop> FreePlaces<P> {
     /// Lets go of the free places, and ends the cells.
     pub(crate) fn abandon(self) {
         let FreePlaces { cells: _ } = self;

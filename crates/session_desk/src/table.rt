@@ -52,7 +52,7 @@ impl<E, P> Model for Table<E, P> {
 
 impl<E, P> Table<E, P> {
     ghost use Rattle.session_desk.specs.Rows.{HasRow, LivesAs, NoneLivesAs, is_living, away, begun, moved, next_who, with_standing, with_wait};
-    ghost use Rattle.session_desk.specs.Sweeping.{Sweeps};
+    ghost use Rattle.session_desk.specs.Sweeping.{Sweeps, SweepsNothing};
     ghost use Rattle.session_desk.specs.Opening.{LooksAs};
     ghost use Rattle.session_desk.specs.Names.{IsNextName, NoNameLeft};
     ghost use Rattle.session_desk.specs.Rows.{IsRowOf, IsLentIn, IsAwayIn, NoRowOf};
@@ -232,6 +232,13 @@ impl<E, P> Table<E, P> {
         add(&mut self.rows, number, Row::lent(copies.row, connection));
         set_number(&mut self.living, copies.key, number);
         Ok((Identity::new(number, copies.session), ended))
+    }
+
+    /// A moment before which no session is to be retired.
+    pub(crate) fn soonest(&self) -> u64
+        ensures { (now : ℕ) → now < result → SweepsNothing self.now.rows now }
+    {
+        self.soonest
     }
 
     /// Hands out a session that is to be retired.

@@ -4,6 +4,7 @@
 
 #[cfg(test)]
 mod hall;
+mod rules;
 mod spot;
 #[cfg(test)]
 mod stories;

@@ -1,5 +1,5 @@
 -- How often a transport failed, ended and was idle, and a source failed and gave: each raised by exactly its own answers.
-use Rattle.std.specs.Prelude.{ℕ, ◌+◌, ◌-◌, ◌^◌, ◌<◌, min}
+use Rattle.std.specs.Prelude.{◌≡◌, ℕ, ◌+◌, ◌-◌, ◌^◌, ◌<◌, min}
 use Rattle.transport.specs.declared.counts.Counts.{Counts}
 use Rattle.transport.specs.declared.counts.Tally.{Tally}
 use Rattle.transport.specs.declared.answers.Got.{Got}
@@ -46,6 +46,17 @@ after_flushed flushed.Failed counts = one_failure counts
 pub record MayCome (tally : Tally) : Type 0 where
   pub may_fail : tally.failures < greatest
   pub may_give : tally.arrivals < greatest
+
+-- of a transport that was not called yet
+abbrev pub no_counts : Counts
+no_counts = record { failures = 0; ends = 0; idles = 0 }
+
+-- of what came nothing was counted yet
+abbrev pub ComesNew : {T : Type 0} → (T → Counts) → Arrival T → Type 0
+ComesNew counts (arrival.Came transport) = counts transport ≡ no_counts
+ComesNew counts arrival.Idle = Unit {0}
+ComesNew counts arrival.End = Unit {0}
+ComesNew counts arrival.Failed = Unit {0}
 
 -- after it was asked
 abbrev pub after_arrival : {T : Type 0} → Arrival T → Tally → Tally

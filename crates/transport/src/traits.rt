@@ -1,7 +1,7 @@
 //! What stands between a client and who serves it.
 ghost use Rattle.std.specs.Prelude.{◌≡◌, ◌<◌, ◌≤◌, ℕ, List, [], Option, None, length};
 ghost use Rattle.std.specs.Io.KnownBytes.{append_known};
-ghost use Rattle.transport.specs.Counting.{MayCome, MayGoOn, after_arrival, after_flushed, after_got, after_put};
+ghost use Rattle.transport.specs.Counting.{ComesNew, MayCome, MayGoOn, after_arrival, after_flushed, after_got, after_put};
 ghost use Rattle.transport.specs.declared.counts.Counts.{Counts};
 ghost use Rattle.transport.specs.declared.counts.Tally.{Tally};
 ghost use Rattle.transport.specs.Streams.{GivesWithin, TakesWithin, after_read, after_write};
@@ -82,17 +82,18 @@ pub trait Transport {
     ghost in_order: { (transport : Self) → accepted transport ≡ append_known (left transport) (kept transport) };
 }
 
-/// Where connections, or other things to be served, come from.
-pub trait Source<T> {
+/// Where connections come from.
+pub trait Source<T: Transport> {
     /// How often it failed and gave.
     ghost tally: { Self → Tally };
 
-    /// What comes next.
+    /// What comes next: a transport of which nothing was counted yet, so that it may be called.
     ///
     /// Neither [`failures`](Source::failures) nor [`arrivals`](Source::arrivals) may have come to `u64::MAX`.
     fn next(&mut self) -> Arrival<T>
         requires { MayCome (tally self.old) }
-        ensures { tally self.new ≡ after_arrival result (tally self.old) };
+        ensures tally { tally self.new ≡ after_arrival result (tally self.old) }
+        ensures new { ComesNew T.counts result };
 
     /// How often it failed: raised by one by each `Failed`, and by nothing else.
     fn failures(&self) -> u64

@@ -1,5 +1,8 @@
 //! Stories over scripted transports.
-use std::alloc::Global;
+ghost use Rattle.std.specs.Prelude.{◌≡◌, IfOk};
+ghost use Rattle.transport.specs.Counting.{MayCome, no_counts};
+
+use std::alloc::{AllocError, Global};
 use std::process::Abort;
 use std::test::Fail;
 use transport::{
@@ -146,26 +149,49 @@ fn slow_peer(rt: HostRuntime) -> Result<(), Fail> {
     Ok(())
 }
 
+/// The first byte that comes over the next transport of a source, of any kind.
+fn next_byte<T: Transport + Drop, S: Source<T>>(source: &mut S) -> Option<u8>
+    requires { MayCome (S.tally source.old) }
+{
+    match source.next() {
+        Arrival::Came(mut transport) => {
+            let mut buffer = [0];
+            match transport.read(&mut buffer) {
+                Got::Bytes(_) => Some(buffer[0]),
+                Got::Idle | Got::End | Got::Failed => None,
+            }
+        }
+        Arrival::Idle | Arrival::End | Arrival::Failed => None,
+    }
+}
+
+/// A transport over which this byte comes.
+fn sends(alloc: Global, byte: u8) -> Result<Scripted, AllocError>
+    ensures { IfOk result (λ scripted. scripted.counts ≡ no_counts) }
+{
+    let input = vec![in alloc; byte]?;
+    Scripted::new(alloc, input, Vec::new(alloc), Vec::new(alloc), 0)
+}
+
 #[test]
 fn arrivals(rt: HostRuntime) -> Result<(), Fail> {
+    let first = sends(rt.alloc(), 6)?;
+    let second = sends(rt.alloc(), 7)?;
     let turns = vec![in rt.alloc();
-        Arrival::Came(6u8),
+        Arrival::Came(first),
         Arrival::Failed,
         Arrival::Idle,
-        Arrival::Came(7),
+        Arrival::Came(second),
     ]?;
     let mut source = ScriptedSource::new(turns);
-    let mut came = [0, 0];
+    let mut came = [None; 5];
     for place in 0..5usize {
         if source.failures() == u64::MAX || source.arrivals() == u64::MAX {
             panic!(rt; "too often");
         }
-        match source.next() {
-            Arrival::Came(value) => came[place / 3] = value,
-            Arrival::Idle | Arrival::End | Arrival::Failed => {}
-        }
+        came[place] = next_byte(&mut source);
     }
-    assert_eq!(rt; came, [6, 7]);
+    assert_eq!(rt; came, [Some(6), None, None, Some(7), None]);
     assert_eq!(rt; [source.failures(), source.arrivals()], [1, 2]);
     Ok(())
 }

@@ -7,13 +7,14 @@ use crate::attached::Attached;
 use crate::error::DeskError;
 use crate::marks::{note, waits_for};
 use crate::names::assigned;
+use crate::places::Place;
 use crate::row::Standing;
 use crate::session::Session;
 use crate::sight::Sight;
 use bytes::Bytes;
 use member_window::Window;
 
-impl<E, P> Desk<E, P> {
+impl<E, P: Place> Desk<E, P> {
     ghost use Rattle.session_desk.specs.Attaching.{Attaches, AttachesClient, AttachesUnnamed, IsClients, IsStale, asked};
     ghost use Rattle.session_desk.specs.Opening.{Opens, OpensOver};
     ghost use Rattle.session_desk.specs.Books.{IsWaiting, after_lend, after_replace};

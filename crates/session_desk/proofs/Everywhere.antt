@@ -1,0 +1,267 @@
+-- What holds of everything at a desk: what each call does to it, and what it hands out.
+use Rattle.std.proofs.Common.{◌≡◌, ◌≢◌, ℕ, ◌<◌, List, [], ◌∷◌, slice_set, Option, Some, None, Result, Ok, Err, refl, sym, ap, ◌∙◌, subst, ⊎_elim}
+use Rattle.std.specs.FinMap as map
+use Rattle.session_desk.specs.declared.attached.Attached.{Attached}
+use Rattle.session_desk.specs.declared.attached.Attached.TheVariants.{New, Resumed, Replace, Busy}
+use Rattle.session_desk.specs.declared.error.DeskError.{DeskError}
+use Rattle.session_desk.specs.declared.error.DeskError.TheVariants.{Full, NoPlace, Memory, NoName}
+use Rattle.session_desk.specs.declared.session.Session.{Session}
+use Rattle.session_desk.specs.declared.session.Membership.{Membership}
+use Rattle.session_desk.specs.declared.session.Membership.TheVariants.{NotMember, Member, Leaving}
+use Rattle.session_desk.specs.declared.row.Row.{Row}
+use Rattle.session_desk.specs.declared.row.Standing.{Standing}
+use Rattle.session_desk.specs.declared.row.Standing.TheVariants.{Lent, Parked, Kept}
+use Rattle.session_desk.specs.Sessions.{Who}
+use Rattle.session_desk.specs.Rows.{Rows, HasRow, NoRow, IsKept, IsOverdue, session_in, away, new_row, with_standing, with_wait}
+use Rattle.session_desk.specs.Books.{Books, new_books, new_session}
+use Rattle.session_desk.specs.Places.{IsFreeAt, IsOwnCell, cell_at}
+use Rattle.session_desk.specs.Attaching.{Request, AttachesClient, AttachesUnnamed, attaches_by}
+use Rattle.session_desk.specs.Keeping.{parked_at, EndsLent, IsLent, freed}
+use Rattle.session_desk.specs.Sweeping.{HandsOut}
+use Rattle.session_desk.specs.Calls.{Call, Attach, Withdraw, Kicked, Park, ParkAsIs, Keep, Bury, Sweep, LendPlace, TakePlace, Makes, MakesAll}
+use Rattle.session_desk.specs.Everywhere.{IfMember, IsSo, IsEverywhere, GoesIn, AllGoIn, IsAttachedSo, ComesOut}
+use Rattle.session_desk.proofs.Seen.{after_insert, after_remove}
+use Rattle.session_desk.proofs.OneHand.{no_row}
+use Rattle.session_desk.proofs.Cells.{still_held, also_held, none_free}
+
+-- of each free place, by its cell
+abbrev pub HoldsAt : {P : Type 0} → (ℕ → P → Type 0) → List (Option P) → Type 0
+HoldsAt {P} FitsAt free = (cell : ℕ) (place : P) → IsFreeAt free cell place → FitsAt cell place
+
+-- an answer to a connection leaves the free places as they are
+free_client : {E P : Type 0} (old new : Books E P) (client : List ℕ) (request : Request) (answer : Result (Attached E P) DeskError) → AttachesClient old client request answer new
+    → new.free ≡ old.free
+free_client old new client request (Ok (New session None)) h = ap (λ b. b.free) h.after
+free_client old new client request (Ok (New session (Some ended))) h = ap (λ b. b.free) h.after
+free_client old new client request (Ok (Resumed session)) h = ap (λ b. b.free) h.after
+free_client old new client request (Ok (Replace holder)) h = ap (λ b. b.free) h.after
+free_client old new client request (Ok Busy) h = ap (λ b. b.free) h.1
+free_client old new client request (Err Full) h = ap (λ b. b.free) h.2
+free_client old new client request (Err Memory) h = ap (λ b. b.free) h.2
+free_client old new client request (Err NoPlace) h = absurd h
+free_client old new client request (Err NoName) h = absurd h
+
+free_unnamed : {E P : Type 0} (old new : Books E P) (connection : ℕ) (answer : Result (Attached E P) DeskError) → AttachesUnnamed old connection answer new → new.free ≡ old.free
+free_unnamed old new connection (Ok (New session None)) h = ap (λ b. b.free) h.after
+free_unnamed old new connection (Ok (New session (Some ended))) h = absurd h
+free_unnamed old new connection (Ok (Resumed session)) h = absurd h
+free_unnamed old new connection (Ok (Replace holder)) h = absurd h
+free_unnamed old new connection (Ok Busy) h = absurd h
+free_unnamed old new connection (Err Full) h = ap (λ b. b.free) h.2
+free_unnamed old new connection (Err Memory) h = ap (λ b. b.free) h.2
+free_unnamed old new connection (Err NoPlace) h = absurd h
+free_unnamed old new connection (Err NoName) h = ap (λ b. b.free) h.1
+
+free_attach : {E P : Type 0} (client : List ℕ) (old new : Books E P) (request : Request) (answer : Result (Attached E P) DeskError) → attaches_by client old request answer new
+    → new.free ≡ old.free
+free_attach [] old new request answer h = free_unnamed old new request.connection answer h
+free_attach (byte ∷ bytes) old new request answer h = free_client old new (byte ∷ bytes) request answer h
+
+module _ {E P : Type 0} (Holds : Session E P → Type 0) (Fits : P → Type 0) (cell : P → ℕ) (FitsAt : ℕ → P → Type 0) (at : (place : P) → Fits place → FitsAt (cell place) place) where
+  -- the same cells
+  same_free : (old new : List (Option P)) → new ≡ old → HoldsAt FitsAt old → HoldsAt FitsAt new
+  same_free old new same held = subst (HoldsAt FitsAt) (sym same) held
+
+  freed_held : (membership : Membership P) (free : List (Option P)) → IfMember Fits membership → HoldsAt FitsAt free → HoldsAt FitsAt (freed cell free membership)
+  freed_held NotMember free fits held = held
+  freed_held (Member place) free fits held = also_held FitsAt free (cell place) place held (at place fits)
+  freed_held (Leaving place) free fits held = also_held FitsAt free (cell place) place held (at place fits)
+
+  -- each call
+  pub free_call : (old new : Books E P) (call : Call E P) → Makes cell old call new → GoesIn Holds Fits call → HoldsAt FitsAt old.free → HoldsAt FitsAt new.free
+  free_call old new (Attach request answer) made going held = same_free old.free new.free (free_attach request.client old new request answer made) held
+  free_call old new (Withdraw connection) made going held = same_free old.free new.free (ap (λ b. b.free) made) held
+  free_call old new (Kicked connection answer) made going held = same_free old.free new.free (ap (λ b. b.free) made.1) held
+  free_call old new (Park session now None) made going held = same_free old.free new.free (ap (λ b. b.free) made.after) held
+  free_call old new (Park session now (Some back)) made going held =
+      same_free old.free new.free (⊎_elim (λ (h : EndsLent old session new). ap (λ b. b.free) h.after) (λ (h : (IsLent old session → ⊥) × (new ≡ old)). ap (λ b. b.free) h.1) made.1) held
+  free_call old new (ParkAsIs session None) made going held = same_free old.free new.free (ap (λ b. b.free) made.after) held
+  free_call old new (ParkAsIs session (Some back)) made going held = same_free old.free new.free (ap (λ b. b.free) made.2) held
+  free_call old new (Keep session None) made going held = same_free old.free new.free (ap (λ b. b.free) made.after) held
+  free_call old new (Keep session (Some back)) made going held = same_free old.free new.free (ap (λ b. b.free) made.2) held
+  free_call old new (Bury session None) made going held =
+      same_free (freed cell old.free session.membership) new.free (ap (λ b. b.free) made.1) (freed_held session.membership old.free going.fits held)
+  free_call old new (Bury session (Some back)) made going held = same_free old.free new.free (ap (λ b. b.free) made.2) held
+  free_call old new (Sweep now answer) made going held = same_free old.free new.free (ap (λ b. b.free) made.2) held
+  free_call old new (LendPlace slot None) made going held = same_free old.free new.free (ap (λ b. b.free) made.2 ∙ made.1.1) held
+  free_call old new (LendPlace slot (Some place)) made going held =
+      same_free (slice_set old.free made.1.0 None) new.free (ap (λ b. b.free) made.2 ∙ made.1.3) (still_held FitsAt old.free made.1.0 held)
+  free_call old new (TakePlace place None) made going held =
+      same_free (slice_set old.free (cell place) (Some place)) new.free (ap (λ b. b.free) made.2 ∙ made.1.1) (also_held FitsAt old.free (cell place) place held (at place going))
+  free_call old new (TakePlace place (Some back)) made going held = same_free old.free new.free (ap (λ b. b.free) made.2 ∙ made.1.2) held
+
+  -- all calls
+  pub free_all : (old new : Books E P) (calls : List (Call E P)) → MakesAll cell old calls new → AllGoIn Holds Fits calls → HoldsAt FitsAt old.free → HoldsAt FitsAt new.free
+  free_all old new [] made going held = same_free old.free new.free (ap (λ b. b.free) made) held
+  free_all old new (call ∷ calls) made going held = free_all made.1.0 new calls made.1.2 going.1 (free_call old made.1.0 call made.1.1 going.0 held)
+
+-- a place whose number is small lies in its own cell
+pub own_at : {P : Type 0} (slot_of number_of : P → ℕ) (place : P) → number_of place < 32 → IsOwnCell slot_of number_of (cell_at (slot_of place) (number_of place)) place
+own_at slot_of number_of place small = record { at = refl; small = small }
+
+none_some : {A : Type 0} (a : A) → None ≡ Some a → ⊥
+none_some a e = cc
+
+one_session : {E P : Type 0} (a b : Session E P) → Some a ≡ Some b → a ≡ b
+one_session a b e = cc
+
+module _ {E P : Type 0} (Holds : Session E P → Type 0) (Fits : P → Type 0) (begins : (who : Who) → Holds (new_session who))
+    (timeless : (session : Session E P) (now : ℕ) → Holds session → Holds (parked_at session now)) where
+  -- of each session that is kept
+  abbrev InRows : Rows E P → Type 0
+  InRows rows = (number : ℕ) (row : Row E P) (session : Session E P) → HasRow rows number row → session_in row.standing ≡ Some session → IsSo Holds Fits session
+
+  -- a row changes, to one without a session, or with one that is so
+  moves : (rows : Rows E P) (k : ℕ) (after : Row E P) → InRows rows → ((session : Session E P) → session_in after.standing ≡ Some session → IsSo Holds Fits session) → InRows (map.insert rows k after)
+  moves rows k after inside new n row session there has =
+      ⊎_elim
+      (λ (here : (n ≡ k) × (after ≡ row)). new session (ap (λ r. session_in r.standing) here.1 ∙ has))
+      (λ (old : (n ≢ k) × HasRow rows n row). inside n row session old.1 has)
+      (after_insert rows k n after row there)
+
+  empties : (rows : Rows E P) (k : ℕ) (after : Row E P) → InRows rows → session_in after.standing ≡ None → InRows (map.insert rows k after)
+  empties rows k after inside none = moves rows k after inside (λ session has. absurd (none_some session (sym none ∙ has)))
+
+  fills : (rows : Rows E P) (k : ℕ) (after : Row E P) (session : Session E P) → InRows rows → session_in after.standing ≡ Some session → IsSo Holds Fits session → InRows (map.insert rows k after)
+  fills rows k after session inside has so = moves rows k after inside (λ other is. subst (IsSo Holds Fits) (one_session session other (sym has ∙ is)) so)
+
+  removes : (rows : Rows E P) (k : ℕ) → InRows rows → InRows (map.remove rows k)
+  removes rows k inside n row session there has = inside n row session (after_remove rows k n row there).1 has
+
+  same_rows : (old new : Rows E P) → new ≡ old → InRows old → InRows new
+  same_rows old new same inside = subst InRows (sym same) inside
+
+  fresh : (who : Who) (session : Session E P) → session ≡ new_session who → IsSo Holds Fits session
+  fresh who session is = subst (IsSo Holds Fits) (sym is) (record { holds = begins who; fits = tt })
+
+  parks : (session : Session E P) (now : ℕ) → IsSo Holds Fits session → IsSo Holds Fits (parked_at session now)
+  parks session now so = record { holds = timeless session now so.holds; fits = so.fits }
+
+  handed_back : (session back : Session E P) → back ≡ session → IsSo Holds Fits session → IsSo Holds Fits back
+  handed_back session back is so = subst (IsSo Holds Fits) (sym is) so
+
+  -- an answer to a connection: the rows then, and what it hands out
+  attach_client : (old new : Books E P) (client : List ℕ) (request : Request) (answer : Result (Attached E P) DeskError) → AttachesClient old client request answer new
+      → InRows old.rows → InRows new.rows × IsAttachedSo Holds Fits answer
+  attach_client old new client request (Ok (New session None)) h inside = (
+    same_rows (map.insert old.rows old.made (new_row client request.connection)) new.rows (ap (λ b. b.rows) h.after)
+        (empties old.rows old.made (new_row client request.connection) inside refl),
+    (fresh (record { number = old.made; client = client }) session h.is_new.is, tt),
+  )
+  attach_client old new client request (Ok (New session (Some ended))) h inside =
+      let mid : Rows E P = map.insert old.rows h.number (away h.row.client) in (
+        same_rows (map.insert mid old.made (new_row client request.connection)) new.rows (ap (λ b. b.rows) h.after)
+            (empties mid old.made (new_row client request.connection) (empties old.rows h.number (away h.row.client) inside refl) refl),
+        (fresh (record { number = old.made; client = client }) session h.is_new.is, inside h.number h.row ended h.its.has (ap session_in h.its.stands)),
+      )
+  attach_client old new client request (Ok (Resumed session)) h inside = (
+    same_rows (map.insert old.rows h.number (with_standing h.row (Lent request.connection))) new.rows (ap (λ b. b.rows) h.after)
+        (empties old.rows h.number (with_standing h.row (Lent request.connection)) inside refl),
+    inside h.number h.row session h.its.has (ap session_in h.its.stands),
+  )
+  attach_client old new client request (Ok (Replace holder)) h inside = (
+    same_rows (map.insert old.rows h.number (with_wait h.row request.connection)) new.rows (ap (λ b. b.rows) h.after)
+        (empties old.rows h.number (with_wait h.row request.connection) inside (ap session_in h.its.stands)),
+    tt,
+  )
+  attach_client old new client request (Ok Busy) h inside = (same_rows old.rows new.rows (ap (λ b. b.rows) h.1) inside, tt)
+  attach_client old new client request (Err Full) h inside = (same_rows old.rows new.rows (ap (λ b. b.rows) h.2) inside, tt)
+  attach_client old new client request (Err Memory) h inside = (same_rows old.rows new.rows (ap (λ b. b.rows) h.2) inside, tt)
+  attach_client old new client request (Err NoPlace) h inside = absurd h
+  attach_client old new client request (Err NoName) h inside = absurd h
+
+  attach_unnamed : (old new : Books E P) (connection : ℕ) (answer : Result (Attached E P) DeskError) → AttachesUnnamed old connection answer new
+      → InRows old.rows → InRows new.rows × IsAttachedSo Holds Fits answer
+  attach_unnamed old new connection (Ok (New session None)) h inside = (
+    subst InRows (sym (ap (λ b. b.rows) h.after)) (empties old.rows old.made _ inside refl),
+    (fresh _ session h.is_new.is, tt),
+  )
+  attach_unnamed old new connection (Ok (New session (Some ended))) h inside = absurd h
+  attach_unnamed old new connection (Ok (Resumed session)) h inside = absurd h
+  attach_unnamed old new connection (Ok (Replace holder)) h inside = absurd h
+  attach_unnamed old new connection (Ok Busy) h inside = absurd h
+  attach_unnamed old new connection (Err Full) h inside = (same_rows old.rows new.rows (ap (λ b. b.rows) h.2) inside, tt)
+  attach_unnamed old new connection (Err Memory) h inside = (same_rows old.rows new.rows (ap (λ b. b.rows) h.2) inside, tt)
+  attach_unnamed old new connection (Err NoPlace) h inside = absurd h
+  attach_unnamed old new connection (Err NoName) h inside = (same_rows old.rows new.rows (ap (λ b. b.rows) h.1) inside, tt)
+
+  attach : (client : List ℕ) (old new : Books E P) (request : Request) (answer : Result (Attached E P) DeskError) → attaches_by client old request answer new
+      → InRows old.rows → InRows new.rows × IsAttachedSo Holds Fits answer
+  attach [] old new request answer h inside = attach_unnamed old new request.connection answer h inside
+  attach (byte ∷ bytes) old new request answer h inside = attach_client old new (byte ∷ bytes) request answer h inside
+
+  -- a sweep hands out a session
+  sweeps : (old new : Rows E P) (IsOne : Row E P → Type 0) (standing : Standing E P) (session : Session E P) → session_in standing ≡ Some session → HandsOut old IsOne standing new
+      → InRows old → InRows new × IsSo Holds Fits session
+  sweeps old new IsOne standing session has h inside = (
+    same_rows (map.insert old h.number (away h.oldest.row.client)) new h.after (empties old h.number (away h.oldest.row.client) inside refl),
+    inside h.number h.oldest.row session h.oldest.has (ap session_in h.stood ∙ has),
+  )
+
+  module _ (cell : P → ℕ) where
+    -- each call
+    call_rows : (old new : Books E P) (call : Call E P) → Makes cell old call new → IsEverywhere Holds Fits old → GoesIn Holds Fits call → InRows new.rows × ComesOut Holds Fits call
+    call_rows old new (Attach request answer) made so going = attach request.client old new request answer made so.sessions
+    call_rows old new (Withdraw connection) made so going = (same_rows old.rows new.rows (ap (λ b. b.rows) made) so.sessions, tt)
+    call_rows old new (Kicked connection answer) made so going = (same_rows old.rows new.rows (ap (λ b. b.rows) made.1) so.sessions, tt)
+    call_rows old new (Park session now None) made so going = (
+      same_rows (map.insert old.rows session.identity.number (with_standing made.lent.row (Parked (parked_at session now)))) new.rows (ap (λ b. b.rows) made.after)
+          (fills old.rows session.identity.number (with_standing made.lent.row (Parked (parked_at session now))) (parked_at session now) so.sessions refl (parks session now going)),
+      tt,
+    )
+    call_rows old new (Park session now (Some back)) made so going = (
+      ⊎_elim
+          (λ (h : EndsLent old session new).
+          same_rows (map.insert old.rows session.identity.number (away h.lent.row.client)) new.rows (ap (λ b. b.rows) h.after)
+          (empties old.rows session.identity.number (away h.lent.row.client) so.sessions refl))
+          (λ (h : (IsLent old session → ⊥) × (new ≡ old)). same_rows old.rows new.rows (ap (λ b. b.rows) h.1) so.sessions)
+          made.1,
+      handed_back session back made.0 going,
+    )
+    call_rows old new (ParkAsIs session None) made so going = (
+      same_rows (map.insert old.rows session.identity.number (with_standing made.lent.row (Parked session))) new.rows (ap (λ b. b.rows) made.after)
+          (fills old.rows session.identity.number (with_standing made.lent.row (Parked session)) session so.sessions refl going),
+      tt,
+    )
+    call_rows old new (ParkAsIs session (Some back)) made so going = (same_rows old.rows new.rows (ap (λ b. b.rows) made.2) so.sessions, handed_back session back made.0 going)
+    call_rows old new (Keep session None) made so going = (
+      same_rows (map.insert old.rows session.identity.number (with_standing made.gone.row (Kept session))) new.rows (ap (λ b. b.rows) made.after)
+          (fills old.rows session.identity.number (with_standing made.gone.row (Kept session)) session so.sessions refl going),
+      tt,
+    )
+    call_rows old new (Keep session (Some back)) made so going = (same_rows old.rows new.rows (ap (λ b. b.rows) made.2) so.sessions, handed_back session back made.0 going)
+    call_rows old new (Bury session None) made so going = (
+      same_rows (map.remove old.rows session.identity.number) new.rows (ap (λ b. b.rows) made.1) (removes old.rows session.identity.number so.sessions),
+      tt,
+    )
+    call_rows old new (Bury session (Some back)) made so going = (same_rows old.rows new.rows (ap (λ b. b.rows) made.2) so.sessions, handed_back session back made.0 going)
+    call_rows old new (Sweep now None) made so going = (same_rows old.rows new.rows (ap (λ b. b.rows) made.2 ∙ made.1.2) so.sessions, tt)
+    call_rows old new (Sweep now (Some session)) made so going =
+        let swept = ⊎_elim
+        (λ (h : HandsOut old.rows IsKept (Kept session) made.0). sweeps old.rows made.0 IsKept (Kept session) session refl h so.sessions)
+        (λ (h : NoRow old.rows IsKept × HandsOut old.rows (IsOverdue now) (Parked session) made.0). sweeps old.rows made.0 (IsOverdue now) (Parked session) session refl h.1 so.sessions)
+        made.1 in (
+          same_rows made.0 new.rows (ap (λ b. b.rows) made.2) swept.0,
+          swept.1,
+        )
+    call_rows old new (LendPlace slot None) made so going = (same_rows old.rows new.rows (ap (λ b. b.rows) made.2) so.sessions, tt)
+    call_rows old new (LendPlace slot (Some place)) made so going = (
+      same_rows old.rows new.rows (ap (λ b. b.rows) made.2) so.sessions,
+      subst Fits (sym made.1.2) (so.places made.1.0 made.1.1.place made.1.1.is_free),
+    )
+    call_rows old new (TakePlace place None) made so going = (same_rows old.rows new.rows (ap (λ b. b.rows) made.2) so.sessions, tt)
+    call_rows old new (TakePlace place (Some back)) made so going = (same_rows old.rows new.rows (ap (λ b. b.rows) made.2) so.sessions, subst Fits (sym made.1.0) going)
+
+    pub onward : (old new : Books E P) (call : Call E P) → Makes cell old call new → IsEverywhere Holds Fits old → GoesIn Holds Fits call → IsEverywhere Holds Fits new
+    onward old new call made so going =
+        record {
+          sessions = (call_rows old new call made so going).0;
+          places = free_call Holds Fits cell (λ _ place. Fits place) (λ place fits. fits) old new call made going so.places;
+        }
+
+    pub out : (old new : Books E P) (call : Call E P) → Makes cell old call new → IsEverywhere Holds Fits old → GoesIn Holds Fits call → ComesOut Holds Fits call
+    out old new call made so going = (call_rows old new call made so going).1
+
+-- a new desk has nothing
+pub nothing : {E P : Type 0} (Holds : Session E P → Type 0) (Fits : P → Type 0) → IsEverywhere Holds Fits new_books
+nothing Holds Fits = record { sessions = λ number row session has inside. absurd (no_row number row has); places = λ cell place has. absurd (none_free 256 cell place has) }
