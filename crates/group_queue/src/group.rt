@@ -160,7 +160,8 @@ impl<'a> SharedGroup<'a> {
             return Ok(None);
         };
         place.docket.take_out(job);
-        Ok(Some(Envelope::new(Stamp::of(self.slot, job), place.number, message)))
+        let stamp = Stamp::of(self.slot, job);
+        Ok(Some(Envelope::new(stamp, place.number, message)))
     }
 
     /// Gives a message back that a place of this group holds, to be handed out again. A step of the queue may wait for
