@@ -143,12 +143,12 @@ impl Docket {
         self.settled.add(job, fate);
     }
 
-    /// A job that is out goes back.
+    /// A job that is out goes back, and leaves its room to another.
     pub fn give_back(&mut self, job: Job)
         requires { Contains self.old.out job }
         ensures out { TakesOff self.old.out job self.new.out }
         ensures settled { self.new.settled ≡ self.old.settled }
-        ensures room { self.old.room ≤ self.new.room }
+        ensures room { self.new.room ≡ self.old.room + 1 }
     {
         take_off(&mut self.out, job);
     }

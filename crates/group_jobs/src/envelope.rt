@@ -6,7 +6,8 @@ use crate::stamp::Stamp;
 use std::marker::Model;
 
 /// A message that was handed out, with its stamp and the number of the place that holds it. It can't be dropped: the group
-/// that handed it out takes it back, settled, given back, or in the list of what is held at the end.
+/// that handed it out takes it back, settled, given back, or in the list of what is held at the end. Only the groups are to
+/// call [`Envelope::new`] and [`Envelope::open`], which no type enforces: what is private is private to a crate.
 ///
 /// Contracts see it as a `Held`.
 pub struct Envelope {
@@ -24,7 +25,8 @@ impl Model for Envelope {
 }
 
 impl Envelope {
-    /// An envelope. A group makes one for each hand-out, and no others: one that was made otherwise is a stranger to it.
+    /// An envelope, for a group, which makes one for each hand-out. A group can't tell one that was made elsewhere from its own
+    /// where the stamp is that of a message that the place has out; else it is a stranger to it.
     pub fn new(stamp: Stamp, place: u8, message: SharedMessage) -> Envelope
         ensures { result ≡ record { stamp = stamp; place = place; message = message } }
     {

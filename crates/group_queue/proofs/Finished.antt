@@ -26,7 +26,7 @@ use Rattle.group_queue.proofs.MainLaws.{posts}
 use Rattle.group_queue.specs.Returns.{bag_of, popping_back, StandsBack}
 use Rattle.group_queue.specs.Ports.{GroupId, PortState}
 use Rattle.group_queue.specs.Places.{PlaceState, IsPlaceOf, IsBalanced, account_of, jobs_in}
-use Rattle.group_queue.specs.Ends.{HasAll, IsWhole, AreCounts}
+use Rattle.group_queue.specs.Ends.{HasAll, IsWhole, AreCounts, IsSent, Carries}
 use Rattle.shared_ledger.specs.Giving.{times_in}
 use Rattle.shared_ledger.specs.Givers.{HolderState}
 use Rattle.std.proofs.lemmas.List.Sums.{sum_by-cons}
@@ -36,7 +36,8 @@ use Rattle.group_queue.proofs.Orderly.{order_whole, orderly}
 use Rattle.group_queue.proofs.Partition.{sum_by-map}
 use Rattle.group_queue.proofs.MainEnds.{bit}
 use Rattle.group_queue.proofs.Checks.{All-there}
-use Rattle.group_queue.proofs.Rooms.{room_returned, room_queued, firsts_below, adds_first, adds_given, adds_held}
+use Rattle.group_queue.proofs.Rooms.{main_weighs, back_weighs, room_returned, room_queued, firsts_below, adds_first, adds_given, adds_held}
+use Rattle.group_queue.proofs.Carried.{first_as_sent}
 
 All-accounts : (places : List PlaceState) → All IsBalanced places → All Balance (map account_of places)
 All-accounts [] all = All-nil Balance
@@ -154,6 +155,34 @@ module _ (group : GroupId) (ports : List PortState) (places : List PlaceState) (
           ap (count_of younger) queued_is,
           ap (λ (l : List ℕ). times_accepted l younger) accepted_is,
         ))
+
+    as_sent : All (λ (p : PlaceState). All (IsSent ports) p.firsts) places
+    as_sent k d less i e within =
+        let here = known queued [] stands in
+        let h = here.holds in
+        let p = get_or places k d in
+        first_as_sent h.past [] h.owner here.pass group.shape queued j.order ports h.no_port (h.fits here.pass (knowing group.shape queued j.order ports) here.there) all_places whole.all_ports h.numbered
+        p (Contains-permutation places j.order p j.same (Contains-get_or places k d less)) (get_or p.firsts i e) (Contains-get_or p.firsts i e within)
+
+    pub carries_all : (report : Report) → report.queued.items ≡ jobs_in queued → report.returned.items ≡ jobs_in returned → Carries ports places report
+    carries_all report queued_is returned_is = record {
+      as_sent = as_sent;
+      queued = queued;
+      queued_are = queued_is;
+      firsts = (λ worth. omega (
+        arith,
+        main_weighs group.shape j.order ports all_places whole.all_ports (bag_of passes.returns) j.parts j.popped j.pushed queued [] (known queued [] stands) worth,
+        summed (λ (p : PlaceState). sum_by worth p.firsts),
+      ));
+      returned = returned;
+      returned_are = returned_is;
+      agains = (λ worth. omega (
+        arith,
+        back_weighs group.shape j.order ports all_places whole.all_ports (bag_of passes.returns) j.parts j.popped j.pushed returned [] back worth,
+        summed (λ (p : PlaceState). sum_by worth p.agains),
+        summed (λ (p : PlaceState). sum_by worth p.given),
+      ));
+    }
 
     settled_sum : (fate : Fate) (job : Job)
         → sum_by (λ (a : Account). a.settled fate job) (map account_of places) ≡ sum_by (λ (d : Kept). count_of job (settled_as fate d.settled)) dockets + count_of job (settled_as fate ledger)

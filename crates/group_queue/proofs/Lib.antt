@@ -18,4 +18,5 @@ pub mod Joined
 pub mod SameRuns
 pub mod Compared
 pub mod Orderly
+pub mod Carried
 pub mod Finished

@@ -119,6 +119,10 @@ module _ (past : List Pop) (items : List Posted) (owner : Name → ℕ) (pass : 
   pub place_popped : (p : PlaceState) → Contains places p → p.firsts ≡ popped_by (Place p.number) past
   place_popped p here = (Each-there (λ e. (owner e.name ≡ pass) × (e.list ≡ list_of e.name past items)) place_entry places p split.0 here).1
 
+  -- what a port sent is what came through it
+  pub port_sent : (p : PortState) → Contains ports p → p.sent ≡ through p.number (all_of past items)
+  port_sent p here = (Each-there (λ e. (owner e.name ≡ pass) × (e.list ≡ list_of e.name past items)) port_entry ports p split.1 here).1
+
   -- the names of the places, and of who ends the group
   poppers : List Name
   poppers = Finisher ∷ map (λ (p : PlaceState). Place p.number) places

@@ -53,6 +53,7 @@ pub keeps_hands : (number : ℕ) (old new : Kept) (t u : Passes) (giver : GiverS
     → SamePasses t u → view u.main ≡ view t.main → bag_of u.returns ≡ bag_of t.returns → IsInHands number new u giver
 keeps_hands number old new t u giver h out settled same main returns = record {
   main = subst (IsOf (Place number)) (sym main) h.main;
+  few = h.few;
   part = same.part ∙ h.part;
   bare = same.bare;
   balanced = (λ job.
@@ -81,6 +82,7 @@ takes_front number old new t u giver x h out settled same takes returns few =
     let grew = list-grown (Place number) (view t.main) (view u.main) x h.main takes.is in
     record {
       main = of-grown (Place number) (view t.main) (view u.main) x h.main takes.is;
+      few = h.few;
       part = same.part ∙ h.part;
       bare = same.bare;
       balanced = (λ job.
@@ -98,6 +100,7 @@ pub takes_back : (number : ℕ) (old new : Kept) (t u : Passes) (giver : GiverSt
     → SamePasses t u → view u.main ≡ view t.main → PopsBack (bag_of t.returns) x (bag_of u.returns) → IsSmall x.job → IsInHands number new u giver
 takes_back number old new t u giver x h out settled same main pops few = record {
   main = subst (IsOf (Place number)) (sym main) h.main;
+  few = h.few;
   part = same.part ∙ h.part;
   bare = same.bare;
   balanced = (λ job.
@@ -115,6 +118,7 @@ pub gives_back : (number : ℕ) (old new : Kept) (t u : Passes) (giver : GiverSt
     → SamePasses t u → view u.main ≡ view t.main → PushesBack (bag_of t.returns) x (bag_of u.returns) → IsInHands number new u giver
 gives_back number old new t u giver x h out settled same main pushes = record {
   main = subst (IsOf (Place number)) (sym main) h.main;
+  few = h.few;
   part = same.part ∙ h.part;
   bare = same.bare;
   balanced = (λ job.
@@ -131,6 +135,7 @@ gives_back number old new t u giver x h out settled same main pushes = record {
 pub settles_hands : (number : ℕ) (old new : Kept) (t : Passes) (giver : GiverState) (job : Job) (fate : Fate) → IsInHands number old t giver → TakesOff old.out job new.out → Settles old.settled job fate new.settled → IsInHands number new t giver
 settles_hands number old new t giver one fate h out settled = record {
   main = h.main;
+  few = h.few;
   part = h.part;
   bare = h.bare;
   balanced = (λ job.
@@ -144,6 +149,7 @@ settles_hands number old new t giver one fate h out settled = record {
 pub gathers_hands : (number : ℕ) (old new : Kept) (t : Passes) (giver after : GiverState) → IsInHands number old t giver → GivesAll giver old after new → IsInHands number new t after
 gathers_hands number old new t giver after h g = record {
   main = h.main;
+  few = h.few;
   part = h.part;
   bare = h.bare;
   balanced = (λ job.
@@ -196,9 +202,10 @@ new_left group number t (Some left) of few h =
     }
 
 -- a place that did nothing
-pub new_hands : (number : ℕ) (docket : Kept) (t : Passes) (giver : GiverState) → giver.gave ≡ [] → view t.main ≡ one (Place number) [] → bag_of t.returns ≡ bag 1 [] []
+pub new_hands : (number : ℕ) (docket : Kept) (t : Passes) (giver : GiverState) → number < 32 → giver.gave ≡ [] → view t.main ≡ one (Place number) [] → bag_of t.returns ≡ bag 1 [] []
     → AreBare t → docket.out ≡ [] → IsUnsettled docket.settled → IsInHands number docket t giver
-new_hands number docket t giver none main returns bare out unsettled = record {
+new_hands number docket t giver few none main returns bare out unsettled = record {
+  few = few;
   main = main ∙ ap (one (Place number)) (sym (ap list_in main));
   part = ap (λ b. b.parts) returns;
   bare = bare;

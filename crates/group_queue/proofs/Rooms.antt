@@ -38,7 +38,7 @@ module _ (shape : Shape) (places : List PlaceState) (ports : List PortState)
     (v : Bag) (parts : 64 ≤ v.parts)
     (popped : (w : Posted → ℕ) → sum_by w v.popped ≡ sum_by (λ (p : PlaceState). sum_by w p.agains) places)
     (pushed : (w : Posted → ℕ) → sum_by w v.pushed ≡ sum_by (λ (p : PlaceState). sum_by w p.given) places) where
-  main_weighs : (left items : List Posted) → Stands (knowing shape left places ports) items → (w : Posted → ℕ)
+  pub main_weighs : (left items : List Posted) → Stands (knowing shape left places ports) items → (w : Posted → ℕ)
       → sum_by (λ (p : PortState). sum_by w p.sent) ports ≡ sum_by (λ (p : PlaceState). sum_by w p.firsts) places + sum_by w left + sum_by w items
   main_weighs left items stands w =
       let h = stands.holds in

@@ -1,5 +1,5 @@
 -- The end of a group: what `finish` answers, of all of its ports and places and the envelopes that they have out.
-use Rattle.std.specs.Prelude.{◌≡◌, ℕ, ◌<◌, ◌≤◌, ◌==◌, ◌&&◌, if◌then◌else◌, List, map, length, sum_by, count_by, Contains, slice_index_or}
+use Rattle.std.specs.Prelude.{◌≡◌, ℕ, ◌+◌, ◌<◌, ◌≤◌, ◌==◌, ◌&&◌, if◌then◌else◌, List, map, length, sum_by, count_by, All, Contains, slice_get, slice_index_or, Some}
 use Rattle.dispatch_core.specs.JobRuns.{count_of}
 use Rattle.group_jobs.specs.declared.stamp.Stamp.{Stamp}
 use Rattle.group_jobs.specs.declared.report.Report.{Report}
@@ -10,7 +10,8 @@ use Rattle.group_queue.specs.declared.error.Lack.TheVariants.{Port, Place, Envel
 use Rattle.group_queue.specs.declared.error.FinishError.{FinishError}
 use Rattle.group_queue.specs.declared.error.FinishError.TheVariants.{Missing, Stranger, Memory}
 use Rattle.group_queue.specs.Ports.{GroupId, PortState}
-use Rattle.group_queue.specs.Places.{PlaceState, account_of}
+use Rattle.group_queue.specs.declared.posted.Posted.{Posted}
+use Rattle.group_queue.specs.Places.{PlaceState, account_of, jobs_in}
 
 abbrev pub port_numbers : List PortState → List ℕ
 port_numbers ports = map (λ port. port.number) ports
@@ -53,9 +54,27 @@ pub record AreCounts (count : ℕ) (ports : List PortState) (accepted : List ℕ
   pub many : length accepted ≡ count
   pub each : (number : ℕ) → number < count → (port : PortState) × Contains ports port × (port.number ≡ number) × (slice_index_or accepted number 0 ≡ length port.sent)
 
+-- a port sent this very message, as the one of its number
+abbrev pub IsSent : List PortState → Posted → Type 0
+IsSent ports posted = (port : PortState) × Contains ports port × (port.number ≡ posted.job.port) × (slice_get port.sent posted.job.number ≡ Some posted)
+
+-- each hand-out carried the message that was accepted as this job
+pub record Carries (ports : List PortState) (places : List PlaceState) (report : Report) : Type 0 where
+  -- what a place was the first to be handed is what its port sent under that number
+  pub as_sent : All (λ place. All (IsSent ports) place.firsts) places
+  -- whatever each message with its job counts for: first hand-outs and what is queued count for as much as what was sent
+  pub queued : List Posted
+  pub queued_are : report.queued.items ≡ jobs_in queued
+  pub firsts : (worth : Posted → ℕ) → sum_by (λ place. sum_by worth place.firsts) places + sum_by worth queued ≡ sum_by (λ port. sum_by worth port.sent) ports
+  -- and what was handed out again and what is returned for as much as what was given back
+  pub returned : List Posted
+  pub returned_are : report.returned.items ≡ jobs_in returned
+  pub agains : (worth : Posted → ℕ) → sum_by (λ place. sum_by worth place.agains) places + sum_by worth returned ≡ sum_by (λ place. sum_by worth place.given) places
+
 -- what became of the group's messages: the report has what its ports and places did, and what is held is the list of envelopes
 pub record Reports (group : GroupId) (ports : List PortState) (places : List PlaceState) (held : List Held) (report : Report) : Type 0 where
   pub accepted : AreCounts group.shape.ports ports report.accepted.items
   pub envelopes : report.held.items ≡ map (λ envelope. job_of envelope.stamp) held
   pub adds : AddsUp (map account_of places) report
   pub orderly : AreOrderly (map account_of places) report
+  pub carries : Carries ports places report

@@ -1,13 +1,13 @@
 -- The rule of the main queue: there is a past. What stands in the queue, and what anybody knows, is read off one list of pops
 -- and the messages behind it.
-use Rattle.std.specs.Prelude.{◌≡◌, ℕ, ◌<◌, ◌≤◌, ◌==◌, true, List, [], ◌∷◌, ◌++◌, length, map, filter}
+use Rattle.std.specs.Prelude.{◌≡◌, ℕ, ◌<◌, ◌≤◌, ◌==◌, true, List, [], ◌∷◌, ◌++◌, length, map, filter, Contains}
 use mathlib.Core.Option.{some}
 use lib.ListN.{get_elem?}
 use Rattle.group_queue.specs.declared.posted.Posted.{Posted}
 use Rattle.group_queue.specs.declared.view.Name.{Name}
 use Rattle.group_queue.specs.declared.view.Name.TheVariants.{Port, Place, Finisher}
 use Rattle.group_queue.specs.declared.view.View.{View}
-use Rattle.group_queue.specs.Views.{same_name, Each, AreApart, grown}
+use Rattle.group_queue.specs.Views.{same_name, Each, AreApart, one, grown}
 
 -- one pop from the queue: who made it, and the message
 pub record Pop : Type 0 where
@@ -73,3 +73,16 @@ pub record Takes (old : View) (posted : Posted) (new : View) : Type 0 where
   pub before : Stands old (posted ∷ items)
   pub after : Stands new items
   pub is : new ≡ grown old posted
+
+-- some pass has this view
+abbrev pub IsKnown : List View → View → Type 0
+IsKnown views v = (pass : ℕ) × (get_elem? views pass ≡ some v)
+
+-- of so many places one has this message among its first hand-outs, and no other place has it
+pub record IsWithOne (views : List View) (places : ℕ) (posted : Posted) : Type 0 where
+  pub place : ℕ
+  pub within : place < places
+  pub firsts : List Posted
+  pub known : IsKnown views (one (Place place) firsts)
+  pub there : Contains firsts posted
+  pub only : (other : ℕ) (others : List Posted) → IsKnown views (one (Place other) others) → Contains others posted → other ≡ place

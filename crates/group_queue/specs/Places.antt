@@ -97,6 +97,10 @@ pub record KeepsDocket (old new : Kept) : Type 0 where
   pub out : new.out ≡ old.out
   pub settled : KeepsSettled old.settled new.settled
 
+-- there is room for no fewer hand-outs than before
+abbrev pub KeepsRoom : PlaceState → PlaceState → Type 0
+KeepsRoom old new = old.docket.room ≤ new.docket.room
+
 -- the place did nothing
 pub record KeepsPlace (old new : PlaceState) : Type 0 where
   pub docket : KeepsDocket old.docket new.docket
@@ -106,6 +110,7 @@ pub record KeepsPlace (old new : PlaceState) : Type 0 where
 pub record SettlesHeld (old : PlaceState) (job : Job) (fate : Fate) (new : PlaceState) : Type 0 where
   pub out : TakesOff old.docket.out job new.docket.out
   pub settled : Settles old.docket.settled job fate new.docket.settled
+  pub room : KeepsRoom old new
   pub others : new ≡ record old { docket = new.docket }
 
 -- a message is out, in an envelope
@@ -121,12 +126,22 @@ pub record TakesFront (old : PlaceState) (envelope : Held) (new : PlaceState) : 
   pub front : Takes (one (Place old.number) old.firsts) posted (one (Place new.number) new.firsts)
   pub others : new ≡ record old { docket = new.docket; firsts = old.firsts ++ posted ∷ [] }
 
+-- nothing was handed out for want of memory: there was no room in the docket
+abbrev pub HasNoRoom : PlaceState → PlaceState → Type 0
+HasNoRoom old new = KeepsPlace old new × (old.docket.room ≡ 0)
+
+-- a hand-out takes the room of one, and else there is room for no fewer than before
+abbrev pub UsesRoom : PlaceState → Result (Option Held) JobError → PlaceState → Type 0
+UsesRoom old (Ok (Some envelope)) new = old.docket.room ≤ new.docket.room + 1
+UsesRoom old (Ok None) new = KeepsRoom old new
+UsesRoom old (Err refusal) new = KeepsRoom old new
+
 -- what `take` answers: the front; nothing, where the queue was empty at one moment of the call; or no memory, and nothing was
 -- taken
 abbrev pub TakeAnswers : PlaceState → Result (Option Held) JobError → PlaceState → Type 0
 TakeAnswers old (Ok (Some envelope)) new = TakesFront old envelope new
 TakeAnswers old (Ok None) new = KeepsPlace old new × AtOneMoment 0 (Stands (one (Place old.number) old.firsts))
-TakeAnswers old (Err refusal) new = KeepsPlace old new
+TakeAnswers old (Err refusal) new = HasNoRoom old new
 
 -- the front of the returns queue was handed to the place, again
 pub record TakesBack (old : PlaceState) (envelope : Held) (new : PlaceState) : Type 0 where
@@ -138,12 +153,13 @@ pub record TakesBack (old : PlaceState) (envelope : Held) (new : PlaceState) : T
 abbrev pub TakeBackAnswers : PlaceState → Result (Option Held) JobError → PlaceState → Type 0
 TakeBackAnswers old (Ok (Some envelope)) new = TakesBack old envelope new
 TakeBackAnswers old (Ok None) new = KeepsPlace old new × StandsBack (bag 1 old.given old.agains) []
-TakeBackAnswers old (Err refusal) new = KeepsPlace old new
+TakeBackAnswers old (Err refusal) new = HasNoRoom old new
 
 -- the envelope's own message was given back, with its stamp
 pub record GivesBack (old : PlaceState) (envelope : Held) (new : PlaceState) : Type 0 where
   pub out : TakesOff old.docket.out (job_of envelope.stamp) new.docket.out
   pub settled : KeepsSettled old.docket.settled new.docket.settled
+  pub room : new.docket.room ≡ old.docket.room + 1
   pub back : PushesBack (bag 1 old.given old.agains) (record { job = job_of envelope.stamp; message = envelope.message }) (bag 1 new.given new.agains)
   pub others : new ≡ record old { docket = new.docket; given = old.given ++ record { job = job_of envelope.stamp; message = envelope.message } ∷ [] }
 

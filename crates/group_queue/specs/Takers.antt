@@ -41,6 +41,7 @@ pub record AreBare (passes : Passes) : Type 0 where
 
 -- the passes are those of this place, and the docket is in balance with what they know and with what was given
 pub record IsInHands (number : ℕ) (docket : Kept) (passes : Passes) (giver : GiverState) : Type 0 where
+  pub few : number < 32
   pub main : IsOf (Place number) (view passes.main)
   pub part : (bag_of passes.returns).parts ≡ 1
   pub bare : AreBare passes

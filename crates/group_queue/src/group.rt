@@ -49,8 +49,15 @@ impl<'a> Model for SharedGroup<'a> {
 
 impl<'a> SharedGroup<'a> {
     ghost use Rattle.group_queue.specs.Ports.{IsPortOf, next_posted, next_stamp};
-    ghost use Rattle.group_queue.specs.Places.{IsPlaceOf, IsSamePlace, Holds, TakeAnswers, TakeBackAnswers, GiveBackAnswers, GatherAnswers};
+    ghost use Rattle.group_queue.specs.Places.{IsPlaceOf, Holds, TakeAnswers, TakeBackAnswers, UsesRoom, GiveBackAnswers, GatherAnswers};
     ghost use Rattle.group_queue.specs.Offers.{OfferAnswers};
+
+    /// Its slot, which its stamps have.
+    pub fn slot(&self) -> u8
+        ensures { result ≡ self.now.slot }
+    {
+        self.slot
+    }
 
     /// Accepts a message through a port of this group, whose gate is open. It takes no memory. A step of the queue may wait
     /// for another thread's.
@@ -101,7 +108,8 @@ impl<'a> SharedGroup<'a> {
     ///
     /// # Errors
     ///
-    /// 503 [`JobError::Memory`] where there is no room in the place's docket. Nothing was taken then.
+    /// 503 [`JobError::Memory`] only where there was no room in the place's docket, so not after [`Place::reserve`]. Nothing was
+    /// taken then.
     pub fn take<R: Wait>(
         &self,
         rt: &R,
@@ -112,6 +120,7 @@ impl<'a> SharedGroup<'a> {
         requires turn { turn.now.gate ≡ self.now.gate }
         ensures answer { TakeAnswers place.old result place.new }
         ensures holds { IfOk result (λ answer. IfSome answer (Holds place.new)) }
+        ensures room { UsesRoom place.old result place.new }
         ensures of { IsPlaceOf self.now place.new }
     {
         let _ = turn;
@@ -129,7 +138,8 @@ impl<'a> SharedGroup<'a> {
     ///
     /// # Errors
     ///
-    /// 503 [`JobError::Memory`] where there is no room in the place's docket. Nothing was taken then.
+    /// 503 [`JobError::Memory`] only where there was no room in the place's docket, so not after [`Place::reserve`]. Nothing was
+    /// taken then.
     pub fn take_back<R: Wait>(
         &self,
         rt: &R,
@@ -140,6 +150,7 @@ impl<'a> SharedGroup<'a> {
         requires turn { turn.now.gate ≡ self.now.gate }
         ensures answer { TakeBackAnswers place.old result place.new }
         ensures holds { IfOk result (λ answer. IfSome answer (Holds place.new)) }
+        ensures room { UsesRoom place.old result place.new }
         ensures of { IsPlaceOf self.now place.new }
     {
         let _ = turn;
@@ -149,7 +160,8 @@ impl<'a> SharedGroup<'a> {
             return Ok(None);
         };
         place.docket.take_out(job);
-        Ok(Some(Envelope::new(Stamp::of(self.slot, job), place.number, message)))
+        let stamp = Stamp::of(self.slot, job);
+        Ok(Some(Envelope::new(stamp, place.number, message)))
     }
 
     /// Gives a message back that a place of this group holds, to be handed out again. A step of the queue may wait for
@@ -167,7 +179,7 @@ impl<'a> SharedGroup<'a> {
         requires place { IsPlaceOf self.now place.old }
         requires held { Holds place.old envelope }
         ensures answer { GiveBackAnswers place.old envelope result place.new }
-        ensures of { IsSamePlace place.old place.new }
+        ensures of { IsPlaceOf self.now place.new }
     {
         let (stamp, message) = envelope.open();
         let job = stamp.job();

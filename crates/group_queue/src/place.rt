@@ -1,11 +1,11 @@
 //! Places: where a group hands messages out.
-ghost use Rattle.std.specs.Prelude.{◌≡◌, ◌<◌, ◌↔◌, IsTrue, All};
+ghost use Rattle.std.specs.Prelude.{◌≡◌, ◌<◌, ◌≤◌, ◌↔◌, IsTrue, All, OnOk, OnErr};
 ghost use Rattle.group_jobs.specs.Stamps.{stamp_of, job_of};
 
 use crate::main_queue::MainPass;
 use crate::returns_queue::ReturnsPass;
 use dispatch_core::Job;
-use group_jobs::{Docket, Envelope, Fate, Stamp};
+use group_jobs::{Docket, Envelope, Fate, JobError, Stamp};
 use shared_ledger::Giver;
 use std::marker::Model;
 
@@ -47,13 +47,38 @@ impl Model for Place {
 }
 
 impl Place {
-    ghost use Rattle.group_queue.specs.Places.{Holds, IsBalanced, IsSamePlace, SettlesHeld};
+    ghost use Rattle.group_queue.specs.Ports.{GroupId};
+    ghost use Rattle.group_queue.specs.Places.{Holds, IsBalanced, IsPlaceOf, IsSamePlace, KeepsPlace, KeepsRoom, SettlesHeld};
+
+    /// The slot of its group.
+    pub fn slot(&self) -> u8
+        ensures { result ≡ self.now.group }
+    {
+        self.group
+    }
 
     /// Its number in its group, from 0 to 31.
     pub fn number(&self) -> u8
-        ensures { result ≡ self.now.number }
+        ensures value { result ≡ self.now.number }
+        ensures few { result < 32 }
     {
         self.number
+    }
+
+    /// Makes room in its docket for a hand-out and its end, where there is none: then the next
+    /// [`SharedGroup::take`](crate::SharedGroup::take) or [`take_back`](crate::SharedGroup::take_back) needs no memory.
+    ///
+    /// # Errors
+    ///
+    /// 503 [`JobError::Memory`]. There was no such room.
+    pub fn reserve(&mut self) -> Result<(), JobError>
+        ensures ok { OnOk result (1 ≤ self.new.docket.room) }
+        ensures full { OnErr result (self.old.docket.room ≡ 0) }
+        ensures same { KeepsPlace self.old self.new }
+        ensures room { KeepsRoom self.old self.new }
+        ensures of { (group : GroupId) → IsPlaceOf group self.old → IsPlaceOf group self.new }
+    {
+        self.docket.reserve()
     }
 
     /// What it has out, and what it settled and did not gather: each hand-out of a job to it ended once, by a fate or by being given back, or the
@@ -87,7 +112,8 @@ impl Place {
         requires { Holds self.old envelope }
         ensures stamp { result ≡ envelope.stamp }
         ensures settled { SettlesHeld self.old (job_of envelope.stamp) fate self.new }
-        ensures of { IsSamePlace self.old self.new }
+        ensures same { IsSamePlace self.old self.new }
+        ensures of { (group : GroupId) → IsPlaceOf group self.old → IsPlaceOf group self.new }
     {
         let (stamp, _message) = envelope.open();
         self.docket.settle(stamp.job(), fate);

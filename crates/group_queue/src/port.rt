@@ -1,5 +1,5 @@
 //! Ports: where a group accepts messages.
-ghost use Rattle.std.specs.Prelude.{◌≡◌};
+ghost use Rattle.std.specs.Prelude.{◌≡◌, ◌≤◌};
 
 use crate::main_queue::MainPass;
 use std::marker::Model;
@@ -29,6 +29,13 @@ impl Model for Port {
 }
 
 impl Port {
+    /// The slot of its group.
+    pub fn slot(&self) -> u8
+        ensures { result ≡ self.now.group }
+    {
+        self.group
+    }
+
     /// Its number in its group, from 0 to 63.
     pub fn number(&self) -> u8
         ensures { result ≡ self.now.number }
@@ -36,9 +43,10 @@ impl Port {
         self.number
     }
 
-    /// How many messages it accepted: their numbers are those below.
+    /// How many messages it accepted, 2^20 at most: their numbers are those below.
     pub fn accepted(&self) -> u64
-        ensures { result ≡ self.now.accepted }
+        ensures value { result ≡ self.now.accepted }
+        ensures few { result ≤ 1048576 }
     {
         self.accepted
     }

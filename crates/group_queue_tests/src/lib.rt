@@ -6,6 +6,8 @@ mod finishing;
 #[cfg(test)]
 mod group_ledger;
 #[cfg(test)]
+mod long_run;
+#[cfg(test)]
 mod row;
 #[cfg(test)]
 mod threads;

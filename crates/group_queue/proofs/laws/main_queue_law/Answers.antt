@@ -8,6 +8,7 @@ use Rattle.group_queue.specs.Views.{one}
 use Rattle.group_queue.specs.Past.{through}
 use Rattle.group_queue.specs.Places.{jobs_in}
 use Rattle.group_queue.proofs.MainLaws.{posts, popped_rise, popped_apart, popped_in, split_apart, front_rise, all_rise}
+use Rattle.group_queue.proofs.Carried.{carried_one, with_one}
 use Rattle.group_queue.proofs.laws.main_queue_law.Goals as goal
 
 pub returns-clause-end : goal.returns-clause-end
@@ -34,3 +35,9 @@ returns-clause-left c = λ place firsts items stands job here there.
     let h = stands.holds in
     let mine = (h.fits stands.pass (one (Place place) firsts) stands.there).entries.0.1 in
     split_apart (posts h.past) items (all_rise [] (posts h.past ++ items) h.numbered) job (popped_in (Place place) h.past job (subst (λ l. Contains (jobs_in l) job) mine here)) there
+
+pub returns-clause-carried : goal.returns-clause-carried
+returns-clause-carried c = λ items views h place port firsts sent at at' posted there same. carried_one items views h place port firsts sent at at' posted there same
+
+pub returns-clause-none_lost : goal.returns-clause-none_lost
+returns-clause-none_lost c = λ items views h ports places kept each port sent at number posted there less. with_one items views h ports places kept each posted port sent at number there less

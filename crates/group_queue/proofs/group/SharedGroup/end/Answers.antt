@@ -8,7 +8,7 @@ use Rattle.group_queue.specs.declared.view.Bag.{Bag}
 use Rattle.group_queue.specs.Views.{popping}
 use Rattle.group_queue.specs.Past.{Stands}
 use Rattle.group_queue.specs.Returns.{StandsBack}
-use Rattle.group_queue.proofs.Finished.{room_back, room_main, room_settled, adds_up, orderly_end}
+use Rattle.group_queue.proofs.Finished.{room_back, room_main, room_settled, adds_up, orderly_end, carries_all}
 use Rattle.group_queue.proofs.group.SharedGroup.end.Goals as goal
 
 pub pop_returned-requires-clause-room : goal.pop_returned-requires-clause-room
@@ -44,4 +44,7 @@ returns g c =
       orderly = orderly_end c.args.self c.args.ports.items c.args.places.items c.args.held.items c.join_all-passes.result c.join_all-passes.new.dockets.items c.args.holder c.join_all-passes.new.holder c.join_all-passes.ensures.joined c.join_all-passes.ensures.given c.requires.whole
           c.end-settled.result c.end-settled.ensures.counts
           c.args.lists.accepted.items c.requires.ready.counts queued stands c.pop_returned.ensures.0 back c.look.ensures.stands.0 c.look.ensures.stands.1 c.requires.places _ refl c.pop_queued.ensures.2;
+      carries = carries_all c.args.self c.args.ports.items c.args.places.items c.args.held.items c.join_all-passes.result c.join_all-passes.new.dockets.items c.args.holder c.join_all-passes.new.holder c.join_all-passes.ensures.joined c.join_all-passes.ensures.given c.requires.whole
+          c.end-settled.result c.end-settled.ensures.counts
+          c.args.lists.accepted.items c.requires.ready.counts queued stands c.pop_returned.ensures.0 back _ c.pop_queued.ensures.2 c.pop_returned.ensures.2;
     }

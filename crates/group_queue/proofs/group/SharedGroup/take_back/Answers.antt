@@ -44,8 +44,8 @@ pub returns-clause-holds : goal.returns-clause-holds
 returns-clause-holds g c =
     let slot = ap (λ p. p.slot) c.self.view_is ∙ (sym c.requires.place.slot ∙ sym (ap (λ p. p.group) c.place.view_is)) in
     let x = c.in-Some.field-0 in
-    let job = ap (λ (e : Held). job_of e.stamp) c.new.ensures ∙ ap job_of c.of.ensures in (
-      ap (λ (e : Held). e.stamp.group) c.new.ensures ∙ (ap (λ s. s.group) c.of.ensures ∙ slot),
+    let job = ap (λ (e : Held). job_of e.stamp) c.new.ensures ∙ ap job_of c.of-stamp.ensures in (
+      ap (λ (e : Held). e.stamp.group) c.new.ensures ∙ (ap (λ s. s.group) c.of-stamp.ensures ∙ slot),
       ap (λ (e : Held). e.place) c.new.ensures,
       subst (Contains c.take_out.new.self.out) (sym job) (subst (λ l. Contains l x.job) (sym c.take_out.ensures.out) (Contains-push _ x.job)),
     )
