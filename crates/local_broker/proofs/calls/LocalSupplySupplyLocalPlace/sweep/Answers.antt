@@ -10,8 +10,8 @@ invariant_of-self c =
     let i = c.self.inside in
     kept i.desk c.sweep.new.self i.routes i.groups.items (Sweep c.args.now c.sweep.result) c.self.invariant tt c.sweep.ensures
 
-pub returns : goal.returns
-returns c =
+pub returns-clause-called : goal.returns-clause-called
+returns-clause-called c =
     let i = c.self.inside in
     let new : Broker = record { desk = c.sweep.new.self; routes = i.routes; groups = i.groups.items } in
     subst (λ (old : Broker). AsksDesk old (Sweep c.args.now c.sweep.result) new) c.self.view_is
