@@ -58,7 +58,7 @@ pub record AreCounts (count : ℕ) (ports : List PortState) (accepted : List ℕ
 abbrev pub IsSent : List PortState → Posted → Type 0
 IsSent ports posted = (port : PortState) × Contains ports port × (port.number ≡ posted.job.port) × (slice_get port.sent posted.job.number ≡ Some posted)
 
--- each hand-out carried the message that was accepted as this job
+-- what the hand-outs carried: a first one what was sent, and a later one what was given back
 pub record Carries (ports : List PortState) (places : List PlaceState) (report : Report) : Type 0 where
   -- what a place was the first to be handed is what its port sent under that number
   pub as_sent : All (λ place. All (IsSent ports) place.firsts) places
