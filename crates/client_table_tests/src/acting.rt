@@ -101,9 +101,9 @@ impl Hall {
         if !self.supply.begin() {
             return Ok(());
         }
-        let received =
-            self.clients
-                .receive(&mut self.supply, number, self.now, piece, &mut self.said);
+        let received = self
+            .clients
+            .receive(&mut self.supply, number, self.now, piece, &mut self.said);
         self.supply.end();
         received
     }

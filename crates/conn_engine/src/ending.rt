@@ -83,7 +83,11 @@ fn shut_down<P: Place, S: Supply<P>>(supply: &mut S, number: u16, standing: &mut
 }
 
 /// The connection of a session has ended: the desk parks it, and it is retired where it ends with its connection.
-pub(crate) fn part<P: Place, S: Supply<P>>(supply: &mut S, mut session: Session<Envelope, P>, now: u64)
+pub(crate) fn part<P: Place, S: Supply<P>>(
+    supply: &mut S,
+    mut session: Session<Envelope, P>,
+    now: u64,
+)
     requires { session.window.retired ≡ false }
     ensures parted { Parts S.call supply.old session now supply.new }
     ensures visiting { S.visiting supply.new ≡ S.visiting supply.old }

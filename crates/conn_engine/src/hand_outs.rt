@@ -187,7 +187,11 @@ fn ask<P: Place, S: Supply<P>>(supply: &mut S, place: &mut P) -> Result<Option<E
 }
 
 /// Whoever leaves is no member once it holds nothing.
-fn leave<P: Place, S: Supply<P>>(supply: &mut S, place: P, window: &Window<Envelope>) -> Membership<P>
+fn leave<P: Place, S: Supply<P>>(
+    supply: &mut S,
+    place: P,
+    window: &Window<Envelope>,
+) -> Membership<P>
     ensures left { LeavesWith S.call supply.old place window.now result supply.new }
     ensures visiting { S.visiting supply.new ≡ S.visiting supply.old }
 {
