@@ -12,7 +12,6 @@ use Rattle.member_window.specs.Runs.{transcript_of}
 use Rattle.member_window.specs.Runs as windows
 use Rattle.member_window.proofs.Law.{made_append, transcript_append}
 use Rattle.session_desk.specs.declared.session.Membership.{Membership}
-use Rattle.session_desk.specs.declared.session.Membership.TheVariants.{Member}
 use Rattle.conn_engine.specs.declared.input.Input.{Input}
 use Rattle.conn_engine.specs.declared.input.Then.{Then}
 use Rattle.conn_engine.specs.declared.standing.Link.{Link}

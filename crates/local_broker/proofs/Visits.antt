@@ -2,8 +2,7 @@
 use Rattle.std.proofs.Common.{◌≡◌, ℕ, zero, suc, Bool, not, ◌&&◌, List, [], ◌∷◌, Option, Some, None, Result, Ok, Err, slice_get, slice_set, sym, ap, ◌∙◌, ⊎_elim}
 use Rattle.std.specs.List.{list_all}
 use Rattle.std.proofs.lemmas.Option.{same_Some}
-use Rattle.dispatch_core.specs.Step.{Step}
-use Rattle.group_jobs.specs.Stamps.{Held, job_of}
+use Rattle.group_jobs.specs.Stamps.{Held}
 use Rattle.group_jobs.specs.declared.fate.Fate.{Fate}
 use Rattle.group_jobs.specs.declared.fate.Fate.TheVariants as fate
 use Rattle.group_jobs.specs.declared.message.Message.{Message}
