@@ -1,5 +1,8 @@
 -- A listener as contracts see it, and what the system's refusals mean.
-use Rattle.std.specs.Prelude.{◌≡◌, ◌≢◌, ℕ, ◌<◌, Option, Some, None}
+use Rattle.std.specs.Prelude.{◌≡◌, ◌≢◌, ℕ, ◌<◌, Bool, false, ◌||◌, if◌then◌else◌, ℤ, pos, Option, Some, None}
+use Rattle.std.specs.Ordering.{int_eq}
+use Rattle.std.specs.IoError.{error_kind, raw_os_error}
+use Rattle.std_io.specs.declared.io.error.Error.{Error}
 use Rattle.std_io.specs.declared.io.kind.ErrorKind.{ErrorKind}
 use Rattle.std_io.specs.declared.io.kind.ErrorKind.TheVariants as kind
 use Rattle.mio.specs.declared.net.listener.TcpListener.{TcpListener}
@@ -25,12 +28,22 @@ abbrev pub open_error_of : ErrorKind → OpenError
 open_error_of kind.AddrInUse = refusal.PortInUse
 open_error_of _ = refusal.System
 
+-- the system is short of something for now, by the number of its error: of memory (ENOMEM, 12), of descriptors (ENFILE, 23, and EMFILE, 24), or
+-- of buffers (ENOBUFS, 105)
+abbrev pub is_short : Option ℤ → Bool
+is_short (Some code) = int_eq code (pos 12) || int_eq code (pos 23) || int_eq code (pos 24) || int_eq code (pos 105)
+is_short None = false
+
 -- what it means that no connection was accepted; of one that is gone, nothing
 abbrev pub refused_arrival : {T : Type 0} → ErrorKind → Option (Arrival T)
 refused_arrival kind.WouldBlock = Some arrival.Idle
 refused_arrival kind.Interrupted = None
 refused_arrival kind.ConnectionAborted = None
 refused_arrival _ = Some arrival.Failed
+
+-- where the system is short of something, a listener is idle
+abbrev pub passed_over : {T : Type 0} → Error → Option (Arrival T)
+passed_over error = if is_short (raw_os_error error) then Some arrival.Idle else refused_arrival (error_kind error)
 
 -- of a connection that came, nothing was asked yet
 abbrev pub IsFresh : {W : Type 0} → Arrival (SocketState W) → Type 0

@@ -10,10 +10,12 @@ mod patient;
 mod reactor;
 mod socket;
 mod source;
+mod until;
 mod wire;
 
 pub use patient::{PATIENCE, Patient};
 pub use reactor::{Alarm, MOST_SOURCES, Reactor, ReactorError, Ready};
 pub use socket::{Socket, TcpTransport};
-pub use source::{OpenError, TcpSource};
+pub use source::{OpenError, TcpSource, not_accepted};
+pub use until::Until;
 pub use wire::{Outcome, Wire};

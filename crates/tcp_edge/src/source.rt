@@ -1,11 +1,12 @@
 //! Where connections come from: a listener on the loopback.
 ghost use Rattle.std.specs.Prelude.{◌≡◌, ◌<◌, IfOk, IfErr, IfSome, Some};
-ghost use Rattle.std.specs.IoError.{error_kind};
-ghost use Rattle.tcp_edge.specs.Sources.{IsFresh, IsPortFor, open_error_of, refused_arrival};
-ghost use Rattle.transport.specs.Counting.{MayCome, after_arrival};
+ghost use Rattle.std.specs.IoError.{error_kind, raw_os_error};
+ghost use Rattle.tcp_edge.specs.Sources.{IsFresh, IsPortFor, is_short, open_error_of, passed_over, refused_arrival};
+ghost use Rattle.transport.specs.Counting.{ComesNew, MayCome, after_arrival};
 
 use crate::socket::Socket;
 use mio::net::{TcpListener, TcpStream};
+use std::io;
 use std::io::ErrorKind;
 use std::marker::Model;
 use std::net::{Ipv4Addr, Net, SocketAddr};
@@ -15,6 +16,16 @@ use transport::{Arrival, Source, Tally};
 // How many connections that are gone already one call passes over: more than the system lets wait. So who is left behind them came
 // since, and is told of by the next wait.
 const MOST_GONE: u32 = 65_536;
+
+// The system's numbers of what it may be short of: memory (ENOMEM), descriptors in all (ENFILE) and of this process (EMFILE), buffers
+// (ENOBUFS).
+const NO_MEMORY: i32 = 12;
+
+const TOO_MANY_IN_ALL: i32 = 23;
+
+const TOO_MANY: i32 = 24;
+
+const NO_BUFFERS: i32 = 105;
 
 /// Why no listener was opened.
 #[derive(Clone, Copy, Debug, PartialEq, Eq, Error)]
@@ -27,7 +38,8 @@ pub enum OpenError {
     System,
 }
 
-/// A listener on 127.0.0.1. It never waits: where no connection waits it is idle. Those that come while it is up wait for it.
+/// A listener on 127.0.0.1. It never waits: where no connection waits it is idle, and also where the system is short of something for one
+/// ([`not_accepted`]). Those that come while it is up wait for it.
 ///
 /// Contracts see it as a `SourceState`: the listener of the system's, its port, and how often it gave and failed.
 #[derive(Drop)]
@@ -64,6 +76,34 @@ fn refused(kind: ErrorKind) -> Option<Arrival<Socket<TcpStream>>>
         ErrorKind::Interrupted => None,
         ErrorKind::ConnectionAborted => None,
         _ => Some(Arrival::Failed),
+    }
+}
+
+/// Whether the system is short of something for now, by an error of its own: of memory, of descriptors or of buffers.
+fn is_short_of(error: &io::Error) -> bool
+    ensures { result ≡ is_short (raw_os_error error.now) }
+{
+    match error.raw_os_error() {
+        Some(code) => {
+            code == NO_MEMORY || code == TOO_MANY_IN_ALL || code == TOO_MANY || code == NO_BUFFERS
+        }
+        None => false,
+    }
+}
+
+/// What it means that the system accepted no connection, for this reason.
+///
+/// A want of memory (ENOMEM), of descriptors (EMFILE, ENFILE) or of buffers (ENOBUFS) passes: the listener is idle. Whoever waits stays in its
+/// queue, and no event tells of it again, so the listener is asked again at the next wait. `None` is a connection that was gone already:
+/// another one may wait. Each other reason is a failure.
+pub fn not_accepted(error: &io::Error) -> Option<Arrival<Socket<TcpStream>>>
+    ensures passes { result ≡ passed_over error.now }
+    ensures fresh { IfSome result (λ arrival. IsFresh arrival) }
+{
+    if is_short_of(error) {
+        Some(Arrival::Idle)
+    } else {
+        refused(error.kind())
     }
 }
 
@@ -106,7 +146,7 @@ impl TcpSource {
                 Ok(()) => Some(Arrival::Came(Socket::new(stream))),
                 Err(_) => None,
             },
-            Err(e) => refused(e.kind()),
+            Err(e) => not_accepted(&e),
         }
     }
 
@@ -129,6 +169,7 @@ impl Source<Socket<TcpStream>> for TcpSource {
     fn next(&mut self) -> Arrival<Socket<TcpStream>>
         requires { MayCome self.old.tally }
         ensures tally { self.new.tally ≡ after_arrival result self.old.tally }
+        ensures new { ComesNew (λ socket. socket.counts) result }
         ensures fresh { IsFresh result }
         ensures same { (self.new.port ≡ self.old.port) × (self.new.listener ≡ self.old.listener) }
     {
