@@ -333,7 +333,7 @@ module _ (capacity : ℕ) (shares : List Share) (few : length shares ≤ 8) wher
       let does = subst (λ (b : Bool). DoesIf b (Open 0) first.broker first.clients mid.clock now (Ok tt) mid.clients mid.broker) is_open_now happens.does in
       let cell : slice_get first.clients 0 ≡ Some None = ap (λ (l : Clients). slice_get l 0) none ∙ first_none 64 (omega arith) in
       let got = in_cell first.clients mid.clients _ None cell does.0 in
-      let client : ClientState GroupPlace = arrived (record { number = 0; standing = standings.Unconnected mid.clock }) in
+      let client : ClientState GroupPlace = arrived (record { number = 0; latest = mid.clock; standing = standings.Unconnected mid.clock }) in
       let there : slice_get mid.clients 0 ≡ Some (Some client) = got.2 ∙ ap (λ (c : Option (ClientState GroupPlace)). Some c) got.1 in
       let sent : sent_in said ≡ sent_in later = ap sent_in (all ∙ ap (λ (l : List Said). l ++ later) does.2) in
       subst (λ (l : List Packet). Concluded (opening capacity shares) (whole pieces) l last.broker) (sym sent)
