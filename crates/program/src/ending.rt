@@ -71,17 +71,17 @@ pub fn perform<R: Read, W: Write, E: Write>(
     match asked {
         Ok(Asked::Run(request)) => {
             let ended = command(alloc, request, reader, output);
-            exit(alloc, ended, errors)
+            conclude(alloc, ended, errors)
         }
         Ok(Asked::Show(text)) => {
             let ended = write_all(output, text.as_bytes());
-            exit(alloc, ended, errors)
+            conclude(alloc, ended, errors)
         }
         Ok(Asked::Refuse(text)) => Exit {
             status: USAGE,
             told: write_all(errors, text.as_bytes()),
         },
-        Err(error) => exit(alloc, Err(error), errors),
+        Err(error) => conclude(alloc, Err(error), errors),
     }
 }
 
@@ -101,7 +101,7 @@ fn command<R: Read, W: Write>(
 }
 
 /// How the program ends where what it did came to an end so: an error is told.
-fn exit<E: Write>(alloc: Global, ended: Result<(), RunError>, errors: &mut E) -> Exit
+fn conclude<E: Write>(alloc: Global, ended: Result<(), RunError>, errors: &mut E) -> Exit
     ensures status { result.status ≡ status_at ended }
     ensures told { Tells ended result.told (E.contents errors.old) (E.contents errors.new) }
 {
