@@ -10,8 +10,8 @@ use Rattle.conn_engine.specs.declared.input.Then.TheVariants.{Go, Close, Kicked}
 use Rattle.conn_engine.specs.Facts.{Fact}
 use Rattle.conn_engine.specs.Standings.{IsWaiting}
 use Rattle.conn_engine.specs.declared.supply.NoMemory.{NoMemory}
-use Rattle.client_table.specs.declared.client.Reading.{Reading}
-use Rattle.client_table.specs.declared.client.Reading.TheVariants as readings
+use Rattle.client_table.specs.declared.client.reading.Reading.{Reading}
+use Rattle.client_table.specs.declared.client.reading.Reading.TheVariants as readings
 use Rattle.client_table.specs.Clients.{ClientState, Said, Moves, FailsToMove, IsGivenUp}
 
 -- a further piece of a stream: behind a fault nothing is read

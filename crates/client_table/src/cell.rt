@@ -6,12 +6,11 @@ ghost use Rattle.client_table.specs.Cells.{kept, Opens, Receives, TicksFor, Ends
 
 use crate::client::Client;
 use crate::said::Said;
-use conn_engine::{NoMemory, Supply};
-use session_desk::Place;
+use conn_engine::{HoldingPlace, NoMemory, Supply};
 use std::alloc::Global;
 
 /// Lets go of the client in a cell where its connection has ended.
-fn let_go_of_ended<P>(cell: &mut Option<Client<P>>)
+fn let_go_of_ended<P: HoldingPlace>(cell: &mut Option<Client<P>>)
     ensures { (client : ClientState P) → cell.old ≡ Some client → cell.new ≡ kept client }
 {
     let Some(client) = cell else { return };
@@ -24,7 +23,12 @@ fn let_go_of_ended<P>(cell: &mut Option<Client<P>>)
 }
 
 /// A connection is opened, where none is.
-pub(crate) fn open<P>(cell: &mut Option<Client<P>>, alloc: Global, number: u16, now: u64)
+pub(crate) fn open<P: HoldingPlace>(
+    cell: &mut Option<Client<P>>,
+    alloc: Global,
+    number: u16,
+    now: u64,
+)
     requires { number < 1024 }
     ensures { Opens number now cell.old cell.new }
 {
@@ -37,7 +41,7 @@ pub(crate) fn open<P>(cell: &mut Option<Client<P>>, alloc: Global, number: u16, 
 }
 
 /// A piece of the client's stream comes.
-pub(crate) fn receive<P: Place, S: Supply<P>>(
+pub(crate) fn receive<P: HoldingPlace, S: Supply<P>>(
     cell: &mut Option<Client<P>>,
     supply: &mut S,
     now: u64,
@@ -58,7 +62,7 @@ pub(crate) fn receive<P: Place, S: Supply<P>>(
 }
 
 /// Time has gone on.
-pub(crate) fn tick<P: Place, S: Supply<P>>(
+pub(crate) fn tick<P: HoldingPlace, S: Supply<P>>(
     cell: &mut Option<Client<P>>,
     supply: &mut S,
     now: u64,
@@ -78,7 +82,7 @@ pub(crate) fn tick<P: Place, S: Supply<P>>(
 }
 
 /// The client's stream has ended.
-pub(crate) fn end_of_input<P: Place, S: Supply<P>>(
+pub(crate) fn end_of_input<P: HoldingPlace, S: Supply<P>>(
     cell: &mut Option<Client<P>>,
     supply: &mut S,
     now: u64,
@@ -97,7 +101,7 @@ pub(crate) fn end_of_input<P: Place, S: Supply<P>>(
 }
 
 /// The broker closes.
-pub(crate) fn closing<P: Place, S: Supply<P>>(
+pub(crate) fn closing<P: HoldingPlace, S: Supply<P>>(
     cell: &mut Option<Client<P>>,
     supply: &mut S,
     now: u64,

@@ -16,12 +16,11 @@ ghost use Rattle.client_table.specs.Numbers.{IsNumbered};
 ghost use Rattle.client_table.specs.Quotas.{IsCellWithinQuota};
 ghost use Rattle.client_table.specs.Streams.{Reads, FailsToRead, Ticks, FailsToTick};
 
-use conn_engine::Supply;
-use session_desk::Place;
+use conn_engine::{HoldingPlace, Supply};
 
 /// **What a client does is a list of calls**: reading its stream, a Tick, a last step, and giving it up, with memory and without. Where
 /// memory is not wanted, what these calls hand out is what the client is told for the first time.
-pub fn calls_law<P: Place, S: Supply<P>>()
+pub fn calls_law<P: HoldingPlace, S: Supply<P>>()
     ensures reads { (now : ℕ) (said : List Said) (client after : ClientState P) (old new : S) →
         Reads S.call P.slot_of old client now said after new → Delivers S.call old said new }
     ensures fails_to_read { (now : ℕ) (said : List Said) (client after : ClientState P) (old new : S) →
@@ -37,7 +36,7 @@ pub fn calls_law<P: Place, S: Supply<P>>()
 {}
 
 /// **What a table does is a list of calls**: whatever happens to the client in a cell, and where all are let go.
-pub fn table_calls_law<P: Place, S: Supply<P>>()
+pub fn table_calls_law<P: HoldingPlace, S: Supply<P>>()
     ensures receives { (now : ℕ) (piece : List ℕ) (more : List Said) (result : Result (Unit {0}) NoMemory) (before after : Option (ClientState P)) (old new : S) →
         Receives S.call P.slot_of old before now piece more result after new → CallsLead S.call old new }
     ensures ticks { (now : ℕ) (more : List Said) (result : Result (Unit {0}) NoMemory) (before after : Option (ClientState P)) (old new : S) →
@@ -50,7 +49,7 @@ pub fn table_calls_law<P: Place, S: Supply<P>>()
 
 /// **What is handed out for the client in a cell is what it is told**, where memory is not wanted: each message that a place is handed goes out at
 /// once in a PUBLISH of its own, in their order, and no other message goes out for the first time.
-pub fn hand_out_law<P: Place, S: Supply<P>>()
+pub fn hand_out_law<P: HoldingPlace, S: Supply<P>>()
     ensures receives { (now : ℕ) (piece : List ℕ) (more : List Said) (before after : Option (ClientState P)) (old new : S) →
         Receives S.call P.slot_of old before now piece more (Ok tt) after new → Delivers S.call old more new }
     ensures ticks { (now : ℕ) (more : List Said) (before after : Option (ClientState P)) (old new : S) →
@@ -61,7 +60,7 @@ pub fn hand_out_law<P: Place, S: Supply<P>>()
 
 /// **A client publishes as its connection**, whatever happens to the client in a cell, with memory and without: whatever is offered for it to a group
 /// is offered from the number of its connection.
-pub fn publisher_law<P: Place, S: Supply<P>>()
+pub fn publisher_law<P: HoldingPlace, S: Supply<P>>()
     ensures receives { (number now : ℕ) (piece : List ℕ) (more : List Said) (result : Result (Unit {0}) NoMemory) (before after : Option (ClientState P)) (old new : S) →
         IsNumbered number before → Receives S.call P.slot_of old before now piece more result after new → CallsFrom S.call number old new }
     ensures ticks { (number now : ℕ) (more : List Said) (result : Result (Unit {0}) NoMemory) (before after : Option (ClientState P)) (old new : S) →
@@ -72,7 +71,7 @@ pub fn publisher_law<P: Place, S: Supply<P>>()
 
 /// **What was given back is handed out first**, whatever happens to the client in a cell, with memory and without: a place is handed a message of
 /// the queue only directly behind a call that asked for one that was given back, and found none.
-pub fn returned_first_law<P: Place, S: Supply<P>>()
+pub fn returned_first_law<P: HoldingPlace, S: Supply<P>>()
     ensures receives { (now : ℕ) (piece : List ℕ) (more : List Said) (result : Result (Unit {0}) NoMemory) (before after : Option (ClientState P)) (old new : S) →
         Receives S.call P.slot_of old before now piece more result after new → CallsReturnedFirst S.call old new }
     ensures ticks { (now : ℕ) (more : List Said) (result : Result (Unit {0}) NoMemory) (before after : Option (ClientState P)) (old new : S) →
@@ -83,7 +82,7 @@ pub fn returned_first_law<P: Place, S: Supply<P>>()
 
 /// **The quota is kept** (section 4.9), whatever happens to the client in a cell, with memory and without: of the PUBLISH packets that it was
 /// sent on its connection, those that wait for their PUBACK are never more than the Receive Maximum of its CONNECT, and never more than 256.
-pub fn quota_law<P: Place, S: Supply<P>>()
+pub fn quota_law<P: HoldingPlace, S: Supply<P>>()
     ensures opens { (number now : ℕ) (before after : Option (ClientState P)) →
         Opens number now before after → IsCellWithinQuota before → IsCellWithinQuota after }
     ensures receives { (now : ℕ) (piece : List ℕ) (more : List Said) (result : Result (Unit {0}) NoMemory) (before after : Option (ClientState P)) (old new : S) →
@@ -96,7 +95,7 @@ pub fn quota_law<P: Place, S: Supply<P>>()
 
 /// **What happens to a client comes out in one way** where each call of the supply has one answer and memory is not wanted: the same is
 /// said, the same becomes of the cell, and of the supply.
-pub fn one_outcome_law<P: Place, S: Supply<P>>()
+pub fn one_outcome_law<P: HoldingPlace, S: Supply<P>>()
     ensures receives { (now : ℕ) (piece : List ℕ) (more more' : List Said) (before one other : Option (ClientState P)) (old new new' : S) →
         OneAnswer S.call (λ these those. these ≡ those) →
         Receives S.call P.slot_of old before now piece more (Ok tt) one new → Receives S.call P.slot_of old before now piece more' (Ok tt) other new' →

@@ -7,8 +7,7 @@ ghost use Rattle.client_table.specs.Cells.{Abandons, AbandonsEach, InCell, Opens
 use crate::cell;
 use crate::client::Client;
 use crate::said::Said;
-use conn_engine::{NoMemory, Supply};
-use session_desk::Place;
+use conn_engine::{HoldingPlace, NoMemory, Supply};
 use std::alloc::Global;
 use std::marker::Model;
 
@@ -18,12 +17,12 @@ pub const CLIENTS: usize = 64;
 /// The clients of a broker, each at the number of its connection. `P` is a place in a group.
 ///
 /// What happens to a connection that is not open is passed over, and so is the opening of one that is.
-pub struct ClientTable<P> {
+pub struct ClientTable<P: HoldingPlace> {
     cells: Vec<Option<Client<P>>>,
     alloc: Global,
 }
 
-impl<P> Model for ClientTable<P> {
+impl<P: HoldingPlace> Model for ClientTable<P> {
     ghost use Rattle.std.specs.Prelude.{◌≡◌, List, Option, length};
     ghost use Rattle.client_table.specs.Clients.{ClientState};
 
@@ -34,7 +33,7 @@ impl<P> Model for ClientTable<P> {
     ghost invariant = { λ t. length t.cells.items ≡ 64 };
 }
 
-impl<P> ClientTable<P> {
+impl<P: HoldingPlace> ClientTable<P> {
     /// No connection is open. Takes the memory for [`CLIENTS`] connections.
     pub fn new(alloc: Global) -> Result<ClientTable<P>, NoMemory>
         ensures { IfOk result (λ table. table ≡ replicate 64 None) }
@@ -60,7 +59,7 @@ impl<P> ClientTable<P> {
     }
 }
 
-impl<P: Place> ClientTable<P> {
+impl<P: HoldingPlace> ClientTable<P> {
     /// A piece of a client's stream has come, at this moment in milliseconds: its connection is stepped by each packet that is
     /// whole. What each step wrote goes behind what was said before.
     ///
@@ -168,7 +167,11 @@ impl<P: Place> ClientTable<P> {
 
 /// Lets go of the clients in these cells, the last one first.
 #[tactic(auto, using(crate::proofs::Leaving::last_first))]
-fn abandon_each<P: Place, S: Supply<P>>(mut cells: Vec<Option<Client<P>>>, supply: &mut S, now: u64)
+fn abandon_each<P: HoldingPlace, S: Supply<P>>(
+    mut cells: Vec<Option<Client<P>>>,
+    supply: &mut S,
+    now: u64,
+)
     ensures abandoned { AbandonsEach S.call P.slot_of supply.old cells.items now supply.new }
     ensures visiting { S.visiting supply.new ≡ S.visiting supply.old }
 {
@@ -182,7 +185,7 @@ fn abandon_each<P: Place, S: Supply<P>>(mut cells: Vec<Option<Client<P>>>, suppl
 }
 
 /// Lets go of the client in a cell.
-fn abandon<P: Place, S: Supply<P>>(cell: Option<Client<P>>, supply: &mut S, now: u64)
+fn abandon<P: HoldingPlace, S: Supply<P>>(cell: Option<Client<P>>, supply: &mut S, now: u64)
     ensures abandoned { Abandons S.call P.slot_of supply.old cell now supply.new }
     ensures visiting { S.visiting supply.new ≡ S.visiting supply.old }
 {

@@ -1,6 +1,9 @@
 //! A broker on one thread that refuses memory where it is told to.
-ghost use Rattle.std.specs.Prelude.{◌≡◌, [], false, IfSome, ⊤};
+ghost use Rattle.std.specs.Prelude.{◌≡◌, [], IfSome, ⊤};
+ghost use Rattle.conn_engine.specs.Holding.{IsOutAtPlace};
+ghost use Rattle.conn_engine.specs.Ready.{IsSoundSession};
 ghost use Rattle.local_broker.specs.Broker.{is_open};
+ghost use Rattle.local_broker.specs.Places.{has_out};
 ghost use Rattle.member_window.specs.Contents.{held_of};
 
 use conn_engine::{BindRefusal, NoMemory, OfferRefusal, Supply};
@@ -97,7 +100,7 @@ impl Supply<LocalPlace> for Refusing {
         self.broker.withdraw(connection);
     }
 
-    fn kicked(&mut self, connection: u16) -> bool {
+    fn kicked(&self, connection: u16) -> bool {
         self.broker.kicked(connection)
     }
 
@@ -106,7 +109,7 @@ impl Supply<LocalPlace> for Refusing {
         session: Session<Envelope, LocalPlace>,
         now: u64,
     ) -> Option<Session<Envelope, LocalPlace>>
-        requires { session.window.retired ≡ false }
+        requires { IsSoundSession has_out session }
         ensures same { IfSome result (λ back. back ≡ session) }
         ensures called { ⊤ }
         ensures visiting { is_open self.new.broker ≡ is_open self.old.broker }
@@ -115,7 +118,7 @@ impl Supply<LocalPlace> for Refusing {
     }
 
     fn park_as_is(&mut self, session: Session<Envelope, LocalPlace>)
-        requires { session.window.retired ≡ false }
+        requires { IsSoundSession has_out session }
         ensures called { ⊤ }
         ensures visiting { is_open self.new.broker ≡ is_open self.old.broker }
     {
@@ -123,6 +126,7 @@ impl Supply<LocalPlace> for Refusing {
     }
 
     fn keep(&mut self, session: Session<Envelope, LocalPlace>)
+        requires { IsOutAtPlace has_out session }
         ensures called { ⊤ }
         ensures visiting { is_open self.new.broker ≡ is_open self.old.broker }
     {
@@ -130,7 +134,8 @@ impl Supply<LocalPlace> for Refusing {
     }
 
     fn bury(&mut self, session: Session<Envelope, LocalPlace>)
-        requires { held_of session.window ≡ [] }
+        requires spent { held_of session.window ≡ [] }
+        requires out { IsOutAtPlace has_out session }
         ensures called { ⊤ }
         ensures visiting { is_open self.new.broker ≡ is_open self.old.broker }
     {

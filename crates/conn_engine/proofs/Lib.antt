@@ -4,6 +4,7 @@ pub mod Silence
 pub mod Copies
 pub mod Topics
 pub mod Windows
+pub mod Holding
 pub mod Fresh
 pub mod Sweeping
 pub mod Resuming

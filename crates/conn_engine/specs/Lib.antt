@@ -1,4 +1,5 @@
 pub mod Facts
+pub mod Holding
 pub mod Ready
 pub mod Replies
 pub mod Publishing

@@ -1,15 +1,17 @@
 -- How far a connection has come.
-use Rattle.std.specs.Prelude.{◌≡◌, ℕ, ◌≤◌, ◌<◌, false, ⊤, length}
+use Rattle.std.specs.Prelude.{ℕ, ◌≤◌, ◌<◌, ⊤, List, length}
+use Rattle.group_jobs.specs.Stamps.{Held}
+use Rattle.conn_engine.specs.Ready.{IsSoundSession}
 use Rattle.conn_engine.specs.declared.standing.Standing.{Standing}
 use Rattle.conn_engine.specs.declared.standing.Standing.TheVariants.{Unconnected, Waiting, Connected, Ended}
 
 -- what holds of every connection: the identifier of a client that waits is one that a session may be asked for with, and the session of a
--- client that is connected is not ending
-abbrev pub IsSoundStanding : {P : Type 0} → Standing P → Type 0
-IsSoundStanding (Unconnected opened) = ⊤
-IsSoundStanding (Waiting request ticks) = (length request.client ≤ 128) × (ticks < 100)
-IsSoundStanding (Connected link) = link.session.window.retired ≡ false
-IsSoundStanding Ended = ⊤
+-- client that is connected is not ending, and has out at its place what it holds
+abbrev pub IsSoundStanding : {P : Type 0} → (P → List Held → Type 0) → Standing P → Type 0
+IsSoundStanding HasOut (Unconnected opened) = ⊤
+IsSoundStanding HasOut (Waiting request ticks) = (length request.client ≤ 128) × (ticks < 100)
+IsSoundStanding HasOut (Connected link) = IsSoundSession HasOut link.session
+IsSoundStanding HasOut Ended = ⊤
 
 -- a connection waits for a session
 abbrev pub IsWaiting : {P : Type 0} → Standing P → Type 0

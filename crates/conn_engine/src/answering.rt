@@ -1,16 +1,16 @@
 //! The answers to the packets of a client that has its session (chapter 3).
-ghost use Rattle.std.specs.Prelude.{◌≡◌, false, MatchResult, true};
+ghost use Rattle.std.specs.Prelude.{◌≡◌, MatchResult, true};
 ghost use Rattle.mqtt_wire.specs.declared.packet.Packet.TheVariants as packets;
 ghost use Rattle.conn_engine.specs.Answering.{Disconnects, Answers, FailsToAnswer};
+ghost use Rattle.conn_engine.specs.Ready.{IsSoundSession};
 
 use crate::acknowledging::acknowledge;
 use crate::publishing::publish;
 use crate::reply::Reply;
 use crate::standing::Link;
 use crate::subscribing::{subscribe, unsubscribe};
-use crate::supply::{NoMemory, Supply};
+use crate::supply::{HoldingPlace, NoMemory, Supply};
 use mqtt_wire::{Packet, ReasonCode, Subscribe, Unsubscribe};
-use session_desk::Place;
 use std::alloc::Global;
 
 /// Answers a packet of the connection with this number, whose client has its session.
@@ -18,19 +18,19 @@ use std::alloc::Global;
 /// # Errors
 ///
 /// Want of memory. Nothing that the session holds is lost.
-pub(crate) fn answer<P: Place, S: Supply<P>>(
+pub(crate) fn answer<P: HoldingPlace, S: Supply<P>>(
     supply: &mut S,
     alloc: Global,
     number: u16,
     link: &mut Link<P>,
     packet: Packet,
 ) -> Result<Reply, NoMemory>
-    requires sound { link.old.session.window.retired ≡ false }
+    requires sound { IsSoundSession P.has_out link.old.session }
     requires visiting { S.visiting supply.old ≡ true }
     ensures answered { MatchResult result
         (λ reply. Answers S.call P.slot_of supply.old number link.old packet link.new reply supply.new)
         (λ _. FailsToAnswer S.call P.slot_of supply.old number link.old packet link.new supply.new) }
-    ensures sound { link.new.session.window.retired ≡ false }
+    ensures sound { IsSoundSession P.has_out link.new.session }
     ensures visiting { S.visiting supply.new ≡ S.visiting supply.old }
 {
     match packet {
@@ -57,17 +57,17 @@ pub(crate) fn answer<P: Place, S: Supply<P>>(
 }
 
 /// Answers a SUBSCRIBE.
-fn join<P: Place, S: Supply<P>>(
+fn join<P: HoldingPlace, S: Supply<P>>(
     supply: &mut S,
     alloc: Global,
     link: &mut Link<P>,
     packet: Subscribe,
 ) -> Result<Reply, NoMemory>
-    requires { link.old.session.window.retired ≡ false }
+    requires { IsSoundSession P.has_out link.old.session }
     ensures answered { MatchResult result
         (λ reply. Answers S.call P.slot_of supply.old 0 link.old (packets.Subscribe packet) link.new reply supply.new)
         (λ _. FailsToAnswer S.call P.slot_of supply.old 0 link.old (packets.Subscribe packet) link.new supply.new) }
-    ensures sound { link.new.session.window.retired ≡ false }
+    ensures sound { IsSoundSession P.has_out link.new.session }
     ensures visiting { S.visiting supply.new ≡ S.visiting supply.old }
 {
     let membership = link.take_membership();
@@ -77,17 +77,17 @@ fn join<P: Place, S: Supply<P>>(
 }
 
 /// Answers an UNSUBSCRIBE.
-fn leave<P: Place, S: Supply<P>>(
+fn leave<P: HoldingPlace, S: Supply<P>>(
     supply: &mut S,
     alloc: Global,
     link: &mut Link<P>,
     packet: Unsubscribe,
 ) -> Result<Reply, NoMemory>
-    requires { link.old.session.window.retired ≡ false }
+    requires { IsSoundSession P.has_out link.old.session }
     ensures answered { MatchResult result
         (λ reply. Answers S.call P.slot_of supply.old 0 link.old (packets.Unsubscribe packet) link.new reply supply.new)
         (λ _. FailsToAnswer S.call P.slot_of supply.old 0 link.old (packets.Unsubscribe packet) link.new supply.new) }
-    ensures sound { link.new.session.window.retired ≡ false }
+    ensures sound { IsSoundSession P.has_out link.new.session }
     ensures visiting { S.visiting supply.new ≡ S.visiting supply.old }
 {
     let membership = link.take_membership();
@@ -97,10 +97,10 @@ fn leave<P: Place, S: Supply<P>>(
 }
 
 /// Answers a DISCONNECT with this Session Expiry Interval (section 3.14).
-fn disconnect<P>(alloc: Global, link: &mut Link<P>, expiry: Option<u32>) -> Reply
-    requires { link.old.session.window.retired ≡ false }
+fn disconnect<P: HoldingPlace>(alloc: Global, link: &mut Link<P>, expiry: Option<u32>) -> Reply
+    requires { IsSoundSession P.has_out link.old.session }
     ensures answered { Disconnects link.old expiry link.new result }
-    ensures sound { link.new.session.window.retired ≡ false }
+    ensures sound { IsSoundSession P.has_out link.new.session }
 {
     let Some(seconds) = expiry else {
         return Reply::closed(None);

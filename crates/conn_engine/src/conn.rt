@@ -1,7 +1,8 @@
 //! A connection, step by step.
-ghost use Rattle.std.specs.Prelude.{◌≡◌, ◌<◌, ◌≤◌, ◌^◌, ◌↔◌, ◌++◌, [], false, true, ℕ, List, IsTrue, MatchOption, MatchResult, max, vec_capacity, vec_len};
+ghost use Rattle.std.specs.Prelude.{◌≡◌, ◌<◌, ◌≤◌, ◌^◌, ◌↔◌, ◌++◌, [], true, ℕ, List, IsTrue, MatchOption, MatchResult, max, vec_capacity, vec_len};
 ghost use Rattle.mqtt_wire.specs.declared.packet.Packet.{Packet};
 ghost use Rattle.conn_engine.specs.declared.standing.Standing.TheVariants as standings;
+ghost use Rattle.conn_engine.specs.Ready.{IsSoundSession};
 ghost use Rattle.conn_engine.specs.Standings.{IsSoundStanding, IsWaiting, IsConnected};
 ghost use Rattle.std.specs.Option.{option_to_list};
 ghost use Rattle.conn_engine.specs.HandOuts.{HandsSome};
@@ -15,9 +16,8 @@ use crate::input::{Input, Then};
 use crate::reacting::react;
 use crate::reply::Reply;
 use crate::standing::{Link, Standing};
-use crate::supply::{NoMemory, Supply};
+use crate::supply::{HoldingPlace, NoMemory, Supply};
 use mqtt_wire::Packet;
-use session_desk::Place;
 use std::alloc::Global;
 use std::marker::Model;
 
@@ -28,7 +28,7 @@ const ROOM_AT_FIRST: usize = 3;
 /// A connection to a client. `P` is a place in a group.
 ///
 /// It has a session while its client does, so it can't be dropped until it has ended.
-pub struct Conn<P> {
+pub struct Conn<P: HoldingPlace> {
     number: u16,
     // The latest moment at which something came to it, in milliseconds.
     latest: u64,
@@ -36,7 +36,7 @@ pub struct Conn<P> {
     alloc: Global,
 }
 
-impl<P> Model for Conn<P> {
+impl<P: HoldingPlace> Model for Conn<P> {
     ghost use Rattle.std.specs.Prelude.{◌<◌};
     ghost use Rattle.conn_engine.specs.Standings.{ConnState, IsSoundStanding};
 
@@ -44,10 +44,10 @@ impl<P> Model for Conn<P> {
 
     ghost view = { λ c. record { number = c.number; latest = c.latest; standing = c.standing } };
 
-    ghost invariant = { λ c. (c.number < 1024) × IsSoundStanding c.standing };
+    ghost invariant = { λ c. (c.number < 1024) × IsSoundStanding P.has_out c.standing };
 }
 
-impl<P> Conn<P> {
+impl<P: HoldingPlace> Conn<P> {
     /// A connection that was opened at this moment in milliseconds. Its number, below 1,024, tells it apart from the other
     /// connections of the broker.
     pub fn open(alloc: Global, number: u16, now: u64) -> Conn<P>
@@ -101,7 +101,7 @@ impl<P> Conn<P> {
     }
 }
 
-impl<P: Place> Conn<P> {
+impl<P: HoldingPlace> Conn<P> {
     /// The slot of the group that its client would be handed a message of now: it is a member there, and has room for one.
     pub fn takes_from(&self) -> Option<u8>
         ensures { MatchOption result
@@ -209,7 +209,7 @@ fn write(reply: Reply, packets: &mut Vec<Packet>) -> Then
 }
 
 /// Hands out what is due to a connection with this standing.
-fn hand<P: Place, S: Supply<P>>(
+fn hand<P: HoldingPlace, S: Supply<P>>(
     supply: &mut S,
     alloc: Global,
     number: u16,
@@ -217,12 +217,12 @@ fn hand<P: Place, S: Supply<P>>(
     now: u64,
     packets: &mut Vec<Packet>,
 ) -> Result<(), NoMemory>
-    requires sound { IsSoundStanding standing.old }
+    requires sound { IsSoundStanding P.has_out standing.old }
     requires visiting { IsConnected standing.old → S.visiting supply.old ≡ true }
     ensures handed { MatchResult result
         (λ _. (sent : List Packet) × (packets.new.items ≡ packets.old.items ++ sent) × Hands S.call P.slot_of supply.old standing.old sent standing.new supply.new)
         (λ _. (standing.new ≡ standings.Ended) × HandsLess S.call P.slot_of supply.old standing.old now supply.new) }
-    ensures sound { IsSoundStanding standing.new }
+    ensures sound { IsSoundStanding P.has_out standing.new }
     ensures visiting { S.visiting supply.new ≡ S.visiting supply.old }
 {
     let Standing::Connected(link) = standing else {
@@ -238,20 +238,20 @@ fn hand<P: Place, S: Supply<P>>(
 }
 
 /// Hands out what is due to a client that has its session.
-fn hand_to<P: Place, S: Supply<P>>(
+fn hand_to<P: HoldingPlace, S: Supply<P>>(
     supply: &mut S,
     alloc: Global,
     link: &mut Link<P>,
     packets: &mut Vec<Packet>,
 ) -> Result<(), NoMemory>
-    requires sound { link.old.session.window.retired ≡ false }
+    requires sound { IsSoundSession P.has_out link.old.session }
     requires visiting { S.visiting supply.old ≡ true }
     ensures handed { MatchResult result
         (λ _. (sent : List Packet) × (packets.new.items ≡ packets.old.items ++ sent)
         × Hands S.call P.slot_of supply.old (standings.Connected link.old) sent (standings.Connected link.new) supply.new)
         (λ _. HandsSome S.call supply.old link.old.session.membership link.old.session.window link.new.session.membership link.new.session.window supply.new
         × (link.new ≡ after_hand_out link.old link.new.session.membership link.new.session.window)) }
-    ensures sound { link.new.session.window.retired ≡ false }
+    ensures sound { IsSoundSession P.has_out link.new.session }
     ensures visiting { S.visiting supply.new ≡ S.visiting supply.old }
 {
     let membership = link.take_membership();

@@ -1,18 +1,20 @@
 //! The answer to a CONNECT, and to a Tick while a connection waits for a session (sections 3.1 and 3.2).
-ghost use Rattle.std.specs.Prelude.{◌≡◌, ◌<◌, ◌≤◌, ◌↔◌, ◌&&◌, nat_lt, not, false, length, IfOk, IsOk, IsTrue, MatchResult};
+ghost use Rattle.std.specs.Prelude.{◌≡◌, ◌<◌, ◌≤◌, ◌↔◌, ◌&&◌, nat_lt, not, length, IfOk, IfSome, IsOk, IsTrue, MatchResult};
 ghost use Rattle.conn_engine.specs.Connecting.{opened, assigned, has_place, IsRefused, Accepts, RetiresEarlier, ResumesAs, Attaches, FailsToAttach, most_ticks, WaitsAs, TriesAgain, FailsAgain};
 ghost use Rattle.conn_engine.specs.Ending.{Parts};
+ghost use Rattle.conn_engine.specs.Holding.{IsOutAtPlace};
+ghost use Rattle.conn_engine.specs.Ready.{IsSoundSession};
 ghost use Rattle.conn_engine.specs.Standings.{IsSoundStanding, IsWaiting};
 ghost use Rattle.conn_engine.specs.declared.standing.Standing.TheVariants.{Ended};
 
 use crate::ending::{part, part_as_is, retire};
 use crate::reply::Reply;
 use crate::standing::{ConnectRequest, Link, Standing};
-use crate::supply::{NoMemory, Supply};
+use crate::supply::{HoldingPlace, NoMemory, Supply};
 use conn_rules::{accepting, refusing};
 use group_jobs::Envelope;
 use mqtt_wire::{ConnectRefusal, Text};
-use session_desk::{Attached, DeskError, Identity, Membership, Place, Session};
+use session_desk::{Attached, DeskError, Identity, Membership, Session};
 
 /// For how many Ticks a connection waits for a session.
 const MOST_TICKS: u8 = 100;
@@ -22,7 +24,7 @@ const MOST_TICKS: u8 = 100;
 /// # Errors
 ///
 /// Want of memory. The connection has ended then, and a session that was lent is parked or ending.
-pub(crate) fn attach<P: Place, S: Supply<P>>(
+pub(crate) fn attach<P: HoldingPlace, S: Supply<P>>(
     supply: &mut S,
     number: u16,
     now: u64,
@@ -34,7 +36,7 @@ pub(crate) fn attach<P: Place, S: Supply<P>>(
     ensures answered { MatchResult result.1
         (λ reply. Attaches S.call supply.old number now request ticks result.0 reply supply.new)
         (λ _. (result.0 ≡ Ended) × FailsToAttach S.call supply.old number now request supply.new) }
-    ensures sound { IsSoundStanding result.0 }
+    ensures sound { IsSoundStanding P.has_out result.0 }
     ensures visiting { S.visiting supply.new ≡ S.visiting supply.old }
 {
     match supply.attach(number, &request.client, request.clean_start, now) {
@@ -56,7 +58,7 @@ pub(crate) fn attach<P: Place, S: Supply<P>>(
 /// # Errors
 ///
 /// Want of memory. The connection has ended then, and a session that was lent is parked or ending.
-pub(crate) fn try_again<P: Place, S: Supply<P>>(
+pub(crate) fn try_again<P: HoldingPlace, S: Supply<P>>(
     supply: &mut S,
     number: u16,
     now: u64,
@@ -69,7 +71,7 @@ pub(crate) fn try_again<P: Place, S: Supply<P>>(
     ensures answered { MatchResult result.1
         (λ reply. TriesAgain S.call supply.old number now request ticks result.0 reply supply.new)
         (λ _. (result.0 ≡ Ended) × FailsAgain S.call supply.old number now request supply.new) }
-    ensures sound { IsSoundStanding result.0 }
+    ensures sound { IsSoundStanding P.has_out result.0 }
     ensures visiting { S.visiting supply.new ≡ S.visiting supply.old }
 {
     let (standing, replied) = attach(supply, number, now, request, ticks + 1);
@@ -87,11 +89,14 @@ pub(crate) fn is_waiting<P>(standing: &Standing<P>) -> bool
 }
 
 /// Another connection has the session: this one waits for it, unless it has waited long enough.
-fn wait<P>(request: ConnectRequest, ticks: u8) -> (Standing<P>, Result<Reply, NoMemory>)
+fn wait<P: HoldingPlace>(
+    request: ConnectRequest,
+    ticks: u8,
+) -> (Standing<P>, Result<Reply, NoMemory>)
     requires { length request.client ≤ 128 }
     ensures answered { IfOk result.1 (WaitsAs (nat_lt ticks most_ticks) request ticks result.0) }
     ensures fine { IsOk result.1 }
-    ensures sound { IsSoundStanding result.0 }
+    ensures sound { IsSoundStanding P.has_out result.0 }
 {
     if ticks < MOST_TICKS {
         (
@@ -113,7 +118,11 @@ pub(crate) fn refuse<P>(refusal: ConnectRefusal) -> (Standing<P>, Result<Reply, 
 }
 
 /// Retires the session that a client had, where it had one.
-fn retire_earlier<P: Place, S: Supply<P>>(supply: &mut S, ended: Option<Session<Envelope, P>>)
+fn retire_earlier<P: HoldingPlace, S: Supply<P>>(
+    supply: &mut S,
+    ended: Option<Session<Envelope, P>>,
+)
+    requires { IfSome ended (IsOutAtPlace P.has_out) }
     ensures retired { RetiresEarlier S.call supply.old ended supply.new }
     ensures visiting { S.visiting supply.new ≡ S.visiting supply.old }
 {
@@ -123,17 +132,17 @@ fn retire_earlier<P: Place, S: Supply<P>>(supply: &mut S, ended: Option<Session<
 }
 
 /// The connection begins with the session that the client had; but a member's is not for a client that does not take every packet.
-fn resume<P: Place, S: Supply<P>>(
+fn resume<P: HoldingPlace, S: Supply<P>>(
     supply: &mut S,
     now: u64,
     request: ConnectRequest,
     session: Session<Envelope, P>,
 ) -> (Standing<P>, Result<Reply, NoMemory>)
-    requires { session.window.retired ≡ false }
+    requires { IsSoundSession P.has_out session }
     ensures answered { MatchResult result.1
         (λ reply. ResumesAs S.call (has_place session.membership && not request.terms.takes_all_packets) supply.old request session result.0 reply supply.new)
         (λ _. (result.0 ≡ Ended) × Parts S.call supply.old (opened session request.terms) now supply.new) }
-    ensures sound { IsSoundStanding result.0 }
+    ensures sound { IsSoundStanding P.has_out result.0 }
     ensures visiting { S.visiting supply.new ≡ S.visiting supply.old }
 {
     if has_place(&session.membership) && !request.terms.takes_all_packets {
@@ -156,18 +165,18 @@ fn has_place<P>(membership: &Membership<P>) -> bool
 }
 
 /// The connection begins with this session.
-fn accept<P: Place, S: Supply<P>>(
+fn accept<P: HoldingPlace, S: Supply<P>>(
     supply: &mut S,
     now: u64,
     request: ConnectRequest,
     mut session: Session<Envelope, P>,
     present: bool,
 ) -> (Standing<P>, Result<Reply, NoMemory>)
-    requires { session.window.retired ≡ false }
+    requires { IsSoundSession P.has_out session }
     ensures answered { MatchResult result.1
         (λ reply. Accepts request present session result.0 reply × (supply.new ≡ supply.old))
         (λ _. (result.0 ≡ Ended) × Parts S.call supply.old (opened session request.terms) now supply.new) }
-    ensures sound { IsSoundStanding result.0 }
+    ensures sound { IsSoundStanding P.has_out result.0 }
     ensures visiting { S.visiting supply.new ≡ S.visiting supply.old }
 {
     session.window.up(request.terms.receive_maximum);

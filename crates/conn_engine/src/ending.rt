@@ -1,29 +1,31 @@
 //! What becomes of a session whose connection has ended, or whose time is over.
-ghost use Rattle.std.specs.Prelude.{◌≡◌, ℕ, false, List};
+ghost use Rattle.std.specs.Prelude.{◌≡◌, ℕ, List};
 ghost use Rattle.conn_engine.specs.declared.standing.Standing.TheVariants as standings;
 ghost use Rattle.group_jobs.specs.Stamps.{Held};
 ghost use Rattle.member_window.specs.Contents.{held_of, IsDown};
 ghost use Rattle.conn_engine.specs.Facts.Fact.{ParkAsIs};
 ghost use Rattle.conn_engine.specs.Ending.{down, ending, GivesBack, Ends, Retires, Parts, Sweeps};
+ghost use Rattle.conn_engine.specs.Holding.{messages, IsOutAtPlace};
+ghost use Rattle.conn_engine.specs.Ready.{IsSoundSession};
 ghost use Rattle.conn_engine.specs.Standings.{IsSoundStanding};
 ghost use Rattle.conn_engine.specs.Step.{GivesUp, ShutsDown, CutsOff};
 
 use crate::input::Input;
 use crate::standing::Standing;
-use crate::supply::Supply;
+use crate::supply::{HoldingPlace, Supply};
 use group_jobs::Envelope;
 use member_window::Window;
-use session_desk::{Membership, Place, ROWS, Session};
+use session_desk::{Membership, ROWS, Session};
 use std::mem;
 
 /// A connection is given up.
-pub(crate) fn give_up<P: Place, S: Supply<P>>(
+pub(crate) fn give_up<P: HoldingPlace, S: Supply<P>>(
     supply: &mut S,
     number: u16,
     standing: &mut Standing<P>,
     now: u64,
 )
-    requires { IsSoundStanding standing.old }
+    requires { IsSoundStanding P.has_out standing.old }
     ensures given { GivesUp S.call P.slot_of supply.old number standing.old now supply.new }
     ensures over { standing.new ≡ standings.Ended }
     ensures visiting { S.visiting supply.new ≡ S.visiting supply.old }
@@ -40,14 +42,14 @@ pub(crate) fn give_up<P: Place, S: Supply<P>>(
 }
 
 /// A connection is cut off at an input that there is no memory to answer. Where the broker closes, its session is kept as it is.
-pub(crate) fn cut_off<P: Place, S: Supply<P>>(
+pub(crate) fn cut_off<P: HoldingPlace, S: Supply<P>>(
     supply: &mut S,
     number: u16,
     standing: &mut Standing<P>,
     now: u64,
     input: Input,
 )
-    requires { IsSoundStanding standing.old }
+    requires { IsSoundStanding P.has_out standing.old }
     ensures cut { CutsOff S.call P.slot_of supply.old number standing.old now input supply.new }
     ensures over { standing.new ≡ standings.Ended }
     ensures visiting { S.visiting supply.new ≡ S.visiting supply.old }
@@ -65,8 +67,8 @@ pub(crate) fn cut_off<P: Place, S: Supply<P>>(
 }
 
 /// A connection ends as the broker closes.
-fn shut_down<P: Place, S: Supply<P>>(supply: &mut S, number: u16, standing: &mut Standing<P>)
-    requires { IsSoundStanding standing.old }
+fn shut_down<P: HoldingPlace, S: Supply<P>>(supply: &mut S, number: u16, standing: &mut Standing<P>)
+    requires { IsSoundStanding P.has_out standing.old }
     ensures shut { ShutsDown S.call P.slot_of supply.old number standing.old supply.new }
     ensures over { standing.new ≡ standings.Ended }
     ensures visiting { S.visiting supply.new ≡ S.visiting supply.old }
@@ -83,12 +85,12 @@ fn shut_down<P: Place, S: Supply<P>>(supply: &mut S, number: u16, standing: &mut
 }
 
 /// The connection of a session has ended: the desk parks it, and it is retired where it ends with its connection.
-pub(crate) fn part<P: Place, S: Supply<P>>(
+pub(crate) fn part<P: HoldingPlace, S: Supply<P>>(
     supply: &mut S,
     mut session: Session<Envelope, P>,
     now: u64,
 )
-    requires { session.window.retired ≡ false }
+    requires { IsSoundSession P.has_out session }
     ensures parted { Parts S.call supply.old session now supply.new }
     ensures visiting { S.visiting supply.new ≡ S.visiting supply.old }
 {
@@ -99,8 +101,11 @@ pub(crate) fn part<P: Place, S: Supply<P>>(
 }
 
 /// The broker closes: the session of a connection is kept as it is.
-pub(crate) fn part_as_is<P: Place, S: Supply<P>>(supply: &mut S, mut session: Session<Envelope, P>)
-    requires { session.window.retired ≡ false }
+pub(crate) fn part_as_is<P: HoldingPlace, S: Supply<P>>(
+    supply: &mut S,
+    mut session: Session<Envelope, P>,
+)
+    requires { IsSoundSession P.has_out session }
     ensures parked { S.call supply.old (ParkAsIs (down session)) supply.new }
     ensures visiting { S.visiting supply.new ≡ S.visiting supply.old }
 {
@@ -109,7 +114,7 @@ pub(crate) fn part_as_is<P: Place, S: Supply<P>>(supply: &mut S, mut session: Se
 }
 
 /// Retires the sessions that are due at this moment, until none is due or memory was wanted.
-pub(crate) fn sweep<P: Place, S: Supply<P>>(supply: &mut S, now: u64)
+pub(crate) fn sweep<P: HoldingPlace, S: Supply<P>>(supply: &mut S, now: u64)
     ensures swept { Sweeps S.call supply.old now 256 supply.new }
     ensures visiting { S.visiting supply.new ≡ S.visiting supply.old }
 {
@@ -117,7 +122,7 @@ pub(crate) fn sweep<P: Place, S: Supply<P>>(supply: &mut S, now: u64)
 }
 
 /// Retires the sessions that are due at this moment, so many at most.
-fn sweep_most<P: Place, S: Supply<P>>(supply: &mut S, now: u64, most: usize)
+fn sweep_most<P: HoldingPlace, S: Supply<P>>(supply: &mut S, now: u64, most: usize)
     ensures swept { Sweeps S.call supply.old now most supply.new }
     ensures visiting { S.visiting supply.new ≡ S.visiting supply.old }
 {
@@ -133,7 +138,8 @@ fn sweep_most<P: Place, S: Supply<P>>(supply: &mut S, now: u64, most: usize)
 
 /// Retires a session: it gives back what it holds, the oldest first, and is gone. Where memory is wanted, it is kept with the
 /// rest, to be retired later. Says whether it is gone.
-pub fn retire<P: Place, S: Supply<P>>(supply: &mut S, session: Session<Envelope, P>) -> bool
+pub fn retire<P: HoldingPlace, S: Supply<P>>(supply: &mut S, session: Session<Envelope, P>) -> bool
+    requires { IsOutAtPlace P.has_out session }
     ensures retired { Retires S.call supply.old session result supply.new }
     ensures visiting { S.visiting supply.new ≡ S.visiting supply.old }
 {
@@ -167,10 +173,16 @@ pub fn retire<P: Place, S: Supply<P>>(supply: &mut S, session: Session<Envelope,
 }
 
 /// A place gives back what the window holds, the oldest first, until memory is wanted: what is left stays in the window.
-fn give_back<P: Place, S: Supply<P>>(supply: &mut S, place: &mut P, window: &mut Window<Envelope>)
-    requires { IsDown window.old }
+fn give_back<P: HoldingPlace, S: Supply<P>>(
+    supply: &mut S,
+    place: &mut P,
+    window: &mut Window<Envelope>,
+)
+    requires down { IsDown window.old }
+    requires out { P.has_out place.old (messages window.old) }
     ensures given { (left : List (ℕ × Held)) × GivesBack S.call supply.old place.old (held_of window.old) place.new left supply.new
         × (window.new ≡ ending left) }
+    ensures out { P.has_out place.new (messages window.new) }
     ensures visiting { S.visiting supply.new ≡ S.visiting supply.old }
 {
     let Some((identifier, envelope)) = window.take_first() else {
@@ -183,7 +195,8 @@ fn give_back<P: Place, S: Supply<P>>(supply: &mut S, place: &mut P, window: &mut
 }
 
 /// An ending session that holds nothing is gone, and any other is kept. Says whether it is gone.
-fn end<P: Place, S: Supply<P>>(supply: &mut S, session: Session<Envelope, P>) -> bool
+fn end<P: HoldingPlace, S: Supply<P>>(supply: &mut S, session: Session<Envelope, P>) -> bool
+    requires { IsOutAtPlace P.has_out session }
     ensures ended { Ends S.call supply.old session result supply.new }
     ensures visiting { S.visiting supply.new ≡ S.visiting supply.old }
 {

@@ -5,14 +5,15 @@ ghost use Rattle.group_jobs.specs.Stamps.{Held};
 ghost use Rattle.member_window.specs.Identifiers.{identifiers, IsLeastFree};
 ghost use Rattle.member_window.specs.Contents.{held_of, HasRoom, IsNextResend, after_put, after_resend};
 ghost use Rattle.conn_rules.specs.Packets.{job};
+ghost use Rattle.conn_engine.specs.Holding.{messages, AreOut, FindsOut};
 ghost use Rattle.conn_engine.specs.HandOuts.{SendsAgain, SendsSomeAgain, AsksFor, IsRefused, SendsOne, SendsNone, SendsFresh, LeavesWith, HandsFresh, HandsOut, KeepsHeld, HoldsMore, TakesSome, HandsSome};
 
-use crate::supply::{NoMemory, Supply};
+use crate::supply::{HoldingPlace, NoMemory, Supply};
 use conn_rules::job;
 use group_jobs::Envelope;
 use member_window::Window;
 use mqtt_wire::{Packet, PacketIdentifier};
-use session_desk::{Membership, Place};
+use session_desk::Membership;
 use std::alloc::Global;
 
 /// Hands out to a session what is due: what waits is sent again; then a member is handed messages while there is room, and who
@@ -21,19 +22,21 @@ use std::alloc::Global;
 /// # Errors
 ///
 /// Want of memory. Nothing that the session holds is lost.
-pub(crate) fn hand_out<P: Place, S: Supply<P>>(
+pub(crate) fn hand_out<P: HoldingPlace, S: Supply<P>>(
     supply: &mut S,
     alloc: Global,
     membership: Membership<P>,
     window: &mut Window<Envelope>,
     packets: &mut Vec<Packet>,
 ) -> (Membership<P>, Result<(), NoMemory>)
+    requires out { AreOut P.has_out membership (messages window.old) }
     requires visiting { S.visiting supply.old ≡ true }
     ensures handed { MatchResult result.1
         (λ _. (sent : List Packet) × (packets.new.items ≡ packets.old.items ++ sent)
         × HandsOut S.call supply.old membership window.old sent result.0 window.new supply.new)
         (λ _. HandsSome S.call supply.old membership window.old result.0 window.new supply.new) }
     ensures sound { window.new.retired ≡ window.old.retired }
+    ensures out { AreOut P.has_out result.0 (messages window.new) }
     ensures visiting { S.visiting supply.new ≡ S.visiting supply.old }
 {
     if let Err(NoMemory) = send_again(alloc, window, packets) {
@@ -103,18 +106,20 @@ fn identifier_of(number: u16) -> PacketIdentifier
 
 /// Hands messages to a place, and sends them, while there is room.
 #[tactic(auto, using(crate::proofs::Fresh::one_more_sent))]
-fn send_fresh<P: Place, S: Supply<P>>(
+fn send_fresh<P: HoldingPlace, S: Supply<P>>(
     supply: &mut S,
     alloc: Global,
     place: &mut P,
     window: &mut Window<Envelope>,
     packets: &mut Vec<Packet>,
 ) -> Result<(), NoMemory>
+    requires out { P.has_out place.old (messages window.old) }
     requires visiting { S.visiting supply.old ≡ true }
     ensures sent { OnOk result ((sent : List Packet) × (packets.new.items ≡ packets.old.items ++ sent)
         × SendsFresh S.call supply.old place.old window.old sent place.new window.new supply.new) }
     ensures kept { OnErr result ((taken : List Held) × TakesSome S.call supply.old place.old window.old taken place.new window.new supply.new) }
     ensures sound { window.new.retired ≡ window.old.retired }
+    ensures out { P.has_out place.new (messages window.new) }
     ensures visiting { S.visiting supply.new ≡ S.visiting supply.old }
 {
     packets.reserve(1)?;
@@ -129,18 +134,20 @@ fn send_fresh<P: Place, S: Supply<P>>(
 }
 
 /// Hands a message to a place, where there is room and a message, and gives its packet.
-fn next_fresh<P: Place, S: Supply<P>>(
+fn next_fresh<P: HoldingPlace, S: Supply<P>>(
     supply: &mut S,
     alloc: Global,
     place: &mut P,
     window: &mut Window<Envelope>,
 ) -> Result<Option<Packet>, NoMemory>
+    requires out { P.has_out place.old (messages window.old) }
     requires visiting { S.visiting supply.old ≡ true }
     ensures sent { IfOk result (λ sent. MatchOption sent
         (SendsNone S.call supply.old place.old window.old place.new window.new supply.new)
         (λ packet. SendsOne S.call supply.old place.old window.old packet place.new window.new supply.new × HoldsMore window.old window.new)) }
     ensures kept { OnErr result ((taken : List Held) × TakesSome S.call supply.old place.old window.old taken place.new window.new supply.new) }
     ensures sound { window.new.retired ≡ window.old.retired }
+    ensures out { P.has_out place.new (messages window.new) }
     ensures visiting { S.visiting supply.new ≡ S.visiting supply.old }
 {
     if !window.room() {
@@ -164,6 +171,7 @@ fn put(alloc: Global, window: &mut Window<Envelope>, envelope: Envelope) -> Resu
         × IfOk result (λ packet. packet ≡ job false envelope.message identifier) }
     ensures progress { HoldsMore window.old window.new }
     ensures sound { window.new.retired ≡ window.old.retired }
+    ensures held { messages window.new ≡ messages window.old ++ envelope ∷ [] }
 {
     let _held = window.len();
     let shared = envelope.message().share();
@@ -174,10 +182,14 @@ fn put(alloc: Global, window: &mut Window<Envelope>, envelope: Envelope) -> Resu
 }
 
 /// Asks for a message for a place: one that was given back, or else the oldest that is queued.
-fn ask<P: Place, S: Supply<P>>(supply: &mut S, place: &mut P) -> Result<Option<Envelope>, NoMemory>
+fn ask<P: HoldingPlace, S: Supply<P>>(
+    supply: &mut S,
+    place: &mut P,
+) -> Result<Option<Envelope>, NoMemory>
     requires visiting { S.visiting supply.old ≡ true }
     ensures asked { IfOk result (λ found. AsksFor S.call supply.old place.old found place.new supply.new) }
     ensures refused { OnErr result (IsRefused S.call supply.old place.old place.new supply.new) }
+    ensures out { FindsOut P.has_out place.old result place.new }
     ensures visiting { S.visiting supply.new ≡ S.visiting supply.old }
 {
     match supply.take_back(place)? {
@@ -187,12 +199,14 @@ fn ask<P: Place, S: Supply<P>>(supply: &mut S, place: &mut P) -> Result<Option<E
 }
 
 /// Whoever leaves is no member once it holds nothing.
-fn leave<P: Place, S: Supply<P>>(
+fn leave<P: HoldingPlace, S: Supply<P>>(
     supply: &mut S,
     place: P,
     window: &Window<Envelope>,
 ) -> Membership<P>
+    requires { P.has_out place (messages window.now) }
     ensures left { LeavesWith S.call supply.old place window.now result supply.new }
+    ensures out { AreOut P.has_out result (messages window.now) }
     ensures visiting { S.visiting supply.new ≡ S.visiting supply.old }
 {
     if window.is_empty() {

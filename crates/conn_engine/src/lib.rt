@@ -34,4 +34,4 @@ pub use conn::Conn;
 pub use ending::retire;
 pub use input::{Input, Then};
 pub use reply::Reply;
-pub use supply::{BindRefusal, NoMemory, OfferRefusal, Supply};
+pub use supply::{BindRefusal, HoldingPlace, NoMemory, OfferRefusal, Supply};

@@ -8,12 +8,11 @@ ghost use Rattle.conn_engine.specs.Facts.Fact.{Match, Offer};
 ghost use Rattle.conn_engine.specs.Publishing.{Took, Offers, OffersFirst, OffersSome, IsOffered, IsCutShort, Publishes};
 
 use crate::reply::Reply;
-use crate::supply::{NoMemory, OfferRefusal, Supply};
+use crate::supply::{HoldingPlace, NoMemory, OfferRefusal, Supply};
 use conn_rules::{PublishAnswer, answer_to_publish, message_of, puback_code};
 use group_jobs::{Message, SharedMessage};
 use mqtt_topic::{SlotIter, Slots, TopicName};
 use mqtt_wire::{PacketIdentifier, Publish, Text};
-use session_desk::Place;
 use std::alloc::Global;
 
 /// Answers a PUBLISH of this connection.
@@ -21,7 +20,7 @@ use std::alloc::Global;
 /// # Errors
 ///
 /// Want of memory: of the groups that match, the message was offered to none, or to each up to one that had no memory for it.
-pub(crate) fn publish<P: Place, S: Supply<P>>(
+pub(crate) fn publish<P: HoldingPlace, S: Supply<P>>(
     supply: &mut S,
     alloc: Global,
     connection: u16,
@@ -49,7 +48,7 @@ pub(crate) fn publish<P: Place, S: Supply<P>>(
 
 /// Offers the message of a PUBLISH to the groups that match, and answers by a PUBACK.
 #[tactic(auto, using(crate::proofs::Topics::offered_is_named))]
-fn offer<P: Place, S: Supply<P>>(
+fn offer<P: HoldingPlace, S: Supply<P>>(
     supply: &mut S,
     alloc: Global,
     connection: u16,
@@ -76,7 +75,7 @@ fn offer<P: Place, S: Supply<P>>(
 }
 
 /// The slots of the groups that match a topic, and the topic.
-fn matching<P: Place, S: Supply<P>>(supply: &mut S, topic: Text) -> (Slots, Text)
+fn matching<P: HoldingPlace, S: Supply<P>>(supply: &mut S, topic: Text) -> (Slots, Text)
     requires { name_of topic ≡ Ok topic }
     ensures asked { S.call supply.old (Match topic result.0) supply.new }
     ensures topic { result.1 ≡ topic }
@@ -88,7 +87,7 @@ fn matching<P: Place, S: Supply<P>>(supply: &mut S, topic: Text) -> (Slots, Text
 }
 
 /// Offers a message to all these groups, and says how many took it. All copies are made before the first is offered.
-fn offer_to_all<P: Place, S: Supply<P>>(
+fn offer_to_all<P: HoldingPlace, S: Supply<P>>(
     supply: &mut S,
     alloc: Global,
     connection: u16,
@@ -143,7 +142,7 @@ fn copy_into(
 
 /// Offers a message to these groups, in their order: a copy to each but the last.
 #[tactic(auto, using(crate::proofs::Copies::alike_popped))]
-fn offer_each<P: Place, S: Supply<P>>(
+fn offer_each<P: HoldingPlace, S: Supply<P>>(
     supply: &mut S,
     connection: u16,
     mut slots: SlotIter,
@@ -174,7 +173,7 @@ fn offer_each<P: Place, S: Supply<P>>(
 }
 
 /// Offers a message to one group, and says whether that took it: 1 or 0.
-fn offer_one<P: Place, S: Supply<P>>(
+fn offer_one<P: HoldingPlace, S: Supply<P>>(
     supply: &mut S,
     connection: u16,
     slot: u8,

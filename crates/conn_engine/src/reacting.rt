@@ -16,13 +16,12 @@ use crate::ending::{give_up, part_as_is, sweep};
 use crate::input::{Input, Then};
 use crate::reply::Reply;
 use crate::standing::{ConnectRequest, Link, Standing};
-use crate::supply::{NoMemory, Supply};
+use crate::supply::{HoldingPlace, NoMemory, Supply};
 use conn_rules::{
     FirstAnswer, answer_to_first, disconnect, fault_code, fault_refusal, is_late, is_overdue,
     terms_of,
 };
 use mqtt_wire::{Connect, Packet, ReasonCode};
-use session_desk::Place;
 use std::alloc::Global;
 use std::mem;
 
@@ -31,7 +30,7 @@ use std::mem;
 /// # Errors
 ///
 /// Want of memory. The connection has ended then, and its session is parked or ending.
-pub(crate) fn react<P: Place, S: Supply<P>>(
+pub(crate) fn react<P: HoldingPlace, S: Supply<P>>(
     supply: &mut S,
     alloc: Global,
     number: u16,
@@ -40,14 +39,14 @@ pub(crate) fn react<P: Place, S: Supply<P>>(
     input: Input,
 ) -> Result<Reply, NoMemory>
     requires known { number < 1024 }
-    requires sound { IsSoundStanding standing.old }
+    requires sound { IsSoundStanding P.has_out standing.old }
     requires wanted { IsWanted standing.old input }
     requires visiting { NeedsVisit input → S.visiting supply.old ≡ true }
     ensures reacted { MatchResult result
         (λ reply. Reacts S.call P.slot_of supply.old number standing.old now input standing.new reply supply.new)
         (λ _. (standing.new ≡ standings.Ended) × FailsToReact S.call P.slot_of supply.old number standing.old now input supply.new) }
     ensures visited { IsConnected standing.new → NeedsVisit input }
-    ensures sound { IsSoundStanding standing.new }
+    ensures sound { IsSoundStanding P.has_out standing.new }
     ensures visiting { S.visiting supply.new ≡ S.visiting supply.old }
 {
     if standing.is_connected() {
@@ -60,7 +59,7 @@ pub(crate) fn react<P: Place, S: Supply<P>>(
 }
 
 /// Before its client has its session, and where it has ended.
-fn react_before<P: Place, S: Supply<P>>(
+fn react_before<P: HoldingPlace, S: Supply<P>>(
     supply: &mut S,
     number: u16,
     standing: Standing<P>,
@@ -68,7 +67,7 @@ fn react_before<P: Place, S: Supply<P>>(
     input: Input,
 ) -> (Standing<P>, Result<Reply, NoMemory>)
     requires known { number < 1024 }
-    requires sound { IsSoundStanding standing }
+    requires sound { IsSoundStanding P.has_out standing }
     requires wanted { IsWanted standing input }
     requires before { ¬ IsConnected standing }
     requires visiting { NeedsVisit input → S.visiting supply.old ≡ true }
@@ -76,7 +75,7 @@ fn react_before<P: Place, S: Supply<P>>(
         (λ reply. Reacts S.call P.slot_of supply.old number standing now input result.0 reply supply.new)
         (λ _. (result.0 ≡ standings.Ended) × FailsToReact S.call P.slot_of supply.old number standing now input supply.new) }
     ensures visited { IsConnected result.0 → NeedsVisit input }
-    ensures sound { IsSoundStanding result.0 }
+    ensures sound { IsSoundStanding P.has_out result.0 }
     ensures visiting { S.visiting supply.new ≡ S.visiting supply.old }
 {
     match standing {
@@ -104,7 +103,7 @@ fn close<P>() -> (Standing<P>, Result<Reply, NoMemory>)
 }
 
 /// Before the first packet.
-fn react_unconnected<P: Place, S: Supply<P>>(
+fn react_unconnected<P: HoldingPlace, S: Supply<P>>(
     supply: &mut S,
     number: u16,
     opened: u64,
@@ -117,7 +116,7 @@ fn react_unconnected<P: Place, S: Supply<P>>(
         (λ reply. Reacts S.call P.slot_of supply.old number (standings.Unconnected opened) now input result.0 reply supply.new)
         (λ _. (result.0 ≡ standings.Ended) × FailsToReact S.call P.slot_of supply.old number (standings.Unconnected opened) now input supply.new) }
     ensures visited { IsConnected result.0 → NeedsVisit input }
-    ensures sound { IsSoundStanding result.0 }
+    ensures sound { IsSoundStanding P.has_out result.0 }
     ensures visiting { S.visiting supply.new ≡ S.visiting supply.old }
 {
     match input {
@@ -140,7 +139,7 @@ fn react_unconnected<P: Place, S: Supply<P>>(
 }
 
 /// Answers the first packet.
-fn answer_first<P: Place, S: Supply<P>>(
+fn answer_first<P: HoldingPlace, S: Supply<P>>(
     supply: &mut S,
     number: u16,
     now: u64,
@@ -150,7 +149,7 @@ fn answer_first<P: Place, S: Supply<P>>(
     ensures answered { MatchResult result.1
         (λ reply. AnswersFirst S.call P.slot_of (first_answer packet) supply.old number now packet result.0 reply supply.new)
         (λ _. (result.0 ≡ standings.Ended) × FailsFirst S.call P.slot_of supply.old number now packet supply.new) }
-    ensures sound { IsSoundStanding result.0 }
+    ensures sound { IsSoundStanding P.has_out result.0 }
     ensures visiting { S.visiting supply.new ≡ S.visiting supply.old }
 {
     match answer_to_first(&packet) {
@@ -168,7 +167,7 @@ fn answer_first<P: Place, S: Supply<P>>(
 
 /// Asks for the session of the client of a CONNECT.
 #[tactic(auto, using(crate::proofs::First::first_is_short))]
-fn connect<P: Place, S: Supply<P>>(
+fn connect<P: HoldingPlace, S: Supply<P>>(
     supply: &mut S,
     number: u16,
     now: u64,
@@ -179,7 +178,7 @@ fn connect<P: Place, S: Supply<P>>(
     ensures answered { MatchResult result.1
         (λ reply. AnswersFirst S.call P.slot_of first.Attach supply.old number now packet result.0 reply supply.new)
         (λ _. (result.0 ≡ standings.Ended) × FailsFirst S.call P.slot_of supply.old number now packet supply.new) }
-    ensures sound { IsSoundStanding result.0 }
+    ensures sound { IsSoundStanding P.has_out result.0 }
     ensures visiting { S.visiting supply.new ≡ S.visiting supply.old }
 {
     match packet {
@@ -210,7 +209,7 @@ fn request_of(connect: Connect, now: u64) -> ConnectRequest
 }
 
 /// While it waits for a session.
-fn react_waiting<P: Place, S: Supply<P>>(
+fn react_waiting<P: HoldingPlace, S: Supply<P>>(
     supply: &mut S,
     number: u16,
     request: ConnectRequest,
@@ -227,7 +226,7 @@ fn react_waiting<P: Place, S: Supply<P>>(
         (λ reply. Reacts S.call P.slot_of supply.old number (standings.Waiting request ticks) now input result.0 reply supply.new)
         (λ _. (result.0 ≡ standings.Ended) × FailsToReact S.call P.slot_of supply.old number (standings.Waiting request ticks) now input supply.new) }
     ensures visited { IsConnected result.0 → NeedsVisit input }
-    ensures sound { IsSoundStanding result.0 }
+    ensures sound { IsSoundStanding P.has_out result.0 }
     ensures visiting { S.visiting supply.new ≡ S.visiting supply.old }
 {
     match input {
@@ -249,7 +248,7 @@ fn react_waiting<P: Place, S: Supply<P>>(
 }
 
 /// While its client has its session.
-fn react_connected<P: Place, S: Supply<P>>(
+fn react_connected<P: HoldingPlace, S: Supply<P>>(
     supply: &mut S,
     alloc: Global,
     number: u16,
@@ -257,14 +256,14 @@ fn react_connected<P: Place, S: Supply<P>>(
     now: u64,
     input: Input,
 ) -> Result<Reply, NoMemory>
-    requires sound { IsSoundStanding standing.old }
+    requires sound { IsSoundStanding P.has_out standing.old }
     requires connected { IsConnected standing.old }
     requires visiting { NeedsVisit input → S.visiting supply.old ≡ true }
     ensures reacted { MatchResult result
         (λ reply. Reacts S.call P.slot_of supply.old number standing.old now input standing.new reply supply.new)
         (λ _. (standing.new ≡ standings.Ended) × FailsToReact S.call P.slot_of supply.old number standing.old now input supply.new) }
     ensures visited { IsConnected standing.new → NeedsVisit input }
-    ensures sound { IsSoundStanding standing.new }
+    ensures sound { IsSoundStanding P.has_out standing.new }
     ensures visiting { S.visiting supply.new ≡ S.visiting supply.old }
 {
     match input {
@@ -309,8 +308,8 @@ fn taken_over(alloc: Global) -> Reply
 }
 
 /// The server closes: the session is parked as it is.
-fn shut_down<P: Place, S: Supply<P>>(supply: &mut S, standing: &mut Standing<P>)
-    requires sound { IsSoundStanding standing.old }
+fn shut_down<P: HoldingPlace, S: Supply<P>>(supply: &mut S, standing: &mut Standing<P>)
+    requires sound { IsSoundStanding P.has_out standing.old }
     requires connected { IsConnected standing.old }
     ensures parked { (link : Link P) → standing.old ≡ standings.Connected link → S.call supply.old (ParkAsIs (down link.session)) supply.new }
     ensures over { standing.new ≡ standings.Ended }
@@ -323,7 +322,7 @@ fn shut_down<P: Place, S: Supply<P>>(supply: &mut S, standing: &mut Standing<P>)
 }
 
 /// Answers a packet.
-fn answer_packet<P: Place, S: Supply<P>>(
+fn answer_packet<P: HoldingPlace, S: Supply<P>>(
     supply: &mut S,
     alloc: Global,
     number: u16,
@@ -331,13 +330,13 @@ fn answer_packet<P: Place, S: Supply<P>>(
     now: u64,
     packet: Packet,
 ) -> Result<Reply, NoMemory>
-    requires sound { IsSoundStanding standing.old }
+    requires sound { IsSoundStanding P.has_out standing.old }
     requires connected { IsConnected standing.old }
     requires visiting { S.visiting supply.old ≡ true }
     ensures answered { (link : Link P) → standing.old ≡ standings.Connected link → MatchResult result
         (λ reply. AnswersPacket S.call P.slot_of supply.old number link now packet standing.new reply supply.new)
         (λ _. (standing.new ≡ standings.Ended) × FailsOnPacket S.call P.slot_of supply.old number link now packet supply.new) }
-    ensures sound { IsSoundStanding standing.new }
+    ensures sound { IsSoundStanding P.has_out standing.new }
     ensures visiting { S.visiting supply.new ≡ S.visiting supply.old }
 {
     let Standing::Connected(link) = standing else {
@@ -362,17 +361,17 @@ fn goes_on(replied: &Result<Reply, NoMemory>) -> bool
 }
 
 /// Time has gone on: what is due is swept, and a client that was silent for too long is closed (section 3.1.2.10).
-fn tick<P: Place, S: Supply<P>>(
+fn tick<P: HoldingPlace, S: Supply<P>>(
     supply: &mut S,
     alloc: Global,
     number: u16,
     standing: &mut Standing<P>,
     now: u64,
 ) -> Reply
-    requires sound { IsSoundStanding standing.old }
+    requires sound { IsSoundStanding P.has_out standing.old }
     requires connected { IsConnected standing.old }
     ensures ticked { (link : Link P) → standing.old ≡ standings.Connected link → AnswersTick S.call P.slot_of supply.old link now standing.new result supply.new }
-    ensures sound { IsSoundStanding standing.new }
+    ensures sound { IsSoundStanding P.has_out standing.new }
     ensures visiting { S.visiting supply.new ≡ S.visiting supply.old }
 {
     sweep(supply, now);

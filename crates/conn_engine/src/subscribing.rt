@@ -2,6 +2,7 @@
 ghost use Rattle.std.specs.Prelude.{◌≡◌, ◌<◌, ◌≤◌, ◌+◌, ◌++◌, ◌↔◌, List, ℕ, Option, Some, length, IsTrue, MatchResult, vec_len, vec_capacity, is_some};
 ghost use Rattle.mqtt_topic.specs.Names.{share_of};
 ghost use Rattle.conn_engine.specs.Facts.Fact.{Find};
+ghost use Rattle.conn_engine.specs.Holding.{StayOut};
 ghost use Rattle.conn_engine.specs.Subscribing.{IsLent, EntersAs, Joins, AnswersEntry, AnswersEntries, AnswersFirst, AnswersSome, IsUnbound, Subscribes, LeavesBy, LeavesByAll, Unsubscribes};
 ghost use Rattle.session_desk.specs.declared.session.Membership.TheVariants.{NotMember};
 ghost use Rattle.conn_rules.specs.Packets.{suback, unsuback};
@@ -9,7 +10,7 @@ ghost use Rattle.conn_engine.specs.Replies.{going_on};
 ghost use Rattle.std.specs.Vec.Iter.{into_iter_items, into_iter_len};
 
 use crate::reply::Reply;
-use crate::supply::{BindRefusal, NoMemory, Supply};
+use crate::supply::{BindRefusal, HoldingPlace, NoMemory, Supply};
 use conn_rules::{
     EntryAnswer, Terms, answer_to_entry, suback, subscribe_refusal, unsuback, unsubscribe_refusal,
 };
@@ -26,7 +27,7 @@ use std::vec::IntoIter;
 /// # Errors
 ///
 /// Want of memory; some of the entries may have been answered.
-pub(crate) fn subscribe<P: Place, S: Supply<P>>(
+pub(crate) fn subscribe<P: HoldingPlace, S: Supply<P>>(
     supply: &mut S,
     alloc: Global,
     membership: Membership<P>,
@@ -36,6 +37,7 @@ pub(crate) fn subscribe<P: Place, S: Supply<P>>(
     ensures answered { MatchResult result.1
         (λ reply. Subscribes S.call P.slot_of terms.now supply.old membership subscribe reply result.0 supply.new)
         (λ _. AnswersSome S.call P.slot_of (is_some subscribe.properties.subscription_identifier) terms.now supply.old membership subscribe.subscriptions result.0 supply.new) }
+    ensures out { StayOut P.has_out membership result.0 }
     ensures visiting { S.visiting supply.new ≡ S.visiting supply.old }
 {
     if let Some(code) = subscribe_refusal(&subscribe) {
@@ -72,7 +74,7 @@ fn granted(identifier: PacketIdentifier, codes: Vec<ReasonCode>) -> Reply
 }
 
 /// Answers the entries of a SUBSCRIBE, in their order, each by a code.
-fn answer_entries<P: Place, S: Supply<P>>(
+fn answer_entries<P: HoldingPlace, S: Supply<P>>(
     supply: &mut S,
     membership: Membership<P>,
     identified: bool,
@@ -86,6 +88,7 @@ fn answer_entries<P: Place, S: Supply<P>>(
         (λ _. (rest : List ℕ) × AnswersEntries S.call P.slot_of identified terms.now supply.old membership (into_iter_items entries) rest result.0 supply.new
         × (codes.new.items ≡ codes.old.items ++ rest) × (length rest ≡ into_iter_len entries))
         (λ _. AnswersFirst S.call P.slot_of identified terms.now supply.old membership (into_iter_items entries) result.0 supply.new) }
+    ensures out { StayOut P.has_out membership result.0 }
     ensures visiting { S.visiting supply.new ≡ S.visiting supply.old }
 {
     let Some(entry) = entries.next() else {
@@ -105,7 +108,7 @@ fn answer_entries<P: Place, S: Supply<P>>(
 }
 
 /// Answers an entry that is to be answered so by a code.
-fn answer_entry<P: Place, S: Supply<P>>(
+fn answer_entry<P: HoldingPlace, S: Supply<P>>(
     supply: &mut S,
     membership: Membership<P>,
     answer: EntryAnswer,
@@ -113,6 +116,7 @@ fn answer_entry<P: Place, S: Supply<P>>(
     ensures answered { MatchResult result.1
         (λ code. AnswersEntry S.call P.slot_of supply.old membership answer code result.0 supply.new)
         (λ _. IsUnbound S.call P.slot_of supply.old membership result.0 supply.new) }
+    ensures out { StayOut P.has_out membership result.0 }
     ensures visiting { S.visiting supply.new ≡ S.visiting supply.old }
 {
     match answer {
@@ -122,7 +126,7 @@ fn answer_entry<P: Place, S: Supply<P>>(
 }
 
 /// Joins the group of a share.
-fn join<P: Place, S: Supply<P>>(
+fn join<P: HoldingPlace, S: Supply<P>>(
     supply: &mut S,
     membership: Membership<P>,
     share: Share,
@@ -130,6 +134,7 @@ fn join<P: Place, S: Supply<P>>(
     ensures joined { MatchResult result.1
         (λ code. Joins S.call P.slot_of supply.old membership share code result.0 supply.new)
         (λ _. IsUnbound S.call P.slot_of supply.old membership result.0 supply.new) }
+    ensures out { StayOut P.has_out membership result.0 }
     ensures visiting { S.visiting supply.new ≡ S.visiting supply.old }
 {
     match membership {
@@ -145,7 +150,7 @@ fn join<P: Place, S: Supply<P>>(
 }
 
 /// Whether a place is in the group of a share.
-fn is_in<P: Place, S: Supply<P>>(supply: &mut S, place: &P, share: &Share) -> bool
+fn is_in<P: HoldingPlace, S: Supply<P>>(supply: &mut S, place: &P, share: &Share) -> bool
     ensures asked { (found : Option ℕ) × S.call supply.old (Find share.now found) supply.new
         × (IsTrue result ↔ (found ≡ Some (P.slot_of place.now))) }
     ensures visiting { S.visiting supply.new ≡ S.visiting supply.old }
@@ -154,13 +159,14 @@ fn is_in<P: Place, S: Supply<P>>(supply: &mut S, place: &P, share: &Share) -> bo
 }
 
 /// Gives a session that is no member a place in the group of a share.
-fn enter<P: Place, S: Supply<P>>(
+fn enter<P: HoldingPlace, S: Supply<P>>(
     supply: &mut S,
     share: Share,
 ) -> (Membership<P>, Result<ReasonCode, NoMemory>)
     ensures joined { MatchResult result.1
         (λ code. Joins S.call P.slot_of supply.old NotMember share code result.0 supply.new)
         (λ _. IsUnbound S.call P.slot_of supply.old NotMember result.0 supply.new) }
+    ensures out { StayOut P.has_out NotMember result.0 }
     ensures visiting { S.visiting supply.new ≡ S.visiting supply.old }
 {
     match supply.bind(share) {
@@ -178,7 +184,7 @@ fn enter<P: Place, S: Supply<P>>(
 /// # Errors
 ///
 /// Want of memory; nothing was asked.
-pub(crate) fn unsubscribe<P: Place, S: Supply<P>>(
+pub(crate) fn unsubscribe<P: HoldingPlace, S: Supply<P>>(
     supply: &mut S,
     alloc: Global,
     membership: Membership<P>,
@@ -187,6 +193,7 @@ pub(crate) fn unsubscribe<P: Place, S: Supply<P>>(
     ensures answered { MatchResult result.1
         (λ reply. Unsubscribes S.call P.slot_of supply.old membership unsubscribe reply result.0 supply.new)
         (λ _. (result.0 ≡ membership) × (supply.new ≡ supply.old)) }
+    ensures out { StayOut P.has_out membership result.0 }
     ensures visiting { S.visiting supply.new ≡ S.visiting supply.old }
 {
     if let Some(code) = unsubscribe_refusal(&unsubscribe) {
@@ -213,7 +220,7 @@ fn left(identifier: PacketIdentifier, codes: Vec<ReasonCode>) -> Reply
 }
 
 /// Answers the filters of an UNSUBSCRIBE, in their order, each by a code.
-fn leave_each<P: Place, S: Supply<P>>(
+fn leave_each<P: HoldingPlace, S: Supply<P>>(
     supply: &mut S,
     membership: Membership<P>,
     mut filters: IntoIter<Text>,
@@ -222,6 +229,7 @@ fn leave_each<P: Place, S: Supply<P>>(
     requires { vec_len codes.old + into_iter_len filters ≤ vec_capacity codes.old }
     ensures left { (rest : List ℕ) × LeavesByAll S.call P.slot_of supply.old membership (into_iter_items filters) rest result supply.new
         × (codes.new.items ≡ codes.old.items ++ rest) × (length rest ≡ into_iter_len filters) }
+    ensures out { StayOut P.has_out membership result }
     ensures visiting { S.visiting supply.new ≡ S.visiting supply.old }
 {
     let Some(filter) = filters.next() else {
@@ -233,12 +241,13 @@ fn leave_each<P: Place, S: Supply<P>>(
 }
 
 /// Answers a filter of an UNSUBSCRIBE by a code.
-fn leave<P: Place, S: Supply<P>>(
+fn leave<P: HoldingPlace, S: Supply<P>>(
     supply: &mut S,
     membership: Membership<P>,
     filter: Text,
 ) -> (Membership<P>, ReasonCode)
     ensures left { LeavesBy S.call P.slot_of supply.old membership (share_of filter) result.1 result.0 supply.new }
+    ensures out { StayOut P.has_out membership result.0 }
     ensures visiting { S.visiting supply.new ≡ S.visiting supply.old }
 {
     let Ok(share) = Share::parse(filter) else {

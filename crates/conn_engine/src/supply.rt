@@ -1,8 +1,10 @@
 //! What a connection asks: who has which session, which share is bound to which slot, and who has which message.
-ghost use Rattle.std.specs.Prelude.{◌≡◌, ◌<◌, ◌≤◌, [], length, IfOk, IfErr, IfSome, Bool, true, false, ⊤};
+ghost use Rattle.std.specs.Prelude.{◌≡◌, ◌<◌, ◌≤◌, [], List, length, IfOk, IfErr, IfSome, Bool, true, ⊤};
 ghost use Rattle.conn_engine.specs.Facts.{Fact};
 ghost use Rattle.conn_engine.specs.Facts.Fact.{Attach, Withdraw, Kicked, Park, ParkAsIs, Keep, Bury, Sweep, LendPlace, TakePlace, Bind, Find, Match, Offer, Take, TakeBack, Settle, GiveBack};
-ghost use Rattle.conn_engine.specs.Ready.{IsReady};
+ghost use Rattle.conn_engine.specs.Holding.{IsAmong, IsOutAtPlace, FindsOut, SpendsOut, ReturnsOut};
+ghost use Rattle.conn_engine.specs.Ready.{IsReady, IsSoundSession};
+ghost use Rattle.group_jobs.specs.Stamps.{Held};
 ghost use Rattle.member_window.specs.Contents.{held_of};
 ghost use Rattle.session_desk.specs.Attaching.{asked};
 
@@ -70,6 +72,12 @@ pub enum OfferRefusal {
     Memory,
 }
 
+/// A place of a member in a group, with the messages that are out at it: those that it was handed, and neither settled nor gave back.
+pub trait HoldingPlace: Place {
+    /// What is out at the place is just these messages. A place that keeps no account of them has out whatever its member holds.
+    ghost has_out: { Self → List Held → Type 0 };
+}
+
 /// What connections share: the desk of all sessions, the routes, and the groups. `P` is a place in a group.
 ///
 /// Each call but [`Supply::begin`], [`Supply::is_open`] and [`Supply::end`], which no step makes, is one fact, which the relation `call` ties to the
@@ -78,7 +86,10 @@ pub enum OfferRefusal {
 ///
 /// Messages are offered and asked for within a visit alone: so none is refused, and none withheld, since a visit was forgotten. No call begins or ends
 /// one.
-pub trait Supply<P: Place> {
+///
+/// A session that comes has out at its place what it holds, and goes back so; and a place settles and gives back what is out at it, and nothing else.
+/// So a supply is never handed a message that it does not know.
+pub trait Supply<P: HoldingPlace> {
     /// What a call with these arguments and this answer makes of the supply.
     ghost call: { Self → Fact P → Self → Type 0 };
 
@@ -113,7 +124,7 @@ pub trait Supply<P: Place> {
     ) -> Result<Attached<Envelope, P>, DeskError>
         requires known { connection < 1024 }
         requires short { length client.now ≤ 128 }
-        ensures ready { IfOk result IsReady }
+        ensures ready { IfOk result (IsReady P.has_out) }
         ensures called { call self.old (Attach (asked connection client.now clean now) result) self.new }
         ensures visiting { visiting self.new ≡ visiting self.old };
 
@@ -123,48 +134,52 @@ pub trait Supply<P: Place> {
         ensures visiting { visiting self.new ≡ visiting self.old };
 
     /// Whether another connection asked for this connection's session since it was lent.
-    fn kicked(&mut self, connection: u16) -> bool
-        ensures called { call self.old (Kicked connection result) self.new }
-        ensures visiting { visiting self.new ≡ visiting self.old };
+    fn kicked(&self, connection: u16) -> bool
+        ensures { call self.now (Kicked connection result) self.now };
 
     /// A session whose connection has ended is kept until its client comes back or its time is over. One that ends with its
     /// connection comes back, and is to be retired.
     fn park(&mut self, session: Session<Envelope, P>, now: u64) -> Option<Session<Envelope, P>>
-        requires { session.window.retired ≡ false }
+        requires { IsSoundSession P.has_out session }
         ensures same { IfSome result (λ back. back ≡ session) }
         ensures called { call self.old (Park session now result) self.new }
         ensures visiting { visiting self.new ≡ visiting self.old };
 
     /// A session whose connection has ended is kept as it is, whatever its expiry.
     fn park_as_is(&mut self, session: Session<Envelope, P>)
-        requires { session.window.retired ≡ false }
+        requires { IsSoundSession P.has_out session }
         ensures called { call self.old (ParkAsIs session) self.new }
         ensures visiting { visiting self.new ≡ visiting self.old };
 
     /// An ending session is kept until it is handed out again by a sweep.
     fn keep(&mut self, session: Session<Envelope, P>)
+        requires { IsOutAtPlace P.has_out session }
         ensures called { call self.old (Keep session) self.new }
         ensures visiting { visiting self.new ≡ visiting self.old };
 
     /// An ending session that holds nothing any more is gone: its place, if it has one, is free.
     fn bury(&mut self, session: Session<Envelope, P>)
-        requires { held_of session.window ≡ [] }
+        requires spent { held_of session.window ≡ [] }
+        requires out { IsOutAtPlace P.has_out session }
         ensures called { call self.old (Bury session) self.new }
         ensures visiting { visiting self.new ≡ visiting self.old };
 
     /// A session that is to be retired: one that is kept, or one that is over by time at this moment.
     fn sweep(&mut self, now: u64) -> Option<Session<Envelope, P>>
+        ensures out { IfSome result (IsOutAtPlace P.has_out) }
         ensures called { call self.old (Sweep now result) self.new }
         ensures visiting { visiting self.new ≡ visiting self.old };
 
     /// The least free place of the group of this slot.
     fn lend_place(&mut self, slot: u8) -> Option<P>
         ensures slot { IfSome result (λ place. P.slot_of place ≡ slot) }
+        ensures out { IfSome result (λ place. P.has_out place []) }
         ensures called { call self.old (LendPlace slot result) self.new }
         ensures visiting { visiting self.new ≡ visiting self.old };
 
     /// A place is free from now on.
     fn take_place(&mut self, place: P)
+        requires { P.has_out place [] }
         ensures called { call self.old (TakePlace place) self.new }
         ensures visiting { visiting self.new ≡ visiting self.old };
 
@@ -197,23 +212,29 @@ pub trait Supply<P: Place> {
     /// Hands the oldest queued message to a place; `None` where nothing is queued, or the broker is closed.
     fn take(&mut self, place: &mut P) -> Result<Option<Envelope>, NoMemory>
         requires { visiting self.old ≡ true }
+        ensures out { FindsOut P.has_out place.old result place.new }
         ensures called { call self.old (Take place.old place.new result) self.new }
         ensures visiting { visiting self.new ≡ visiting self.old };
 
     /// Hands the message that was given back first to a place; `None` where none is there, or the broker is closed.
     fn take_back(&mut self, place: &mut P) -> Result<Option<Envelope>, NoMemory>
         requires { visiting self.old ≡ true }
+        ensures out { FindsOut P.has_out place.old result place.new }
         ensures called { call self.old (TakeBack place.old place.new result) self.new }
         ensures visiting { visiting self.new ≡ visiting self.old };
 
     /// The place settles a message that it was handed.
     fn settle(&mut self, place: &mut P, envelope: Envelope, fate: Fate)
+        requires { IsAmong P.has_out place.old envelope }
+        ensures out { SpendsOut P.has_out place.old envelope place.new }
         ensures called { call self.old (Settle place.old place.new envelope fate) self.new }
         ensures visiting { visiting self.new ≡ visiting self.old };
 
     /// The place gives a message back that it was handed. A want of memory hands it back, and changes nothing.
     fn give_back(&mut self, place: &mut P, envelope: Envelope) -> Result<(), Envelope>
+        requires { IsAmong P.has_out place.old envelope }
         ensures same { IfErr result (λ back. back ≡ envelope) }
+        ensures out { ReturnsOut P.has_out place.old envelope result place.new }
         ensures called { call self.old (GiveBack place.old place.new envelope result) self.new }
         ensures visiting { visiting self.new ≡ visiting self.old };
 }

@@ -16,13 +16,12 @@ ghost use Rattle.conn_laws.specs.Quotas.{IsWithinQuota};
 ghost use Rattle.conn_laws.specs.Transcripts.{IsNotEnding, Transcribes};
 ghost use Rattle.conn_engine.specs.Step.{Steps, FailsToStep};
 
-use conn_engine::Supply;
-use session_desk::Place;
+use conn_engine::{HoldingPlace, Supply};
 
 /// **A connection is over exactly where its step says so**: it has ended behind a step that does not go on, and behind no other.
 /// And it ends by a fault, by the end of its input, and by the broker's closing (`last`). A connection whose client has its session has one behind
 /// each step until it ends (`keeps`).
-pub fn ended_law<P: Place, S: Supply<P>>()
+pub fn ended_law<P: HoldingPlace, S: Supply<P>>()
     ensures told { (number now : ℕ) (standing standing' : Standing P) (input : Input) (packets : List Packet) (next : Then) (old new : S) →
         Steps S.call P.slot_of old number standing now input packets next standing' new →
         (standing' ≡ standings.Ended) ↔ (next ≢ Go) }
@@ -36,7 +35,7 @@ pub fn ended_law<P: Place, S: Supply<P>>()
 /// **Nothing is left to hand out** behind a step that leaves a client with its session: no message waits to be sent again that the
 /// quota has room for; and where the session is a member's, its window has no room for another message, or there was none, when it
 /// was asked for last.
-pub fn eager_law<P: Place, S: Supply<P>>()
+pub fn eager_law<P: HoldingPlace, S: Supply<P>>()
     ensures { (number now : ℕ) (standing : Standing P) (link : Link P) (input : Input) (packets : List Packet) (next : Then) (old new : S) →
         Steps S.call P.slot_of old number standing now input packets next (standings.Connected link) new →
         IsAllHandedOut S.call link new }
@@ -44,7 +43,7 @@ pub fn eager_law<P: Place, S: Supply<P>>()
 
 /// **The quota is kept** (section 4.9): of the PUBLISH packets that a connection sent, those that wait for their PUBACK are never more than the
 /// Receive Maximum of its CONNECT, and never more than 256.
-pub fn quota_law<P: Place, S: Supply<P>>()
+pub fn quota_law<P: HoldingPlace, S: Supply<P>>()
     ensures { (number now : ℕ) (standing standing' : Standing P) (input : Input) (packets : List Packet) (next : Then) (old new : S) →
         Steps S.call P.slot_of old number standing now input packets next standing' new →
         IsWithinQuota standing → IsWithinQuota standing' }
@@ -58,7 +57,7 @@ pub fn quota_law<P: Place, S: Supply<P>>()
 /// - a message is settled only by a PUBACK under its identifier, once, as its Reason Code says;
 /// - what is handed to a place goes out at once, each message in a PUBLISH of its own with DUP 0, in their order, and no other packet
 ///   brings a message for the first time; where memory is wanted nothing goes out, and the session has what was handed.
-pub fn calls_law<P: Place, S: Supply<P>>()
+pub fn calls_law<P: HoldingPlace, S: Supply<P>>()
     ensures stepped { (number now : ℕ) (standing standing' : Standing P) (input : Input) (packets : List Packet) (next : Then) (old new : S) →
         Steps S.call P.slot_of old number standing now input packets next standing' new →
         StepCalls S.call old number standing input packets next new }
@@ -69,7 +68,7 @@ pub fn calls_law<P: Place, S: Supply<P>>()
 
 /// **A connection publishes as itself**: whatever a step offers to a group, it offers it from the number of its connection, and so does one that
 /// wants memory (`failed`).
-pub fn publisher_law<P: Place, S: Supply<P>>()
+pub fn publisher_law<P: HoldingPlace, S: Supply<P>>()
     ensures stepped { (number now : ℕ) (standing standing' : Standing P) (input : Input) (packets : List Packet) (next : Then) (old new : S) →
         Steps S.call P.slot_of old number standing now input packets next standing' new → CallsFrom S.call number old new }
     ensures failed { (number now : ℕ) (standing : Standing P) (input : Input) (old new : S) →
@@ -78,7 +77,7 @@ pub fn publisher_law<P: Place, S: Supply<P>>()
 
 /// **What was given back is handed out first**: a step hands a place a message of the queue only directly behind a call that asked for one that was
 /// given back, and found none; and so does one that wants memory (`failed`).
-pub fn returned_first_law<P: Place, S: Supply<P>>()
+pub fn returned_first_law<P: HoldingPlace, S: Supply<P>>()
     ensures stepped { (number now : ℕ) (standing standing' : Standing P) (input : Input) (packets : List Packet) (next : Then) (old new : S) →
         Steps S.call P.slot_of old number standing now input packets next standing' new → CallsReturnedFirst S.call old new }
     ensures failed { (number now : ℕ) (standing : Standing P) (input : Input) (old new : S) →
@@ -87,7 +86,7 @@ pub fn returned_first_law<P: Place, S: Supply<P>>()
 
 /// **A step has one outcome** where each call of its supply has one answer, memory aside: the same packets, the same that becomes of
 /// the connection, and the same supply.
-pub fn one_step_law<P: Place, S: Supply<P>>()
+pub fn one_step_law<P: HoldingPlace, S: Supply<P>>()
     ensures { (number now : ℕ) (standing one other : Standing P) (input : Input) (packets packets' : List Packet) (next next' : Then) (old new new' : S) →
         OneAnswer S.call (λ these those. these ≡ those) →
         Steps S.call P.slot_of old number standing now input packets next one new →
@@ -103,7 +102,7 @@ pub fn one_step_law<P: Place, S: Supply<P>>()
 /// - What is handed out is what is sent for the first time, in that order, each message to the place of this session.
 /// - What is acknowledged is settled, once, by the PUBACK that came, and nothing else is; and no PUBACK for what the session holds is passed over,
 ///   unless another connection took the session.
-pub fn transcript_law<P: Place, S: Supply<P>>()
+pub fn transcript_law<P: HoldingPlace, S: Supply<P>>()
     ensures { (number now : ℕ) (standing standing' : Standing P) (input : Input) (packets : List Packet) (next : Then) (old new : S) →
         Steps S.call P.slot_of old number standing now input packets next standing' new →
         IsNotEnding standing → Transcribes S.call old number standing input packets next standing' new }

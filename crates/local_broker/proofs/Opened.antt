@@ -7,14 +7,21 @@ use Rattle.dispatch_core.proofs.Spots.{slice_get-set_same, slice_get-set_other, 
 use Rattle.group_jobs.specs.Stamps.{Held}
 use Rattle.session_desk.specs.Books.{Books, new_books, with_free}
 use Rattle.session_desk.specs.Hands.{DeskLaw}
+use Rattle.session_desk.specs.Everywhere.{IsEverywhere}
 use Rattle.session_desk.specs.Places.{IsFreeAt, TakesPlace, cell_at}
-use Rattle.session_desk.proofs.OneHand.{law_new}
+use Rattle.session_desk.proofs.OneHand.{law_new, no_row}
+use Rattle.conn_engine.specs.Holding.{IsOutAtPlace}
 use Rattle.local_group.specs.Groups.{Group}
-use Rattle.local_broker.specs.Places.{GroupPlace, place_at}
+use Rattle.local_broker.specs.Places.{GroupPlace, place_at, has_out}
 use Rattle.local_broker.specs.Broker.{AreNewGroups, IsNewGroup, HasAllPlaces}
 
 pub new_law : (desk : Books Held GroupPlace) → HasAllPlaces desk → DeskLaw desk.rows desk.made
 new_law desk has = subst (λ (b : Books Held GroupPlace). DeskLaw b.rows b.made) (sym has.books) law_new
+
+pub new_out : (desk : Books Held GroupPlace) → HasAllPlaces desk → IsEverywhere (IsOutAtPlace has_out) (λ place. has_out place []) desk
+new_out desk has =
+    subst (IsEverywhere (IsOutAtPlace has_out) (λ place. has_out place [])) (sym has.books)
+    (record { sessions = λ number row session there inside. absurd (no_row number row there); places = λ cell place free. tt })
 
 -- one more group
 pub group_more : (capacity : ℕ) (groups : List Group) (group : Group) → AreNewGroups capacity groups → IsNewGroup (length groups) capacity group → AreNewGroups capacity (groups ++ group ∷ [])

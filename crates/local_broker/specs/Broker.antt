@@ -1,14 +1,16 @@
 -- What the connections of a broker on one thread share.
-use Rattle.std.specs.Prelude.{◌≡◌, ℕ, ◌<◌, Bool, true, not, List, Some, refl, slice_get, length}
+use Rattle.std.specs.Prelude.{◌≡◌, ℕ, ◌<◌, Bool, true, not, List, [], Some, refl, slice_get, length}
 use Rattle.std.specs.List.{list_all}
 use Rattle.std.specs.Coded.{Coded, code_by, coded×, coded_list}
 use Rattle.mqtt_topic.specs.Names.{Share}
 use Rattle.group_jobs.specs.Stamps.{Held}
 use Rattle.session_desk.specs.Books.{Books, new_books, with_free}
+use Rattle.session_desk.specs.Everywhere.{IsEverywhere}
 use Rattle.session_desk.specs.Hands.{DeskLaw}
 use Rattle.session_desk.specs.Places.{IsFreeAt}
 use Rattle.local_group.specs.Groups.{Group, IsFresh}
-use Rattle.local_broker.specs.Places.{GroupPlace, place_at}
+use Rattle.conn_engine.specs.Holding.{IsOutAtPlace}
+use Rattle.local_broker.specs.Places.{GroupPlace, place_at, has_out}
 
 pub record Broker : Type 0 where
   -- who has which session, and which places are free
@@ -22,6 +24,8 @@ pub record Broker : Type 0 where
 pub record IsSound (b : Broker) : Type 0 where
   pub desk : DeskLaw b.desk.rows b.desk.made
   pub groups : length b.groups ≡ 8
+  -- a session that is no member holds nothing
+  pub out : IsEverywhere (IsOutAtPlace has_out) (λ place. has_out place []) b.desk
 
 -- no group is closed
 abbrev pub is_open : Broker → Bool

@@ -1,5 +1,6 @@
 -- The places of a broker on one thread: eight groups of 32.
-use Rattle.std.specs.Prelude.{ℕ, ◌/◌, ◌%◌}
+use Rattle.std.specs.Prelude.{ℕ, ◌/◌, ◌%◌, List, ⊤}
+use Rattle.group_jobs.specs.Stamps.{Held}
 use Rattle.session_desk.specs.Places.{cell_at}
 
 -- the place of this number in the group of this slot
@@ -10,6 +11,10 @@ pub record GroupPlace : Type 0 where
 -- where the desk has it while it is free
 abbrev pub cell_of : GroupPlace → ℕ
 cell_of place = cell_at place.slot place.number
+
+-- a place keeps no account of what is out at it: its group does
+abbrev pub has_out : GroupPlace → List Held → Type 0
+has_out place all = ⊤
 
 -- which place a cell is for
 abbrev pub place_at : ℕ → GroupPlace

@@ -1,9 +1,12 @@
 //! The calls of connections.
-ghost use Rattle.std.specs.Prelude.{◌≡◌, ◌≤◌, ◌<◌, [], false, length, IfOk, IfErr, IfSome};
+ghost use Rattle.std.specs.Prelude.{◌≡◌, ◌≤◌, ◌<◌, [], length, IfOk, IfErr, IfSome};
 ghost use Rattle.member_window.specs.Contents.{held_of};
 ghost use Rattle.conn_engine.specs.Facts.Fact.{Park, ParkAsIs, Keep, Bury};
+ghost use Rattle.conn_engine.specs.Holding.{IsOutAtPlace};
+ghost use Rattle.conn_engine.specs.Ready.{IsSoundSession};
 ghost use Rattle.local_broker.specs.Broker.{is_open};
 ghost use Rattle.local_broker.specs.Calls.{Calls};
+ghost use Rattle.local_broker.specs.Places.{has_out};
 
 use crate::groups;
 use crate::letting_go::dissolve;
@@ -57,7 +60,7 @@ impl Supply<LocalPlace> for LocalSupply {
         self.desk.withdraw(connection);
     }
 
-    fn kicked(&mut self, connection: u16) -> bool {
+    fn kicked(&self, connection: u16) -> bool {
         self.desk.kicked(connection)
     }
 
@@ -66,7 +69,7 @@ impl Supply<LocalPlace> for LocalSupply {
         session: Session<Envelope, LocalPlace>,
         now: u64,
     ) -> Option<Session<Envelope, LocalPlace>>
-        requires { session.window.retired ≡ false }
+        requires { IsSoundSession has_out session }
         ensures same { IfSome result (λ back. back ≡ session) }
         ensures called { Calls self.old (Park session now result) self.new }
         ensures visiting { is_open self.new ≡ is_open self.old }
@@ -75,7 +78,7 @@ impl Supply<LocalPlace> for LocalSupply {
     }
 
     fn park_as_is(&mut self, session: Session<Envelope, LocalPlace>)
-        requires { session.window.retired ≡ false }
+        requires { IsSoundSession has_out session }
         ensures called { Calls self.old (ParkAsIs session) self.new }
         ensures visiting { is_open self.new ≡ is_open self.old }
     {
@@ -83,6 +86,7 @@ impl Supply<LocalPlace> for LocalSupply {
     }
 
     fn keep(&mut self, session: Session<Envelope, LocalPlace>)
+        requires { IsOutAtPlace has_out session }
         ensures called { Calls self.old (Keep session) self.new }
         ensures visiting { is_open self.new ≡ is_open self.old }
     {
@@ -90,7 +94,8 @@ impl Supply<LocalPlace> for LocalSupply {
     }
 
     fn bury(&mut self, session: Session<Envelope, LocalPlace>)
-        requires { held_of session.window ≡ [] }
+        requires spent { held_of session.window ≡ [] }
+        requires out { IsOutAtPlace has_out session }
         ensures called { Calls self.old (Bury session) self.new }
         ensures visiting { is_open self.new ≡ is_open self.old }
     {

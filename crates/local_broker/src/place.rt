@@ -1,4 +1,5 @@
 //! Places of the groups.
+use conn_engine::HoldingPlace;
 use session_desk::Place;
 use std::marker::Model;
 
@@ -50,4 +51,10 @@ impl Place for LocalPlace {
     fn number(&self) -> u8 {
         self.number
     }
+}
+
+impl HoldingPlace for LocalPlace {
+    ghost use Rattle.local_broker.specs.Places.{has_out};
+
+    ghost has_out = { has_out };
 }

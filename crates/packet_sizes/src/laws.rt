@@ -19,8 +19,7 @@ ghost use Rattle.conn_engine.specs.declared.standing.Standing.{Standing};
 ghost use Rattle.conn_engine.specs.Step.{Steps};
 ghost use Rattle.packet_sizes.specs.Sizes.{IsSmall, IsShort, IsLight, IsAnswerUnlessHandedOn, IsShortUnlessHandedOn};
 
-use conn_engine::Supply;
-use session_desk::Place;
+use conn_engine::{HoldingPlace, Supply};
 
 /// **A message is handed on in no more bytes than it came in** (section 3.3): a PUBLISH that was read has at most 65,536 bytes in all, and
 /// what goes on of it is its topic, its payload, and those of its properties that go with a message (3.3.2.3). Where it came with a Packet
@@ -60,7 +59,7 @@ pub fn writable_law()
 /// **What a step sends is short**: each of its packets is, unless it is a PUBLISH that hands a message on, and that is as long as its
 /// message makes it (`short`). Of the others each has at most 64 bytes, which every client takes that is not refused (section 3.1.2.11.4),
 /// unless it is a CONNACK that assigns an identifier (`small`).
-pub fn short_replies_law<P: Place, S: Supply<P>>()
+pub fn short_replies_law<P: HoldingPlace, S: Supply<P>>()
     ensures short { (number now : ℕ) (standing standing' : Standing P) (input : Input) (packets : List Packet) (next : Then) (old new : S) →
         Steps S.call P.slot_of old number standing now input packets next standing' new →
         AllByRecursion IsShortUnlessHandedOn packets }

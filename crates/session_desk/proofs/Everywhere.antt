@@ -11,6 +11,7 @@ use Rattle.session_desk.specs.declared.session.Membership.TheVariants.{NotMember
 use Rattle.session_desk.specs.declared.row.Row.{Row}
 use Rattle.session_desk.specs.declared.row.Standing.{Standing}
 use Rattle.session_desk.specs.declared.row.Standing.TheVariants.{Lent, Parked, Kept}
+use Rattle.member_window.specs.Contents.{held_of}
 use Rattle.session_desk.specs.Sessions.{Who}
 use Rattle.session_desk.specs.Rows.{Rows, HasRow, NoRow, IsKept, IsOverdue, session_in, away, new_row, with_standing, with_wait}
 use Rattle.session_desk.specs.Books.{Books, new_books, new_session}
@@ -19,7 +20,7 @@ use Rattle.session_desk.specs.Attaching.{Request, AttachesClient, AttachesUnname
 use Rattle.session_desk.specs.Keeping.{parked_at, EndsLent, IsLent, freed}
 use Rattle.session_desk.specs.Sweeping.{HandsOut}
 use Rattle.session_desk.specs.Calls.{Call, Attach, Withdraw, Kicked, Park, ParkAsIs, Keep, Bury, Sweep, LendPlace, TakePlace, Makes, MakesAll}
-use Rattle.session_desk.specs.Everywhere.{IfMember, IsSo, IsEverywhere, GoesIn, AllGoIn, IsAttachedSo, ComesOut}
+use Rattle.session_desk.specs.Everywhere.{IfMember, IsEverywhere, GoesIn, AllGoIn, IsAttachedSo, ComesOut}
 use Rattle.session_desk.proofs.Seen.{after_insert, after_remove}
 use Rattle.session_desk.proofs.OneHand.{no_row}
 use Rattle.session_desk.proofs.Cells.{still_held, also_held, none_free}
@@ -57,7 +58,8 @@ free_attach : {E P : Type 0} (client : List ℕ) (old new : Books E P) (request 
 free_attach [] old new request answer h = free_unnamed old new request.connection answer h
 free_attach (byte ∷ bytes) old new request answer h = free_client old new (byte ∷ bytes) request answer h
 
-module _ {E P : Type 0} (Holds : Session E P → Type 0) (Fits : P → Type 0) (cell : P → ℕ) (FitsAt : ℕ → P → Type 0) (at : (place : P) → Fits place → FitsAt (cell place) place) where
+module _ {E P : Type 0} (Holds : Session E P → Type 0) (Fits : P → Type 0) (cell : P → ℕ) (FitsAt : ℕ → P → Type 0) (at : (place : P) → Fits place → FitsAt (cell place) place)
+    (frees : (session : Session E P) → Holds session → held_of session.window ≡ [] → IfMember Fits session.membership) where
   -- the same cells
   same_free : (old new : List (Option P)) → new ≡ old → HoldsAt FitsAt old → HoldsAt FitsAt new
   same_free old new same held = subst (HoldsAt FitsAt) (sym same) held
@@ -80,7 +82,7 @@ module _ {E P : Type 0} (Holds : Session E P → Type 0) (Fits : P → Type 0) (
   free_call old new (Keep session None) made going held = same_free old.free new.free (ap (λ b. b.free) made.after) held
   free_call old new (Keep session (Some back)) made going held = same_free old.free new.free (ap (λ b. b.free) made.2) held
   free_call old new (Bury session None) made going held =
-      same_free (freed cell old.free session.membership) new.free (ap (λ b. b.free) made.1) (freed_held session.membership old.free going.fits held)
+      same_free (freed cell old.free session.membership) new.free (ap (λ b. b.free) made.1) (freed_held session.membership old.free (frees session going made.0.empty) held)
   free_call old new (Bury session (Some back)) made going held = same_free old.free new.free (ap (λ b. b.free) made.2) held
   free_call old new (Sweep now answer) made going held = same_free old.free new.free (ap (λ b. b.free) made.2) held
   free_call old new (LendPlace slot None) made going held = same_free old.free new.free (ap (λ b. b.free) made.2 ∙ made.1.1) held
@@ -106,13 +108,14 @@ one_session : {E P : Type 0} (a b : Session E P) → Some a ≡ Some b → a ≡
 one_session a b e = cc
 
 module _ {E P : Type 0} (Holds : Session E P → Type 0) (Fits : P → Type 0) (begins : (who : Who) → Holds (new_session who))
-    (timeless : (session : Session E P) (now : ℕ) → Holds session → Holds (parked_at session now)) where
+    (timeless : (session : Session E P) (now : ℕ) → Holds session → Holds (parked_at session now))
+    (frees : (session : Session E P) → Holds session → held_of session.window ≡ [] → IfMember Fits session.membership) where
   -- of each session that is kept
   abbrev InRows : Rows E P → Type 0
-  InRows rows = (number : ℕ) (row : Row E P) (session : Session E P) → HasRow rows number row → session_in row.standing ≡ Some session → IsSo Holds Fits session
+  InRows rows = (number : ℕ) (row : Row E P) (session : Session E P) → HasRow rows number row → session_in row.standing ≡ Some session → Holds session
 
   -- a row changes, to one without a session, or with one that is so
-  moves : (rows : Rows E P) (k : ℕ) (after : Row E P) → InRows rows → ((session : Session E P) → session_in after.standing ≡ Some session → IsSo Holds Fits session) → InRows (map.insert rows k after)
+  moves : (rows : Rows E P) (k : ℕ) (after : Row E P) → InRows rows → ((session : Session E P) → session_in after.standing ≡ Some session → Holds session) → InRows (map.insert rows k after)
   moves rows k after inside new n row session there has =
       ⊎_elim
       (λ (here : (n ≡ k) × (after ≡ row)). new session (ap (λ r. session_in r.standing) here.1 ∙ has))
@@ -122,8 +125,8 @@ module _ {E P : Type 0} (Holds : Session E P → Type 0) (Fits : P → Type 0) (
   empties : (rows : Rows E P) (k : ℕ) (after : Row E P) → InRows rows → session_in after.standing ≡ None → InRows (map.insert rows k after)
   empties rows k after inside none = moves rows k after inside (λ session has. absurd (none_some session (sym none ∙ has)))
 
-  fills : (rows : Rows E P) (k : ℕ) (after : Row E P) (session : Session E P) → InRows rows → session_in after.standing ≡ Some session → IsSo Holds Fits session → InRows (map.insert rows k after)
-  fills rows k after session inside has so = moves rows k after inside (λ other is. subst (IsSo Holds Fits) (one_session session other (sym has ∙ is)) so)
+  fills : (rows : Rows E P) (k : ℕ) (after : Row E P) (session : Session E P) → InRows rows → session_in after.standing ≡ Some session → Holds session → InRows (map.insert rows k after)
+  fills rows k after session inside has so = moves rows k after inside (λ other is. subst Holds (one_session session other (sym has ∙ is)) so)
 
   removes : (rows : Rows E P) (k : ℕ) → InRows rows → InRows (map.remove rows k)
   removes rows k inside n row session there has = inside n row session (after_remove rows k n row there).1 has
@@ -131,14 +134,11 @@ module _ {E P : Type 0} (Holds : Session E P → Type 0) (Fits : P → Type 0) (
   same_rows : (old new : Rows E P) → new ≡ old → InRows old → InRows new
   same_rows old new same inside = subst InRows (sym same) inside
 
-  fresh : (who : Who) (session : Session E P) → session ≡ new_session who → IsSo Holds Fits session
-  fresh who session is = subst (IsSo Holds Fits) (sym is) (record { holds = begins who; fits = tt })
+  fresh : (who : Who) (session : Session E P) → session ≡ new_session who → Holds session
+  fresh who session is = subst Holds (sym is) (begins who)
 
-  parks : (session : Session E P) (now : ℕ) → IsSo Holds Fits session → IsSo Holds Fits (parked_at session now)
-  parks session now so = record { holds = timeless session now so.holds; fits = so.fits }
-
-  handed_back : (session back : Session E P) → back ≡ session → IsSo Holds Fits session → IsSo Holds Fits back
-  handed_back session back is so = subst (IsSo Holds Fits) (sym is) so
+  handed_back : (session back : Session E P) → back ≡ session → Holds session → Holds back
+  handed_back session back is so = subst Holds (sym is) so
 
   -- an answer to a connection: the rows then, and what it hands out
   attach_client : (old new : Books E P) (client : List ℕ) (request : Request) (answer : Result (Attached E P) DeskError) → AttachesClient old client request answer new
@@ -192,7 +192,7 @@ module _ {E P : Type 0} (Holds : Session E P → Type 0) (Fits : P → Type 0) (
 
   -- a sweep hands out a session
   sweeps : (old new : Rows E P) (IsOne : Row E P → Type 0) (standing : Standing E P) (session : Session E P) → session_in standing ≡ Some session → HandsOut old IsOne standing new
-      → InRows old → InRows new × IsSo Holds Fits session
+      → InRows old → InRows new × Holds session
   sweeps old new IsOne standing session has h inside = (
     same_rows (map.insert old h.number (away h.oldest.row.client)) new h.after (empties old h.number (away h.oldest.row.client) inside refl),
     inside h.number h.oldest.row session h.oldest.has (ap session_in h.stood ∙ has),
@@ -206,7 +206,7 @@ module _ {E P : Type 0} (Holds : Session E P → Type 0) (Fits : P → Type 0) (
     call_rows old new (Kicked connection answer) made so going = (same_rows old.rows new.rows (ap (λ b. b.rows) made.1) so.sessions, tt)
     call_rows old new (Park session now None) made so going = (
       same_rows (map.insert old.rows session.identity.number (with_standing made.lent.row (Parked (parked_at session now)))) new.rows (ap (λ b. b.rows) made.after)
-          (fills old.rows session.identity.number (with_standing made.lent.row (Parked (parked_at session now))) (parked_at session now) so.sessions refl (parks session now going)),
+          (fills old.rows session.identity.number (with_standing made.lent.row (Parked (parked_at session now))) (parked_at session now) so.sessions refl (timeless session now going)),
       tt,
     )
     call_rows old new (Park session now (Some back)) made so going = (
@@ -256,7 +256,7 @@ module _ {E P : Type 0} (Holds : Session E P → Type 0) (Fits : P → Type 0) (
     onward old new call made so going =
         record {
           sessions = (call_rows old new call made so going).0;
-          places = free_call Holds Fits cell (λ _ place. Fits place) (λ place fits. fits) old new call made going so.places;
+          places = free_call Holds Fits cell (λ _ place. Fits place) (λ place fits. fits) frees old new call made going so.places;
         }
 
     pub out : (old new : Books E P) (call : Call E P) → Makes cell old call new → IsEverywhere Holds Fits old → GoesIn Holds Fits call → ComesOut Holds Fits call

@@ -19,22 +19,17 @@ IfMember Fits (Member place) = Fits place
 IfMember Fits (Leaving place) = Fits place
 
 module _ {E P : Type 0} (Holds : Session E P → Type 0) (Fits : P → Type 0) where
-  -- a session has its property, and its place, if it has one, that of places
-  pub record IsSo (session : Session E P) : Type 0 where
-    pub holds : Holds session
-    pub fits : IfMember Fits session.membership
-
   -- all sessions that the desk keeps have theirs, and all free places
   pub record IsEverywhere (b : Books E P) : Type 0 where
-    pub sessions : (number : ℕ) (row : Row E P) (session : Session E P) → HasRow b.rows number row → session_in row.standing ≡ Some session → IsSo session
+    pub sessions : (number : ℕ) (row : Row E P) (session : Session E P) → HasRow b.rows number row → session_in row.standing ≡ Some session → Holds session
     pub places : (cell : ℕ) (place : P) → IsFreeAt b.free cell place → Fits place
 
   -- what a call hands in has it
   abbrev pub GoesIn : Call E P → Type 0
-  GoesIn (Park session now answer) = IsSo session
-  GoesIn (ParkAsIs session answer) = IsSo session
-  GoesIn (Keep session answer) = IsSo session
-  GoesIn (Bury session answer) = IsSo session
+  GoesIn (Park session now answer) = Holds session
+  GoesIn (ParkAsIs session answer) = Holds session
+  GoesIn (Keep session answer) = Holds session
+  GoesIn (Bury session answer) = Holds session
   GoesIn (TakePlace place answer) = Fits place
   GoesIn _ = ⊤
 
@@ -44,19 +39,19 @@ module _ {E P : Type 0} (Holds : Session E P → Type 0) (Fits : P → Type 0) w
 
   -- what it hands out has it: sessions that are new, resumed, ended or swept, places that are lent, and what is handed back
   abbrev pub IsAttachedSo : Result (Attached E P) DeskError → Type 0
-  IsAttachedSo (Ok (New session ended)) = IsSo session × IfSome ended IsSo
-  IsAttachedSo (Ok (Resumed session)) = IsSo session
+  IsAttachedSo (Ok (New session ended)) = Holds session × IfSome ended Holds
+  IsAttachedSo (Ok (Resumed session)) = Holds session
   IsAttachedSo (Ok (Replace holder)) = ⊤
   IsAttachedSo (Ok Busy) = ⊤
   IsAttachedSo (Err error) = ⊤
 
   abbrev pub ComesOut : Call E P → Type 0
   ComesOut (Attach request answer) = IsAttachedSo answer
-  ComesOut (Park session now answer) = IfSome answer IsSo
-  ComesOut (ParkAsIs session answer) = IfSome answer IsSo
-  ComesOut (Keep session answer) = IfSome answer IsSo
-  ComesOut (Bury session answer) = IfSome answer IsSo
-  ComesOut (Sweep now answer) = IfSome answer IsSo
+  ComesOut (Park session now answer) = IfSome answer Holds
+  ComesOut (ParkAsIs session answer) = IfSome answer Holds
+  ComesOut (Keep session answer) = IfSome answer Holds
+  ComesOut (Bury session answer) = IfSome answer Holds
+  ComesOut (Sweep now answer) = IfSome answer Holds
   ComesOut (LendPlace slot answer) = IfSome answer Fits
   ComesOut (TakePlace place answer) = IfSome answer Fits
   ComesOut _ = ⊤

@@ -1,12 +1,12 @@
 //! Laws: what holds of every list of calls of a desk. Each is the contract of a function that does nothing. They are
 //! stated over the definitions that the contracts of [`Desk`](crate::Desk) cite, so they are about what its methods do.
-ghost use Rattle.std.specs.Prelude.{◌≡◌, ◌↔◌, ℕ, ◌+◌, ◌<◌, nat_lt, if◌then◌else◌, List, [], Some, Result, Err, ⊤};
+ghost use Rattle.std.specs.Prelude.{◌≡◌, ◌↔◌, ℕ, ◌+◌, ◌<◌, nat_lt, if◌then◌else◌, List, [], Some, Result, Err};
 ghost use Rattle.session_desk.specs.AskedBack.{IsAskedBack};
 ghost use Rattle.session_desk.specs.Asking.{IsSameQuestion, HadMemory};
 ghost use Rattle.session_desk.specs.Attaching.{Attaches, Request};
 ghost use Rattle.session_desk.specs.Books.{Books, IsKicked, new_books};
 ghost use Rattle.session_desk.specs.Calls.{Call, Makes, MakesAll};
-ghost use Rattle.session_desk.specs.Everywhere.{AllGoIn, ComesOut, GoesIn, IsEverywhere};
+ghost use Rattle.session_desk.specs.Everywhere.{AllGoIn, ComesOut, GoesIn, IfMember, IsEverywhere};
 ghost use Rattle.session_desk.specs.Places.{IsFreeAt, LieInOwnCells, cell_at};
 ghost use Rattle.session_desk.specs.Stored.{TakesOut, last_in};
 ghost use Rattle.session_desk.specs.declared.attached.Attached.{Attached};
@@ -82,10 +82,10 @@ pub fn one_answer_law<E, P>()
 pub fn own_cells_law<E, P: Place>()
     ensures kept { (calls : List (Call E P)) (b : Books E P) →
         MakesAll (λ place. cell_at (P.slot_of place) (P.number_of place)) new_books calls b →
-        AllGoIn (λ _. ⊤) (λ place. P.number_of place < 32) calls → LieInOwnCells P.slot_of P.number_of b.free }
+        AllGoIn (λ session. IfMember (λ place. P.number_of place < 32) session.membership) (λ place. P.number_of place < 32) calls → LieInOwnCells P.slot_of P.number_of b.free }
     ensures onward { (call : Call E P) (old new : Books E P) →
         Makes (λ place. cell_at (P.slot_of place) (P.number_of place)) old call new →
-        GoesIn (λ _. ⊤) (λ place. P.number_of place < 32) call →
+        GoesIn (λ session. IfMember (λ place. P.number_of place < 32) session.membership) (λ place. P.number_of place < 32) call →
         LieInOwnCells P.slot_of P.number_of old.free → LieInOwnCells P.slot_of P.number_of new.free }
     ensures apart { (b : Books E P) → LieInOwnCells P.slot_of P.number_of b.free → (cell other : ℕ) (place another : P) →
         IsFreeAt b.free cell place → IsFreeAt b.free other another → P.slot_of place ≡ P.slot_of another →
@@ -94,8 +94,7 @@ pub fn own_cells_law<E, P: Place>()
 
 /// **What holds of all that goes into a desk holds of all that it has and of all that comes out of it**, call by call, whatever was
 /// called before. It is so at a new desk; and where it was so, and holds of what a call hands in, it is so after the call, and holds of
-/// what the call hands out: a session that is new, resumed, ended or swept, with its place, a place that is lent, and what is handed
-/// back. So who shares a desk behind a lock knows what comes out of it by what holds there whenever the lock is taken.
+/// what the call hands out: a session that is new, resumed, ended or swept, a place that is lent, and what is handed back. So who shares a desk behind a lock knows what comes out of it by what holds there whenever the lock is taken.
 pub fn everywhere_law<E, P, R: Rule<E, P>>()
     ensures first { IsEverywhere R.holds R.fits new_books }
     ensures onward { (cell : P → ℕ) (call : Call E P) (old new : Books E P) → Makes cell old call new →

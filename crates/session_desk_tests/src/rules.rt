@@ -1,6 +1,6 @@
 //! A desk of which nothing is known but a rule of what it has, as of one that was taken out of a lock.
 ghost use Rattle.std.specs.Prelude.{IfSome};
-ghost use Rattle.session_desk.specs.Everywhere.{IsEverywhere, IsSo};
+ghost use Rattle.session_desk.specs.Everywhere.{IsEverywhere};
 ghost use Rattle.session_desk_tests.specs.Rules.{HoldsFew, IsOneOfTwo};
 
 use crate::spot::Spot;
@@ -20,13 +20,15 @@ impl Rule<u32, Spot> for FewNumbers {
     ghost begins = { few_at_first };
 
     ghost timeless = { λ _ _ few. few };
+
+    ghost frees = { λ _ few _. few.1 };
 }
 
 /// A session that is to be retired at this moment.
 pub fn swept(desk: &mut Desk<u32, Spot>, now: u64) -> Option<Session<u32, Spot>>
     requires { IsEverywhere HoldsFew IsOneOfTwo desk.old }
     ensures onward { IsEverywhere HoldsFew IsOneOfTwo desk.new }
-    ensures few { IfSome result (IsSo HoldsFew IsOneOfTwo) }
+    ensures few { IfSome result HoldsFew }
 {
     everywhere_law::<u32, Spot, FewNumbers>();
     desk.sweep(now)

@@ -9,3 +9,5 @@ mod bells;
 mod echo;
 #[cfg(test)]
 mod peers;
+#[cfg(test)]
+mod sources;

@@ -5,4 +5,4 @@ use Rattle.local_broker.proofs.calls.LocalSupplySupplyLocalPlace.bury.Goals as g
 pub invariant_of-self : goal.invariant_of-self
 invariant_of-self c =
     let i = c.self.inside in
-    kept i.desk c.bury.new.self i.routes i.groups.items (Bury c.args.session c.bury.result) c.self.invariant tt c.bury.ensures
+    kept i.desk c.bury.new.self i.routes i.groups.items (Bury c.args.session c.bury.result) c.self.invariant tt c.requires.out c.bury.ensures

@@ -5,4 +5,4 @@ use Rattle.local_broker.proofs.calls.LocalSupplySupplyLocalPlace.park.Goals as g
 pub invariant_of-self : goal.invariant_of-self
 invariant_of-self c =
     let i = c.self.inside in
-    kept i.desk c.park.new.self i.routes i.groups.items (Park c.args.session c.args.now c.park.result) c.self.invariant c.requires c.park.ensures
+    kept i.desk c.park.new.self i.routes i.groups.items (Park c.args.session c.args.now c.park.result) c.self.invariant c.requires.going c.requires.out c.park.ensures

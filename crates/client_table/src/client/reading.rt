@@ -1,0 +1,264 @@
+//! The stream of a client, read as far as it goes.
+ghost use Rattle.std.specs.Prelude.{◌≡◌, ◌<◌, ◌++◌, ◌⊎◌, ◌∷◌, [], List, MatchResult, true, vec_capacity, vec_len};
+ghost use Rattle.conn_engine.specs.Step.{IsNoPacket, IsWanted, NeedsVisit};
+ghost use Rattle.conn_engine.specs.declared.input.Input.TheVariants as inputs;
+ghost use Rattle.client_table.specs.Clients.{ClientState, Said as Words, Moves, FailsToMove, IsGivenUp};
+ghost use Rattle.client_table.specs.Streams.{fed, reading_behind, ReadsAs, FailsToReadOne, Reads, FailsToRead, Ticks, FailsToTick, Leaves};
+
+use crate::client::Client;
+use crate::said::Said;
+use conn_engine::{HoldingPlace, Input, NoMemory, Supply, Then};
+use mqtt_wire::{Fault, Packet};
+use std::alloc::Global;
+use std::mem;
+
+/// What came of reading once.
+enum Reading {
+    /// Nothing was to be read.
+    Nothing,
+    /// A packet was read, and the connection goes on.
+    GoesOn,
+    /// What was read closed the connection.
+    Closed,
+}
+
+impl Reading {
+    /// What comes of a packet, by what became of the connection.
+    fn behind(next: Then) -> Reading
+        ensures { result ≡ reading_behind next }
+    {
+        match next {
+            Then::Go => Reading::GoesOn,
+            Then::Close | Then::Kicked => Reading::Closed,
+        }
+    }
+}
+
+impl<P: HoldingPlace> Client<P> {
+    /// Takes a further piece of its stream, which may be empty, and steps its connection by each packet that is whole, at this
+    /// moment in milliseconds, within a visit of the supply. What each step wrote goes behind what was said before.
+    ///
+    /// # Errors
+    ///
+    /// [`NoMemory`]: the connection has ended, and its session is parked or ending, with all that it holds. The step that wanted
+    /// memory wrote nothing; what was said before it stays.
+    pub fn receive<S: Supply<P>>(
+        &mut self,
+        supply: &mut S,
+        now: u64,
+        piece: &[u8],
+        said: &mut Vec<Said>,
+    ) -> Result<(), NoMemory>
+        requires visiting { S.visiting supply.old ≡ true }
+        ensures received { (more : List Words) × (said.new.items ≡ said.old.items ++ more)
+            × MatchResult result
+            (λ _. Reads S.call P.slot_of supply.old (fed self.old piece.now) now more self.new supply.new)
+            (λ _. (IsGivenUp S.call P.slot_of supply.old self.old now inputs.EndOfInput self.new supply.new × (more ≡ []))
+            ⊎ FailsToRead S.call P.slot_of supply.old (fed self.old piece.now) now more self.new supply.new) }
+        ensures visiting { S.visiting supply.new ≡ S.visiting supply.old }
+    {
+        match self.stream.feed(piece) {
+            Ok(()) => self.read(supply, now, said),
+            Err(Fault::Stream(_)) => self.read(supply, now, said),
+            Err(Fault::Memory) => Err(self.give_up(supply, now, Input::EndOfInput)),
+        }
+    }
+
+    /// Steps its connection by each packet that is whole, at this moment in milliseconds.
+    ///
+    /// # Errors
+    ///
+    /// As [`Client::receive`].
+    #[tactic(auto, using(crate::proofs::Reading::from_the_start, crate::proofs::Reading::one_more))]
+    pub fn read<S: Supply<P>>(
+        &mut self,
+        supply: &mut S,
+        now: u64,
+        said: &mut Vec<Said>,
+    ) -> Result<(), NoMemory>
+        requires visiting { S.visiting supply.old ≡ true }
+        ensures read { (more : List Words) × (said.new.items ≡ said.old.items ++ more)
+            × MatchResult result
+            (λ _. Reads S.call P.slot_of supply.old self.old now more self.new supply.new)
+            (λ _. FailsToRead S.call P.slot_of supply.old self.old now more self.new supply.new) }
+        ensures visiting { S.visiting supply.new ≡ S.visiting supply.old }
+    {
+        'packets: loop {
+            match self.read_one(supply, now, said) {
+                Ok(Reading::GoesOn) => {}
+                Ok(Reading::Nothing) => return Ok(()),
+                Ok(Reading::Closed) => return Ok(()),
+                Err(NoMemory) => return Err(NoMemory),
+            }
+        }
+    }
+
+    /// Steps its connection by the packet, or the fault, that stands in front.
+    #[tactic(auto, using(crate::proofs::Waits::waits, crate::proofs::Reading::packet_read))]
+    fn read_one<S: Supply<P>>(
+        &mut self,
+        supply: &mut S,
+        now: u64,
+        said: &mut Vec<Said>,
+    ) -> Result<Reading, NoMemory>
+        requires visiting { S.visiting supply.old ≡ true }
+        ensures read { MatchResult result
+            (λ reading. ReadsAs S.call P.slot_of reading supply.old self.old now said.old.items said.new.items self.new supply.new)
+            (λ _. (said.new.items ≡ said.old.items) × FailsToReadOne S.call P.slot_of supply.old self.old now self.new supply.new) }
+        ensures visiting { S.visiting supply.new ≡ S.visiting supply.old }
+    {
+        if !self.conn.wants_input() {
+            return Ok(Reading::Nothing);
+        }
+        if said.reserve(1).is_err() {
+            return Err(self.give_up(supply, now, Input::EndOfInput));
+        }
+        match self.stream.next() {
+            Ok(None) => Ok(Reading::Nothing),
+            Ok(Some(packet)) => match self.step(supply, now, Input::Packet(packet), said) {
+                Ok(next) => Ok(Reading::behind(next)),
+                Err(NoMemory) => Err(NoMemory),
+            },
+            Err(Fault::Stream(fault)) => match self.step(supply, now, Input::Fault(fault), said) {
+                Ok(_) => Ok(Reading::Closed),
+                Err(NoMemory) => Err(NoMemory),
+            },
+            Err(Fault::Memory) => Err(self.give_up(supply, now, Input::EndOfInput)),
+        }
+    }
+
+    /// One step of its connection; there is room for what it says.
+    fn step<S: Supply<P>>(
+        &mut self,
+        supply: &mut S,
+        now: u64,
+        input: Input,
+        said: &mut Vec<Said>,
+    ) -> Result<Then, NoMemory>
+        requires wanted { IsWanted self.old.conn.standing input }
+        requires room { vec_len said.old < vec_capacity said.old }
+        requires visiting { NeedsVisit input → S.visiting supply.old ≡ true }
+        ensures stepped { MatchResult result
+            (λ next. (words : Words) × (words.next ≡ next) × (said.new.items ≡ said.old.items ++ (words ∷ []))
+            × Moves S.call P.slot_of supply.old self.old now input words self.new supply.new)
+            (λ _. (said.new ≡ said.old) × FailsToMove S.call P.slot_of supply.old self.old now input self.new supply.new) }
+        ensures unread { self.new.unread ≡ self.old.unread }
+        ensures visiting { S.visiting supply.new ≡ S.visiting supply.old }
+    {
+        match self.conn.step(supply, now, input, &mut self.packets) {
+            Ok(next) => {
+                let packets = take_all(self.alloc, &mut self.packets);
+                said.push_reserved(Said::new(self.number, packets, next));
+                Ok(next)
+            }
+            Err(NoMemory) => Err(NoMemory),
+        }
+    }
+
+    /// Time has gone on, to this moment in milliseconds. Where its connection does not wait any more, what came meanwhile is
+    /// read.
+    ///
+    /// # Errors
+    ///
+    /// As [`Client::receive`].
+    #[tactic(auto, using(crate::proofs::Ticking::last_tick, crate::proofs::Ticking::tick_and_more, crate::proofs::Ticking::fails_at_tick, crate::proofs::Ticking::fails_behind_tick))]
+    pub fn tick<S: Supply<P>>(
+        &mut self,
+        supply: &mut S,
+        now: u64,
+        said: &mut Vec<Said>,
+    ) -> Result<(), NoMemory>
+        requires visiting { S.visiting supply.old ≡ true }
+        ensures ticked { (more : List Words) × (said.new.items ≡ said.old.items ++ more)
+            × MatchResult result
+            (λ _. Ticks S.call P.slot_of supply.old self.old now more self.new supply.new)
+            (λ _. FailsToTick S.call P.slot_of supply.old self.old now more self.new supply.new) }
+        ensures visiting { S.visiting supply.new ≡ S.visiting supply.old }
+    {
+        if said.reserve(1).is_err() {
+            return Err(self.give_up(supply, now, Input::EndOfInput));
+        }
+        match self.step(supply, now, Input::Tick, said) {
+            Ok(Then::Go) => self.read(supply, now, said),
+            Ok(Then::Close) => Ok(()),
+            Ok(Then::Kicked) => Ok(()),
+            Err(NoMemory) => Err(NoMemory),
+        }
+    }
+
+    /// Its stream has ended, at this moment in milliseconds.
+    ///
+    /// # Errors
+    ///
+    /// As [`Client::receive`].
+    pub fn end_of_input<S: Supply<P>>(
+        &mut self,
+        supply: &mut S,
+        now: u64,
+        said: &mut Vec<Said>,
+    ) -> Result<(), NoMemory>
+        ensures ended { Leaves S.call P.slot_of supply.old self.old now inputs.EndOfInput said.old.items result said.new.items self.new supply.new }
+        ensures visiting { S.visiting supply.new ≡ S.visiting supply.old }
+    {
+        self.leave(supply, now, Input::EndOfInput, said)
+    }
+
+    /// The broker closes, at this moment in milliseconds.
+    ///
+    /// # Errors
+    ///
+    /// As [`Client::receive`].
+    pub fn closing<S: Supply<P>>(
+        &mut self,
+        supply: &mut S,
+        now: u64,
+        said: &mut Vec<Said>,
+    ) -> Result<(), NoMemory>
+        ensures closed { Leaves S.call P.slot_of supply.old self.old now inputs.Closing said.old.items result said.new.items self.new supply.new }
+        ensures visiting { S.visiting supply.new ≡ S.visiting supply.old }
+    {
+        self.leave(supply, now, Input::Closing, said)
+    }
+
+    /// Lets go of a client: its connection ends as where the broker closes, and nothing is written of it.
+    #[tactic(auto, using(crate::proofs::Over::is_over))]
+    pub fn abandon<S: Supply<P>>(mut self, supply: &mut S, now: u64)
+        ensures abandoned { (client : ClientState P) × IsGivenUp S.call P.slot_of supply.old self now inputs.Closing client supply.new }
+        ensures visiting { S.visiting supply.new ≡ S.visiting supply.old }
+    {
+        let _unsaid = self.give_up(supply, now, Input::Closing);
+        self.end();
+    }
+
+    /// One last step of its connection.
+    fn leave<S: Supply<P>>(
+        &mut self,
+        supply: &mut S,
+        now: u64,
+        input: Input,
+        said: &mut Vec<Said>,
+    ) -> Result<(), NoMemory>
+        requires wanted { IsNoPacket input }
+        requires quiet { ¬ NeedsVisit input }
+        ensures left { Leaves S.call P.slot_of supply.old self.old now input said.old.items result said.new.items self.new supply.new }
+        ensures visiting { S.visiting supply.new ≡ S.visiting supply.old }
+    {
+        if said.reserve(1).is_err() {
+            return Err(self.give_up(supply, now, input));
+        }
+        match self.step(supply, now, input, said) {
+            Ok(_) => Ok(()),
+            Err(NoMemory) => Err(NoMemory),
+        }
+    }
+}
+
+/// Takes the packets out of a list. Where it has none, it keeps its room.
+fn take_all(alloc: Global, packets: &mut Vec<Packet>) -> Vec<Packet>
+    ensures { result.items ≡ packets.old.items }
+{
+    if packets.is_empty() {
+        return Vec::new(alloc);
+    }
+    mem::replace(packets, Vec::new(alloc))
+}
