@@ -1,9 +1,9 @@
 //! A group on one thread: messages are offered through one port, taken by one place and acknowledged.
 
 use bytes::Bytes;
-use group_jobs::{Fate, Message, MessageProperties, SharedMessage};
+use group_jobs::{Fate, Message, SharedMessage};
 use local_group::LocalGroup;
-use mqtt_wire::{Text, UserProperties};
+use mqtt_wire::{RareProperties, Text};
 use std::alloc::Global;
 
 /// How many of so many jobs were acknowledged; `None` where memory is refused. A port accepts 2^20.
@@ -19,16 +19,9 @@ pub(crate) fn settled(alloc: Global, jobs: u32) -> Option<u64> {
 
 /// A message of 14 bytes.
 fn message(alloc: Global) -> Option<SharedMessage> {
-    let properties = MessageProperties {
-        payload_format_indicator: None,
-        content_type: None,
-        response_topic: None,
-        correlation_data: None,
-        user_properties: UserProperties::new(alloc),
-    };
     let message = Message {
         topic: Text::parse(Bytes::from_static(b"plant/1/job"))?,
-        properties,
+        properties: RareProperties::none(),
         payload: Bytes::from_static(b"fourteen bytes"),
     };
     SharedMessage::new(alloc, message).ok()

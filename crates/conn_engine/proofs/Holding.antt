@@ -1,11 +1,11 @@
 -- What is out at a place, one message less.
-use Rattle.std.proofs.Common.{◌≡◌, ◌≢◌, ℕ, not, cond, List, [], ◌∷◌, ◌++◌, map, Some, Contains, refl, sym, ap, ◌∙◌, subst, ⊎_elim, eq-eqb, ne_eqb}
+use Rattle.std.proofs.Common.{◌≡◌, ◌≢◌, ℕ, not, cond, List, [], ◌∷◌, map, Some, Contains, refl, sym, ap, ◌∙◌, subst, ⊎_elim, eq-eqb, ne_eqb}
 use Rattle.std.proofs.lemmas.Bool.{cases_eq}
 use Rattle.group_jobs.specs.Stamps.{Held}
 use Rattle.member_window.specs.Identifiers.{identifiers, entries_without, AreDistinct}
 use Rattle.member_window.specs.Contents.{Contents, held_of, IsSound, after_take}
 use Rattle.member_window.specs.Calls.{Acks}
-use Rattle.member_window.proofs.Lists.{contains_here, contains_cons_cases, contains_nil, contains_identifier, without_absent}
+use Rattle.member_window.proofs.Lists.{contains_cons_cases, contains_nil, contains_identifier, without_absent}
 use Rattle.member_window.proofs.Sound.{ack_held}
 use Rattle.conn_engine.specs.Holding.{messages, IsOneOf, IsAmong, SpendsOut}
 

@@ -3,6 +3,7 @@ pub mod Offering
 pub mod Silence
 pub mod Copies
 pub mod Topics
+pub mod Offered
 pub mod Windows
 pub mod Holding
 pub mod Fresh

@@ -175,14 +175,7 @@ impl<P: HoldingPlace> Conn<P> {
         ) {
             Ok(reply) => {
                 let next = write(reply, packets);
-                match hand(
-                    supply,
-                    self.alloc,
-                    self.number,
-                    &mut self.standing,
-                    now,
-                    packets,
-                ) {
+                match hand(supply, self.number, &mut self.standing, now, packets) {
                     Ok(()) => Ok(next),
                     Err(NoMemory) => {
                         packets.clear();
@@ -211,7 +204,6 @@ fn write(reply: Reply, packets: &mut Vec<Packet>) -> Then
 /// Hands out what is due to a connection with this standing.
 fn hand<P: HoldingPlace, S: Supply<P>>(
     supply: &mut S,
-    alloc: Global,
     number: u16,
     standing: &mut Standing<P>,
     now: u64,
@@ -228,7 +220,7 @@ fn hand<P: HoldingPlace, S: Supply<P>>(
     let Standing::Connected(link) = standing else {
         return Ok(());
     };
-    match hand_to(supply, alloc, link, packets) {
+    match hand_to(supply, link, packets) {
         Ok(()) => Ok(()),
         Err(NoMemory) => {
             give_up(supply, number, standing, now);
@@ -240,7 +232,6 @@ fn hand<P: HoldingPlace, S: Supply<P>>(
 /// Hands out what is due to a client that has its session.
 fn hand_to<P: HoldingPlace, S: Supply<P>>(
     supply: &mut S,
-    alloc: Global,
     link: &mut Link<P>,
     packets: &mut Vec<Packet>,
 ) -> Result<(), NoMemory>
@@ -256,7 +247,7 @@ fn hand_to<P: HoldingPlace, S: Supply<P>>(
 {
     let membership = link.take_membership();
     let window = &mut link.session.window;
-    let (membership, handed) = hand_out(supply, alloc, membership, window, packets);
+    let (membership, handed) = hand_out(supply, membership, window, packets);
     link.put_membership(membership);
     handed
 }

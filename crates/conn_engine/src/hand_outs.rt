@@ -14,7 +14,6 @@ use group_jobs::Envelope;
 use member_window::Window;
 use mqtt_wire::{Packet, PacketIdentifier};
 use session_desk::Membership;
-use std::alloc::Global;
 
 /// Hands out to a session what is due: what waits is sent again; then a member is handed messages while there is room, and who
 /// leaves is no member once it holds nothing. The packets go behind those that are there; the membership comes back.
@@ -24,7 +23,6 @@ use std::alloc::Global;
 /// Want of memory. Nothing that the session holds is lost.
 pub(crate) fn hand_out<P: HoldingPlace, S: Supply<P>>(
     supply: &mut S,
-    alloc: Global,
     membership: Membership<P>,
     window: &mut Window<Envelope>,
     packets: &mut Vec<Packet>,
@@ -39,13 +37,13 @@ pub(crate) fn hand_out<P: HoldingPlace, S: Supply<P>>(
     ensures out { AreOut P.has_out result.0 (messages window.new) }
     ensures visiting { S.visiting supply.new ≡ S.visiting supply.old }
 {
-    if let Err(NoMemory) = send_again(alloc, window, packets) {
+    if let Err(NoMemory) = send_again(window, packets) {
         return (membership, Err(NoMemory));
     }
     match membership {
         Membership::NotMember => (Membership::NotMember, Ok(())),
         Membership::Member(mut place) => {
-            match send_fresh(supply, alloc, &mut place, window, packets) {
+            match send_fresh(supply, &mut place, window, packets) {
                 Ok(()) => (Membership::Member(place), Ok(())),
                 Err(NoMemory) => (Membership::Member(place), Err(NoMemory)),
             }
@@ -55,27 +53,24 @@ pub(crate) fn hand_out<P: HoldingPlace, S: Supply<P>>(
 }
 
 /// Sends again what waits, while the quota lets it.
-fn send_again(
-    alloc: Global,
-    window: &mut Window<Envelope>,
-    packets: &mut Vec<Packet>,
-) -> Result<(), NoMemory>
+fn send_again(window: &mut Window<Envelope>, packets: &mut Vec<Packet>) -> Result<(), NoMemory>
     ensures sent { OnOk result ((sent : List Packet) × (packets.new.items ≡ packets.old.items ++ sent) × SendsAgain window.old sent window.new) }
     ensures begun { OnErr result ((again : List (ℕ × Held)) × SendsSomeAgain window.old again window.new) }
     ensures kept { KeepsHeld window.old window.new }
 {
-    match next_again(alloc, window) {
-        Ok(Some(packet)) => match packets.push(packet) {
-            Ok(()) => send_again(alloc, window, packets),
-            Err(_unsent) => Err(NoMemory),
-        },
+    packets.reserve(1)?;
+    match next_again(window) {
+        Ok(Some(packet)) => {
+            packets.push_reserved(packet);
+            send_again(window, packets)
+        }
         Ok(None) => Ok(()),
         Err(NoMemory) => Err(NoMemory),
     }
 }
 
 /// Sends the oldest message that waits again, where there is one and the quota lets it, and gives its packet.
-fn next_again(alloc: Global, window: &mut Window<Envelope>) -> Result<Option<Packet>, NoMemory>
+fn next_again(window: &mut Window<Envelope>) -> Result<Option<Packet>, NoMemory>
     ensures sent { IfOk result (λ sent. MatchOption sent
         (IsNextResend window.old None × (window.new ≡ window.old))
         (λ packet. (entry : ℕ × Held) × IsNextResend window.old (Some entry) × (window.new ≡ after_resend window.old (Some entry))
@@ -87,7 +82,7 @@ fn next_again(alloc: Global, window: &mut Window<Envelope>) -> Result<Option<Pac
     let Some((identifier, envelope)) = window.next_resend() else {
         return Ok(None);
     };
-    match job(alloc, true, envelope.message(), identifier_of(identifier)) {
+    match job(true, envelope.message(), identifier_of(identifier)) {
         Ok(packet) => Ok(Some(packet)),
         Err(_) => Err(NoMemory),
     }
@@ -108,7 +103,6 @@ fn identifier_of(number: u16) -> PacketIdentifier
 #[tactic(auto, using(crate::proofs::Fresh::one_more_sent))]
 fn send_fresh<P: HoldingPlace, S: Supply<P>>(
     supply: &mut S,
-    alloc: Global,
     place: &mut P,
     window: &mut Window<Envelope>,
     packets: &mut Vec<Packet>,
@@ -123,11 +117,11 @@ fn send_fresh<P: HoldingPlace, S: Supply<P>>(
     ensures visiting { S.visiting supply.new ≡ S.visiting supply.old }
 {
     packets.reserve(1)?;
-    let Some(packet) = next_fresh(supply, alloc, place, window)? else {
+    let Some(packet) = next_fresh(supply, place, window)? else {
         return Ok(());
     };
     packets.push_reserved(packet);
-    match send_fresh(supply, alloc, place, window, packets) {
+    match send_fresh(supply, place, window, packets) {
         Ok(()) => Ok(()),
         Err(NoMemory) => Err(NoMemory),
     }
@@ -136,7 +130,6 @@ fn send_fresh<P: HoldingPlace, S: Supply<P>>(
 /// Hands a message to a place, where there is room and a message, and gives its packet.
 fn next_fresh<P: HoldingPlace, S: Supply<P>>(
     supply: &mut S,
-    alloc: Global,
     place: &mut P,
     window: &mut Window<Envelope>,
 ) -> Result<Option<Packet>, NoMemory>
@@ -154,7 +147,7 @@ fn next_fresh<P: HoldingPlace, S: Supply<P>>(
         return Ok(None);
     }
     match ask(supply, place) {
-        Ok(Some(envelope)) => match put(alloc, window, envelope) {
+        Ok(Some(envelope)) => match put(window, envelope) {
             Ok(packet) => Ok(Some(packet)),
             Err(NoMemory) => Err(NoMemory),
         },
@@ -164,7 +157,7 @@ fn next_fresh<P: HoldingPlace, S: Supply<P>>(
 }
 
 /// Puts a message into the window, which has room, and gives the packet in which it goes out.
-fn put(alloc: Global, window: &mut Window<Envelope>, envelope: Envelope) -> Result<Packet, NoMemory>
+fn put(window: &mut Window<Envelope>, envelope: Envelope) -> Result<Packet, NoMemory>
     requires { HasRoom window.old }
     ensures put { (identifier : ℕ) × IsLeastFree (identifiers (held_of window.old)) identifier
         × (window.new ≡ after_put window.old identifier envelope)
@@ -176,7 +169,7 @@ fn put(alloc: Global, window: &mut Window<Envelope>, envelope: Envelope) -> Resu
     let _held = window.len();
     let shared = envelope.message().share();
     match window.put(envelope) {
-        Ok(identifier) => Ok(job(alloc, false, &*shared?, identifier_of(identifier))?),
+        Ok(identifier) => Ok(job(false, &*shared?, identifier_of(identifier))?),
         Err(_back) => unreachable!(),
     }
 }

@@ -47,7 +47,7 @@ pub(crate) fn publish<P: HoldingPlace, S: Supply<P>>(
 }
 
 /// Offers the message of a PUBLISH to the groups that match, and answers by a PUBACK.
-#[tactic(auto, using(crate::proofs::Topics::offered_is_named))]
+#[tactic(auto, using(crate::proofs::Topics::offered_is_named, crate::proofs::Offered::offered_lasts, crate::proofs::Offered::offered_has_no_alias))]
 fn offer<P: HoldingPlace, S: Supply<P>>(
     supply: &mut S,
     alloc: Global,
@@ -63,13 +63,7 @@ fn offer<P: HoldingPlace, S: Supply<P>>(
 {
     let (slots, topic) = matching(supply, publish.topic);
     publish.topic = topic;
-    let taken = offer_to_all(
-        supply,
-        alloc,
-        connection,
-        &slots,
-        message_of(alloc, publish),
-    )?;
+    let taken = offer_to_all(supply, alloc, connection, &slots, message_of(publish))?;
     let code = puback_code(slots.len(), taken);
     Ok(Reply::acknowledging(alloc, identifier, code))
 }

@@ -58,10 +58,14 @@ handed facts = filter_map hand_out_of facts
 abbrev pub messages_of : {P : Type 0} → List (P × Held) → List Message
 messages_of hand_outs = map (λ h. h.1.message) hand_outs
 
+-- the message that a PUBLISH brings to a member, with all its properties
+abbrev pub brought_by : Publish → Message
+brought_by publish = record { topic = publish.topic; properties = publish.properties; payload = publish.payload }
+
 -- the message of a PUBLISH that was not sent before: its DUP is 0 (3.3.1.1)
 abbrev pub message_if_fresh : Bool → Publish → Option Message
 message_if_fresh true publish = None
-message_if_fresh false publish = Some (message_of publish)
+message_if_fresh false publish = Some (brought_by publish)
 
 abbrev pub fresh_message : Packet → Option Message
 fresh_message (packets.Publish publish) = message_if_fresh publish.dup publish

@@ -5,9 +5,7 @@ use Rattle.mqtt_wire.specs.declared.packet.Connack.TheVariants.{Accepted, Refuse
 use Rattle.mqtt_wire.specs.declared.packet.Delivery.TheVariants.{AtLeastOnce}
 use Rattle.mqtt_wire.specs.declared.packet.Packet.{Packet}
 use Rattle.mqtt_wire.specs.declared.packet.Packet.TheVariants as packets
-use Rattle.mqtt_wire.specs.declared.packet_properties.PublishProperties.{PublishProperties}
 use Rattle.group_jobs.specs.declared.message.Message.{Message}
-use Rattle.group_jobs.specs.declared.message.MessageProperties.{MessageProperties}
 use Rattle.conn_rules.specs.Connecting.{offer}
 
 -- 3.2: the CONNACK that opens a connection, with the identifier that was assigned to a client without one
@@ -18,18 +16,6 @@ accepting present assigned = packets.Connack (Accepted (record { session_present
 abbrev pub refusing : ConnectRefusal → Packet
 refusing refusal = packets.Connack (Refused refusal)
 
--- 3.3.2.3: the properties that go with a message
-abbrev pub properties_of : MessageProperties → PublishProperties
-properties_of properties = record {
-  payload_format_indicator = properties.payload_format_indicator;
-  message_expiry_interval = None;
-  content_type = properties.content_type;
-  response_topic = properties.response_topic;
-  correlation_data = properties.correlation_data;
-  topic_alias = None;
-  user_properties = properties.user_properties;
-}
-
 -- 3.3: a message as it goes out: QoS 1, RETAIN 0, and DUP 1 where it was sent before
 abbrev pub job : Bool → Message → ℕ → Packet
 job dup message identifier = packets.Publish (record {
@@ -37,7 +23,7 @@ job dup message identifier = packets.Publish (record {
   retain = false;
   topic = message.topic;
   delivery = AtLeastOnce identifier;
-  properties = properties_of message.properties;
+  properties = message.properties;
   payload = message.payload;
 })
 

@@ -4,6 +4,7 @@ use Rattle.std.specs.List.{list_any}
 use Rattle.mqtt_wire.specs.declared.packet.Publish.{Publish}
 use Rattle.mqtt_wire.specs.declared.packet.Delivery.{Delivery}
 use Rattle.mqtt_wire.specs.declared.packet.Delivery.TheVariants.{AtMostOnce, AtLeastOnce, ExactlyOnce}
+use Rattle.mqtt_wire.specs.declared.packet_properties.PublishProperties.{PublishProperties}
 use Rattle.mqtt_topic.specs.Levels.{is_wildcard}
 use Rattle.group_jobs.specs.declared.message.Message.{Message}
 use Rattle.conn_rules.specs.declared.publishing.PublishAnswer.{PublishAnswer}
@@ -37,16 +38,10 @@ publish_answer publish = delivery_answer publish.delivery publish
 abbrev pub puback_code : ℕ → ℕ → ℕ
 puback_code matched taken = if matched == 0 then 0x10 else (if nat_lt taken matched then 0x97 else 0)
 
+-- of the properties of a PUBLISH, those that go with its message: all but how long it lasts and the alias of its topic (3.3.2.3)
+abbrev pub forwarded : PublishProperties → PublishProperties
+forwarded properties = record properties { message_expiry_interval = None; topic_alias = None }
+
 -- the message of a PUBLISH: its topic, the properties that go with it, and its payload (3.3.2.3)
 abbrev pub message_of : Publish → Message
-message_of publish = record {
-  topic = publish.topic;
-  properties = record {
-    payload_format_indicator = publish.properties.payload_format_indicator;
-    content_type = publish.properties.content_type;
-    response_topic = publish.properties.response_topic;
-    correlation_data = publish.properties.correlation_data;
-    user_properties = publish.properties.user_properties;
-  };
-  payload = publish.payload;
-}
+message_of publish = record { topic = publish.topic; properties = forwarded publish.properties; payload = publish.payload }

@@ -1,16 +1,16 @@
 //! The packets that the broker sends, and the message that it keeps of a PUBLISH (chapter 3).
-ghost use Rattle.std.specs.Prelude.{◌≡◌, IfOk};
-ghost use Rattle.conn_rules.specs.Packets.{accepting, refusing, properties_of, job, puback, suback, unsuback, disconnect};
+ghost use Rattle.std.specs.Prelude.{◌≡◌, None, IfOk};
+ghost use Rattle.conn_rules.specs.Packets.{accepting, refusing, job, puback, suback, unsuback, disconnect};
 ghost use Rattle.conn_rules.specs.Publishing.{message_of};
 
 use crate::connecting::offer;
-use group_jobs::{JobError, Message, MessageProperties};
+use group_jobs::Message;
 use mqtt_wire::{
     Acceptance, Connack, ConnectRefusal, Delivery, Disconnect, DisconnectProperties, NonEmpty,
-    Packet, PacketIdentifier, Puback, PubackProperties, Publish, PublishProperties, RareProperties,
-    ReasonCode, Suback, Text, Unsuback,
+    Packet, PacketIdentifier, Puback, PubackProperties, Publish, ReasonCode, Suback, Text,
+    Unsuback,
 };
-use std::alloc::Global;
+use std::alloc::{AllocError, Global};
 
 /// The CONNACK that opens a connection (section 3.2), with the identifier that was assigned to a client without one.
 pub fn accepting(session_present: bool, assigned_client_identifier: Option<Text>) -> Packet
@@ -30,21 +30,16 @@ pub fn refusing(refusal: ConnectRefusal) -> Packet
     Packet::Connack(Connack::Refused(refusal))
 }
 
-/// The PUBLISH of a job (section 3.3): QoS 1, RETAIN 0, and DUP 1 where it was sent before. It shares the bytes of the message.
+/// The PUBLISH of a job (section 3.3): QoS 1, RETAIN 0, and DUP 1 where it was sent before. It shares what the message has, and takes no memory.
 ///
 /// # Errors
 ///
-/// Want of memory.
-pub fn job(
-    alloc: Global,
-    dup: bool,
-    message: &Message,
-    identifier: PacketIdentifier,
-) -> Result<Packet, JobError>
+/// There are as many owners as can be counted of what it shares.
+pub fn job(dup: bool, message: &Message, identifier: PacketIdentifier) -> Result<Packet, AllocError>
     ensures { IfOk result (λ packet. packet ≡ job dup message.now identifier) }
 {
-    let properties = properties_of(alloc, &message.properties)?;
     let topic = message.topic.try_clone()?;
+    let properties = message.properties.share()?;
     let payload = message.payload.clone()?;
     Ok(Packet::Publish(Publish {
         dup,
@@ -56,40 +51,16 @@ pub fn job(
     }))
 }
 
-/// The properties of a message as it goes out (section 3.3.2.3).
-fn properties_of(alloc: Global, properties: &MessageProperties) -> Result<RareProperties, JobError>
-    ensures { IfOk result (λ sent. sent ≡ properties_of properties.now) }
-{
-    if properties.is_none() {
-        return Ok(RareProperties::none());
-    }
-    let copy = properties.try_copy(alloc)?;
-    let sent = PublishProperties {
-        payload_format_indicator: copy.payload_format_indicator,
-        message_expiry_interval: None,
-        content_type: copy.content_type,
-        response_topic: copy.response_topic,
-        correlation_data: copy.correlation_data,
-        topic_alias: None,
-        user_properties: copy.user_properties,
-    };
-    Ok(RareProperties::new(alloc, sent)?)
-}
-
-/// The message of a PUBLISH: its topic, the properties that go with it, and its payload (section 3.3.2.3).
-pub fn message_of(alloc: Global, publish: Publish) -> Message
+/// The message of a PUBLISH that is offered to groups: its topic, its properties, and its payload (section 3.3.2.3). Such a PUBLISH has only
+/// properties that go with its message.
+pub fn message_of(publish: Publish) -> Message
+    requires lasting { publish.properties.message_expiry_interval ≡ None }
+    requires named { publish.properties.topic_alias ≡ None }
     ensures { result ≡ message_of publish }
 {
-    let properties = publish.properties.into_properties(alloc);
     Message {
         topic: publish.topic,
-        properties: MessageProperties {
-            payload_format_indicator: properties.payload_format_indicator,
-            content_type: properties.content_type,
-            response_topic: properties.response_topic,
-            correlation_data: properties.correlation_data,
-            user_properties: properties.user_properties,
-        },
+        properties: publish.properties,
         payload: publish.payload,
     }
 }

@@ -1,7 +1,8 @@
 //! The packets that the broker sends, byte for byte.
 use crate::reading::packet;
 use bytes::Bytes;
-use conn_rules::{accepting, disconnect, job, message_of, puback, refusing, suback, unsuback};
+use conn_rules::{accepting, disconnect, job, puback, refusing, suback, unsuback};
+use group_jobs::Message;
 use mqtt_wire::{
     ConnectRefusal, Fault, NonEmpty, Packet, PacketIdentifier, ReasonCode, Text, encode,
 };
@@ -82,8 +83,12 @@ fn passed_on(alloc: Global, digits: &str, dup: bool) -> Result<Vec<u8>, Fault> {
     };
     match packet(alloc, digits) {
         Ok(Some(Packet::Publish(publish))) => {
-            let message = message_of(alloc, publish);
-            let packet = job(alloc, dup, &message, one).or(Err(Fault::Memory))?;
+            let message = Message {
+                topic: publish.topic,
+                properties: publish.properties,
+                payload: publish.payload,
+            };
+            let packet = job(dup, &message, one).or(Err(Fault::Memory))?;
             written(alloc, packet)
         }
         Ok(other) => {
@@ -96,7 +101,7 @@ fn passed_on(alloc: Global, digits: &str, dup: bool) -> Result<Vec<u8>, Fault> {
 
 #[test]
 fn jobs(rt: HostRuntime) -> Result<(), Fail> {
-    let digits = "3A1000016100070901010300016223000142";
+    let digits = "3A0D00016100070601010300016242";
     let rows = [
         (false, "320d00016100010601010300016242"),
         (true, "3a0d00016100010601010300016242"),

@@ -1,26 +1,19 @@
 //! Groups on one thread: what became of a few messages, and each refusal.
 
 use bytes::Bytes;
-use group_jobs::{Envelope, Fate, Message, MessageProperties, SharedMessage, Stamp};
+use group_jobs::{Envelope, Fate, Message, SharedMessage, Stamp};
 use local_group::{LocalGroup, OfferError, TakeError};
 use mqtt_topic::Share;
-use mqtt_wire::{Text, UserProperties};
+use mqtt_wire::{RareProperties, Text};
 use std::alloc::Global;
 use std::test::Fail;
 
 /// A message of this payload.
 pub fn message(alloc: Global, payload: &'static [u8]) -> Option<SharedMessage> {
     let topic = Text::parse(Bytes::from_static(b"job"))?;
-    let properties = MessageProperties {
-        payload_format_indicator: None,
-        content_type: None,
-        response_topic: None,
-        correlation_data: None,
-        user_properties: UserProperties::new(alloc),
-    };
     let message = Message {
         topic,
-        properties,
+        properties: RareProperties::none(),
         payload: Bytes::from_static(payload),
     };
     SharedMessage::new(alloc, message).ok()

@@ -23,7 +23,7 @@ impl Model for Slots {
 
 impl Slots {
     /// The set of the byte whose bit n, counted from the least significant, is slot n.
-    pub(crate) fn from_byte(byte: u8) -> Slots
+    pub fn from_byte(byte: u8) -> Slots
         ensures { result ≡ slots_in 8 0 byte }
     {
         Slots { byte }

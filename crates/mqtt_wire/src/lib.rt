@@ -42,6 +42,7 @@ mod property_writing;
 mod rare_properties;
 mod reason_code;
 mod sections;
+mod shared;
 mod short;
 mod single_properties;
 mod sizes;

@@ -93,41 +93,6 @@ impl PublishProperties {
             || self.correlation_data.is_some();
         !has_number && !has_text && self.user_properties.as_slice().is_empty()
     }
-
-    /// The same properties, which share their bytes.
-    pub fn try_clone(&self, alloc: Global) -> Result<PublishProperties, AllocError>
-        ensures { IfOk result (λ properties. properties ≡ self.now) }
-    {
-        Ok(PublishProperties {
-            payload_format_indicator: self.payload_format_indicator,
-            message_expiry_interval: self.message_expiry_interval,
-            content_type: text_clone(&self.content_type)?,
-            response_topic: text_clone(&self.response_topic)?,
-            correlation_data: binary_clone(&self.correlation_data)?,
-            topic_alias: self.topic_alias,
-            user_properties: self.user_properties.try_clone(alloc)?,
-        })
-    }
-}
-
-/// The same text, where it is there.
-fn text_clone(text: &Option<Text>) -> Result<Option<Text>, AllocError>
-    ensures { IfOk result (λ clone. clone ≡ text.now) }
-{
-    match text {
-        Some(text) => Ok(Some(text.try_clone()?)),
-        None => Ok(None),
-    }
-}
-
-/// The same binary data, where it is there.
-fn binary_clone(binary: &Option<Binary>) -> Result<Option<Binary>, AllocError>
-    ensures { IfOk result (λ clone. clone ≡ binary.now) }
-{
-    match binary {
-        Some(binary) => Ok(Some(binary.try_clone()?)),
-        None => Ok(None),
-    }
 }
 
 /// The properties of a PUBACK (section 3.4.2.2).

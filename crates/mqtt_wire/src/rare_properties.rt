@@ -4,16 +4,17 @@ ghost use Rattle.std.specs.Prelude.{◌≡◌, ◌↔◌, IsTrue, IfOk, MatchOpt
 ghost use Rattle.mqtt_wire.specs.RareProperties.{no_properties};
 ghost use Rattle.mqtt_wire.specs.contracts.packet_properties.PublishPropertiesPartialEq.TheImpl.Laws.{laws-law};
 
-use crate::boxed::Boxed;
 use crate::packet_properties::PublishProperties;
+use crate::shared::Shared;
 use std::alloc::{AllocError, Global};
 use std::marker::Model;
 
 /// The properties of a PUBLISH (section 3.3.2.3). Where it has none they take no memory, and where it has some they stand apart, so
-/// that a packet is small on its way. Contracts see them as [`PublishProperties`].
+/// that a packet is small on its way, and are shared with the message that is kept of it and with the packets in which that goes out.
+/// Contracts see them as [`PublishProperties`].
 #[derive(Debug, Drop)]
 pub struct RareProperties {
-    listed: Option<Boxed<PublishProperties>>,
+    listed: Option<Shared<PublishProperties>>,
 }
 
 impl Model for RareProperties {
@@ -41,7 +42,7 @@ impl RareProperties {
             drop(properties);
             return Ok(RareProperties::none());
         }
-        let listed = Boxed::new(alloc, properties)?;
+        let listed = Shared::new(alloc, properties)?;
         Ok(RareProperties {
             listed: Some(listed),
         })
@@ -57,13 +58,15 @@ impl RareProperties {
         }
     }
 
-    /// The properties as a plain value.
-    pub fn into_properties(self, alloc: Global) -> PublishProperties
-        ensures { result ≡ self }
+    /// The same properties, for one owner more. It takes no memory: an `Err` says that they have as many owners as can be counted, 2^63.
+    pub fn share(&self) -> Result<RareProperties, AllocError>
+        ensures { IfOk result (λ shared. shared ≡ self.now) }
     {
-        match self.listed {
-            Some(properties) => properties.into_inner(),
-            None => PublishProperties::new(alloc),
+        match &self.listed {
+            Some(properties) => Ok(RareProperties {
+                listed: Some(properties.share()?),
+            }),
+            None => Ok(RareProperties::none()),
         }
     }
 }

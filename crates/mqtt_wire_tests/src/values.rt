@@ -322,3 +322,21 @@ fn user_properties(rt: HostRuntime) -> Result<(), Fail> {
     assert_eq!(rt; copies(rt.alloc())?, (1, 1));
     Ok(())
 }
+
+// Whether properties are equal to what is shared of them, and how many of them are User Properties.
+fn shared(alloc: Global) -> Result<(bool, usize), Fault> {
+    let mut properties = PublishProperties::new(alloc);
+    properties.user_properties = one_property(alloc)?;
+    let properties = RareProperties::new(alloc, properties)?;
+    let shared = properties.share()?;
+    let count = shared
+        .get()
+        .map_or(0, |shared| shared.user_properties.as_slice().len());
+    Ok((shared == properties, count))
+}
+
+#[test]
+fn properties_of_several_owners(rt: HostRuntime) -> Result<(), Fail> {
+    assert_eq!(rt; shared(rt.alloc())?, (true, 1));
+    Ok(())
+}

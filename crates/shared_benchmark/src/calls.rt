@@ -6,9 +6,9 @@ ghost use Rattle.group_queue.specs.Places.{IsPlaceOf};
 
 use bytes::Bytes;
 use gate_word::{Gate, GateSeat, Turn};
-use group_jobs::{Fate, Message, MessageProperties, SharedMessage};
+use group_jobs::{Fate, Message, SharedMessage};
 use group_queue::{NotTaken, OfferError, Place, Port, SharedGroup};
-use mqtt_wire::{Text, UserProperties};
+use mqtt_wire::{RareProperties, Text};
 use std::alloc::Global;
 use std::sync::Wait;
 
@@ -17,16 +17,9 @@ const FULL_DOCKET: usize = 64;
 
 /// A message of 14 bytes.
 pub(crate) fn message(alloc: Global) -> Option<SharedMessage> {
-    let properties = MessageProperties {
-        payload_format_indicator: None,
-        content_type: None,
-        response_topic: None,
-        correlation_data: None,
-        user_properties: UserProperties::new(alloc),
-    };
     let message = Message {
         topic: Text::parse(Bytes::from_static(b"plant/1/job"))?,
-        properties,
+        properties: RareProperties::none(),
         payload: Bytes::from_static(b"fourteen bytes"),
     };
     SharedMessage::new(alloc, message).ok()
