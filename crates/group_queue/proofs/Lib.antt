@@ -2,7 +2,10 @@ pub mod Lists
 pub mod MainSteps
 pub mod MainCuts
 pub mod MainJoins
+pub mod MainWitnessed
+pub mod Unseen
 pub mod ReturnsSteps
+pub mod ReturnsWitnessed
 pub mod Ports
 pub mod Balances
 pub mod Places

@@ -12,7 +12,7 @@ use Rattle.shared_ledger.specs.Givers.{HolderState, IsNewHolder}
 use Rattle.group_queue.specs.Known.{AreReady}
 
 -- a report; or why there is none, with all that was given
-abbrev pub Finishes : GroupId → List PortState → List PlaceState → List Held → Result Report Unfinished → Type 0
+abbrev pub Finishes : {W : Type 0} → GroupId → List PortState → List PlaceState → List Held → Result Report (Unfinished W) → Type 0
 Finishes group ports places held (Ok report) = Reports group ports places held report
 Finishes group ports places held (Err left) =
     IsBecause group ports places held left.error × (left.group ≡ group) × (left.ports.items ≡ ports) × (left.places.items ≡ places) × (left.held.items ≡ held)

@@ -1,6 +1,7 @@
 pub mod Views
 pub mod Past
 pub mod Returns
+pub mod Witnesses
 pub mod Ports
 pub mod Senders
 pub mod Places

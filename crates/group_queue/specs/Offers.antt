@@ -1,5 +1,5 @@
 -- What `offer` answers.
-use Rattle.std.specs.Prelude.{◌≡◌, ◌≢◌, ◌+◌, ◌∷◌, ◌++◌, [], Result, Ok, Err}
+use Rattle.std.specs.Prelude.{◌≡◌, ◌≢◌, ◌+◌, List, ◌∷◌, ◌++◌, [], Result, Ok, Err}
 use Rattle.crossbeam_queue.specs.Fifo.{Held}
 use Rattle.group_jobs.specs.declared.message.Message.{Message}
 use Rattle.group_jobs.specs.declared.stamp.Stamp.{Stamp}
@@ -8,7 +8,10 @@ use Rattle.group_queue.specs.declared.error.OfferError.{OfferError}
 use Rattle.group_queue.specs.declared.error.OfferError.TheVariants.{Full, LifeSpent}
 use Rattle.group_queue.specs.declared.view.Name.TheVariants.{Port}
 use Rattle.group_queue.specs.Views.{one}
-use Rattle.group_queue.specs.Past.{Stands, Adds}
+use Rattle.group_queue.specs.Past.{Adds}
+use Rattle.group_queue.specs.Witnesses.{SawMain}
+use Rattle.group_queue.specs.declared.posted.Posted.{Posted}
+use Rattle.group_queue.specs.declared.view.View.{View}
 use Rattle.group_queue.specs.Ports.{GroupId, PortState, next_posted, next_stamp}
 
 -- the message joined the queue at its back, and the port has sent it
@@ -18,11 +21,11 @@ pub record Accepts (old : PortState) (message : Message) (stamp : Stamp) (new : 
   pub back : Adds (one (Port old.number) old.sent) (next_posted old message) (one (Port new.number) new.sent)
   pub is : new ≡ record old { accepted = old.accepted + 1; sent = old.sent ++ next_posted old message ∷ [] }
 
--- why a message is not accepted: the queue was full at one moment of the call, or the port has accepted 2^20 messages
-abbrev pub IsBecause : GroupId → PortState → OfferError → Type 0
-IsBecause group old Full = (old.accepted ≢ 1048576) × Held group.capacity (Stands (one (Port old.number) old.sent))
-IsBecause group old LifeSpent = old.accepted ≡ 1048576
+-- why a message is not accepted: the witness saw the queue full at one moment of the call, or the port has accepted 2^20 messages
+abbrev pub IsBecause : (List Posted → List View → Type 0) → GroupId → PortState → OfferError → Type 0
+IsBecause saw group old Full = (old.accepted ≢ 1048576) × Held group.capacity (SawMain saw (one (Port old.number) old.sent))
+IsBecause saw group old LifeSpent = old.accepted ≡ 1048576
 
-abbrev pub OfferAnswers : GroupId → PortState → Message → Result Stamp NotTaken → PortState → Type 0
-OfferAnswers group old message (Ok stamp) new = Accepts old message stamp new
-OfferAnswers group old message (Err refusal) new = (refusal.message ≡ message) × (new ≡ old) × IsBecause group old refusal.error
+abbrev pub OfferAnswers : (List Posted → List View → Type 0) → GroupId → PortState → Message → Result Stamp NotTaken → PortState → Type 0
+OfferAnswers saw group old message (Ok stamp) new = Accepts old message stamp new
+OfferAnswers saw group old message (Err refusal) new = (refusal.message ≡ message) × (new ≡ old) × IsBecause saw group old refusal.error

@@ -12,13 +12,18 @@ use Rattle.group_jobs.specs.Stamps.{Held, stamp_of, job_of}
 use Rattle.group_jobs.specs.Settled.{settled_as, KeepsSettled, IsUnsettled, Settles}
 use Rattle.group_jobs.specs.Dockets.{Kept, TakesOff}
 use Rattle.group_jobs.specs.Balance.{Account, Balance}
+use Rattle.group_jobs.specs.declared.ledger.Ledger.{Ledger}
+use Rattle.shared_ledger.specs.declared.share.Share.{Share}
 use Rattle.shared_ledger.specs.Giving.{times_in}
 use Rattle.shared_ledger.specs.Givers.{GiverState, Gathers}
 use Rattle.group_queue.specs.declared.posted.Posted.{Posted}
 use Rattle.group_queue.specs.declared.view.Name.TheVariants.{Place}
 use Rattle.group_queue.specs.Views.{one}
-use Rattle.group_queue.specs.Past.{Stands, Takes}
-use Rattle.group_queue.specs.Returns.{bag, StandsBack, PushesBack, PopsBack}
+use Rattle.group_queue.specs.Past.{Takes}
+use Rattle.group_queue.specs.Returns.{bag, PushesBack, PopsBack}
+use Rattle.group_queue.specs.Witnesses.{SawMain, SawReturns}
+use Rattle.group_queue.specs.declared.view.Bag.{Bag}
+use Rattle.group_queue.specs.declared.view.View.{View}
 use Rattle.group_queue.specs.Ports.{GroupId, Shape}
 
 -- what ties a place to its group: both queues
@@ -136,12 +141,12 @@ UsesRoom old (Ok (Some envelope)) new = old.docket.room ≤ new.docket.room + 1
 UsesRoom old (Ok None) new = KeepsRoom old new
 UsesRoom old (Err refusal) new = KeepsRoom old new
 
--- what `take` answers: the front; nothing, where the queue was empty at one moment of the call; or no memory, and nothing was
--- taken
-abbrev pub TakeAnswers : PlaceState → Result (Option Held) JobError → PlaceState → Type 0
-TakeAnswers old (Ok (Some envelope)) new = TakesFront old envelope new
-TakeAnswers old (Ok None) new = KeepsPlace old new × AtOneMoment 0 (Stands (one (Place old.number) old.firsts))
-TakeAnswers old (Err refusal) new = HasNoRoom old new
+-- what `take` answers: the front; nothing, where the witness saw the main queue empty at one moment of the call; or no memory,
+-- and nothing was taken
+abbrev pub TakeAnswers : (List Posted → List View → Type 0) → PlaceState → Result (Option Held) JobError → PlaceState → Type 0
+TakeAnswers saw old (Ok (Some envelope)) new = TakesFront old envelope new
+TakeAnswers saw old (Ok None) new = KeepsPlace old new × AtOneMoment 0 (SawMain saw (one (Place old.number) old.firsts))
+TakeAnswers saw old (Err refusal) new = HasNoRoom old new
 
 -- the front of the returns queue was handed to the place, again
 pub record TakesBack (old : PlaceState) (envelope : Held) (new : PlaceState) : Type 0 where
@@ -150,10 +155,11 @@ pub record TakesBack (old : PlaceState) (envelope : Held) (new : PlaceState) : T
   pub front : PopsBack (bag 1 old.given old.agains) posted (bag 1 new.given new.agains)
   pub others : new ≡ record old { docket = new.docket; agains = old.agains ++ posted ∷ [] }
 
-abbrev pub TakeBackAnswers : PlaceState → Result (Option Held) JobError → PlaceState → Type 0
-TakeBackAnswers old (Ok (Some envelope)) new = TakesBack old envelope new
-TakeBackAnswers old (Ok None) new = KeepsPlace old new × StandsBack (bag 1 old.given old.agains) []
-TakeBackAnswers old (Err refusal) new = HasNoRoom old new
+-- what `take_back` answers; nothing, where the witness saw the returns queue empty at one moment of the call
+abbrev pub TakeBackAnswers : (List Posted → List Bag → Type 0) → PlaceState → Result (Option Held) JobError → PlaceState → Type 0
+TakeBackAnswers saw old (Ok (Some envelope)) new = TakesBack old envelope new
+TakeBackAnswers saw old (Ok None) new = KeepsPlace old new × SawReturns saw (bag 1 old.given old.agains) []
+TakeBackAnswers saw old (Err refusal) new = HasNoRoom old new
 
 -- the envelope's own message was given back, with its stamp
 pub record GivesBack (old : PlaceState) (envelope : Held) (new : PlaceState) : Type 0 where
@@ -168,5 +174,5 @@ GiveBackAnswers old envelope (Ok done) new = GivesBack old envelope new
 GiveBackAnswers old envelope (Err back) new = (back ≡ envelope) × (new ≡ old)
 
 -- what `gather` answers: what the place had settled was given to the group's ledger; or the place is as it was
-abbrev pub GatherAnswers : PlaceState → Result Bool JobError → PlaceState → Type 0
-GatherAnswers old result new = Gathers old.giver old.docket result new.giver new.docket × (new ≡ record old { docket = new.docket; giver = new.giver })
+abbrev pub GatherAnswers : (List Ledger → List Share → Type 0) → PlaceState → Result Bool JobError → PlaceState → Type 0
+GatherAnswers saw old result new = Gathers saw old.giver old.docket result new.giver new.docket × (new ≡ record old { docket = new.docket; giver = new.giver })

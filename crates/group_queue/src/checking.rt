@@ -12,17 +12,18 @@ use crate::error::{FinishError, Lack};
 use crate::group::SharedGroup;
 use crate::place::Place;
 use crate::port::Port;
+use crate::witness::Witness;
 use dispatch_core::Job;
 use group_jobs::{Envelope, Stamp};
 use std::alloc::Global;
 
-impl<'a> SharedGroup<'a> {
+impl<'a, W: Witness> SharedGroup<'a, W> {
     /// Looks at ports, places, lacking envelopes and strangers, in this order.
     pub(crate) fn check(
         &self,
         alloc: Global,
-        ports: &[Port],
-        places: &[Place],
+        ports: &[Port<W>],
+        places: &[Place<W>],
         held: &[Envelope],
     ) -> Result<(), FinishError>
         ensures { MatchResult result (λ _. IsWhole self.now ports.now places.now held.now) (IsBecause self.now ports.now places.now held.now) }
@@ -40,7 +41,7 @@ impl<'a> SharedGroup<'a> {
     }
 
     // Counts envelopes and what is out, each as often as there are jobs.
-    fn count(&self, places: &[Place], held: &[Envelope]) -> Result<(), FinishError>
+    fn count(&self, places: &[Place<W>], held: &[Envelope]) -> Result<(), FinishError>
         ensures { IsCompared self.now places.now held.now result }
     {
         if let Some(stamp) = self.lacking_envelope(places, held) {
@@ -53,7 +54,7 @@ impl<'a> SharedGroup<'a> {
     }
 
     // The stamp of a message that is out and has no envelope here.
-    fn lacking_envelope(&self, places: &[Place], held: &[Envelope]) -> Option<Stamp>
+    fn lacking_envelope(&self, places: &[Place<W>], held: &[Envelope]) -> Option<Stamp>
         ensures { MatchOption result ((stamp : stamp_type) → times_out self.now stamp places.now ≤ times_held stamp held.now)
             (λ stamp. times_held stamp held.now < times_out self.now stamp places.now) }
     {
@@ -66,7 +67,7 @@ impl<'a> SharedGroup<'a> {
     }
 
     // The same of some of the messages that are out.
-    fn lacking_of(&self, out: &[Job], places: &[Place], held: &[Envelope]) -> Option<Stamp>
+    fn lacking_of(&self, out: &[Job], places: &[Place<W>], held: &[Envelope]) -> Option<Stamp>
         ensures { MatchOption result (All (λ job. times_out self.now (stamp_of self.now.slot job) places.now ≤ times_held (stamp_of self.now.slot job) held.now) out.now)
             (λ stamp. times_held stamp held.now < times_out self.now stamp places.now) }
     {
@@ -80,7 +81,7 @@ impl<'a> SharedGroup<'a> {
     }
 
     // The stamp of an envelope that is here more often than its message is out.
-    fn stranger(&self, places: &[Place], held: &[Envelope]) -> Option<Stamp>
+    fn stranger(&self, places: &[Place<W>], held: &[Envelope]) -> Option<Stamp>
         ensures { MatchOption result ((stamp : stamp_type) → times_held stamp held.now ≤ times_out self.now stamp places.now)
             (λ stamp. times_out self.now stamp places.now < times_held stamp held.now) }
     {
@@ -94,7 +95,7 @@ impl<'a> SharedGroup<'a> {
     }
 
     // How often a message of this stamp is out.
-    fn times_out(&self, stamp: Stamp, places: &[Place]) -> u128
+    fn times_out(&self, stamp: Stamp, places: &[Place<W>]) -> u128
         ensures { result ≡ times_out self.now stamp places.now }
     {
         if stamp.group == self.slot {
@@ -106,7 +107,7 @@ impl<'a> SharedGroup<'a> {
 }
 
 // The least number of a port that is not there.
-fn lacking_port(ports: &[Port], count: u8) -> Option<u8>
+fn lacking_port<W: Witness>(ports: &[Port<W>], count: u8) -> Option<u8>
     ensures { MatchOption result (HasAll count (port_numbers ports.now)) (λ number. (number < count) × ¬ Contains (port_numbers ports.now) number) }
 {
     for number in 0..count {
@@ -118,7 +119,7 @@ fn lacking_port(ports: &[Port], count: u8) -> Option<u8>
 }
 
 // How many messages the port of this number sent.
-pub(crate) fn accepted_by(ports: &[Port], number: u8) -> Option<u64>
+pub(crate) fn accepted_by<W: Witness>(ports: &[Port<W>], number: u8) -> Option<u64>
     ensures { MatchOption result (¬ Contains (port_numbers ports.now) number)
         (λ count. (port : PortState) × Contains ports.now port × (port.number ≡ number) × (count ≡ length port.sent)) }
 {
@@ -131,7 +132,7 @@ pub(crate) fn accepted_by(ports: &[Port], number: u8) -> Option<u64>
 }
 
 // The least number of a place that is not there.
-fn lacking_place(places: &[Place], count: u8) -> Option<u8>
+fn lacking_place<W: Witness>(places: &[Place<W>], count: u8) -> Option<u8>
     ensures { MatchOption result (HasAll count (place_numbers places.now)) (λ number. (number < count) × ¬ Contains (place_numbers places.now) number) }
 {
     for number in 0..count {
@@ -143,7 +144,7 @@ fn lacking_place(places: &[Place], count: u8) -> Option<u8>
 }
 
 // Where the place of this number stands.
-pub(crate) fn place_of(places: &[Place], number: u8) -> Option<usize>
+pub(crate) fn place_of<W: Witness>(places: &[Place<W>], number: u8) -> Option<usize>
     ensures { MatchOption result (¬ Contains (place_numbers places.now) number)
         (λ at. (at < length places.now) × ((d : PlaceState) → (slice_index_or places.now at d).number ≡ number)) }
 {
@@ -169,7 +170,7 @@ fn times_held(stamp: Stamp, held: &[Envelope]) -> u128
 }
 
 // How often a job is out with these places.
-fn times_among(job: Job, places: &[Place]) -> u128
+fn times_among<W: Witness>(job: Job, places: &[Place<W>]) -> u128
     ensures { result ≡ sum_by (λ place. count_of job place.docket.out) places.now }
 {
     let mut times = 0;

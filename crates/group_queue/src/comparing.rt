@@ -10,17 +10,18 @@ ghost use Rattle.group_queue.specs.Known.{IsAmong, IsCompared};
 use crate::error::{FinishError, Lack};
 use crate::group::SharedGroup;
 use crate::place::Place;
+use crate::witness::Witness;
 use dispatch_core::{Job, Runs};
 use group_jobs::{Envelope, JobError, Stamp};
 use std::alloc::Global;
 
-impl<'a> SharedGroup<'a> {
+impl<'a, W: Witness> SharedGroup<'a, W> {
     /// Compares the envelopes with what is out. `None` where memory is refused, and where the lists differ in how often
     /// they have a job alone: then each has to be counted.
     pub(crate) fn compare(
         &self,
         alloc: Global,
-        places: &[Place],
+        places: &[Place<W>],
         held: &[Envelope],
     ) -> Option<Result<(), FinishError>>
         ensures { IfSome result (IsCompared self.now places.now held.now) }
@@ -92,7 +93,7 @@ impl<'a> SharedGroup<'a> {
 }
 
 // What is out, as a sorted list.
-fn list_out(alloc: Global, places: &[Place]) -> Result<Runs, JobError>
+fn list_out<W: Witness>(alloc: Global, places: &[Place<W>]) -> Result<Runs, JobError>
     ensures counts { IfOk result (λ out. (job : job_type) →
         count_of job (jobs_of out.runs) ≡ sum_by (λ place. count_of job place.docket.out) places.now) }
     ensures small { IfOk result (λ out. All (λ job. job.number < u64.MAX) (jobs_of out.runs)) }
@@ -105,7 +106,7 @@ fn list_out(alloc: Global, places: &[Place]) -> Result<Runs, JobError>
 }
 
 // Puts what a place has out into the list.
-fn put_out(list: &mut Runs, place: &Place) -> Result<(), JobError>
+fn put_out<W: Witness>(list: &mut Runs, place: &Place<W>) -> Result<(), JobError>
     requires small { All (λ job. job.number < u64.MAX) (jobs_of list.old.runs) }
     ensures counts { OnOk result ((job : job_type) →
         count_of job (jobs_of list.new.runs) ≡ count_of job (jobs_of list.old.runs) + count_of job place.now.docket.out) }
@@ -127,7 +128,7 @@ fn are_same(one: &Runs, other: &Runs) -> bool
 }
 
 // A job that is out and not in the list.
-fn first_lacking(known: &Runs, places: &[Place]) -> Option<Job>
+fn first_lacking<W: Witness>(known: &Runs, places: &[Place<W>]) -> Option<Job>
     ensures { IfSome result (λ job. (place : PlaceState) × Contains places.now place × Contains place.docket.out job × ¬ Contains (jobs_of known.now.runs) job) }
 {
     for place in places {

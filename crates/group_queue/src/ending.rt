@@ -15,6 +15,7 @@ use crate::main_queue::{MainPass, MainQueue};
 use crate::place::{Passes, Place};
 use crate::port::Port;
 use crate::returns_queue::{ReturnsPass, ReturnsQueue};
+use crate::witness::LawfulWitness;
 use crate::{main_queue, returns_queue};
 use dispatch_core::Job;
 use group_jobs::Docket;
@@ -22,7 +23,7 @@ use shared_ledger::{Giver, Holder, SharedLedger};
 use std::sync::Wait;
 
 /// Takes in the passes of these ports.
-pub fn join_ports(queue: &MainQueue, pass: &mut MainPass, ports: Vec<Port>)
+pub fn join_ports<W: LawfulWitness>(queue: &MainQueue<W>, pass: &mut MainPass, ports: Vec<Port<W>>)
     requires queue { IsPassOf queue.now pass.old }
     requires ports { All (λ port. port.queue ≡ queue.now.table.shared.table_id) ports.items }
     ensures queue { IsPassOf queue.now pass.new }
@@ -34,13 +35,13 @@ pub fn join_ports(queue: &MainQueue, pass: &mut MainPass, ports: Vec<Port>)
 }
 
 /// Takes in the passes and the givers of these places, and keeps their dockets.
-pub fn join_places(
-    main: &MainQueue,
-    returns: &ReturnsQueue,
-    ledger: &SharedLedger,
+pub fn join_places<W: LawfulWitness>(
+    main: &MainQueue<W>,
+    returns: &ReturnsQueue<W>,
+    ledger: &SharedLedger<W>,
     passes: &mut Passes,
     holder: &mut Holder,
-    places: Vec<Place>,
+    places: Vec<Place<W>>,
     dockets: &mut Vec<Docket>,
 )
     requires main { IsPassOf main.now passes.old.main }
@@ -66,12 +67,12 @@ pub fn join_places(
 }
 
 /// Takes in the passes of a place, and gives its docket and its giver.
-pub fn join_place(
-    main: &MainQueue,
-    returns: &ReturnsQueue,
+pub fn join_place<W: LawfulWitness>(
+    main: &MainQueue<W>,
+    returns: &ReturnsQueue<W>,
     passes: &mut Passes,
-    place: Place,
-) -> (Docket, Giver)
+    place: Place<W>,
+) -> (Docket, Giver<W>)
     requires main { IsPassOf main.now passes.old.main }
     requires returns { IsSegPassOf returns.now passes.old.returns }
     requires parts { 1 ≤ (bag_of passes.old.returns).parts }
@@ -96,7 +97,12 @@ pub fn join_place(
 }
 
 /// Pops what is left of the main queue.
-pub fn pop_queued<R: Wait>(rt: &R, queue: &MainQueue, pass: &mut MainPass, queued: &mut Vec<Job>)
+pub fn pop_queued<W: LawfulWitness, R: Wait>(
+    rt: &R,
+    queue: &MainQueue<W>,
+    pass: &mut MainPass,
+    queued: &mut Vec<Job>,
+)
     requires queue { IsPassOf queue.now pass.old }
     requires ending { IsEnding (view pass.old) }
     requires none { (list_in (view pass.old) ≡ []) × (queued.old.items ≡ []) }
@@ -112,9 +118,9 @@ pub fn pop_queued<R: Wait>(rt: &R, queue: &MainQueue, pass: &mut MainPass, queue
 }
 
 /// Pops what is left of the returns queue.
-pub fn pop_returned<R: Wait>(
+pub fn pop_returned<W: LawfulWitness, R: Wait>(
     rt: &R,
-    queue: &ReturnsQueue,
+    queue: &ReturnsQueue<W>,
     pass: &mut ReturnsPass,
     returned: &mut Vec<Job>,
 )

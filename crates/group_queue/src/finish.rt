@@ -20,6 +20,7 @@ use crate::main_queue;
 use crate::place::{Passes, Place};
 use crate::port::Port;
 use crate::reserving::{Lists, reserve};
+use crate::witness::{LawfulWitness, Nobody, Witness};
 use group_jobs::{Docket, Envelope, Ledger, Report};
 use shared_ledger::Holder;
 use std::alloc::Global;
@@ -27,15 +28,15 @@ use std::sync::Wait;
 
 /// A group that was not ended, and why, with all that was given to end it. The same call may be made again, or all be given
 /// up.
-pub struct Unfinished<'a> {
+pub struct Unfinished<'a, W: Witness = Nobody> {
     pub error: FinishError,
-    pub group: SharedGroup<'a>,
-    pub ports: Vec<Port>,
-    pub places: Vec<Place>,
+    pub group: SharedGroup<'a, W>,
+    pub ports: Vec<Port<W>>,
+    pub places: Vec<Place<W>>,
     pub held: Vec<Envelope>,
 }
 
-impl<'a> Unfinished<'a> {
+impl<'a, W: Witness> Unfinished<'a, W> {
     /// Gives all of it up, and tells why the group was not ended.
     pub fn abandon(self) -> FinishError
         ensures { result ≡ self.entry.error }
@@ -53,7 +54,7 @@ impl<'a> Unfinished<'a> {
     }
 }
 
-impl<'a> SharedGroup<'a> {
+impl<'a, W: LawfulWitness> SharedGroup<'a, W> {
     /// Ends the group and says what became of its messages. It is given all of its ports and places, and the envelopes that
     /// are out. A step of a queue may wait for another thread's.
     ///
@@ -68,10 +69,10 @@ impl<'a> SharedGroup<'a> {
         self,
         rt: &R,
         alloc: Global,
-        ports: Vec<Port>,
-        places: Vec<Place>,
+        ports: Vec<Port<W>>,
+        places: Vec<Place<W>>,
         held: Vec<Envelope>,
-    ) -> Result<Report, Unfinished<'a>>
+    ) -> Result<Report, Unfinished<'a, W>>
         requires ports { All (IsPortOf self) ports.items }
         requires places { All (IsPlaceOf self) places.items }
         ensures { Finishes self.entry ports.items places.items held.items result }
@@ -94,8 +95,8 @@ impl<'a> SharedGroup<'a> {
         &self,
         rt: &R,
         alloc: Global,
-        ports: &[Port],
-        places: &mut Vec<Place>,
+        ports: &[Port<W>],
+        places: &mut Vec<Place<W>>,
         held: &[Envelope],
     ) -> Result<(Lists, Holder), FinishError>
         requires { All (IsPlaceOf self.now) places.old.items }
@@ -114,7 +115,7 @@ impl<'a> SharedGroup<'a> {
     }
 
     // Takes the group's ledger up, which no place has in hands.
-    fn hold<R: Wait>(&self, rt: &R, places: &mut Vec<Place>) -> Holder
+    fn hold<R: Wait>(&self, rt: &R, places: &mut Vec<Place<W>>) -> Holder
         requires places { All (IsPlaceOf self.now) places.old.items }
         requires whole { HasAll self.now.shape.places (place_numbers places.old.items) }
         ensures same { places.new.items ≡ places.old.items }
@@ -131,8 +132,8 @@ impl<'a> SharedGroup<'a> {
         rt: &R,
         lists: Lists,
         holder: Holder,
-        ports: Vec<Port>,
-        places: Vec<Place>,
+        ports: Vec<Port<W>>,
+        places: Vec<Place<W>>,
         held: Vec<Envelope>,
     ) -> Report
         requires ports { All (IsPortOf self) ports.items }
@@ -170,8 +171,8 @@ impl<'a> SharedGroup<'a> {
     // Takes all passes in into those of who opened the group.
     fn join_all(
         &self,
-        ports: Vec<Port>,
-        places: Vec<Place>,
+        ports: Vec<Port<W>>,
+        places: Vec<Place<W>>,
         dockets: &mut Vec<Docket>,
         holder: &mut Holder,
     ) -> Passes
@@ -207,7 +208,7 @@ impl<'a> SharedGroup<'a> {
     }
 
     // What is left of the passes of who opened the group, out of the last place.
-    fn take_keeper(&self, place: &mut Place) -> Passes
+    fn take_keeper(&self, place: &mut Place<W>) -> Passes
         requires of { IsPlaceOf self.now place.old }
         requires last { place.old.number + 1 ≡ self.now.shape.places }
         ensures left { AreLeftOf self.now self.now.shape.places result }

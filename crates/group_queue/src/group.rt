@@ -8,6 +8,7 @@ use crate::place::Place;
 use crate::port::Port;
 use crate::posted::Posted;
 use crate::returns_queue::ReturnsQueue;
+use crate::witness::{Nobody, Witness};
 use crate::{main_queue, returns_queue};
 use dispatch_core::Job;
 use gate_word::{Drained, Gate, Turn};
@@ -21,21 +22,21 @@ use std::sync::Wait;
 pub(crate) const LIFE: u64 = 1 << 20;
 
 /// A group of one share behind a gate, which threads use by reference. It is ended by [`SharedGroup::finish`], or given up by
-/// [`SharedGroup::abandon`].
+/// [`SharedGroup::abandon`]. `W` is its witness, for contracts alone.
 ///
 /// Contracts see it as a `GroupId`: its slot, how many ports and places it has, its capacity, its gate, and which its queues
 /// and its ledger are. Its ports and places show which they are of.
-pub struct SharedGroup<'a> {
+pub struct SharedGroup<'a, W: Witness = Nobody> {
     pub(crate) slot: u8,
     pub(crate) ports: u8,
     pub(crate) places: u8,
     pub(crate) gate: &'a Gate,
-    pub(crate) main: MainQueue,
-    pub(crate) returns: ReturnsQueue,
-    pub(crate) ledger: SharedLedger,
+    pub(crate) main: MainQueue<W>,
+    pub(crate) returns: ReturnsQueue<W>,
+    pub(crate) ledger: SharedLedger<W>,
 }
 
-impl<'a> Model for SharedGroup<'a> {
+impl<'a, W: Witness> Model for SharedGroup<'a, W> {
     ghost use Rattle.std.specs.Prelude.{◌≤◌};
     ghost use Rattle.crossbeam_queue.specs.Passes.{ruled_capacity};
     ghost use Rattle.group_queue.specs.Ports.{GroupId};
@@ -47,7 +48,7 @@ impl<'a> Model for SharedGroup<'a> {
     ghost invariant = { λ g. 1 ≤ g.places };
 }
 
-impl<'a> SharedGroup<'a> {
+impl<'a, W: Witness> SharedGroup<'a, W> {
     ghost use Rattle.group_queue.specs.Ports.{IsPortOf, next_posted, next_stamp};
     ghost use Rattle.group_queue.specs.Places.{IsPlaceOf, Holds, TakeAnswers, TakeBackAnswers, UsesRoom, GiveBackAnswers, GatherAnswers};
     ghost use Rattle.group_queue.specs.Offers.{OfferAnswers};
@@ -65,18 +66,18 @@ impl<'a> SharedGroup<'a> {
     /// # Errors
     ///
     /// [`NotTaken`] with the message: 502 [`OfferError::LifeSpent`] exactly where the port accepted 2^20 messages, which is
-    /// looked at first; 501 [`OfferError::Full`] only where the queue was full at one moment of this call. The port is
+    /// looked at first; 501 [`OfferError::Full`] only where the group's [`Witness`] saw the queue full. The port is
     /// unchanged then.
     pub fn offer<R: Wait>(
         &self,
         rt: &R,
-        port: &mut Port,
+        port: &mut Port<W>,
         turn: &Turn,
         message: SharedMessage,
     ) -> Result<Stamp, NotTaken>
         requires port { IsPortOf self.now port.old }
         requires turn { turn.now.gate ≡ self.now.gate }
-        ensures answer { OfferAnswers self.now port.old message result port.new }
+        ensures answer { OfferAnswers W.saw_main self.now port.old message result port.new }
         ensures of { IsPortOf self.now port.new }
     {
         let _ = turn;
@@ -104,7 +105,7 @@ impl<'a> SharedGroup<'a> {
     }
 
     /// Hands the oldest message that was never handed out to a place of this group, whose gate is open. `None` only where
-    /// there was none at one moment of this call. A step of the queue may wait for another thread's.
+    /// the group's [`Witness`] saw that there was none. A step of the queue may wait for another thread's.
     ///
     /// # Errors
     ///
@@ -113,12 +114,12 @@ impl<'a> SharedGroup<'a> {
     pub fn take<R: Wait>(
         &self,
         rt: &R,
-        place: &mut Place,
+        place: &mut Place<W>,
         turn: &Turn,
     ) -> Result<Option<Envelope>, JobError>
         requires place { IsPlaceOf self.now place.old }
         requires turn { turn.now.gate ≡ self.now.gate }
-        ensures answer { TakeAnswers place.old result place.new }
+        ensures answer { TakeAnswers W.saw_main place.old result place.new }
         ensures holds { IfOk result (λ answer. IfSome answer (Holds place.new)) }
         ensures room { UsesRoom place.old result place.new }
         ensures of { IsPlaceOf self.now place.new }
@@ -134,7 +135,7 @@ impl<'a> SharedGroup<'a> {
     }
 
     /// Hands a message that was given back to a place of this group, whose gate is open: the one that was given back first.
-    /// `None` only where there was none at one moment of this call. A step of the queue may wait for another thread's.
+    /// `None` only where the group's [`Witness`] saw that there was none. A step of the queue may wait for another thread's.
     ///
     /// # Errors
     ///
@@ -143,12 +144,12 @@ impl<'a> SharedGroup<'a> {
     pub fn take_back<R: Wait>(
         &self,
         rt: &R,
-        place: &mut Place,
+        place: &mut Place<W>,
         turn: &Turn,
     ) -> Result<Option<Envelope>, JobError>
         requires place { IsPlaceOf self.now place.old }
         requires turn { turn.now.gate ≡ self.now.gate }
-        ensures answer { TakeBackAnswers place.old result place.new }
+        ensures answer { TakeBackAnswers W.saw_returns place.old result place.new }
         ensures holds { IfOk result (λ answer. IfSome answer (Holds place.new)) }
         ensures room { UsesRoom place.old result place.new }
         ensures of { IsPlaceOf self.now place.new }
@@ -173,7 +174,7 @@ impl<'a> SharedGroup<'a> {
     pub fn give_back<R: Wait>(
         &self,
         rt: &R,
-        place: &mut Place,
+        place: &mut Place<W>,
         envelope: Envelope,
     ) -> Result<(), Envelope>
         requires place { IsPlaceOf self.now place.old }
@@ -194,8 +195,8 @@ impl<'a> SharedGroup<'a> {
     }
 
     /// Moves what a place of this group settled into the group's ledger, where the runs of all places join, so that memory
-    /// does not grow with the jobs that are done. `false` only where another had the ledger in hands at one moment of the
-    /// call. A step of the ledger's queue may wait for another thread's.
+    /// does not grow with the jobs that are done. `false` only where the group's [`Witness`] saw that another had the ledger
+    /// in hands. A step of the ledger's queue may wait for another thread's.
     ///
     /// # Errors
     ///
@@ -204,10 +205,10 @@ impl<'a> SharedGroup<'a> {
         &self,
         rt: &R,
         alloc: Global,
-        place: &mut Place,
+        place: &mut Place<W>,
     ) -> Result<bool, JobError>
         requires { IsPlaceOf self.now place.old }
-        ensures answer { GatherAnswers place.old result place.new }
+        ensures answer { GatherAnswers W.saw_ledger place.old result place.new }
         ensures of { IsPlaceOf self.now place.new }
         ensures room { place.old.docket.room ≤ place.new.docket.room }
     {

@@ -10,8 +10,8 @@
 //! Whatever accepts or hands out asks for a [`Turn`](gate_word::Turn) at the group's gate. So nothing is accepted or handed
 //! out once the gate was seen drained ([`SharedGroup::refute`]).
 //!
-//! The contracts say of each call what it added to what its own port or place did, and that the queue stood so at one moment
-//! of the call. What that means for all of them together is in [`laws`].
+//! The contracts say of each call what it added to what its own port or place did, and how the queue stood, as the group's
+//! [`Witness`] saw it. What that means for all of them together is in [`laws`].
 #![tactic(auto)]
 
 mod checking;
@@ -29,6 +29,7 @@ mod posted;
 mod reserving;
 mod returns_queue;
 mod view;
+mod witness;
 
 pub use error::{FinishError, Lack, NotTaken, OfferError};
 pub use finish::Unfinished;
@@ -37,3 +38,4 @@ pub use place::Place;
 pub use port::Port;
 pub use posted::Posted;
 pub use view::{Bag, Entry, Name, View};
+pub use witness::{LawfulWitness, Nobody, Witness};

@@ -8,55 +8,79 @@ ghost use Rattle.crossbeam_queue.specs.Passes.{view, IsPassOf, IsSamePass, ruled
 ghost use Rattle.group_queue.specs.declared.view.Name.TheVariants as names;
 ghost use Rattle.group_queue.specs.Views.{one, keeper, joined, IsOf, IsEnding, list_in};
 ghost use Rattle.group_queue.specs.Past.{Stands, Adds, Takes};
+ghost use Rattle.group_queue.specs.Witnesses.{FollowsPort, FollowsPlace, SawMain};
 
 use crate::posted::Posted;
 use crate::view::View;
+use crate::witness::{LawfulWitness, Witness};
 use crossbeam_queue::protocol::{Join, Lesson, Outcome, Protocol, Split};
 use crossbeam_queue::{Pass, RuledArrayQueue};
 use std::alloc::{AllocError, Global};
+use std::marker::PhantomData;
 use std::sync::Wait;
 
-/// The queue has a past.
-pub struct Past;
+/// The queue has a past, and the witness sees it.
+pub struct Past<W> {
+    of: PhantomData<W>,
+}
 
-impl Protocol<Posted, View> for Past {
+impl<W: Witness> Protocol<Posted, View> for Past<W> {
     ghost use Rattle.group_queue.specs.Views.{keeper};
     ghost use Rattle.group_queue.specs.Past.{HasPast};
 
-    ghost holds = { HasPast };
+    ghost holds = { λ items views. HasPast items views × W.saw_main items views };
 
     ghost first = { keeper 0 0 };
 }
 
-pub type MainQueue = RuledArrayQueue<Posted, View, Past, Global>;
+pub type MainQueue<W> = RuledArrayQueue<Posted, View, Past<W>, Global>;
 
 pub type MainPass = Pass<Posted, View>;
 
 /// A push at the back, or a look at a full queue.
-pub struct Adding;
+pub struct Adding<W> {
+    of: PhantomData<W>,
+}
 
-impl Outcome<Posted, View> for Adding {
+impl<W: Witness> Outcome<Posted, View> for Adding<W> {
     ghost use Rattle.group_queue.specs.Past.{Adds};
 
     ghost then = { Adds };
 }
 
-impl Lesson<Posted, View> for Adding {
-    ghost use Rattle.group_queue.specs.Past.{Stands};
+impl<W: Witness> Lesson<Posted, View> for Adding<W> {
+    ghost use Rattle.group_queue.specs.Witnesses.{SawMain};
 
-    ghost fact = { Stands };
+    ghost fact = { SawMain W.saw_main };
 }
 
 /// A pop at the front, or a look at an empty queue.
-pub struct Taking;
+pub struct Taking<W> {
+    of: PhantomData<W>,
+}
 
-impl Outcome<Posted, View> for Taking {
+impl<W: Witness> Outcome<Posted, View> for Taking<W> {
     ghost use Rattle.group_queue.specs.Past.{Takes};
 
     ghost then = { Takes };
 }
 
-impl Lesson<Posted, View> for Taking {
+impl<W: Witness> Lesson<Posted, View> for Taking<W> {
+    ghost use Rattle.group_queue.specs.Witnesses.{SawMain};
+
+    ghost fact = { SawMain W.saw_main };
+}
+
+/// A pop at the front at the end of a group, or a look.
+pub struct TakingLeft;
+
+impl Outcome<Posted, View> for TakingLeft {
+    ghost use Rattle.group_queue.specs.Past.{Takes};
+
+    ghost then = { Takes };
+}
+
+impl Lesson<Posted, View> for TakingLeft {
     ghost use Rattle.group_queue.specs.Past.{Stands};
 
     ghost fact = { Stands };
@@ -100,15 +124,18 @@ impl Join<View> for TakeIn {
 }
 
 /// An empty queue of this capacity, with the pass of who opened it.
-pub fn open(alloc: Global, capacity: usize) -> Result<(MainQueue, MainPass), AllocError>
+pub fn open<W: LawfulWitness>(
+    alloc: Global,
+    capacity: usize,
+) -> Result<(MainQueue<W>, MainPass), AllocError>
     requires { 0 < capacity }
     ensures { IfOk result (λ q. (ruled_capacity q.0 ≡ capacity) × IsPassOf q.0 q.1 × (view q.1 ≡ keeper 0 0)) }
 {
-    MainQueue::ruled(alloc, capacity)
+    MainQueue::<W>::ruled(alloc, capacity)
 }
 
 /// Gives the next port away.
-pub fn cut_port(queue: &MainQueue, pass: &mut MainPass) -> MainPass
+pub fn cut_port<W: LawfulWitness>(queue: &MainQueue<W>, pass: &mut MainPass) -> MainPass
     requires queue { IsPassOf queue.now pass.old }
     requires keeper { view pass.old ≡ keeper (view pass.old).ports (view pass.old).places }
     ensures queue { IsPassOf queue.now pass.new × IsPassOf queue.now result }
@@ -119,7 +146,7 @@ pub fn cut_port(queue: &MainQueue, pass: &mut MainPass) -> MainPass
 }
 
 /// Gives the next place away.
-pub fn cut_place(queue: &MainQueue, pass: &mut MainPass) -> MainPass
+pub fn cut_place<W: LawfulWitness>(queue: &MainQueue<W>, pass: &mut MainPass) -> MainPass
     requires queue { IsPassOf queue.now pass.old }
     requires keeper { view pass.old ≡ keeper (view pass.old).ports (view pass.old).places }
     ensures queue { IsPassOf queue.now pass.new × IsPassOf queue.now result }
@@ -130,9 +157,9 @@ pub fn cut_place(queue: &MainQueue, pass: &mut MainPass) -> MainPass
 }
 
 /// Pushes a port's next message.
-pub fn push<R: Wait>(
+pub fn push<W: Witness, R: Wait>(
     rt: &R,
-    queue: &MainQueue,
+    queue: &MainQueue<W>,
     pass: &mut MainPass,
     posted: Posted,
 ) -> Result<(), Posted>
@@ -140,27 +167,34 @@ pub fn push<R: Wait>(
     requires port { IsOf (names.Port posted.job.port) (view pass.old) }
     requires next { posted.job.number ≡ length (list_in (view pass.old)) }
     requires few { posted.job.number < 1048576 }
+    requires follows { FollowsPort W.saw_main posted.job.port }
     ensures queue { IsPassOf queue.now pass.new }
     ensures answer { MatchResult result (λ _. Adds (view pass.old) posted (view pass.new))
-        (λ back. (back ≡ posted) × (view pass.new ≡ view pass.old) × Held (ruled_capacity queue.now) (Stands (view pass.old))) }
+        (λ back. (back ≡ posted) × (view pass.new ≡ view pass.old) × Held (ruled_capacity queue.now) (SawMain W.saw_main (view pass.old))) }
 {
-    queue.push_as::<Adding, R>(rt, pass, posted)
+    queue.push_as::<Adding<W>, R>(rt, pass, posted)
 }
 
 /// Pops the front for a place.
-pub fn pop<R: Wait>(rt: &R, queue: &MainQueue, pass: &mut MainPass, place: u8) -> Option<Posted>
+pub fn pop<W: Witness, R: Wait>(
+    rt: &R,
+    queue: &MainQueue<W>,
+    pass: &mut MainPass,
+    place: u8,
+) -> Option<Posted>
     requires queue { IsPassOf queue.now pass.old }
     requires place { IsOf (names.Place place) (view pass.old) }
+    requires follows { FollowsPlace W.saw_main place }
     ensures queue { IsPassOf queue.now pass.new }
-    ensures answer { MatchOption result ((view pass.new ≡ view pass.old) × Held 0 (Stands (view pass.old)))
+    ensures answer { MatchOption result ((view pass.new ≡ view pass.old) × Held 0 (SawMain W.saw_main (view pass.old)))
         (λ posted. Takes (view pass.old) posted (view pass.new)) }
 {
     let _ = place;
-    queue.pop_as::<Taking, R>(rt, pass)
+    queue.pop_as::<Taking<W>, R>(rt, pass)
 }
 
 /// Takes in another pass, with what it knows.
-pub fn join(queue: &MainQueue, pass: &mut MainPass, other: MainPass)
+pub fn join<W: LawfulWitness>(queue: &MainQueue<W>, pass: &mut MainPass, other: MainPass)
     requires queue { IsPassOf queue.now pass.old × IsPassOf queue.now other }
     requires given { (view other).keeps ≡ false }
     ensures queue { IsPassOf queue.now pass.new }
@@ -170,22 +204,26 @@ pub fn join(queue: &MainQueue, pass: &mut MainPass, other: MainPass)
 }
 
 /// Pops the front for who ends the group.
-pub fn pop_left<R: Wait>(rt: &R, queue: &MainQueue, pass: &mut MainPass) -> Option<Posted>
+pub fn pop_left<W: LawfulWitness, R: Wait>(
+    rt: &R,
+    queue: &MainQueue<W>,
+    pass: &mut MainPass,
+) -> Option<Posted>
     requires queue { IsPassOf queue.now pass.old }
     requires ending { IsEnding (view pass.old) }
     ensures queue { IsPassOf queue.now pass.new }
     ensures answer { MatchOption result ((view pass.new ≡ view pass.old) × Held 0 (Stands (view pass.old)))
         (λ posted. Takes (view pass.old) posted (view pass.new)) }
 {
-    queue.pop_as::<Taking, R>(rt, pass)
+    queue.pop_as::<TakingLeft, R>(rt, pass)
 }
 
 /// Looks at the queue, which holds something or nothing.
-pub fn look(queue: &MainQueue, pass: &mut MainPass)
+pub fn look<W: LawfulWitness>(queue: &MainQueue<W>, pass: &mut MainPass)
     requires queue { IsPassOf queue.now pass.old }
     ensures queue { IsPassOf queue.now pass.new }
     ensures same { view pass.new ≡ view pass.old }
     ensures stands { (items : List posted_type) × Stands (view pass.old) items }
 {
-    queue.learn_as::<Taking>(pass);
+    queue.learn_as::<TakingLeft>(pass);
 }

@@ -7,17 +7,17 @@ use crate::group::SharedGroup;
 use crate::main_queue::MainPass;
 use crate::place::{Passes, Place};
 use crate::port::Port;
+use crate::witness::{LawfulWitness, Nobody};
 use crate::{main_queue, returns_queue};
 use gate_word::Gate;
 use group_jobs::{Docket, JobError};
 use shared_ledger::{Giver, SharedLedger};
 use std::alloc::Global;
+use std::marker::PhantomData;
 
 impl<'a> SharedGroup<'a> {
-    ghost use Rattle.group_queue.specs.Ports.{new_port, IsPortOf, AreNewPorts};
-    ghost use Rattle.group_queue.specs.Places.{IsNewPlace, IsPlaceOf, AreNewPlaces};
-    ghost use Rattle.shared_ledger.specs.Givers.{new_giver};
-    ghost use Rattle.group_queue.specs.Openings.{IsPassTo, AreLeftOf, AreNewPasses};
+    ghost use Rattle.group_queue.specs.Ports.{IsPortOf, AreNewPorts};
+    ghost use Rattle.group_queue.specs.Places.{IsPlaceOf, AreNewPlaces};
 
     /// A group behind a gate, with all its ports and places, numbered from 0 on. It has 1 to 64 ports, 1 to 32 places, and
     /// room for 1 to 65,536 messages that were never handed out.
@@ -33,6 +33,41 @@ impl<'a> SharedGroup<'a> {
         places: u8,
         capacity: usize,
     ) -> Result<(SharedGroup<'a>, Vec<Port>, Vec<Place>), JobError>
+        requires ports { (1 ≤ ports) × (ports ≤ 64) }
+        requires places { (1 ≤ places) × (places ≤ 32) }
+        requires capacity { (1 ≤ capacity) × (capacity ≤ 65536) }
+        ensures group { IfOk result (λ opened. (opened.0.slot ≡ slot) × (opened.0.capacity ≡ capacity) × (opened.0.gate ≡ gate.entry.now)) }
+        ensures shape { IfOk result (λ opened. (opened.0.shape.ports ≡ ports) × (opened.0.shape.places ≡ places)) }
+        ensures ports { IfOk result (λ opened. AreNewPorts opened.0 ports opened.1.items) }
+        ensures places { IfOk result (λ opened. AreNewPlaces opened.0 places opened.2.items) }
+
+        // Each of them is one of this group.
+        ensures each_port { IfOk result (λ opened. All (IsPortOf opened.0) opened.1.items) }
+        ensures each_place { IfOk result (λ opened. All (IsPlaceOf opened.0) opened.2.items) }
+    {
+        SharedGroup::open_with_witness(alloc, gate, slot, ports, places, capacity)
+    }
+}
+
+impl<'a, W: LawfulWitness> SharedGroup<'a, W> {
+    ghost use Rattle.group_queue.specs.Ports.{new_port, IsPortOf, AreNewPorts};
+    ghost use Rattle.group_queue.specs.Places.{IsNewPlace, IsPlaceOf, AreNewPlaces};
+    ghost use Rattle.shared_ledger.specs.Givers.{new_giver};
+    ghost use Rattle.group_queue.specs.Openings.{IsPassTo, AreLeftOf, AreNewPasses};
+
+    /// The same as [`SharedGroup::open`], of a group with a witness.
+    ///
+    /// # Errors
+    ///
+    /// 503 [`JobError::Memory`].
+    pub fn open_with_witness(
+        alloc: Global,
+        gate: &'a Gate,
+        slot: u8,
+        ports: u8,
+        places: u8,
+        capacity: usize,
+    ) -> Result<(SharedGroup<'a, W>, Vec<Port<W>>, Vec<Place<W>>), JobError>
         requires ports { (1 ≤ ports) × (ports ≤ 64) }
         requires places { (1 ≤ places) × (places ≤ 32) }
         requires capacity { (1 ≤ capacity) × (capacity ≤ 65536) }
@@ -69,7 +104,7 @@ impl<'a> SharedGroup<'a> {
     }
 
     // Makes all ports.
-    fn fill_ports(&self, pass: &mut MainPass, ports: &mut Vec<Port>)
+    fn fill_ports(&self, pass: &mut MainPass, ports: &mut Vec<Port<W>>)
         requires pass { IsPassTo self.now pass.old }
         requires none { view pass.old ≡ keeper 0 0 }
         requires room { (ports.old.items ≡ []) × (self.now.shape.ports ≤ vec_capacity ports.old) }
@@ -83,7 +118,7 @@ impl<'a> SharedGroup<'a> {
     }
 
     // Gives the next port away, which has this number.
-    fn new_port(&self, pass: &mut MainPass, number: u8) -> Port
+    fn new_port(&self, pass: &mut MainPass, number: u8) -> Port<W>
         requires pass { IsPassTo self.now pass.old }
         requires next { view pass.old ≡ keeper number 0 }
         ensures pass { IsPassTo self.now pass.new }
@@ -96,11 +131,12 @@ impl<'a> SharedGroup<'a> {
             number,
             accepted: 0,
             pass: own,
+            witness: PhantomData,
         }
     }
 
     // Makes all places. The last one has what is left of the passes.
-    fn fill_places(&self, alloc: Global, left: Passes, giver: Giver, places: &mut Vec<Place>)
+    fn fill_places(&self, alloc: Global, left: Passes, giver: Giver<W>, places: &mut Vec<Place<W>>)
         requires left { AreLeftOf self.now 0 left }
         requires giver { giver ≡ new_giver self.now.ledger 64 }
         requires count { (1 ≤ self.now.shape.places) × (self.now.shape.places ≤ 32) }
@@ -138,9 +174,9 @@ impl<'a> SharedGroup<'a> {
         alloc: Global,
         number: u8,
         passes: Passes,
-        giver: Giver,
+        giver: Giver<W>,
         keeper: Option<Passes>,
-    ) -> Place
+    ) -> Place<W>
         requires passes { AreNewPasses self.now number passes }
         requires giver { giver ≡ new_giver self.now.ledger giver.parts }
         requires parts { (1 ≤ giver.parts) × (number + 1 ≡ self.now.shape.places → 65 ≤ giver.parts + self.now.shape.places) }
@@ -156,6 +192,7 @@ impl<'a> SharedGroup<'a> {
             passes,
             giver,
             keeper,
+            witness: PhantomData,
         }
     }
 }

@@ -4,10 +4,11 @@ ghost use Rattle.group_jobs.specs.Stamps.{stamp_of, job_of};
 
 use crate::main_queue::MainPass;
 use crate::returns_queue::ReturnsPass;
+use crate::witness::{Nobody, Witness};
 use dispatch_core::Job;
 use group_jobs::{Docket, Envelope, Fate, JobError, Stamp};
 use shared_ledger::Giver;
-use std::marker::Model;
+use std::marker::{Model, PhantomData};
 
 /// Who has it alone takes messages at it. A place belongs to the group that it was opened with, may go to another thread,
 /// and keeps in its docket what it has out and what it settled.
@@ -16,15 +17,16 @@ use std::marker::Model;
 /// to be handed, those that it was handed again and those that it gave back, in order, what it gave to the group's ledger, and,
 /// of the group's last place, how many ports and places there are.
 #[derive(Drop)]
-pub struct Place {
+pub struct Place<W: Witness = Nobody> {
     pub(crate) group: u8,
     pub(crate) number: u8,
     pub(crate) docket: Docket,
     pub(crate) passes: Passes,
     // Its right to give to the group's ledger what it settled.
-    pub(crate) giver: Giver,
+    pub(crate) giver: Giver<W>,
     // What is left of the passes of who opened the group, which ends it: it is in the last place.
     pub(crate) keeper: Option<Passes>,
+    pub(crate) witness: PhantomData<W>,
 }
 
 /// A pass of each of a group's queues.
@@ -34,19 +36,20 @@ pub struct Passes {
     pub returns: ReturnsPass,
 }
 
-impl Model for Place {
+impl<W: Witness> Model for Place<W> {
     ghost use Rattle.group_queue.specs.Places.{PlaceState};
 
     ghost Value = { PlaceState };
 
     ghost use Rattle.group_queue.specs.Takers.{place_of, IsInHands, IsKept};
+    ghost use Rattle.group_queue.specs.Witnesses.{FollowsPart, FollowsPlace};
 
     ghost view = { λ p. place_of p.group p.number p.docket p.passes p.keeper p.giver };
 
-    ghost invariant = { λ p. IsInHands p.number p.docket p.passes p.giver × IsKept p.passes p.keeper };
+    ghost invariant = { λ p. IsInHands p.number p.docket p.passes p.giver × IsKept p.passes p.keeper × FollowsPart W.saw_returns p.passes.returns.id × FollowsPlace W.saw_main p.number };
 }
 
-impl Place {
+impl<W: Witness> Place<W> {
     ghost use Rattle.group_queue.specs.Ports.{GroupId};
     ghost use Rattle.group_queue.specs.Places.{Holds, IsBalanced, IsPlaceOf, IsSamePlace, KeepsPlace, KeepsRoom, SettlesHeld};
 

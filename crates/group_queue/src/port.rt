@@ -2,33 +2,36 @@
 ghost use Rattle.std.specs.Prelude.{◌≡◌, ◌≤◌};
 
 use crate::main_queue::MainPass;
-use std::marker::Model;
+use crate::witness::{Nobody, Witness};
+use std::marker::{Model, PhantomData};
 
 /// Who has it alone publishes through it. A port belongs to the group that it was opened with, may go to another thread, and
 /// numbers the messages that it sends from 0 on.
 ///
 /// Contracts see it as a `PortState`: the group's slot, the port's number, how many messages it has sent, and which.
 #[derive(Drop)]
-pub struct Port {
+pub struct Port<W: Witness = Nobody> {
     pub(crate) group: u8,
     pub(crate) number: u8,
     pub(crate) accepted: u64,
     pub(crate) pass: MainPass,
+    pub(crate) witness: PhantomData<W>,
 }
 
-impl Model for Port {
+impl<W: Witness> Model for Port<W> {
     ghost use Rattle.group_queue.specs.Ports.{PortState};
 
     ghost Value = { PortState };
 
     ghost use Rattle.group_queue.specs.Senders.{sent_by, IsCounted};
+    ghost use Rattle.group_queue.specs.Witnesses.{FollowsPort};
 
     ghost view = { λ p. record { group = p.group; number = p.number; accepted = p.accepted; sent = sent_by p.pass; queue = p.pass.table_id } };
 
-    ghost invariant = { λ p. IsCounted p.number p.accepted p.pass };
+    ghost invariant = { λ p. IsCounted p.number p.accepted p.pass × FollowsPort W.saw_main p.number };
 }
 
-impl Port {
+impl<W: Witness> Port<W> {
     /// The slot of its group.
     pub fn slot(&self) -> u8
         ensures { result ≡ self.now.group }

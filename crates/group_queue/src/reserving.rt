@@ -9,6 +9,7 @@ ghost use Rattle.group_queue.specs.Known.{AreReady, IsRoomFor, ended};
 use crate::checking::accepted_by;
 use crate::place::Place;
 use crate::port::Port;
+use crate::witness::Witness;
 use dispatch_core::Job;
 use group_jobs::{Docket, Envelope, JobError};
 use shared_ledger::Holder;
@@ -27,11 +28,11 @@ pub struct Lists {
 }
 
 /// Makes room, also in the group's ledger for what all places settled.
-pub fn reserve(
+pub fn reserve<W: Witness>(
     alloc: Global,
     count: u8,
-    ports: &[Port],
-    places: &[Place],
+    ports: &[Port<W>],
+    places: &[Place<W>],
     held: &[Envelope],
     holder: &mut Holder,
 ) -> Result<Lists, JobError>
@@ -51,7 +52,7 @@ pub fn reserve(
 }
 
 // How many messages each port sent, by the ports' numbers.
-fn counts_of(alloc: Global, count: u8, ports: &[Port]) -> Result<Vec<u64>, JobError>
+fn counts_of<W: Witness>(alloc: Global, count: u8, ports: &[Port<W>]) -> Result<Vec<u64>, JobError>
     requires { HasAll count (port_numbers ports.now) }
     ensures { IfOk result (λ counts. AreCounts count ports.now counts.items) }
 {
@@ -77,7 +78,7 @@ fn jobs_of(alloc: Global, held: &[Envelope]) -> Result<Vec<Job>, JobError>
 }
 
 // Makes room in the group's ledger for what all places settled.
-fn room_for(holder: &mut Holder, places: &[Place]) -> Result<(), JobError>
+fn room_for<W: Witness>(holder: &mut Holder, places: &[Place<W>]) -> Result<(), JobError>
     ensures room { OnOk result ((fate : fate_type) → sum_by (λ place. length (runs_of fate place.docket.settled)) places.now ≤ least_spare holder.new.settled) }
     ensures same { holder.new ≡ record holder.old { settled = holder.new.settled } }
 {
@@ -88,7 +89,11 @@ fn room_for(holder: &mut Holder, places: &[Place]) -> Result<(), JobError>
 }
 
 // For how many messages there has to be room: what was accepted and is neither settled nor out.
-fn left_over(ports: &[Port], places: &[Place], holder: &Holder) -> Result<usize, JobError>
+fn left_over<W: Witness>(
+    ports: &[Port<W>],
+    places: &[Place<W>],
+    holder: &Holder,
+) -> Result<usize, JobError>
     ensures { IfOk result (IsRoomFor ports.now places.now holder.now.settled) }
 {
     let ended = ended_in_all(places).saturating_add(holder.len());
@@ -99,7 +104,7 @@ fn left_over(ports: &[Port], places: &[Place], holder: &Holder) -> Result<usize,
 }
 
 // How many messages all ports sent.
-fn accepted_in_all(ports: &[Port]) -> u128
+fn accepted_in_all<W: Witness>(ports: &[Port<W>]) -> u128
     ensures { result ≡ sum_by (λ port. length port.sent) ports.now }
 {
     let mut total: u128 = 0;
@@ -110,7 +115,7 @@ fn accepted_in_all(ports: &[Port]) -> u128
 }
 
 // How many hand-outs ended by a fate or are out, or fewer where they are more than a number can say.
-fn ended_in_all(places: &[Place]) -> u128
+fn ended_in_all<W: Witness>(places: &[Place<W>]) -> u128
     ensures { result ≤ sum_by ended places.now + sum_by (λ place. length place.docket.out) places.now }
 {
     let mut total: u128 = 0;

@@ -1,8 +1,8 @@
 //! Messages, ledgers, reports and the texts of errors.
 use bytes::Bytes;
-use group_jobs::{JobError, Message, MessageProperties, SharedMessage};
+use group_jobs::{JobError, Message, SharedMessage};
 use group_queue::{NotTaken, OfferError, Place, Port, SharedGroup};
-use mqtt_wire::{Text, UserProperties};
+use mqtt_wire::{PublishProperties, RareProperties, Text};
 use std::alloc::Global;
 use std::fmt::Display;
 use std::test::Fail;
@@ -10,36 +10,14 @@ use std::test::Fail;
 /// A message on the topic `job` with this payload.
 pub fn message(alloc: Global, payload: &'static [u8]) -> Option<SharedMessage> {
     let topic = Text::parse(Bytes::from_static(b"job"))?;
+    let mut properties = PublishProperties::new(alloc);
+    properties.payload_format_indicator = Some(1);
     let message = Message {
         topic,
-        properties: MessageProperties {
-            payload_format_indicator: Some(1),
-            content_type: None,
-            response_topic: None,
-            correlation_data: None,
-            user_properties: UserProperties::new(alloc),
-        },
+        properties: RareProperties::new(alloc, properties).ok()?,
         payload: Bytes::from_static(payload),
     };
     SharedMessage::new(alloc, message).ok()
-}
-
-/// Whether the copy of a message is equal to it.
-fn is_copied(alloc: Global) -> Option<bool> {
-    let first = message(alloc, b"A")?;
-    let copy = first.try_copy(alloc);
-    let is_equal = match &copy {
-        Ok(copy) => *copy == *first,
-        Err(_) => false,
-    };
-    drop(copy);
-    drop(first);
-    Some(is_equal)
-}
-
-#[test]
-fn a_copy_is_equal(rt: HostRuntime) {
-    assert_eq!(rt; is_copied(rt.alloc()), Some(true));
 }
 
 fn crosses_threads<T: Send>() {}

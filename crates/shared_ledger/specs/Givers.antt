@@ -9,7 +9,9 @@ use Rattle.group_jobs.specs.declared.fate.Fate.{Fate}
 use Rattle.group_jobs.specs.declared.ledger.Ledger.{Ledger}
 use Rattle.group_jobs.specs.Settled.{settled_as, IsUnsettled}
 use Rattle.group_jobs.specs.Dockets.{Kept}
-use Rattle.shared_ledger.specs.Giving.{share, Stands}
+use Rattle.shared_ledger.specs.declared.share.Share.{Share}
+use Rattle.shared_ledger.specs.Giving.{share}
+use Rattle.shared_ledger.specs.Witnesses.{SawLedger}
 
 -- which ledger it is, how many of its parts this is, and what was given, in order
 pub record GiverState : Type 0 where
@@ -42,8 +44,9 @@ pub record GivesAll (old : GiverState) (before : Kept) (new : GiverState) (after
   pub settled : IsUnsettled after.settled
   pub out : after.out ≡ before.out
 
--- nothing has changed where another had the ledger: the queue was empty at one moment of the call; nor where there was no memory
-abbrev pub Gathers : GiverState → Kept → Result Bool JobError → GiverState → Kept → Type 0
-Gathers old before (Ok true) new after = GivesAll old before new after
-Gathers old before (Ok false) new after = (new ≡ old) × (after ≡ before) × Held 0 (Stands (share old.parts [] old.gave))
-Gathers old before (Err refusal) new after = (new ≡ old) × (after ≡ before)
+-- nothing has changed where another had the ledger: the witness saw the queue empty at one moment of the call; nor where there was
+-- no memory
+abbrev pub Gathers : (List Ledger → List Share → Type 0) → GiverState → Kept → Result Bool JobError → GiverState → Kept → Type 0
+Gathers saw old before (Ok true) new after = GivesAll old before new after
+Gathers saw old before (Ok false) new after = (new ≡ old) × (after ≡ before) × Held 0 (SawLedger saw (share old.parts [] old.gave))
+Gathers saw old before (Err refusal) new after = (new ≡ old) × (after ≡ before)

@@ -1,3 +1,4 @@
 pub mod Giving
+pub mod Witnesses
 pub mod Givers
 pub mod Behind

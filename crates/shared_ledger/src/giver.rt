@@ -5,25 +5,28 @@ ghost use Rattle.group_jobs.specs.Settled.{KeepsSettled, least_spare, runs_of};
 ghost use Rattle.shared_ledger.specs.Giving.{jobs_in};
 
 use crate::queue::LedgerPass;
+use crate::witness::LedgerWitness;
 use group_jobs::{JobError, Ledger};
-use std::marker::Model;
+use std::marker::{Model, PhantomData};
 
 /// The right to give to a shared ledger. Contracts see it as a `GiverState`: which ledger it is, how many of its 64 parts this
 /// is, and the ledgers that were given, in order.
 #[derive(Drop)]
-pub struct Giver {
+pub struct Giver<W: LedgerWitness> {
     pub(crate) pass: LedgerPass,
+    pub(crate) witness: PhantomData<W>,
 }
 
-impl Model for Giver {
+impl<W: LedgerWitness> Model for Giver<W> {
     ghost use Rattle.shared_ledger.specs.Givers.{GiverState};
     ghost use Rattle.shared_ledger.specs.Behind.{giver_of, IsFree};
+    ghost use Rattle.shared_ledger.specs.Witnesses.{FollowsGiver};
 
     ghost Value = { GiverState };
 
     ghost view = { λ g. giver_of g.pass };
 
-    ghost invariant = { λ g. IsFree g.pass };
+    ghost invariant = { λ g. IsFree g.pass × FollowsGiver W.saw_ledger g.pass.id };
 }
 
 /// A shared ledger in hands. Contracts see it as a `HolderState`: which ledger it is, how many of its parts came together here,

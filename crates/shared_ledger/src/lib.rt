@@ -12,8 +12,10 @@ mod giver;
 mod queue;
 mod share;
 mod shared;
+mod witness;
 
 pub use giver::{Giver, Holder};
 pub use queue::{Gathering, LedgerPass, LedgerQueue};
 pub use share::Share;
 pub use shared::SharedLedger;
+pub use witness::{LawfulLedgerWitness, LedgerWitness};

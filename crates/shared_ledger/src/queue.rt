@@ -7,40 +7,56 @@ ghost use Rattle.dispatch_core.specs.declared.event.Job.{Job};
 ghost use Rattle.group_jobs.specs.declared.fate.Fate.{Fate};
 ghost use Rattle.group_jobs.specs.declared.ledger.Ledger.{Ledger as ledger_type};
 ghost use Rattle.shared_ledger.specs.Giving.{share, joined, times_in, Stands, GivesMore, IsGivenMore};
+ghost use Rattle.shared_ledger.specs.Witnesses.{FollowsGiver, SawLedger};
 
 use crate::share::Share;
+use crate::witness::{LawfulLedgerWitness, LedgerWitness};
 use crossbeam_queue::protocol::{Join, Lesson, Outcome, Protocol, Split};
 use crossbeam_queue::{Pass, RuledArrayQueue};
 use group_jobs::{JobError, Ledger};
 use std::alloc::Global;
+use std::marker::PhantomData;
 use std::sync::Wait;
 
-/// There is one ledger, which has what all gave.
-pub struct Gathering;
+/// There is one ledger, which has what all gave, and the witness sees it.
+pub struct Gathering<W> {
+    of: PhantomData<W>,
+}
 
-impl Protocol<Ledger, Share> for Gathering {
+impl<W: LedgerWitness> Protocol<Ledger, Share> for Gathering<W> {
     ghost use Rattle.std.specs.Prelude.{[], ◌∷◌};
     ghost use Rattle.shared_ledger.specs.Giving.{share, no_jobs, Gives};
 
-    ghost holds = { Gives };
+    ghost holds = { λ items views. Gives items views × W.saw_ledger items views };
 
     ghost first = { share 64 (no_jobs ∷ []) [] };
 }
 
-pub type LedgerQueue = RuledArrayQueue<Ledger, Share, Gathering, Global>;
+pub type LedgerQueue<W> = RuledArrayQueue<Ledger, Share, Gathering<W>, Global>;
 
 pub type LedgerPass = Pass<Ledger, Share>;
 
 /// The ledger is taken up, or a look at an empty queue.
-pub struct TakingUp;
+pub struct TakingUp<W> {
+    of: PhantomData<W>,
+}
 
-impl Outcome<Ledger, Share> for TakingUp {
+impl<W: LedgerWitness> Outcome<Ledger, Share> for TakingUp<W> {
     ghost use Rattle.shared_ledger.specs.Giving.{TakesUp};
 
     ghost then = { TakesUp };
 }
 
-impl Lesson<Ledger, Share> for TakingUp {
+impl<W: LedgerWitness> Lesson<Ledger, Share> for TakingUp<W> {
+    ghost use Rattle.shared_ledger.specs.Witnesses.{SawLedger};
+
+    ghost fact = { SawLedger W.saw_ledger };
+}
+
+/// A look at the queue.
+pub struct Looking;
+
+impl Lesson<Ledger, Share> for Looking {
     ghost use Rattle.shared_ledger.specs.Giving.{Stands};
 
     ghost fact = { Stands };
@@ -117,11 +133,11 @@ impl Join<Share> for TakeParts {
 /// # Errors
 ///
 /// 503 [`JobError::Memory`].
-pub fn open(alloc: Global) -> Result<(LedgerQueue, LedgerPass), JobError>
+pub fn open<W: LawfulLedgerWitness>(alloc: Global) -> Result<(LedgerQueue<W>, LedgerPass), JobError>
     ensures queue { IfOk result (λ q. IsPassOf q.0 q.1 × (ruled_capacity q.0 ≡ 1)) }
     ensures pass { IfOk result (λ q. view q.1 ≡ share 64 [] []) }
 {
-    let (queue, mut pass) = LedgerQueue::ruled(alloc, 1)?;
+    let (queue, mut pass) = LedgerQueue::<W>::ruled(alloc, 1)?;
     // A queue that nobody else has takes the push at its one attempt.
     match queue.try_push_as::<PuttingBack>(&mut pass, Ledger::new(alloc)) {
         Ok(()) => Ok((queue, pass)),
@@ -130,7 +146,7 @@ pub fn open(alloc: Global) -> Result<(LedgerQueue, LedgerPass), JobError>
 }
 
 /// Gives one part away.
-pub fn cut(queue: &LedgerQueue, pass: &mut LedgerPass) -> LedgerPass
+pub fn cut<W: LawfulLedgerWitness>(queue: &LedgerQueue<W>, pass: &mut LedgerPass) -> LedgerPass
     requires queue { IsPassOf queue.now pass.old }
     requires parts { 2 ≤ (view pass.old).parts }
     ensures queue { IsPassOf queue.now pass.new × IsPassOf queue.now result }
@@ -141,7 +157,7 @@ pub fn cut(queue: &LedgerQueue, pass: &mut LedgerPass) -> LedgerPass
 }
 
 /// Makes a pass with no part.
-pub fn cut_none(queue: &LedgerQueue, pass: &mut LedgerPass) -> LedgerPass
+pub fn cut_none<W: LawfulLedgerWitness>(queue: &LedgerQueue<W>, pass: &mut LedgerPass) -> LedgerPass
     requires queue { IsPassOf queue.now pass.old }
     ensures queue { IsPassOf queue.now pass.new × IsPassOf queue.now result }
     ensures same { view pass.new ≡ view pass.old }
@@ -150,20 +166,30 @@ pub fn cut_none(queue: &LedgerQueue, pass: &mut LedgerPass) -> LedgerPass
     queue.another::<CutNone>(pass)
 }
 
-/// Takes the ledger up. `None` only where another had it in hands at one moment of the call. A step of the queue may wait for
+/// Takes the ledger up. `None` only where the witness saw that another had it in hands. A step of the queue may wait for
 /// another thread's.
-pub fn take_up<R: Wait>(rt: &R, queue: &LedgerQueue, pass: &mut LedgerPass) -> Option<Ledger>
+pub fn take_up<W: LedgerWitness, R: Wait>(
+    rt: &R,
+    queue: &LedgerQueue<W>,
+    pass: &mut LedgerPass,
+) -> Option<Ledger>
     requires queue { IsPassOf queue.now pass.old }
     requires hand { (view pass.old).hand ≡ [] }
+    requires follows { FollowsGiver W.saw_ledger pass.old.id }
     ensures queue { IsPassOf queue.now pass.new }
-    ensures answer { MatchOption result ((view pass.new ≡ view pass.old) × Held 0 (Stands (view pass.old)))
+    ensures id { pass.new.id ≡ pass.old.id }
+    ensures answer { MatchOption result ((view pass.new ≡ view pass.old) × Held 0 (SawLedger W.saw_ledger (view pass.old)))
         (λ ledger. view pass.new ≡ share (view pass.old).parts (ledger ∷ []) (view pass.old).gave) }
 {
-    queue.pop_as::<TakingUp, R>(rt, pass)
+    queue.pop_as::<TakingUp<W>, R>(rt, pass)
 }
 
 /// Takes the ledger up, once nobody else has it in hands.
-pub fn wait_for<R: Wait>(rt: &R, queue: &LedgerQueue, pass: &mut LedgerPass) -> Ledger
+pub fn wait_for<W: LawfulLedgerWitness, R: Wait>(
+    rt: &R,
+    queue: &LedgerQueue<W>,
+    pass: &mut LedgerPass,
+) -> Ledger
     requires queue { IsPassOf queue.now pass.old }
     requires hand { (view pass.old).hand ≡ [] }
     ensures queue { IsPassOf queue.now pass.new }
@@ -178,12 +204,19 @@ pub fn wait_for<R: Wait>(rt: &R, queue: &LedgerQueue, pass: &mut LedgerPass) -> 
 }
 
 /// Puts the ledger down with the jobs that it had. Its room may have grown.
-pub fn put_back<R: Wait>(rt: &R, queue: &LedgerQueue, pass: &mut LedgerPass, ledger: Ledger)
+pub fn put_back<W: LedgerWitness, R: Wait>(
+    rt: &R,
+    queue: &LedgerQueue<W>,
+    pass: &mut LedgerPass,
+    ledger: Ledger,
+)
     requires queue { IsPassOf queue.now pass.old }
     requires capacity { ruled_capacity queue.now ≡ 1 }
     requires hand { length (view pass.old).hand ≡ 1 }
     requires same { (fate : Fate) (job : Job) → times_in (ledger ∷ []) fate job ≡ times_in (view pass.old).hand fate job }
+    requires follows { FollowsGiver W.saw_ledger pass.old.id }
     ensures queue { IsPassOf queue.now pass.new }
+    ensures id { pass.new.id ≡ pass.old.id }
     ensures back { view pass.new ≡ share (view pass.old).parts [] (view pass.old).gave }
 {
     match queue.push_as::<PuttingBack, R>(rt, pass, ledger) {
@@ -193,13 +226,20 @@ pub fn put_back<R: Wait>(rt: &R, queue: &LedgerQueue, pass: &mut LedgerPass, led
 }
 
 /// Puts the ledger down with more in it.
-pub fn give<R: Wait>(rt: &R, queue: &LedgerQueue, pass: &mut LedgerPass, ledger: Ledger)
+pub fn give<W: LedgerWitness, R: Wait>(
+    rt: &R,
+    queue: &LedgerQueue<W>,
+    pass: &mut LedgerPass,
+    ledger: Ledger,
+)
     requires queue { IsPassOf queue.now pass.old }
     requires capacity { ruled_capacity queue.now ≡ 1 }
     requires parts { 1 ≤ (view pass.old).parts }
     requires hand { length (view pass.old).hand ≡ 1 }
     requires more { (more : ledger_type) × IsGivenMore (view pass.old) ledger more }
+    requires follows { FollowsGiver W.saw_ledger pass.old.id }
     ensures queue { IsPassOf queue.now pass.new }
+    ensures id { pass.new.id ≡ pass.old.id }
     ensures gave { GivesMore (view pass.old) ledger (view pass.new) }
 {
     match queue.push_as::<GivingMore, R>(rt, pass, ledger) {
@@ -209,7 +249,11 @@ pub fn give<R: Wait>(rt: &R, queue: &LedgerQueue, pass: &mut LedgerPass, ledger:
 }
 
 /// Takes in another pass, with its parts and what it gave.
-pub fn join(queue: &LedgerQueue, pass: &mut LedgerPass, other: LedgerPass)
+pub fn join<W: LawfulLedgerWitness>(
+    queue: &LedgerQueue<W>,
+    pass: &mut LedgerPass,
+    other: LedgerPass,
+)
     requires queue { IsPassOf queue.now pass.old × IsPassOf queue.now other }
     requires parts { 1 ≤ (view other).parts }
     ensures queue { IsPassOf queue.now pass.new }
@@ -219,11 +263,11 @@ pub fn join(queue: &LedgerQueue, pass: &mut LedgerPass, other: LedgerPass)
 }
 
 /// Looks at the queue.
-pub fn look(queue: &LedgerQueue, pass: &mut LedgerPass)
+pub fn look<W: LedgerWitness>(queue: &LedgerQueue<W>, pass: &mut LedgerPass)
     requires queue { IsPassOf queue.now pass.old }
     ensures queue { IsPassOf queue.now pass.new }
     ensures same { view pass.new ≡ view pass.old }
     ensures stands { (items : List ledger_type) × Stands (view pass.old) items }
 {
-    queue.learn_as::<TakingUp>(pass);
+    queue.learn_as::<Looking>(pass);
 }

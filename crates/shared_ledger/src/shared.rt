@@ -10,18 +10,19 @@ ghost use Rattle.shared_ledger.specs.Givers.{new_giver, Gathers, IsNewHolder};
 use crate::giver::{Giver, Holder};
 use crate::queue;
 use crate::queue::LedgerQueue;
+use crate::witness::{LawfulLedgerWitness, LedgerWitness};
 use group_jobs::{Docket, JobError, Ledger};
 use std::alloc::Global;
-use std::marker::Model;
+use std::marker::{Model, PhantomData};
 use std::sync::Wait;
 
 /// One ledger to which many give. Contracts see it as which ledger it is.
 #[derive(Drop)]
-pub struct SharedLedger {
-    queue: LedgerQueue,
+pub struct SharedLedger<W: LedgerWitness> {
+    queue: LedgerQueue<W>,
 }
 
-impl Model for SharedLedger {
+impl<W: LedgerWitness> Model for SharedLedger<W> {
     ghost use Rattle.std.specs.Prelude.{◌≡◌};
     ghost use Rattle.atomic_table.specs.Seated.{TableId};
     ghost use Rattle.crossbeam_queue.specs.Passes.{ruled_capacity};
@@ -33,21 +34,27 @@ impl Model for SharedLedger {
     ghost invariant = { λ l. ruled_capacity l.queue ≡ 1 };
 }
 
-impl SharedLedger {
+impl<W: LawfulLedgerWitness> SharedLedger<W> {
     /// A ledger in which nothing is settled, and a giver that has all 64 parts of it.
     ///
     /// # Errors
     ///
     /// 503 [`JobError::Memory`].
-    pub fn open(alloc: Global) -> Result<(SharedLedger, Giver), JobError>
+    pub fn open(alloc: Global) -> Result<(SharedLedger<W>, Giver<W>), JobError>
         ensures { IfOk result (λ opened. opened.1 ≡ new_giver opened.0 64) }
     {
         let (queue, pass) = queue::open(alloc)?;
-        Ok((SharedLedger { queue }, Giver { pass }))
+        Ok((
+            SharedLedger { queue },
+            Giver {
+                pass,
+                witness: PhantomData,
+            },
+        ))
     }
 
     /// A giver with one part, which is taken off another's.
-    pub fn another(&self, giver: &mut Giver) -> Giver
+    pub fn another(&self, giver: &mut Giver<W>) -> Giver<W>
         requires of { giver.old.ledger ≡ self.now }
         requires parts { 2 ≤ giver.old.parts }
         ensures rest { giver.new ≡ record giver.old { parts = giver.old.parts - 1 } }
@@ -55,43 +62,12 @@ impl SharedLedger {
     {
         Giver {
             pass: queue::cut(&self.queue, &mut giver.pass),
+            witness: PhantomData,
         }
     }
 
-    /// Moves what a docket settled into the ledger, where the runs of all who give join. `false` only where another had the
-    /// ledger in hands at one moment of the call; nothing has changed then. A step of the queue may wait for another thread's.
-    ///
-    /// # Errors
-    ///
-    /// 503 [`JobError::Memory`]. Nothing has changed then.
-    pub fn gather<R: Wait>(
-        &self,
-        rt: &R,
-        alloc: Global,
-        giver: &mut Giver,
-        docket: &mut Docket,
-    ) -> Result<bool, JobError>
-        requires of { giver.old.ledger ≡ self.now }
-        requires parts { 1 ≤ giver.old.parts }
-        ensures answer { Gathers giver.old docket.old result giver.new docket.new }
-        ensures room { docket.old.room ≤ docket.new.room }
-    {
-        let room = docket.equal_room(alloc)?;
-        let pass = &mut giver.pass;
-        let Some(mut ledger) = queue::take_up(rt, &self.queue, pass) else {
-            return Ok(false);
-        };
-        let Ok(()) = ledger.make_room_for(docket.settled()) else {
-            queue::put_back(rt, &self.queue, pass, ledger);
-            return Err(JobError::Memory);
-        };
-        ledger.merge(docket.exchange(room));
-        queue::give(rt, &self.queue, pass, ledger);
-        Ok(true)
-    }
-
     /// Takes the ledger up, once nobody else has it in hands. The giver is as it was.
-    pub fn hold<R: Wait>(&self, rt: &R, giver: &mut Giver) -> Holder
+    pub fn hold<R: Wait>(&self, rt: &R, giver: &mut Giver<W>) -> Holder
         requires { giver.old.ledger ≡ self.now }
         ensures same { giver.new ≡ giver.old }
         ensures holder { IsNewHolder self.now result }
@@ -110,7 +86,7 @@ impl SharedLedger {
     }
 
     /// Takes in a giver, with its parts and what it gave.
-    pub fn take_in(&self, holder: &mut Holder, giver: Giver)
+    pub fn take_in(&self, holder: &mut Holder, giver: Giver<W>)
         requires of { (holder.old.ledger ≡ self.now) × (giver.ledger ≡ self.now) }
         requires parts { 1 ≤ giver.parts }
         ensures { holder.new ≡ record holder.old { parts = holder.old.parts + giver.parts; gave = holder.old.gave ++ giver.gave } }
@@ -129,5 +105,39 @@ impl SharedLedger {
         let Holder { mut pass, ledger } = holder;
         queue::look(&self.queue, &mut pass);
         ledger
+    }
+}
+
+impl<W: LedgerWitness> SharedLedger<W> {
+    /// Moves what a docket settled into the ledger, where the runs of all who give join. `false` only where the
+    /// [`LedgerWitness`] saw that another had the ledger in hands; nothing has changed then. A step of the queue may wait for another thread's.
+    ///
+    /// # Errors
+    ///
+    /// 503 [`JobError::Memory`]. Nothing has changed then.
+    pub fn gather<R: Wait>(
+        &self,
+        rt: &R,
+        alloc: Global,
+        giver: &mut Giver<W>,
+        docket: &mut Docket,
+    ) -> Result<bool, JobError>
+        requires of { giver.old.ledger ≡ self.now }
+        requires parts { 1 ≤ giver.old.parts }
+        ensures answer { Gathers W.saw_ledger giver.old docket.old result giver.new docket.new }
+        ensures room { docket.old.room ≤ docket.new.room }
+    {
+        let room = docket.equal_room(alloc)?;
+        let pass = &mut giver.pass;
+        let Some(mut ledger) = queue::take_up(rt, &self.queue, pass) else {
+            return Ok(false);
+        };
+        let Ok(()) = ledger.make_room_for(docket.settled()) else {
+            queue::put_back(rt, &self.queue, pass, ledger);
+            return Err(JobError::Memory);
+        };
+        ledger.merge(docket.exchange(room));
+        queue::give(rt, &self.queue, pass, ledger);
+        Ok(true)
     }
 }

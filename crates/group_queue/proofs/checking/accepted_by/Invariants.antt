@@ -4,4 +4,4 @@ use Rattle.group_queue.specs.Ports.{PortState}
 use Rattle.group_queue.proofs.checking.accepted_by.Given as goal
 
 abbrev pub invariant-loop-port : goal.invariant-loop-port
-invariant-loop-port l = (k : ℕ) (d : PortState) → k < l.port-index → (get_or l.ports k d).number ≢ l.number
+invariant-loop-port g l = (k : ℕ) (d : PortState) → k < l.port-index → (get_or l.ports k d).number ≢ l.number

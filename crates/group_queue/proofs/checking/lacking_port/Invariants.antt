@@ -3,4 +3,4 @@ use Rattle.group_queue.specs.Ends.{port_numbers, HasAll}
 use Rattle.group_queue.proofs.checking.lacking_port.Given as goal
 
 abbrev pub invariant-loop-number : goal.invariant-loop-number
-invariant-loop-number l = HasAll l.number (port_numbers l.ports)
+invariant-loop-number g l = HasAll l.number (port_numbers l.ports)

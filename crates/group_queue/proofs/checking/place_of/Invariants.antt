@@ -4,4 +4,4 @@ use Rattle.group_queue.specs.Places.{PlaceState}
 use Rattle.group_queue.proofs.checking.place_of.Given as goal
 
 abbrev pub invariant-loop-at : goal.invariant-loop-at
-invariant-loop-at l = (k : ℕ) (d : PlaceState) → k < l.at → (get_or l.places k d).number ≢ l.number
+invariant-loop-at g l = (k : ℕ) (d : PlaceState) → k < l.at → (get_or l.places k d).number ≢ l.number

@@ -6,4 +6,4 @@ use Rattle.group_queue.specs.Places.{PlaceState}
 use Rattle.group_queue.proofs.checking.times_among.Given as goal
 
 abbrev pub invariant-loop-place : goal.invariant-loop-place
-invariant-loop-place l = (l.times ≡ sum_by (λ (place : PlaceState). count_of l.job place.docket.out) (take l.place-index l.places)) × (l.times ≤ 18446744073709551615 * l.place-index)
+invariant-loop-place g l = (l.times ≡ sum_by (λ (place : PlaceState). count_of l.job place.docket.out) (take l.place-index l.places)) × (l.times ≤ 18446744073709551615 * l.place-index)

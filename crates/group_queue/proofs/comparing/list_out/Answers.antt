@@ -8,7 +8,7 @@ use Rattle.group_queue.proofs.Compared.{sum_taken}
 use Rattle.group_queue.proofs.comparing.list_out.Goals as goal
 
 pub loop-place-preserved : goal.loop-place-preserved
-loop-place-preserved c = record {
+loop-place-preserved g c = record {
   counts = (λ job. omega (
     arith,
     c.loop-place.invariant.counts job,
@@ -20,4 +20,4 @@ loop-place-preserved c = record {
 }
 
 pub returns-clause-counts : goal.returns-clause-counts
-returns-clause-counts c = λ job. c.loop-place.invariant.counts job ∙ ap (λ l. sum_by (λ (place : PlaceState). count_of job place.docket.out) l) (take_all c.loop-place.place-index c.args.places.now c.loop-place-test.false)
+returns-clause-counts g c = λ job. c.loop-place.invariant.counts job ∙ ap (λ l. sum_by (λ (place : PlaceState). count_of job place.docket.out) l) (take_all c.loop-place.place-index c.args.places.now c.loop-place-test.false)

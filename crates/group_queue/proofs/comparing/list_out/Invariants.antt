@@ -7,7 +7,7 @@ use Rattle.group_queue.specs.Places.{PlaceState}
 use Rattle.group_queue.proofs.comparing.list_out.Given as goal
 
 abbrev pub invariant-loop-place : goal.invariant-loop-place
-invariant-loop-place l = record {
+invariant-loop-place g l = record {
   counts : (job : Job) → count_of job (jobs_of l.out.runs) ≡ sum_by (λ (place : PlaceState). count_of job place.docket.out) (take l.place-index l.places);
   small : All (λ (job : Job). job.number < 18446744073709551615) (jobs_of l.out.runs);
 }

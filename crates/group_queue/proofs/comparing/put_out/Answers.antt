@@ -9,7 +9,7 @@ use Rattle.group_queue.proofs.Compared.{count_push, count_taken}
 use Rattle.group_queue.proofs.comparing.put_out.Goals as goal
 
 pub loop-job-preserved : goal.loop-job-preserved
-loop-job-preserved c =
+loop-job-preserved g c =
     let none : Job = record { port = 0; number = 0 } in
     let one = get_or c.out-jobs.result.now c.loop-job.job-index none in
     record {
@@ -25,7 +25,7 @@ loop-job-preserved c =
     }
 
 pub returns-clause-counts : goal.returns-clause-counts
-returns-clause-counts c = λ job. omega (
+returns-clause-counts g c = λ job. omega (
   arith,
   c.loop-job.invariant.counts job,
   ap (count_of job) (take_all c.loop-job.job-index c.out-jobs.result.now c.loop-job-test.false ∙ c.out-jobs.ensures.value),

@@ -1,5 +1,5 @@
 -- One place more was taken in.
-use Rattle.std.proofs.Common.{◌≡◌, ◌++◌, ◌≤◌, ap, sym, ◌∙◌, subst, All, refl, length, arith}
+use Rattle.std.proofs.Common.{◌≡◌, ◌++◌, ◌≤◌, append-nil, ap, sym, ◌∙◌, subst, All, refl, length, arith}
 use Rattle.std.specs.Prelude.{map, sum_by}
 use Rattle.std.specs.Vec.Iter.{into_iter_items}
 use Rattle.std.proofs.lemmas.List.Elements.{All-head, All-tail, All-cons, All-nil}
@@ -10,6 +10,7 @@ use Rattle.group_jobs.specs.declared.ledger.Ledger.{Ledger}
 use Rattle.group_jobs.specs.Settled.{settled_as}
 use Rattle.shared_ledger.specs.Giving.{times_in}
 use Rattle.group_queue.specs.declared.view.Bag.{Bag}
+use Rattle.group_queue.specs.declared.view.View.{View}
 use Rattle.group_queue.specs.declared.view.Name.TheVariants.{Place}
 use Rattle.group_queue.specs.Views.{one, with_entries}
 use Rattle.group_queue.specs.Returns.{bag_of}
@@ -19,7 +20,7 @@ use Rattle.group_queue.proofs.Endings.{takes_in, one_more, nothing_left}
 use Rattle.group_queue.proofs.ending.join_places.Goals as goal
 
 pub loop-place-preserved : goal.loop-place-preserved
-loop-place-preserved c =
+loop-place-preserved g c =
     let next = c.in-Some.ensures.steps.0 in
     let before = c.loop-place.invariant in
     let made = c.join_place-docket.ensures in
@@ -73,7 +74,7 @@ loop-place-preserved c =
     }
 
 pub loop-place-init : goal.loop-place-init
-loop-place-init c = rw c.into_iter-place-iterator.ensures.into_iter_gives.0 (record {
+loop-place-init g c = rw c.into_iter-place-iterator.ensures.into_iter_gives.0 (record {
   main = c.requires.main;
   returns = c.requires.returns;
   places = c.requires.places;
@@ -93,24 +94,24 @@ loop-place-init c = rw c.into_iter-place-iterator.ensures.into_iter_gives.0 (rec
 })
 
 pub returns-clause-balanced : goal.returns-clause-balanced
-returns-clause-balanced c =
+returns-clause-balanced g c =
     let ok = c.loop-place.place-iterator.rest.ok in
     c.loop-place.invariant.balanced (subst (All IsBalanced) (sym (nothing_left (into_iter_items c.loop-place.place-iterator) (omega (arith, ok.0, c.in-None.ensures.steps.0)))) (All-nil IsBalanced))
 
 pub take_in-requires-clause-of : goal.take_in-requires-clause-of
-take_in-requires-clause-of c =
+take_in-requires-clause-of g c =
     let G : PlaceState → Type 0 = λ p. (p.giver.ledger ≡ c.args.ledger.now) × (1 ≤ p.giver.parts) in
     let here = All-head G _ _ (subst (All G) c.in-Some.ensures.steps.0 c.loop-place.invariant.givers) in
     (c.loop-place.invariant.holder ∙ c.requires.holder, ap (λ s. s.ledger) c.join_place-docket.ensures.giver ∙ here.0)
 
 pub take_in-requires-clause-parts : goal.take_in-requires-clause-parts
-take_in-requires-clause-parts c =
+take_in-requires-clause-parts g c =
     let G : PlaceState → Type 0 = λ p. (p.giver.ledger ≡ c.args.ledger.now) × (1 ≤ p.giver.parts) in
     let here = All-head G _ _ (subst (All G) c.in-Some.ensures.steps.0 c.loop-place.invariant.givers) in
     omega (arith, here.1, ap (λ s. s.parts) c.join_place-docket.ensures.giver)
 
 pub returns-clause-givers : goal.returns-clause-givers
-returns-clause-givers c =
+returns-clause-givers g c =
     let ok = c.loop-place.place-iterator.rest.ok in
     let none = nothing_left (into_iter_items c.loop-place.place-iterator) (omega (arith, ok.0, c.in-None.ensures.steps.0)) in
     let last = c.loop-place.invariant in
@@ -120,3 +121,17 @@ returns-clause-givers c =
       gave_are = (λ fate job. omega (arith, last.gave fate job, ap (sum_by (λ (p : PlaceState). times_in p.giver.gave fate job)) none));
       settled_is = last.settled;
     }
+
+pub returns-clause-names : goal.returns-clause-names
+returns-clause-names g c =
+    let ok = c.loop-place.place-iterator.rest.ok in
+    let none = nothing_left (into_iter_items c.loop-place.place-iterator) (omega (arith, ok.0, c.in-None.ensures.steps.0)) in
+    let now : View = view c.loop-place.passes.main in
+    ap (λ es. record now { entries = es }) (sym (append-nil now.entries)) ∙ (ap (λ l. with_entries now (map place_entry l)) (sym none) ∙ c.loop-place.invariant.names)
+
+pub returns-clause-dockets : goal.returns-clause-dockets
+returns-clause-dockets g c =
+    let ok = c.loop-place.place-iterator.rest.ok in
+    let none = nothing_left (into_iter_items c.loop-place.place-iterator) (omega (arith, ok.0, c.in-None.ensures.steps.0)) in
+    let now = c.loop-place.dockets.items in
+    sym (append-nil now) ∙ (ap (λ l. now ++ map (λ (p : PlaceState). p.docket) l) (sym none) ∙ c.loop-place.invariant.dockets)

@@ -15,7 +15,7 @@ use Rattle.group_queue.specs.Known.{place_entry}
 use Rattle.group_queue.proofs.ending.join_places.Given as goal
 
 abbrev pub invariant-loop-place : goal.invariant-loop-place
-invariant-loop-place l = record {
+invariant-loop-place g l = record {
   main : IsPassOf l.main l.passes.main;
   returns : IsSegPassOf l.returns l.passes.returns;
   places : All (λ (place : PlaceState). place.hands ≡ record { main = l.main.table.shared.table_id; returns = l.returns }) (into_iter_items l.place-iterator);

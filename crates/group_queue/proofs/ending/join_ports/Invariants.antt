@@ -9,7 +9,7 @@ use Rattle.group_queue.specs.Known.{port_entry}
 use Rattle.group_queue.proofs.ending.join_ports.Given as goal
 
 abbrev pub invariant-loop-port : goal.invariant-loop-port
-invariant-loop-port l = record {
+invariant-loop-port g l = record {
   queue : IsPassOf l.queue l.pass;
   ports : All (λ (port : PortState). port.queue ≡ l.queue.table.shared.table_id) (into_iter_items l.port-iterator);
   all : with_entries (view l.pass) (map port_entry (into_iter_items l.port-iterator)) ≡ with_entries (view l.initial.pass) (map port_entry l.fn.ports.items);

@@ -1,5 +1,5 @@
-use Rattle.group_queue.proofs.MainCuts.{cuts_place}
+use Rattle.group_queue.proofs.MainWitnessed.{place_cut}
 use Rattle.group_queue.proofs.main_queue.cut_place.Goals as goal
 
 pub another-requires-clause-rule : goal.another-requires-clause-rule
-another-requires-clause-rule c = cuts_place _ _ c.requires.keeper
+another-requires-clause-rule g c = place_cut g.W.Witness.saw_main _ _ c.requires.keeper g.met.W.LawfulWitness.main

@@ -1,5 +1,5 @@
-use Rattle.group_queue.proofs.MainSteps.{learns}
+use Rattle.group_queue.proofs.MainWitnessed.{learns_left}
 use Rattle.group_queue.proofs.main_queue.look.Goals as goal
 
 pub learn_as-requires-clause-rule : goal.learn_as-requires-clause-rule
-learn_as-requires-clause-rule c = learns _ _
+learn_as-requires-clause-rule g c = learns_left g.W.Witness.saw_main _ _

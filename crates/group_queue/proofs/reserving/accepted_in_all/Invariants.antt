@@ -5,4 +5,4 @@ use Rattle.group_queue.specs.Ports.{PortState}
 use Rattle.group_queue.proofs.reserving.accepted_in_all.Given as goal
 
 abbrev pub invariant-loop-port : goal.invariant-loop-port
-invariant-loop-port l = (l.total ≡ sum_by (λ (p : PortState). length p.sent) (take l.port-index l.ports)) × (l.total ≤ 18446744073709551615 * l.port-index)
+invariant-loop-port g l = (l.total ≡ sum_by (λ (p : PortState). length p.sent) (take l.port-index l.ports)) × (l.total ≤ 18446744073709551615 * l.port-index)

@@ -3,4 +3,4 @@ use Rattle.group_queue.specs.Ends.{AreCounts}
 use Rattle.group_queue.proofs.reserving.counts_of.Given as goal
 
 abbrev pub invariant-loop-number : goal.invariant-loop-number
-invariant-loop-number l = AreCounts l.number l.ports l.counts.items
+invariant-loop-number g l = AreCounts l.number l.ports l.counts.items

@@ -6,4 +6,4 @@ use Rattle.group_queue.specs.Known.{ended}
 use Rattle.group_queue.proofs.reserving.ended_in_all.Given as goal
 
 abbrev pub invariant-loop-place : goal.invariant-loop-place
-invariant-loop-place l = l.total ≤ sum_by ended (take l.place-index l.places) + sum_by (λ (p : PlaceState). length p.docket.out) (take l.place-index l.places)
+invariant-loop-place g l = l.total ≤ sum_by ended (take l.place-index l.places) + sum_by (λ (p : PlaceState). length p.docket.out) (take l.place-index l.places)

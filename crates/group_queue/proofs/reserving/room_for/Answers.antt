@@ -7,5 +7,5 @@ use Rattle.group_queue.specs.Places.{PlaceState}
 use Rattle.group_queue.proofs.reserving.room_for.Goals as goal
 
 pub returns-clause-room : goal.returns-clause-room
-returns-clause-room c = λ fate.
+returns-clause-room g c = λ fate.
     subst (λ l. sum_by (λ (p : PlaceState). length (runs_of fate p.docket.settled)) l ≤ least_spare c.loop-place.holder.settled) (take_all c.loop-place.place-index c.args.places.now c.loop-place-test.false) (c.loop-place.invariant.room fate)

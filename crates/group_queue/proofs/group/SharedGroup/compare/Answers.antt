@@ -9,7 +9,7 @@ use Rattle.group_queue.proofs.Compared.{lacking, strange, none_lacks_here, all_s
 use Rattle.group_queue.proofs.group.SharedGroup.compare.Goals as goal
 
 pub returns-then-not-are_same : goal.returns-then-not-are_same
-returns-then-not-are_same c =
+returns-then-not-are_same g c =
     let found = c.in_ok-job.ensures in
     let group = c.args.self.now in
     let places = c.args.places.now in
@@ -19,7 +19,7 @@ returns-then-not-are_same c =
     (lacking group places held (jobs_of c.in-Ok.out.runs) (jobs_of c.in-Ok-list_known.known.runs) c.in-Ok.ensures.counts c.in-Ok-list_known.ensures found.0 c.in_ok-job.job found.1 found.2 found.3)
 
 pub returns-in-Some : goal.returns-in-Some
-returns-in-Some c =
+returns-in-Some g c =
     let group = c.args.self.now in
     let places = c.args.places.now in
     let held = c.args.held.now in
@@ -33,6 +33,6 @@ returns-in-Some c =
     )
 
 pub returns : goal.returns
-returns c =
+returns g c =
     all_same c.args.self.now c.args.places.now c.args.held.now (jobs_of c.in-Ok.out.runs) (jobs_of c.in-Ok-list_known.known.runs) c.in-Ok.ensures.counts c.in-Ok-list_known.ensures
     (ap jobs_of (c.are_same.ensures c.if-not-are_same.false)) c.in-None.ensures

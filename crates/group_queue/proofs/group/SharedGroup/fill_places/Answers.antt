@@ -6,7 +6,7 @@ use Rattle.group_queue.proofs.Places.{new_places-push}
 use Rattle.group_queue.proofs.group.SharedGroup.fill_places.Goals as goal
 
 pub loop-number-preserved : goal.loop-number-preserved
-loop-number-preserved c =
+loop-number-preserved g c =
     let before = c.loop-number.invariant in
     record {
       left = c.cut-passes.ensures.left;
@@ -20,7 +20,7 @@ loop-number-preserved c =
     }
 
 pub returns : goal.returns
-returns c =
+returns g c =
     let before = c.loop-number.invariant in
     let here : c.loop-number.number ≡ c.self.inside.places - 1 = omega (arith, c.loop-number-test.false, c.loop-number.auto.number-end) in
     let made = new_places-push _ _ _ _ (subst (λ n. AreNewPlaces c.args.self.now n c.loop-number.places.items) here before.places) c.new_place-2.ensures.place in

@@ -6,7 +6,7 @@ use Rattle.group_queue.specs.Openings.{AreLeftOf}
 use Rattle.group_queue.proofs.group.SharedGroup.fill_places.Given as goal
 
 abbrev pub invariant-loop-number : goal.invariant-loop-number
-invariant-loop-number l = record {
+invariant-loop-number g l = record {
   left : AreLeftOf l.self l.number l.left;
   last : l.last + 1 ≡ l.self.shape.places;
   few : l.self.shape.places ≤ 32;

@@ -7,7 +7,7 @@ use Rattle.group_queue.specs.Openings.{IsPassTo}
 use Rattle.group_queue.proofs.group.SharedGroup.fill_ports.Given as goal
 
 abbrev pub invariant-loop-number : goal.invariant-loop-number
-invariant-loop-number l = record {
+invariant-loop-number g l = record {
   pass : IsPassTo l.self l.pass;
   rest : view l.pass ≡ keeper l.number 0;
   ports : AreNewPorts l.self l.number l.ports.items;

@@ -6,4 +6,4 @@ use Rattle.group_queue.specs.Known.{IsAmong}
 use Rattle.group_queue.proofs.group.SharedGroup.first_stranger.Given as goal
 
 abbrev pub invariant-loop-envelope : goal.invariant-loop-envelope
-invariant-loop-envelope l = All (λ (envelope : Held). IsAmong l.self (jobs_of l.out.runs) envelope.stamp) (take l.envelope-index l.held)
+invariant-loop-envelope g l = All (λ (envelope : Held). IsAmong l.self (jobs_of l.out.runs) envelope.stamp) (take l.envelope-index l.held)

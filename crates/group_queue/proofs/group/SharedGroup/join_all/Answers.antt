@@ -10,7 +10,7 @@ use Rattle.group_queue.proofs.Joined.{of_group, names_all, parts_all, popped_all
 use Rattle.group_queue.proofs.group.SharedGroup.join_all.Goals as goal
 
 pub returns-clause-joined : goal.returns-clause-joined
-returns-clause-joined c =
+returns-clause-joined g c =
     let group = c.args.self.now in
     let places = c.args.places.items in
     let last = c.remove-last.result in
@@ -34,7 +34,7 @@ returns-clause-joined c =
     }
 
 pub returns-clause-given : goal.returns-clause-given
-returns-clause-given c =
+returns-clause-given g c =
     let group = c.args.self.now in
     let places = c.args.places.items in
     let last = c.remove-last.result in

@@ -4,4 +4,4 @@ use Rattle.group_queue.proofs.Checks.{HasEnvelopes}
 use Rattle.group_queue.proofs.group.SharedGroup.lacking_envelope.Given as goal
 
 abbrev pub invariant-loop-place : goal.invariant-loop-place
-invariant-loop-place l = All (HasEnvelopes l.self l.places l.held) (take l.place-index l.places)
+invariant-loop-place g l = All (HasEnvelopes l.self l.places l.held) (take l.place-index l.places)

@@ -8,7 +8,7 @@ use Rattle.group_queue.specs.Ends.{times_held, times_out}
 use Rattle.group_queue.proofs.group.SharedGroup.lacking_of.Goals as goal
 
 pub loop-job-preserved : goal.loop-job-preserved
-loop-job-preserved c =
+loop-job-preserved g c =
     let none : Job = record { port = 0; number = 0 } in
     let P : Job → Type 0 = λ job. times_out c.args.self.now (stamp_of c.args.self.now.slot job) c.args.places.now ≤ times_held (stamp_of c.args.self.now.slot job) c.args.held.now in
     let job = get_or c.args.out.now c.loop-job.job-index none in
@@ -17,6 +17,6 @@ loop-job-preserved c =
     All-more P c.args.out.now c.loop-job.job-index none c.loop-job-test.true c.loop-job.invariant (subst (λ s. times_out c.args.self.now s c.args.places.now ≤ times_held s c.args.held.now) stamp enough)
 
 pub returns : goal.returns
-returns c =
+returns g c =
     let P : Job → Type 0 = λ job. times_out c.args.self.now (stamp_of c.args.self.now.slot job) c.args.places.now ≤ times_held (stamp_of c.args.self.now.slot job) c.args.held.now in
     subst (All P) (take_all c.loop-job.job-index c.args.out.now c.loop-job-test.false) c.loop-job.invariant

@@ -7,7 +7,7 @@ use Rattle.group_queue.proofs.Compared.{held_taken}
 use Rattle.group_queue.proofs.group.SharedGroup.list_known.Goals as goal
 
 pub loop-envelope-preserved : goal.loop-envelope-preserved
-loop-envelope-preserved c = record {
+loop-envelope-preserved g c = record {
   room = omega (arith, c.loop-envelope.invariant.room, c.put_known.ensures.room);
   counts = (λ job there. omega (
     arith,
@@ -19,4 +19,4 @@ loop-envelope-preserved c = record {
 }
 
 pub returns : goal.returns
-returns c = λ job there. c.loop-envelope.invariant.counts job there ∙ ap (times_held (stamp_of c.args.self.now.slot job)) (take_all c.loop-envelope.envelope-index c.args.held.now c.loop-envelope-test.false)
+returns g c = λ job there. c.loop-envelope.invariant.counts job there ∙ ap (times_held (stamp_of c.args.self.now.slot job)) (take_all c.loop-envelope.envelope-index c.args.held.now c.loop-envelope-test.false)

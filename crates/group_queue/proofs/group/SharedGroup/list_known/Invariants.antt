@@ -7,7 +7,7 @@ use Rattle.group_queue.specs.Ends.{times_held}
 use Rattle.group_queue.proofs.group.SharedGroup.list_known.Given as goal
 
 abbrev pub invariant-loop-envelope : goal.invariant-loop-envelope
-invariant-loop-envelope l = record {
+invariant-loop-envelope g l = record {
   room : length l.held ≤ l.known.spare + l.envelope-index;
   counts : (job : Job) → Contains (jobs_of l.out.runs) job → count_of job (jobs_of l.known.runs) ≡ times_held (stamp_of l.self.slot job) (take l.envelope-index l.held);
 }

@@ -8,7 +8,7 @@ use Rattle.group_queue.proofs.Compared.{count_push, held_known}
 use Rattle.group_queue.proofs.group.SharedGroup.put_known.Goals as goal
 
 pub returns-then-is_among-clause-counts : goal.returns-then-is_among-clause-counts
-returns-then-is_among-clause-counts c = λ job there.
+returns-then-is_among-clause-counts g c = λ job there.
     let same = c.stamp-stamp.ensures in
     let among = c.is_among.ensures.0 c.if-is_among.true in
     let group : c.args.envelope.now.stamp.group ≡ c.args.self.now.slot = subst (λ (s : Stamp). s.group ≡ c.args.self.now.slot) same among.0 in

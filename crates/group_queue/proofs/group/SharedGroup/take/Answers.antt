@@ -9,7 +9,7 @@ use Rattle.group_queue.proofs.Places.{keeps_place, keeps_hands, keeps_left, main
 use Rattle.group_queue.proofs.group.SharedGroup.take.Goals as goal
 
 pub invariant_of-place : goal.invariant_of-place
-invariant_of-place g c = (keeps_place _ _ _ _ _ c.place.invariant.0 c.reserve.ensures.out c.reserve.ensures.settled, c.place.invariant.1)
+invariant_of-place g c = (keeps_place _ _ _ _ _ c.place.invariant.0 c.reserve.ensures.out c.reserve.ensures.settled, c.place.invariant.1, c.place.invariant.2, c.place.invariant.3)
 
 pub invariant_of-place-in_default : goal.invariant_of-place-in_default
 invariant_of-place-in_default g c =
@@ -21,6 +21,8 @@ invariant_of-place-in_default g c =
       keeps_hands _ _ _ t u _ h c.reserve.ensures.out c.reserve.ensures.settled (record { part = refl; bare = record { main = queue.1; hand = h.bare.hand; spare = h.bare.spare } })
           c.in_default.ensures.answer.0 refl,
       keeps_left t u _ (main_hands t u.main tie) c.place.invariant.1,
+      c.place.invariant.2,
+      c.place.invariant.3,
     )
 
 pub invariant_of-place-2 : goal.invariant_of-place-2
@@ -35,6 +37,8 @@ invariant_of-place-2 g c =
           (λ fate. ap (λ (l : Ledger). runs_of fate l) c.take_out.ensures.settled ∙ c.reserve.ensures.settled fate)
           (record { part = refl; bare = record { main = queue.1; hand = h.bare.hand; spare = h.bare.spare } }) c.in-Some.ensures.answer refl (small_front _ _ _ c.in-Some.ensures.answer),
       keeps_left t u _ (main_hands t u.main tie) c.place.invariant.1,
+      c.place.invariant.2,
+      c.place.invariant.3,
     )
 
 pub returns-clause-holds : goal.returns-clause-holds

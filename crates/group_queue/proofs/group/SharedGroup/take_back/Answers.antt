@@ -6,12 +6,17 @@ use Rattle.group_jobs.specs.Stamps.{Held, job_of}
 use Rattle.std.proofs.lemmas.List.Elements.{Contains-push}
 use Rattle.group_queue.specs.declared.place.Passes.{Passes}
 use Rattle.group_queue.specs.declared.view.Bag.{Bag}
+use Rattle.group_queue.specs.Witnesses.{FollowsPart}
 use Rattle.group_queue.proofs.Places.{keeps_place, keeps_hands, keeps_left, returns_hands, takes_back, small_back}
 use Rattle.group_queue.proofs.group.SharedGroup.take_back.Goals as goal
 
+-- There was no memory:
+-- the docket has out what it had.
 pub invariant_of-place : goal.invariant_of-place
-invariant_of-place g c = (keeps_place _ _ _ _ _ c.place.invariant.0 c.reserve.ensures.out c.reserve.ensures.settled, c.place.invariant.1)
+invariant_of-place g c = (keeps_place _ _ _ _ _ c.place.invariant.0 c.reserve.ensures.out c.reserve.ensures.settled, c.place.invariant.1, c.place.invariant.2, c.place.invariant.3)
 
+-- The queue was empty:
+-- the place knows what it knew.
 pub invariant_of-place-in_default : goal.invariant_of-place-in_default
 invariant_of-place-in_default g c =
     let h = c.place.invariant.0 in
@@ -23,6 +28,8 @@ invariant_of-place-in_default g c =
           (record { part = ap (λ (b : Bag). b.parts) c.in_default.ensures.answer.0; bare = record { main = h.bare.main; hand = queue.1; spare = queue.2 } })
           refl c.in_default.ensures.answer.0,
       keeps_left t u _ (returns_hands t u.returns _ queue.0 hands) c.place.invariant.1,
+      subst (FollowsPart g.W.Witness.saw_returns) (sym c.in_default.ensures.id) c.place.invariant.2,
+      c.place.invariant.3,
     )
 
 pub invariant_of-place-2 : goal.invariant_of-place-2
@@ -38,6 +45,8 @@ invariant_of-place-2 g c =
           (record { part = ap (λ (b : Bag). b.parts) c.in-Some.ensures.answer.is; bare = record { main = h.bare.main; hand = queue.1; spare = queue.2 } })
           refl c.in-Some.ensures.answer (small_back _ _ _ c.in-Some.ensures.answer),
       keeps_left t u _ (returns_hands t u.returns _ queue.0 hands) c.place.invariant.1,
+      subst (FollowsPart g.W.Witness.saw_returns) (sym c.in-Some.ensures.id) c.place.invariant.2,
+      c.place.invariant.3,
     )
 
 pub returns-clause-holds : goal.returns-clause-holds

@@ -6,7 +6,7 @@ use Rattle.shared_ledger.proofs.Steps.{all_given}
 use Rattle.shared_ledger.proofs.shared.SharedLedger.end.Goals as goal
 
 pub returns-clause-counts : goal.returns-clause-counts
-returns-clause-counts c = λ fate job.
+returns-clause-counts g c = λ fate job.
     let stands = c.look.ensures.stands in
     omega (
       arith,
