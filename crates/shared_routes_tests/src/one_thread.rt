@@ -1,0 +1,87 @@
+//! Two workers on one thread: what the one binds the other learns, and the ninth share finds no slot.
+use bytes::Bytes;
+use mqtt_topic::{Share, Slots, TopicName};
+use mqtt_wire::Text;
+use shared_routes::{KnownRoutes, NoSlot, SharedRoutes};
+use std::sync::Wait;
+use std::test::Fail;
+
+/// Nine shares, each of a topic of its own, but for the last, which has all topics.
+pub(crate) const SHARES: [&str; 9] = [
+    "$share/g/a",
+    "$share/g/b",
+    "$share/g/c",
+    "$share/g/d",
+    "$share/g/e",
+    "$share/g/f",
+    "$share/g/g",
+    "$share/g/#",
+    "$share/h/#",
+];
+
+/// The share of this text.
+pub(crate) fn share(text: &'static str) -> Option<Share> {
+    Share::parse(Text::parse(Bytes::from_static(text.as_bytes()))?).ok()
+}
+
+/// The slot at which a worker binds the share of this text.
+pub(crate) fn bound<R: Wait>(
+    rt: &R,
+    known: &mut KnownRoutes<'_>,
+    text: &'static str,
+) -> Option<Result<u8, NoSlot>> {
+    Some(known.bind(rt, share(text)?))
+}
+
+/// The slot that a worker knows for the share of this text.
+fn found(known: &KnownRoutes<'_>, text: &'static str) -> Option<u8> {
+    known.find(&share(text)?)
+}
+
+/// The slots to which a name is routed, as far as a worker knows.
+fn routed(known: &KnownRoutes<'_>, name: &'static str) -> Option<Slots> {
+    let name = TopicName::parse(Text::parse(Bytes::from_static(name.as_bytes()))?).ok()?;
+    Some(known.matching(&name))
+}
+
+#[test]
+fn what_one_binds_another_learns(rt: HostRuntime) -> Result<(), Fail> {
+    let routes = SharedRoutes::new();
+    let mut one = KnownRoutes::new(rt.alloc(), &routes)?;
+    let mut other = KnownRoutes::new(rt.alloc(), &routes)?;
+    for (slot, text) in SHARES.iter().take(8).enumerate() {
+        assert_eq!(rt; bound(&rt, &mut one, *text), Some(Ok(slot as u8)));
+    }
+    assert_eq!(rt; found(&other, SHARES[7]), None);
+    other.learn();
+    assert_eq!(rt; found(&other, SHARES[7]), Some(7));
+    let slots = routed(&other, "c").ok_or("it is a name")?;
+    assert!(rt; slots.len() == 2 && slots.contains(2) && slots.contains(7));
+    Ok(())
+}
+
+#[test]
+fn a_share_has_one_slot(rt: HostRuntime) -> Result<(), Fail> {
+    let routes = SharedRoutes::new();
+    let mut one = KnownRoutes::new(rt.alloc(), &routes)?;
+    let mut other = KnownRoutes::new(rt.alloc(), &routes)?;
+    assert_eq!(rt; bound(&rt, &mut one, SHARES[3]), Some(Ok(0)));
+    assert_eq!(rt; bound(&rt, &mut other, SHARES[4]), Some(Ok(1)));
+    assert_eq!(rt; bound(&rt, &mut other, SHARES[3]), Some(Ok(0)));
+    assert_eq!(rt; bound(&rt, &mut one, SHARES[4]), Some(Ok(1)));
+    Ok(())
+}
+
+#[test]
+fn the_ninth_share_finds_no_slot(rt: HostRuntime) -> Result<(), Fail> {
+    let routes = SharedRoutes::new();
+    let mut one = KnownRoutes::new(rt.alloc(), &routes)?;
+    let mut other = KnownRoutes::new(rt.alloc(), &routes)?;
+    for text in SHARES.iter().take(8) {
+        let _ = bound(&rt, &mut one, *text);
+    }
+    assert_eq!(rt; bound(&rt, &mut other, SHARES[8]), Some(Err(NoSlot)));
+    assert_eq!(rt; bound(&rt, &mut other, SHARES[0]), Some(Ok(0)));
+    assert_eq!(rt; NoSlot.number(), 205);
+    Ok(())
+}
