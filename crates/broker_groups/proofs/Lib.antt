@@ -1,0 +1,6 @@
+pub mod Rows
+pub mod OpenedGroups
+pub mod Outs
+pub mod Dealing
+pub mod Sorted
+pub mod Finishing

@@ -1,0 +1,39 @@
+-- Each row has what is of its slot.
+use Rattle.std.proofs.Common.{◌<◌, List, slice_get, sym, ap, ◌∙◌, subst, arith, append-nil}
+use Rattle.std.proofs.lemmas.Option.{slice_get_within}
+use Rattle.group_jobs.specs.Stamps.{Held}
+use Rattle.group_queue.specs.Ports.{PortState, IsPortOf}
+use Rattle.group_queue.specs.Places.{PlaceState, IsPlaceOf}
+use Rattle.group_queue.specs.Finishing.{Finishes}
+use Rattle.broker_groups.specs.Sorting.{at_slot}
+use Rattle.broker_groups.specs.Endings.{held_slot, place_slot}
+use Rattle.broker_groups.proofs.Dealing.{one_longer}
+use Rattle.broker_groups.proofs.Rows.{All-at, last_at, left_of, there}
+use Rattle.broker_groups.proofs.ending.end.Goals as goal
+
+pub finish_each-answers-requires-clause-ports : goal.finish_each-answers-requires-clause-ports
+finish_each-answers-requires-clause-ports g c = λ slot row at. All-at (IsPortOf (g.B.Broker.group slot)) row.items (λ k port is. (c.sort_ports.ensures.its slot row k port at is).1)
+
+pub finish_each-answers-requires-clause-places : goal.finish_each-answers-requires-clause-places
+finish_each-answers-requires-clause-places g c = λ slot row at. All-at (IsPlaceOf (g.B.Broker.group slot)) row.items (λ k place is. c.sort_places.ensures.its slot row k place at is)
+
+pub returns-clause-ended : goal.returns-clause-ended
+returns-clause-ended g c = record {
+  all = c.finish_each-answers.ensures.all;
+  each = λ slot answer at.
+      let group = g.B.Broker.group slot in
+      let less : slot < 8 = (let within = slice_get_within c.finish_each-answers.result.items slot answer at in omega (arith, within, c.finish_each-answers.ensures.all)) in
+      let ports = there c.sort_ports.new.rows.items slot (omega (arith, less, c.sort_ports.ensures.many)) in
+      let places = there c.sort_places.new.rows.items slot (omega (arith, less, c.sort_places.ensures.many)) in
+      let held = there c.pop.new.self.items slot (omega (arith, less, c.sort_held.ensures.many, one_longer c.pop.new.self.items c.sort_held.new.rows.items c.in-Some.strangers c.in-Some.ensures.items)) in
+      let held_at = ap (λ l. slice_get l slot) c.in-Some.ensures.items ∙ left_of c.pop.new.self.items c.in-Some.strangers slot held.0 held.1 in
+      subst (λ (row : List PortState). Finishes group row (at_slot place_slot slot c.args.places.items) (at_slot held_slot slot c.args.held.items) answer) (sym (append-nil ports.0.items) ∙ c.sort_ports.ensures.each slot ports.0 ports.1)
+      (subst (λ (row : List PlaceState). Finishes group ports.0.items row (at_slot held_slot slot c.args.held.items) answer) (sym (append-nil places.0.items) ∙ c.sort_places.ensures.each slot places.0 places.1)
+      (subst (λ (row : List Held). Finishes group ports.0.items places.0.items row answer) (sym (append-nil held.0.items) ∙ c.sort_held.ensures.each slot held.0 held_at)
+      (c.finish_each-answers.ensures.each slot answer ports.0 places.0 held.0 at ports.1 places.1 held.1)));
+}
+
+pub returns-clause-strangers : goal.returns-clause-strangers
+returns-clause-strangers g c =
+    let last = last_at c.pop.new.self.items c.in-Some.strangers 8 (omega (arith, c.sort_held.ensures.many, one_longer c.pop.new.self.items c.sort_held.new.rows.items c.in-Some.strangers c.in-Some.ensures.items)) in
+    sym (append-nil c.in-Some.strangers.items) ∙ c.sort_held.ensures.each 8 c.in-Some.strangers (ap (λ l. slice_get l 8) c.in-Some.ensures.items ∙ last)

@@ -1,0 +1,8 @@
+-- Nothing is out at any place of any row.
+use Rattle.std.proofs.Common.{sym, subst, All}
+use Rattle.broker_groups.specs.Naming.{HasNoneOut}
+use Rattle.broker_groups.proofs.Dealing.{all_in_a_row}
+use Rattle.broker_groups.proofs.opening.Opened.name.Goals as goal
+
+pub returns-in-Ok-clause-fresh : goal.returns-in-Ok-clause-fresh
+returns-in-Ok-clause-fresh g c = subst (All HasNoneOut) (sym c.in-Ok.ensures.places) (all_in_a_row HasNoneOut c.args.self.places.items c.requires.fresh)

@@ -1,0 +1,6 @@
+-- So many are left.
+use Rattle.std.proofs.Common.{◌≡◌, ◌+◌, vec_len}
+use Rattle.broker_groups.proofs.opening.abandon_all.Given as goal
+
+abbrev pub invariant-loop : goal.invariant-loop
+invariant-loop l = vec_len l.groups + l.counter ≡ l.end

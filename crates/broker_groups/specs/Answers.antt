@@ -1,0 +1,26 @@
+-- What a member is answered, as its group has it.
+use Rattle.std.specs.Prelude.{List, Option, Result, Ok, Err, ⊤}
+use Rattle.group_jobs.specs.declared.error.JobError.{JobError}
+use Rattle.group_jobs.specs.declared.error.JobError.TheVariants.{Memory}
+use Rattle.group_jobs.specs.Stamps.{Held}
+use Rattle.group_jobs.specs.declared.ledger.Ledger.{Ledger}
+use Rattle.shared_ledger.specs.declared.share.Share.{Share}
+use Rattle.group_queue.specs.declared.posted.Posted.{Posted}
+use Rattle.group_queue.specs.declared.view.Bag.{Bag}
+use Rattle.group_queue.specs.declared.view.View.{View}
+use Rattle.conn_engine.specs.declared.supply.NoMemory.{NoMemory}
+
+-- what a group hands out, which is refused for want of memory alone
+abbrev pub in_group : Result (Option Held) NoMemory → Result (Option Held) JobError
+in_group (Ok found) = Ok found
+in_group (Err refusal) = Err Memory
+
+-- a broker's groups have no witness: whatever stands in a group's queues, and in its ledger's, counts as seen
+abbrev pub seen_main : List Posted → List View → Type 0
+seen_main items views = ⊤
+
+abbrev pub seen_returns : List Posted → List Bag → Type 0
+seen_returns items views = ⊤
+
+abbrev pub seen_ledger : List Ledger → List Share → Type 0
+seen_ledger items views = ⊤

@@ -1,0 +1,47 @@
+-- The end of a broker's groups: each is ended with what is its own.
+use Rattle.std.specs.Prelude.{◌≡◌, ℕ, min, List, [], ◌∷◌, ◌++◌, length, slice_get, Some, Result}
+use Rattle.std.specs.Global.{Vec}
+use Rattle.group_jobs.specs.Stamps.{Held}
+use Rattle.group_jobs.specs.declared.report.Report.{Report}
+use Rattle.group_queue.specs.declared.finish.Unfinished.{Unfinished}
+use Rattle.group_queue.specs.declared.witness.Nobody.{Nobody}
+use Rattle.group_queue.specs.Ports.{GroupId, PortState}
+use Rattle.group_queue.specs.Places.{PlaceState, IsPlaceOf}
+use Rattle.group_queue.specs.Finishing.{Finishes}
+use Rattle.broker_groups.specs.Sorting.{at_slot}
+
+-- the ports of all workers, a worker's after another's
+abbrev pub joined : List (List PortState) → List PortState
+joined [] = []
+joined (ports ∷ others) = ports ++ joined others
+
+-- the slot of a port's and of a place's group, and of a message's; 8 where a message is of no group
+abbrev pub port_slot : PortState → ℕ
+port_slot port = port.group
+
+abbrev pub place_slot : PlaceState → ℕ
+place_slot place = place.group
+
+abbrev pub held_slot : Held → ℕ
+held_slot envelope = min envelope.stamp.group 8
+
+-- it is a place of the group of this slot
+abbrev pub IsPlaceAt : (ℕ → GroupId) → ℕ → PlaceState → Type 0
+IsPlaceAt group slot place = IsPlaceOf (group slot) place
+
+-- whatever it is
+abbrev pub IsAny : ℕ → Held → Type 0
+IsAny slot envelope = Unit {0}
+
+-- each group was ended with its own ports, places and messages
+pub record AreEnded (group : ℕ → GroupId) (ports : List (List PortState)) (places : List PlaceState) (held : List Held) (answers : List (Result Report (Unfinished Nobody))) : Type 0 where
+  pub all : length answers ≡ 8
+  pub each : (slot : ℕ) (answer : Result Report (Unfinished Nobody)) → slice_get answers slot ≡ Some answer
+      → Finishes (group slot) (at_slot port_slot slot (joined ports)) (at_slot place_slot slot places) (at_slot held_slot slot held) answer
+
+-- each group was ended with the row of its slot
+pub record AreFinished (group : ℕ → GroupId) (ports : List (Vec PortState)) (places : List (Vec PlaceState)) (held : List (Vec Held)) (answers : List (Result Report (Unfinished Nobody))) : Type 0 where
+  pub all : length answers ≡ 8
+  pub each : (slot : ℕ) (answer : Result Report (Unfinished Nobody)) (its_ports : Vec PortState) (its_places : Vec PlaceState) (its_held : Vec Held)
+      → slice_get answers slot ≡ Some answer → slice_get ports slot ≡ Some its_ports → slice_get places slot ≡ Some its_places → slice_get held slot ≡ Some its_held
+      → Finishes (group slot) its_ports.items its_places.items its_held.items answer

@@ -1,0 +1,43 @@
+-- How opened groups get a broker's name, and what is then whose.
+use Rattle.std.specs.Prelude.{◌≡◌, ℕ, ◌+◌, List, [], ◌∷◌, ◌++◌, length, sum_by, slice_get, Some, All}
+use Rattle.std.specs.Global.{Vec}
+use Rattle.gate_word.specs.Seats.{GateId}
+use Rattle.group_queue.specs.Ports.{GroupId, PortState}
+use Rattle.group_queue.specs.Places.{PlaceState}
+use Rattle.broker_groups.specs.declared.opening.Opened.{Opened}
+use Rattle.broker_groups.specs.Outs.{HasOut}
+use Rattle.broker_groups.specs.Brokers.{AreBrokerGroups, IsBrokerPlace, IsBrokerPort}
+
+-- rows of ports, those of one group each, a worker one, from the group of this slot on
+pub record AreRows (group : ℕ → GroupId) (workers slot : ℕ) (rows : List (Vec PortState)) : Type 0 where
+  pub many : (k : ℕ) (row : Vec PortState) → slice_get rows k ≡ Some row → length row.items ≡ workers
+  pub its : (k : ℕ) (row : Vec PortState) → slice_get rows k ≡ Some row → All (IsBrokerPort group (slot + k)) row.items
+
+-- nothing is out at the place
+abbrev pub HasNoneOut : PlaceState → Type 0
+HasNoneOut place = HasOut place []
+
+-- what was opened is a broker's of this name, for so many workers
+pub record IsOfBroker (gate : GateId) (group : ℕ → GroupId) (workers : ℕ) (opened : Opened) : Type 0 where
+  pub groups : AreBrokerGroups gate group opened.groups.items
+  pub rows : length opened.ports.items ≡ 8
+  pub ports : AreRows group workers 0 opened.ports.items
+  pub places : All (λ (row : Vec PlaceState). All (IsBrokerPlace group) row.items) opened.places.items
+  pub fresh : All (λ (row : Vec PlaceState). All HasNoneOut row.items) opened.places.items
+
+-- the places of all rows, row after row
+abbrev pub in_a_row : List (Vec PlaceState) → List PlaceState
+in_a_row [] = []
+in_a_row (row ∷ rows) = row.items ++ in_a_row rows
+
+-- what the ports of all rows count for, and what those of all workers do
+abbrev pub worth_of_rows : (PortState → ℕ) → List (Vec PortState) → ℕ
+worth_of_rows worth rows = sum_by (λ (row : Vec PortState). sum_by worth row.items) rows
+
+abbrev pub worth_of_all : (PortState → ℕ) → List (List PortState) → ℕ
+worth_of_all worth all = sum_by (λ (ports : List PortState). sum_by worth ports) all
+
+-- ports of the groups of the first slots, in the order of slots
+pub record IsHand (group : ℕ → GroupId) (count : ℕ) (hand : Vec PortState) : Type 0 where
+  pub many : length hand.items ≡ count
+  pub each : (slot : ℕ) (port : PortState) → slice_get hand.items slot ≡ Some port → IsBrokerPort group slot port

@@ -1,0 +1,35 @@
+-- What `Ports::offer` answers.
+use Rattle.std.specs.Prelude.{◌≡◌, ◌⊎◌, ℕ, ◌<◌, ◌≤◌, List, slice_get, slice_set, Some, Result, Ok, Err}
+use Rattle.group_jobs.specs.declared.message.Message.{Message}
+use Rattle.group_jobs.specs.declared.stamp.Stamp.{Stamp}
+use Rattle.group_queue.specs.declared.error.NotTaken.{NotTaken}
+use Rattle.group_queue.specs.declared.error.OfferError.{OfferError}
+use Rattle.group_queue.specs.declared.error.OfferError.TheVariants as error
+use Rattle.group_queue.specs.Ports.{GroupId, PortState}
+use Rattle.group_queue.specs.Offers.{OfferAnswers}
+use Rattle.broker_groups.specs.Answers.{seen_main}
+use Rattle.conn_engine.specs.declared.supply.OfferRefusal.{OfferRefusal}
+use Rattle.conn_engine.specs.declared.supply.OfferRefusal.TheVariants as refusal
+
+-- the message was offered through the port of this slot's group, as the group answers, and the other ports are as they were
+pub record OffersThrough (group : GroupId) (old : List PortState) (slot : ℕ) (message : Message) (answer : Result Stamp NotTaken) (new : List PortState) : Type 0 where
+  pub before : PortState
+  pub there : slice_get old slot ≡ Some before
+  pub after : PortState
+  pub answers : OfferAnswers seen_main group before message answer after
+  pub becomes : new ≡ slice_set old slot after
+
+-- what a connection is told of a group's answer
+abbrev pub told_as : OfferError → OfferRefusal
+told_as error.Full = refusal.Full
+told_as error.LifeSpent = refusal.LifeSpent
+
+abbrev pub told : Result Stamp NotTaken → Result Stamp OfferRefusal
+told (Ok stamp) = Ok stamp
+told (Err refused) = Err (told_as refused.error)
+
+-- the answer is that of the slot's group; there is no group from slot 8 on, as if it were closed
+abbrev pub OffersTo : (ℕ → GroupId) → List PortState → ℕ → Message → Result Stamp OfferRefusal → List PortState → Type 0
+OffersTo group old slot message answer new =
+    ((8 ≤ slot) × (answer ≡ Err refusal.Shut) × (new ≡ old))
+    ⊎ ((slot < 8) × ((given : Result Stamp NotTaken) × OffersThrough (group slot) old slot message given new × (answer ≡ told given)))

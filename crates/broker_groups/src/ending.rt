@@ -1,0 +1,211 @@
+//! How a broker's groups end: each with its own ports, places and envelopes.
+ghost use Rattle.std.specs.Prelude.{◌≡◌, ℕ, ◌≤◌, [], length, slice_get, Some, All, IfOk, IfErr, IfSome, vec_capacity};
+ghost use Rattle.std.specs.Global.{Vec};
+ghost use Rattle.group_queue.specs.Ports.{PortState, IsPortOf};
+ghost use Rattle.group_queue.specs.Places.{PlaceState, IsPlaceOf};
+ghost use Rattle.broker_groups.specs.Brokers.{AreBrokerGroups};
+ghost use Rattle.broker_groups.specs.Sorting.{at_slot, IsEmptyRow};
+ghost use Rattle.broker_groups.specs.Endings.{held_slot, joined, AreEnded, AreFinished};
+
+use crate::broker::Broker;
+use crate::groups::{BrokerGroups, SLOTS};
+use crate::place::BrokerPlace;
+use crate::ports::Ports;
+use crate::sorting::{empty_rows, sort_held, sort_places, sort_ports};
+use group_jobs::{Envelope, Report};
+use group_queue::{Place, Port, SharedGroup, Unfinished};
+use std::alloc::{AllocError, Global};
+use std::sync::Wait;
+
+/// What became of a broker's groups.
+pub struct Ended<'a> {
+    /// The report of each group, in the order of slots, or why there is none.
+    pub answers: Vec<Result<Report, Unfinished<'a>>>,
+    /// Envelopes whose stamp names no group of a broker.
+    pub strangers: Vec<Envelope>,
+}
+
+/// A broker whose groups were not ended, for want of memory, with all that was given to end them.
+pub struct Unended<'a, B: Broker> {
+    pub groups: BrokerGroups<'a, B>,
+    pub ports: Vec<Ports<B>>,
+    pub places: Vec<BrokerPlace<B>>,
+    pub held: Vec<Envelope>,
+}
+
+impl<'a, B: Broker> Unended<'a, B> {
+    /// Gives all of it up, without a word of what became of the messages.
+    pub fn abandon(self) {
+        let Unended {
+            groups,
+            ports: _,
+            places: _,
+            held,
+        } = self;
+        spend(held);
+        groups.abandon();
+    }
+}
+
+/// Spends envelopes, whose messages are let go.
+fn spend(held: Vec<Envelope>) {
+    let mut held = held;
+    'held: while let Some(envelope) = held.pop() {
+        let (_stamp, _message) = envelope.open();
+    }
+    held.destroy_empty();
+}
+
+/// Where ports, places and envelopes are sorted into, by slot.
+struct Rows {
+    ports: Vec<Vec<Port>>,
+    places: Vec<Vec<Place>>,
+    held: Vec<Vec<Envelope>>,
+}
+
+impl<'a, B: Broker> BrokerGroups<'a, B> {
+    /// Ends each group with those of these ports, places and envelopes that are of its slot, as
+    /// [`SharedGroup::finish`](group_queue::SharedGroup::finish) says. A step of a queue may wait for another thread's.
+    ///
+    /// # Errors
+    ///
+    /// [`Unended`]: memory was wanted and refused. All that was given comes back.
+    pub fn finish<R: Wait>(
+        self,
+        rt: &R,
+        alloc: Global,
+        ports: Vec<Ports<B>>,
+        places: Vec<BrokerPlace<B>>,
+        held: Vec<Envelope>,
+    ) -> Result<Ended<'a>, Unended<'a, B>>
+        ensures ended { IfOk result (λ ended. AreEnded B.group ports.items places.items held.items ended.answers.items) }
+        ensures strangers { IfOk result (λ ended. ended.strangers.items ≡ at_slot held_slot 8 held.items) }
+        ensures left { IfErr result (λ left. (left.groups ≡ self.entry) × (left.ports.items ≡ ports.items) × (left.places.items ≡ places.items) × (left.held.items ≡ held.items)) }
+    {
+        match make_rows(alloc, &ports, places.len(), held.len()) {
+            Ok((rows, answers)) => Ok(end(rt, alloc, self, rows, answers, ports, places, held)),
+            Err(_) => Err(Unended {
+                groups: self,
+                ports,
+                places,
+                held,
+            }),
+        }
+    }
+}
+
+/// Makes all room that sorting wants.
+fn make_rows<'a, B: Broker>(
+    alloc: Global,
+    ports: &[Ports<B>],
+    places: usize,
+    held: usize,
+) -> Result<(Rows, Vec<Result<Report, Unfinished<'a>>>), AllocError>
+    ensures ports { IfOk result (λ made. (length made.0.ports.items ≡ 8) × All (IsEmptyRow (length (joined ports.now))) made.0.ports.items) }
+    ensures places { IfOk result (λ made. (length made.0.places.items ≡ 8) × All (IsEmptyRow places) made.0.places.items) }
+    ensures held { IfOk result (λ made. (length made.0.held.items ≡ 9) × All (IsEmptyRow held) made.0.held.items) }
+    ensures answers { IfOk result (λ made. (made.1.items ≡ []) × (8 ≤ vec_capacity made.1)) }
+{
+    let count = count_ports(ports).ok_or(AllocError)?;
+    let port_rows = empty_rows(alloc, SLOTS, count)?;
+    let place_rows = empty_rows(alloc, SLOTS, places)?;
+    let answers = Vec::with_capacity(alloc, usize::from(SLOTS))?;
+    match empty_rows(alloc, SLOTS + 1, held) {
+        Ok(held_rows) => Ok((
+            Rows {
+                ports: port_rows,
+                places: place_rows,
+                held: held_rows,
+            },
+            answers,
+        )),
+        Err(error) => {
+            answers.destroy_empty();
+            Err(error)
+        }
+    }
+}
+
+/// How many ports there are in all.
+fn count_ports<B: Broker>(all: &[Ports<B>]) -> Option<usize>
+    ensures { IfSome result (λ count. count ≡ length (joined all.now)) }
+{
+    let mut count = 0usize;
+    for ports in all {
+        count = count.checked_add(ports.ports.len())?;
+    }
+    Some(count)
+}
+
+/// Sorts all that is given, and ends each group.
+fn end<'a, B: Broker, R: Wait>(
+    rt: &R,
+    alloc: Global,
+    groups: BrokerGroups<'a, B>,
+    rows: Rows,
+    answers: Vec<Result<Report, Unfinished<'a>>>,
+    ports: Vec<Ports<B>>,
+    places: Vec<BrokerPlace<B>>,
+    held: Vec<Envelope>,
+) -> Ended<'a>
+    requires ports { (length rows.ports.items ≡ 8) × All (IsEmptyRow (length (joined ports.items))) rows.ports.items }
+    requires places { (length rows.places.items ≡ 8) × All (IsEmptyRow (length places.items)) rows.places.items }
+    requires held { (length rows.held.items ≡ 9) × All (IsEmptyRow (length held.items)) rows.held.items }
+    requires answers { (answers.items ≡ []) × (8 ≤ vec_capacity answers) }
+    ensures ended { AreEnded B.group ports.items places.items held.items result.answers.items }
+    ensures strangers { result.strangers.items ≡ at_slot held_slot 8 held.items }
+{
+    let Rows {
+        ports: mut port_rows,
+        places: mut place_rows,
+        held: mut held_rows,
+    } = rows;
+    sort_ports(ports, &mut port_rows);
+    sort_places(places, &mut place_rows);
+    sort_held(held, &mut held_rows);
+    let Some(strangers) = held_rows.pop() else {
+        unreachable!()
+    };
+    let groups = groups.into_groups();
+    let answers = finish_each::<B, R>(rt, alloc, groups, port_rows, place_rows, held_rows, answers);
+    Ended { answers, strangers }
+}
+
+/// Ends each group with the row of its slot.
+fn finish_each<'a, B: Broker, R: Wait>(
+    rt: &R,
+    alloc: Global,
+    groups: Vec<SharedGroup<'a>>,
+    ports: Vec<Vec<Port>>,
+    places: Vec<Vec<Place>>,
+    held: Vec<Vec<Envelope>>,
+    answers: Vec<Result<Report, Unfinished<'a>>>,
+) -> Vec<Result<Report, Unfinished<'a>>>
+    requires groups { AreBrokerGroups B.gate B.group groups.items }
+    requires many { (length ports.items ≡ 8) × (length places.items ≡ 8) × (length held.items ≡ 8) }
+    requires ports { (slot : ℕ) (row : Vec PortState) → slice_get ports.items slot ≡ Some row → All (IsPortOf (B.group slot)) row.items }
+    requires places { (slot : ℕ) (row : Vec PlaceState) → slice_get places.items slot ≡ Some row → All (IsPlaceOf (B.group slot)) row.items }
+    requires answers { (answers.items ≡ []) × (8 ≤ vec_capacity answers) }
+    ensures { AreFinished B.group ports.items places.items held.items result.items }
+{
+    let mut answers = answers;
+    let mut next_groups = groups.into_iter();
+    let mut next_ports = ports.into_iter();
+    let mut next_places = places.into_iter();
+    let mut next_held = held.into_iter();
+    'slots: while let Some(group) = next_groups.next() {
+        let Some(its_ports) = next_ports.next() else {
+            unreachable!()
+        };
+        let Some(its_places) = next_places.next() else {
+            unreachable!()
+        };
+        let Some(its_held) = next_held.next() else {
+            unreachable!()
+        };
+        answers.push_reserved(group.finish(rt, alloc, its_ports, its_places, its_held));
+    }
+    next_groups.destroy_empty();
+    next_held.destroy_empty();
+    answers
+}

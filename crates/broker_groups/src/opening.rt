@@ -1,0 +1,85 @@
+//! How a broker's groups are opened: eight at one gate, with a port of each group for each worker and all places.
+ghost use Rattle.std.specs.Prelude.{◌≡◌, ◌≤◌, IfOk};
+ghost use Rattle.broker_groups.specs.Openings.{IsBrokerOpened, named_by};
+ghost use Rattle.broker_groups.specs.Naming.{IsOfBroker};
+
+use crate::groups::SLOTS;
+use gate_word::Gate;
+use group_jobs::JobError;
+use group_queue::{Place, Port, SharedGroup};
+use std::alloc::Global;
+
+/// How many places a group has.
+pub const PLACES: u8 = 32;
+
+/// The groups of one broker as they were opened, one for each slot, in the order of slots, with the ports and the places of
+/// each.
+pub struct Opened<'a> {
+    pub groups: Vec<SharedGroup<'a>>,
+    pub ports: Vec<Vec<Port>>,
+    pub places: Vec<Vec<Place>>,
+}
+
+impl<'a> Opened<'a> {
+    /// Opens the groups of a broker behind a gate. In each at most `capacity` messages wait for their first hand-out, and each
+    /// has a port for each worker.
+    ///
+    /// # Errors
+    ///
+    /// 503 [`JobError::Memory`]. The groups that were opened are given up.
+    pub fn open(
+        alloc: Global,
+        gate: &'a Gate,
+        capacity: usize,
+        workers: u8,
+    ) -> Result<Opened<'a>, JobError>
+        requires capacity { (1 ≤ capacity) × (capacity ≤ 65536) }
+        requires workers { (1 ≤ workers) × (workers ≤ 64) }
+        ensures opened { IfOk result (IsBrokerOpened gate.entry.now capacity workers) }
+        ensures named { IfOk result (λ opened. IsOfBroker gate.entry.now (named_by opened.groups.items) workers opened) }
+    {
+        let mut ports = Vec::with_capacity(alloc, usize::from(SLOTS))?;
+        let mut places = Vec::with_capacity(alloc, usize::from(SLOTS))?;
+        let mut groups = Vec::with_capacity(alloc, usize::from(SLOTS))?;
+        'slots: for slot in 0..SLOTS {
+            match SharedGroup::open(alloc, gate, slot, workers, PLACES, capacity) {
+                Ok((group, its_ports, its_places)) => {
+                    groups.push_reserved(group);
+                    ports.push_reserved(its_ports);
+                    places.push_reserved(its_places);
+                }
+                Err(error) => {
+                    abandon_all(groups);
+                    return Err(error);
+                }
+            }
+        }
+        Ok(Opened {
+            groups,
+            ports,
+            places,
+        })
+    }
+
+    /// Gives all of them up, without a word of what became of their messages.
+    pub fn abandon(self) {
+        let Opened {
+            groups,
+            ports: _,
+            places: _,
+        } = self;
+        abandon_all(groups);
+    }
+}
+
+/// Gives groups up.
+pub(crate) fn abandon_all(groups: Vec<SharedGroup<'_>>) {
+    let mut groups = groups;
+    for _ in 0..groups.len() {
+        let Some(group) = groups.pop() else {
+            unreachable!()
+        };
+        group.abandon();
+    }
+    groups.destroy_empty();
+}

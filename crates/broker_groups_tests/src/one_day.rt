@@ -1,0 +1,264 @@
+//! One broker on one thread, from its opening to its reports.
+ghost use Rattle.std.specs.Prelude.{◌≡◌, All, IfSome};
+ghost use Rattle.gate_word.specs.Seats.{AreSeatsOf};
+ghost use Rattle.broker_groups.specs.Naming.{HasNoneOut, IsOfBroker};
+
+use broker_groups::{Broker, BrokerGroups, BrokerPlace, Ended, Key, Named, Opened, Ports};
+use bytes::Bytes;
+use conn_engine::OfferRefusal;
+use gate_word::{Gate, GateSeat, Turn};
+use group_jobs::{Envelope, Fate, Message, SharedMessage, Stamp};
+use mqtt_wire::{RareProperties, Text};
+use std::alloc::Global;
+use std::marker::Brand;
+use std::sync::Wait;
+use std::test::Fail;
+
+/// A message on the topic `job`.
+fn message(alloc: Global) -> Option<SharedMessage> {
+    let topic = Text::parse(Bytes::from_static(b"job"))?;
+    let message = Message {
+        topic,
+        properties: RareProperties::none(),
+        payload: Bytes::from_static(b"A"),
+    };
+    SharedMessage::new(alloc, message).ok()
+}
+
+/// What the calls answered, and how many messages the groups acknowledged and still have queued.
+#[derive(Debug, Drop, PartialEq, Eq)]
+struct Told {
+    last: Result<Stamp, OfferRefusal>,
+    past: Result<Stamp, OfferRefusal>,
+    settled: Option<Stamp>,
+    acknowledged: u128,
+    ended: usize,
+    strangers: usize,
+}
+
+/// Takes a message at a place that has none out, and acknowledges it.
+fn work<B: Broker, R: Wait>(
+    rt: &R,
+    groups: &BrokerGroups<'_, B>,
+    place: &mut BrokerPlace<B>,
+    turn: &Turn,
+) -> Option<Stamp>
+    requires none { HasNoneOut place.old }
+    requires turn { turn.now.gate ≡ B.gate }
+{
+    match place.take(groups, rt, turn) {
+        Ok(Some(envelope)) => Some(place.settle(envelope, Fate::Acknowledged)),
+        Ok(None) => None,
+        Err(_) => None,
+    }
+}
+
+/// Offers a message to the group of a slot.
+fn offer<B: Broker, R: Wait>(
+    rt: &R,
+    alloc: Global,
+    groups: &BrokerGroups<'_, B>,
+    ports: &mut Vec<Ports<B>>,
+    turn: &Turn,
+    slot: u8,
+) -> Option<Result<Stamp, OfferRefusal>>
+    requires { turn.now.gate ≡ B.gate }
+{
+    let message = message(alloc)?;
+    let ports = ports.first_mut()?;
+    Some(ports.offer(groups, rt, turn, slot, message))
+}
+
+/// Spends an envelope.
+fn spend(envelope: Envelope) {
+    let (_stamp, message) = envelope.open();
+    drop(message);
+}
+
+/// How many groups ended, how many messages they acknowledged, and how many envelopes were strangers.
+fn count(ended: Ended<'_>) -> (usize, u128, usize) {
+    let Ended {
+        mut answers,
+        mut strangers,
+    } = ended;
+    let mut reports = 0usize;
+    let mut acknowledged = 0u128;
+    'answers: while let Some(answer) = answers.pop() {
+        match answer {
+            Ok(report) => {
+                reports = reports.saturating_add(1);
+                acknowledged = acknowledged.saturating_add(report.settled.acknowledged.len());
+            }
+            Err(unfinished) => {
+                unfinished.abandon();
+            }
+        }
+    }
+    answers.destroy_empty();
+    let mut others = 0usize;
+    'strangers: while let Some(envelope) = strangers.pop() {
+        others = others.saturating_add(1);
+        spend(envelope);
+    }
+    strangers.destroy_empty();
+    (reports, acknowledged, others)
+}
+
+/// What was told inside the gate.
+#[derive(Drop)]
+struct Visit {
+    last: Option<Result<Stamp, OfferRefusal>>,
+    past: Option<Result<Stamp, OfferRefusal>>,
+    settled: Option<Stamp>,
+}
+
+/// Offers to the last slot and to the one past it, and takes and acknowledges at the last place of the last slot.
+fn go_inside<B: Broker, R: Wait>(
+    rt: &R,
+    alloc: Global,
+    groups: &BrokerGroups<'_, B>,
+    ports: &mut Vec<Ports<B>>,
+    places: &mut Vec<BrokerPlace<B>>,
+    turn: &Turn,
+) -> Visit
+    requires turn { turn.now.gate ≡ B.gate }
+    requires none { All HasNoneOut places.old.items }
+{
+    let last = offer(rt, alloc, groups, ports, turn, 7);
+    let past = offer(rt, alloc, groups, ports, turn, 8);
+    let mut settled = None;
+    if let Some(mut place) = places.pop() {
+        settled = work(rt, groups, &mut place, turn);
+        if let Err(refused) = places.push(place) {
+            drop(refused);
+        }
+    }
+    Visit {
+        last,
+        past,
+        settled,
+    }
+}
+
+/// Ends the groups, and tells what happened.
+fn end<B: Broker, R: Wait>(
+    rt: &R,
+    alloc: Global,
+    groups: BrokerGroups<'_, B>,
+    ports: Vec<Ports<B>>,
+    places: Vec<BrokerPlace<B>>,
+    visit: Visit,
+) -> Option<Told> {
+    match groups.finish(rt, alloc, ports, places, Vec::new(alloc)) {
+        Ok(ended) => {
+            let (ended, acknowledged, strangers) = count(ended);
+            Some(Told {
+                last: visit.last?,
+                past: visit.past?,
+                settled: visit.settled,
+                acknowledged,
+                ended,
+                strangers,
+            })
+        }
+        Err(unended) => {
+            unended.abandon();
+            None
+        }
+    }
+}
+
+/// The day of a broker with one worker.
+fn day<B: Broker, R: Wait>(
+    rt: &R,
+    alloc: Global,
+    gate: &Gate,
+    seat: GateSeat,
+    opened: Opened<'_>,
+) -> Option<Told>
+    requires gate { gate.now ≡ B.gate }
+    requires seat { seat.gate ≡ B.gate }
+    requires opened { IsOfBroker B.gate B.group 1 opened }
+{
+    let Named {
+        groups,
+        mut ports,
+        mut places,
+    } = match opened.name::<B>(alloc, 1) {
+        Ok(named) => named,
+        Err(_) => return None,
+    };
+    let key: Key<B> = Key::of(seat);
+    match gate.enter(key.into_seat()) {
+        Ok(turn) => {
+            let seen = go_inside(rt, alloc, &groups, &mut ports, &mut places, &turn);
+            let _seat = gate.leave(turn);
+            end(rt, alloc, groups, ports, places, seen)
+        }
+        Err(refused) => {
+            drop(refused);
+            groups.abandon();
+            None
+        }
+    }
+}
+
+/// The same, of groups that are opened and named by what they are.
+fn open_day<R: Wait>(rt: &R, alloc: Global, gate: &Gate, seat: GateSeat) -> Option<Told>
+    requires { seat.gate ≡ gate.now }
+{
+    match Opened::open(alloc, gate, 8, 1) {
+        Ok(opened) => day::<Brand, R>(rt, alloc, gate, seat, opened),
+        Err(_) => None,
+    }
+}
+
+/// The last seat.
+fn take_seat(gate: &Gate, seats: &mut Vec<GateSeat>) -> Option<GateSeat>
+    requires { AreSeatsOf gate.now seats.old.items }
+    ensures { IfSome result (λ seat. seat.gate ≡ gate.now) }
+{
+    let _ = gate;
+    seats.pop()
+}
+
+#[test]
+fn a_broker_is_opened_named_and_ended(rt: HostRuntime) -> Result<(), Fail> {
+    let (gate, mut seats) = Gate::open(rt.alloc(), 1)?;
+    let seat = take_seat(&gate, &mut seats).ok_or("a seat")?;
+    let told = open_day(&rt, rt.alloc(), &gate, seat).ok_or("a day")?;
+    let stamp = Stamp {
+        group: 7,
+        port: 0,
+        number: 0,
+    };
+    assert_eq!(rt;
+        told,
+        Told {
+            last: Ok(stamp),
+            past: Err(OfferRefusal::Shut),
+            settled: Some(stamp),
+            acknowledged: 1,
+            ended: 8,
+            strangers: 0,
+        }
+    );
+    Ok(())
+}
+
+fn crosses_threads<T: Send>() {}
+
+fn is_shared_by_threads<T: Sync>() {}
+
+fn may_be_threaded<B: Broker + Send + Sync>() {
+    is_shared_by_threads::<BrokerGroups<'static, B>>();
+    crosses_threads::<BrokerGroups<'static, B>>();
+    crosses_threads::<BrokerPlace<B>>();
+    crosses_threads::<Ports<B>>();
+    crosses_threads::<Key<B>>();
+}
+
+#[test]
+fn what_threads_may_do_with_it() {
+    may_be_threaded::<Brand>();
+}
