@@ -1,0 +1,117 @@
+//! What the calls of one thread are answered.
+ghost use Rattle.std.specs.Prelude.{◌<◌, ◌≤◌, length, IfOk, IfSome};
+ghost use Rattle.conn_engine.specs.Ready.{IsReady, IsSoundSession};
+ghost use Rattle.shared_desk_tests.specs.Spots.{any_out};
+
+use crate::spot::Spot;
+use bytes::Bytes;
+use group_jobs::Envelope;
+use session_desk::{Attached, DeskError, Session};
+use shared_desk::SharedDesk;
+use std::sync::Wait;
+use std::test::Fail;
+
+/// Lets go of a message.
+fn let_go(envelope: Envelope) {
+    let _parts = envelope.open();
+}
+
+/// Lets go of a session, if there is one.
+fn dissolve(session: Option<Session<Envelope, Spot>>) {
+    if let Some(session) = session {
+        session.abandon_with(&let_go);
+    }
+}
+
+/// Lets go of a desk with all that it has.
+pub(crate) fn end(desk: SharedDesk<Spot>) {
+    desk.into_desk().abandon_with(&let_go);
+}
+
+/// The session that a connection was lent; one that ended for it is let go.
+fn lent(attached: Result<Attached<Envelope, Spot>, DeskError>) -> Option<Session<Envelope, Spot>>
+    requires { IfOk attached (IsReady any_out) }
+    ensures { IfSome result (IsSoundSession any_out) }
+{
+    match attached {
+        Ok(Attached::New { session, ended }) => {
+            dissolve(ended);
+            Some(session)
+        }
+        Ok(Attached::Resumed(session)) => Some(session),
+        Ok(Attached::Replace(_)) => None,
+        Ok(Attached::Busy) => None,
+        Err(_) => None,
+    }
+}
+
+/// Attaches the client of this name, and parks its session as it is: whether it had one.
+pub(crate) fn comes_and_goes<R: Wait>(
+    rt: &R,
+    desk: &SharedDesk<Spot>,
+    connection: u16,
+    client: &Bytes,
+) -> bool
+    requires known { connection < 1024 }
+    requires short { length client.now ≤ 128 }
+{
+    match lent(desk.attach(rt, connection, client, false, 0)) {
+        Some(session) => {
+            dissolve(desk.park_as_is(rt, session));
+            true
+        }
+        None => false,
+    }
+}
+
+/// Whether connection 0 is kicked before and behind the moment at which connection 1 asks for its session, and whether connection 1 is.
+fn takeover<R: Wait>(rt: &R, desk: &SharedDesk<Spot>) -> (bool, bool, bool) {
+    let client = Bytes::from_static(b"a");
+    let session = lent(desk.attach(rt, 0, &client, false, 0));
+    let before = desk.kicked(rt, 0);
+    dissolve(lent(desk.attach(rt, 1, &client, false, 0)));
+    let behind = desk.kicked(rt, 0);
+    if let Some(session) = session {
+        dissolve(desk.park_as_is(rt, session));
+    }
+    (before, behind, desk.kicked(rt, 1))
+}
+
+#[test]
+fn who_is_asked_for_its_session_is_kicked(rt: HostRuntime) -> Result<(), Fail> {
+    let desk = SharedDesk::new(rt.alloc())?;
+    let told = takeover(&rt, &desk);
+    end(desk);
+    assert_eq!(rt; told, (false, true, false));
+    Ok(())
+}
+
+#[test]
+fn a_client_comes_again(rt: HostRuntime) -> Result<(), Fail> {
+    let desk = SharedDesk::new(rt.alloc())?;
+    let client = Bytes::from_static(b"a");
+    let first = comes_and_goes(&rt, &desk, 0, &client);
+    let second = comes_and_goes(&rt, &desk, 1, &client);
+    end(desk);
+    assert!(rt; first && second);
+    Ok(())
+}
+
+/// The numbers of the places that are lent, of two that are there.
+fn places<R: Wait>(rt: &R, desk: &SharedDesk<Spot>) -> [Option<Spot>; 4] {
+    let _none = desk.take_place(rt, Spot::Second);
+    let _none = desk.take_place(rt, Spot::First);
+    let other = desk.lend_place(rt, 2);
+    let first = desk.lend_place(rt, 3);
+    let second = desk.lend_place(rt, 3);
+    [other, first, second, desk.lend_place(rt, 3)]
+}
+
+#[test]
+fn the_least_free_place_is_lent(rt: HostRuntime) -> Result<(), Fail> {
+    let desk = SharedDesk::new(rt.alloc())?;
+    let lent = places(&rt, &desk);
+    end(desk);
+    assert_eq!(rt; lent, [None, Some(Spot::First), Some(Spot::Second), None]);
+    Ok(())
+}
