@@ -1,0 +1,69 @@
+-- What each call of a connection makes of its worker, and what it answers.
+use Rattle.std.specs.Prelude.{◌≡◌, ℕ, true, Option, Some, Result, Ok, Err, IfSome}
+use Rattle.mqtt_topic.specs.Names.{Share}
+use Rattle.mqtt_topic.specs.Routes.{slot_of, routed, places_of}
+use Rattle.group_jobs.specs.Stamps.{Held, job_of}
+use Rattle.session_desk.specs.declared.session.Session.{Session}
+use Rattle.session_desk.specs.Books.{Books, IsKicked}
+use Rattle.session_desk.specs.Calls.{Call}
+use Rattle.session_desk.specs.Calls as desk
+use Rattle.shared_desk.specs.Books.{IsLawful, IsMade}
+use Rattle.conn_engine.specs.declared.supply.BindRefusal.{BindRefusal}
+use Rattle.conn_engine.specs.declared.supply.BindRefusal.TheVariants as bind
+use Rattle.conn_engine.specs.Facts.{Fact}
+use Rattle.conn_engine.specs.Facts.Fact.{Attach, Withdraw, Kicked, Park, ParkAsIs, Keep, Bury, Sweep, LendPlace, TakePlace, Bind, Find, Match, Offer, Take, TakeBack, Settle, GiveBack}
+use Rattle.group_queue.specs.Ports.{GroupId}
+use Rattle.group_queue.specs.Places.{PlaceState, GiveBackAnswers, IsSamePlace, SettlesHeld, TakeAnswers, TakeBackAnswers}
+use Rattle.broker_groups.specs.Answers.{in_group, seen_main, seen_returns}
+use Rattle.broker_groups.specs.Offering.{OffersTo}
+use Rattle.broker_groups.specs.Outs.{HasOut}
+use Rattle.shared_routes.specs.Known.{KnownState, BindAnswers, HasNoSlot}
+use Rattle.shared_supply.specs.Workers.{Worker}
+
+-- the call was made of the desk, as it stood between other workers' calls
+abbrev pub IsMadeOfDesk : Call Held PlaceState → Type 0
+IsMadeOfDesk call = IsMade HasOut (λ (p : PlaceState). p.group) (λ (p : PlaceState). p.number) call
+
+-- a call of the desk; the worker is as it was
+abbrev pub AsksDesk : Worker → Call Held PlaceState → Worker → Type 0
+AsksDesk old call new = IsMadeOfDesk call × (new ≡ old)
+
+-- a session goes back to the desk; where it is none of the desk's, it is let go
+abbrev pub HandsIn : Worker → (Option (Session Held PlaceState) → Call Held PlaceState) → Worker → Type 0
+HandsIn old call new = (back : Option (Session Held PlaceState)) × AsksDesk old (call back) new
+
+-- a place goes back to the desk; where that has it already, this one is let go
+abbrev pub HandsInPlace : Worker → PlaceState → Worker → Type 0
+HandsInPlace old place new = (back : Option PlaceState) × AsksDesk old (desk.TakePlace place back) new
+
+-- there are books of the desk in which the connection is asked for its session
+abbrev pub IsKickedSomewhere : ℕ → Type 0
+IsKickedSomewhere connection = (books : Books Held PlaceState) × IsLawful HasOut books × IsKicked books connection
+
+-- a share is bound: 205 as the routes have it. No memory is wanted
+abbrev pub Binds : KnownState → Share → Result ℕ BindRefusal → KnownState → Type 0
+Binds old share (Ok slot) new = BindAnswers old share (Ok slot) new
+Binds old share (Err bind.NoSlot) new = HasNoSlot old share new
+Binds old share (Err bind.Memory) new = ⊥
+
+module _ (group : ℕ → GroupId) where
+  -- what each call makes, with its answer, in a broker with these groups
+  abbrev pub Calls : Worker → Fact PlaceState → Worker → Type 0
+  Calls old (Attach request answer) new = AsksDesk old (desk.Attach request answer) new
+  Calls old (Withdraw connection) new = AsksDesk old (desk.Withdraw connection) new
+  Calls old (Kicked connection answer) new = (answer ≡ true → IsKickedSomewhere connection) × (new ≡ old)
+  Calls old (Park session now answer) new = AsksDesk old (desk.Park session now answer) new
+  Calls old (ParkAsIs session) new = HandsIn old (λ back. desk.ParkAsIs session back) new
+  Calls old (Keep session) new = HandsIn old (λ back. desk.Keep session back) new
+  Calls old (Bury session) new = HandsIn old (λ back. desk.Bury session back) new
+  Calls old (Sweep now answer) new = IfSome answer (λ session. IsMadeOfDesk (desk.Sweep now (Some session))) × (new ≡ old)
+  Calls old (LendPlace slot answer) new = AsksDesk old (desk.LendPlace slot answer) new
+  Calls old (TakePlace place) new = HandsInPlace old place new
+  Calls old (Bind share answer) new = Binds old.known share answer new.known × (new ≡ record old { known = new.known })
+  Calls old (Find share answer) new = (answer ≡ slot_of share.text old.known.shares) × (new ≡ old)
+  Calls old (Match topic slots) new = (slots ≡ places_of 0 (routed topic old.known.shares)) × (new ≡ old)
+  Calls old (Offer slot connection message answer) new = OffersTo group old.ports slot message answer new.ports × (new ≡ record old { ports = new.ports })
+  Calls old (Take place place' answer) new = TakeAnswers seen_main place (in_group answer) place' × (new ≡ old)
+  Calls old (TakeBack place place' answer) new = TakeBackAnswers seen_returns place (in_group answer) place' × (new ≡ old)
+  Calls old (Settle place place' envelope fate) new = SettlesHeld place (job_of envelope.stamp) fate place' × IsSamePlace place place' × (new ≡ old)
+  Calls old (GiveBack place place' envelope answer) new = GiveBackAnswers place envelope answer place' × (new ≡ old)

@@ -1,0 +1,3 @@
+pub mod Workers
+pub mod Calls
+pub mod Endings

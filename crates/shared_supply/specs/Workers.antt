@@ -1,0 +1,47 @@
+-- What a worker of a broker has: where it stands at the gate, what it publishes through, and what it knows of the routes.
+use Rattle.std.specs.Prelude.{◌≡◌, ◌⊎◌, Bool, true, false, List, Option, Some, None}
+use Rattle.gate_word.specs.declared.visitor.Visitor.{Visitor}
+use Rattle.gate_word.specs.declared.visitor.Visitor.TheVariants.{Outside, Inside}
+use Rattle.gate_word.specs.Seats.{GateId, Seat, new_seat}
+use Rattle.gate_word.specs.Visits.{seat_in, Tries, Ends}
+use Rattle.group_queue.specs.Ports.{PortState}
+use Rattle.shared_routes.specs.Known.{KnownState, Grows}
+use Rattle.broker_groups.specs.Brokers.{no_gate}
+
+pub record Worker : Type 0 where
+  pub visitor : Visitor
+  pub ports : List PortState
+  pub known : KnownState
+
+-- a visit is going on
+abbrev pub is_inside : Visitor → Bool
+is_inside (Inside turn) = true
+is_inside (Outside seat) = false
+
+abbrev pub is_visiting : Worker → Bool
+is_visiting worker = is_inside worker.visitor
+
+-- where the worker stands; there always is a visitor
+abbrev pub standing : Option Visitor → Visitor
+standing (Some visitor) = visitor
+standing None = Outside (new_seat no_gate 0)
+
+-- there is a visitor, and it is one of this gate
+abbrev pub IsVisitorOf : GateId → Option Visitor → Type 0
+IsVisitorOf gate (Some visitor) = (seat_in visitor).gate ≡ gate
+IsVisitorOf gate None = ⊥
+
+-- the worker enters, or is refused as the gate was shut, and learns of the routes what others bound
+pub record Begins (old new : Worker) : Type 0 where
+  pub tried : Tries old.visitor new.visitor
+  pub ports : new.ports ≡ old.ports
+  pub known : Grows old.known new.known
+
+-- the worker leaves
+pub record Leaves (old new : Worker) : Type 0 where
+  pub seat : Seat
+  pub ended : Ends old.visitor seat
+  pub becomes : new ≡ record old { visitor = Outside seat }
+
+abbrev pub Turns : Worker → Worker → Type 0
+Turns old new = Begins old new ⊎ Leaves old new

@@ -1,0 +1,178 @@
+//! The calls of connections.
+ghost use Rattle.std.specs.Prelude.{◌≡◌, [], IfSome};
+ghost use Rattle.member_window.specs.Contents.{held_of};
+ghost use Rattle.conn_engine.specs.Facts.Fact.{Park, ParkAsIs, Keep, Bury};
+ghost use Rattle.conn_engine.specs.Holding.{IsOutAtPlace};
+ghost use Rattle.conn_engine.specs.Ready.{IsSoundSession};
+ghost use Rattle.broker_groups.specs.Outs.{HasOut};
+ghost use Rattle.shared_supply.specs.Calls.{Calls};
+ghost use Rattle.shared_supply.specs.Workers.{is_visiting, Begins, Leaves, Turns};
+
+use crate::letting_go::dissolve;
+use crate::supply::{SharedSupply, turn_of};
+use broker_groups::{Broker, BrokerPlace};
+use conn_engine::{BindRefusal, NoMemory, OfferRefusal, Supply};
+use gate_word::Visitor;
+use group_jobs::{Envelope, Fate, SharedMessage, Stamp};
+use mqtt_topic::{Share, Slots, TopicName};
+use mqtt_wire::Text;
+use session_desk::{Attached, DeskError, Session};
+use std::sync::Wait;
+
+impl<'a, 'g, B: Broker, R: Wait> Supply<BrokerPlace<B>> for SharedSupply<'a, 'g, B, R> {
+    ghost call = { Calls B.group };
+
+    ghost visiting = { is_visiting };
+
+    ghost turn = { Turns };
+
+    fn begin(&mut self) -> bool
+        ensures told { result ≡ is_visiting self.new }
+        ensures turned { Turns self.old self.new }
+        ensures begun { Begins self.old self.new }
+    {
+        self.enter();
+        self.is_open()
+    }
+
+    fn is_open(&self) -> bool
+        ensures { result ≡ is_visiting self.now }
+    {
+        matches!(&self.visitor, Some(Visitor::Inside(_)))
+    }
+
+    fn end(&mut self)
+        ensures turned { Turns self.old self.new }
+        ensures left { Leaves self.old self.new }
+    {
+        self.leave();
+    }
+
+    fn attach(
+        &mut self,
+        connection: u16,
+        client: &Text,
+        clean: bool,
+        now: u64,
+    ) -> Result<Attached<Envelope, BrokerPlace<B>>, DeskError> {
+        let hall = self.hall;
+        hall.desk
+            .attach(self.rt, connection, client.shared_bytes(), clean, now)
+    }
+
+    fn withdraw(&mut self, connection: u16) {
+        let hall = self.hall;
+        hall.desk.withdraw(self.rt, connection);
+    }
+
+    fn kicked(&self, connection: u16) -> bool {
+        let hall = self.hall;
+        hall.desk.kicked(self.rt, connection)
+    }
+
+    fn park(
+        &mut self,
+        session: Session<Envelope, BrokerPlace<B>>,
+        now: u64,
+    ) -> Option<Session<Envelope, BrokerPlace<B>>>
+        requires { IsSoundSession HasOut session }
+        ensures same { IfSome result (λ back. back ≡ session) }
+        ensures called { Calls B.group self.old (Park session now result) self.new }
+        ensures visiting { is_visiting self.new ≡ is_visiting self.old }
+    {
+        let hall = self.hall;
+        hall.desk.park(self.rt, session, now)
+    }
+
+    fn park_as_is(&mut self, session: Session<Envelope, BrokerPlace<B>>)
+        requires { IsSoundSession HasOut session }
+        ensures called { Calls B.group self.old (ParkAsIs session) self.new }
+        ensures visiting { is_visiting self.new ≡ is_visiting self.old }
+    {
+        let hall = self.hall;
+        dissolve(hall.desk.park_as_is(self.rt, session));
+    }
+
+    fn keep(&mut self, session: Session<Envelope, BrokerPlace<B>>)
+        requires { IsOutAtPlace HasOut session }
+        ensures called { Calls B.group self.old (Keep session) self.new }
+        ensures visiting { is_visiting self.new ≡ is_visiting self.old }
+    {
+        let hall = self.hall;
+        dissolve(hall.desk.keep(self.rt, session));
+    }
+
+    fn bury(&mut self, session: Session<Envelope, BrokerPlace<B>>)
+        requires spent { held_of session.window ≡ [] }
+        requires out { IsOutAtPlace HasOut session }
+        ensures called { Calls B.group self.old (Bury session) self.new }
+        ensures visiting { is_visiting self.new ≡ is_visiting self.old }
+    {
+        let hall = self.hall;
+        dissolve(hall.desk.bury(self.rt, session));
+    }
+
+    fn sweep(&mut self, now: u64) -> Option<Session<Envelope, BrokerPlace<B>>> {
+        let hall = self.hall;
+        hall.desk.sweep(self.rt, now)
+    }
+
+    fn lend_place(&mut self, slot: u8) -> Option<BrokerPlace<B>> {
+        let hall = self.hall;
+        hall.desk.lend_place(self.rt, slot)
+    }
+
+    fn take_place(&mut self, place: BrokerPlace<B>) {
+        let hall = self.hall;
+        let _back = hall.desk.take_place(self.rt, place);
+    }
+
+    fn bind(&mut self, share: Share) -> Result<u8, BindRefusal> {
+        match self.known.bind(self.rt, share) {
+            Ok(slot) => Ok(slot),
+            Err(_) => Err(BindRefusal::NoSlot),
+        }
+    }
+
+    fn find(&mut self, share: &Share) -> Option<u8> {
+        self.known.find(share)
+    }
+
+    fn matching(&mut self, topic: &TopicName) -> Slots {
+        self.known.matching(topic)
+    }
+
+    fn offer(
+        &mut self,
+        slot: u8,
+        _connection: u16,
+        message: SharedMessage,
+    ) -> Result<Stamp, OfferRefusal> {
+        let hall = self.hall;
+        let turn = turn_of(&self.visitor);
+        self.ports.offer(&hall.groups, self.rt, turn, slot, message)
+    }
+
+    fn take(&mut self, place: &mut BrokerPlace<B>) -> Result<Option<Envelope>, NoMemory> {
+        let hall = self.hall;
+        place.take(&hall.groups, self.rt, turn_of(&self.visitor))
+    }
+
+    fn take_back(&mut self, place: &mut BrokerPlace<B>) -> Result<Option<Envelope>, NoMemory> {
+        let hall = self.hall;
+        place.take_back(&hall.groups, self.rt, turn_of(&self.visitor))
+    }
+
+    fn settle(&mut self, place: &mut BrokerPlace<B>, envelope: Envelope, fate: Fate) {
+        let _stamp = place.settle(envelope, fate);
+    }
+
+    fn give_back(
+        &mut self,
+        place: &mut BrokerPlace<B>,
+        envelope: Envelope,
+    ) -> Result<(), Envelope> {
+        let hall = self.hall;
+        place.give_back(&hall.groups, self.rt, envelope)
+    }
+}

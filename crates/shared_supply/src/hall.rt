@@ -1,0 +1,79 @@
+//! What all workers of a broker share by reference.
+ghost use Rattle.std.specs.Prelude.{◌≡◌, [], IfOk};
+
+use broker_groups::{Broker, BrokerGroups, BrokerPlace};
+use gate_word::Gate;
+use shared_desk::SharedDesk;
+use shared_routes::{KnownRoutes, SharedRoutes};
+use std::alloc::{AllocError, Global};
+use std::marker::Model;
+
+/// The gate, the groups, the desk and the routes of a broker, which its workers share by reference.
+///
+/// Contracts see it as the names of its routes' cells.
+pub struct Hall<'g, B: Broker> {
+    pub(crate) gate: &'g Gate,
+    pub(crate) groups: BrokerGroups<'g, B>,
+    pub(crate) desk: SharedDesk<BrokerPlace<B>>,
+    pub(crate) routes: SharedRoutes,
+}
+
+impl<'g, B: Broker> Model for Hall<'g, B> {
+    ghost use Rattle.std.specs.Prelude.{◌≡◌, List, ℕ};
+
+    ghost Value = { List ℕ };
+
+    ghost view = { λ h. h.routes };
+
+    ghost invariant = { λ h. h.gate.now ≡ B.gate };
+}
+
+impl<'g, B: Broker> Hall<'g, B> {
+    /// What the workers of a broker share from now on.
+    pub fn new(
+        gate: &'g Gate,
+        groups: BrokerGroups<'g, B>,
+        desk: SharedDesk<BrokerPlace<B>>,
+        routes: SharedRoutes,
+    ) -> Hall<'g, B>
+        requires { gate.now ≡ B.gate }
+        ensures { result ≡ routes }
+    {
+        Hall {
+            gate,
+            groups,
+            desk,
+            routes,
+        }
+    }
+
+    /// What a worker knows of the routes before it has learnt of any.
+    ///
+    /// # Errors
+    ///
+    /// Want of memory.
+    pub fn know_routes(&self, alloc: Global) -> Result<KnownRoutes<'_>, AllocError>
+        ensures { IfOk result (λ known. known ≡ record { table = self.now; shares = [] }) }
+    {
+        KnownRoutes::new(alloc, &self.routes)
+    }
+
+    /// Its parts, once no other thread has it.
+    pub fn into_parts(
+        self,
+    ) -> (
+        BrokerGroups<'g, B>,
+        SharedDesk<BrokerPlace<B>>,
+        SharedRoutes,
+    )
+        ensures { result.2 ≡ self.entry }
+    {
+        let Hall {
+            gate: _,
+            groups,
+            desk,
+            routes,
+        } = self;
+        (groups, desk, routes)
+    }
+}

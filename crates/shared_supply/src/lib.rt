@@ -1,0 +1,12 @@
+//! What the workers of a broker share, and what each of them asks: a [`Supply`](conn_engine::Supply) for connections on many threads.
+#![tactic(auto)]
+
+mod calls;
+mod ending;
+mod hall;
+mod letting_go;
+mod supply;
+
+pub use ending::StillOpen;
+pub use hall::Hall;
+pub use supply::SharedSupply;

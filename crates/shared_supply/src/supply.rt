@@ -1,0 +1,116 @@
+//! What a worker has of a broker.
+ghost use Rattle.std.specs.Prelude.{◌≡◌, true};
+ghost use Rattle.gate_word.specs.Visits.{Ends};
+ghost use Rattle.gate_word.specs.declared.visitor.Visitor.TheVariants.{Inside, Outside};
+ghost use Rattle.shared_supply.specs.Workers.{Begins, Leaves, standing, is_inside};
+
+use crate::hall::Hall;
+use broker_groups::{Broker, Key, Ports};
+use gate_word::{Turn, Visitor};
+use shared_routes::KnownRoutes;
+use std::marker::Model;
+use std::mem;
+use std::sync::Wait;
+
+/// What a worker asks: the hall that it shares with the others, and what it has for itself, a visitor of the broker's gate, a port of each group, and
+/// what it knows of the routes.
+///
+/// Contracts see it as a `Worker`.
+pub struct SharedSupply<'a, 'g, B: Broker, R: Wait> {
+    pub(crate) rt: &'a R,
+    pub(crate) hall: &'a Hall<'g, B>,
+    // There always is one.
+    pub(crate) visitor: Option<Visitor>,
+    pub(crate) ports: Ports<B>,
+    pub(crate) known: KnownRoutes<'a>,
+}
+
+impl<'a, 'g, B: Broker, R: Wait> Model for SharedSupply<'a, 'g, B, R> {
+    ghost use Rattle.shared_supply.specs.Workers.{Worker, standing, IsVisitorOf};
+
+    ghost Value = { Worker };
+
+    ghost view = { λ s. record { visitor = standing s.visitor; ports = s.ports; known = s.known } };
+
+    ghost invariant = { λ s. IsVisitorOf B.gate s.visitor };
+}
+
+impl<'a, 'g, B: Broker, R: Wait> SharedSupply<'a, 'g, B, R> {
+    /// A worker's, which is outside the gate.
+    pub fn new(
+        rt: &'a R,
+        hall: &'a Hall<'g, B>,
+        key: Key<B>,
+        ports: Ports<B>,
+        known: KnownRoutes<'a>,
+    ) -> SharedSupply<'a, 'g, B, R>
+        requires { known.table ≡ hall.now }
+        ensures { result ≡ record { visitor = Outside key; ports = ports; known = known.entry } }
+    {
+        SharedSupply {
+            rt,
+            hall,
+            visitor: Some(key.into_visitor()),
+            ports,
+            known,
+        }
+    }
+
+    /// Its key and its ports. A worker that is inside leaves first.
+    pub fn into_parts(self) -> (Key<B>, Ports<B>)
+        ensures key { Ends self.entry.visitor result.0 }
+        ensures ports { result.1 ≡ self.entry.ports }
+    {
+        let SharedSupply {
+            rt: _,
+            hall,
+            visitor,
+            ports,
+            known: _,
+        } = self;
+        let Some(visitor) = visitor else {
+            unreachable!()
+        };
+        (Key::of(visitor.leave(hall.gate)), ports)
+    }
+
+    /// Enters the gate, unless it is shut, and learns of the routes what others bound.
+    pub(crate) fn enter(&mut self)
+        ensures { Begins self.old self.new }
+    {
+        let Some(visitor) = self.visitor.take() else {
+            unreachable!()
+        };
+        let hall = self.hall;
+        let entered = visitor.enter(hall.gate);
+        if let Some(other) = mem::replace(&mut self.visitor, Some(entered)) {
+            let _seat = other.leave(hall.gate);
+        }
+        self.known.learn();
+    }
+
+    /// Leaves the gate.
+    pub(crate) fn leave(&mut self)
+        ensures { Leaves self.old self.new }
+    {
+        let Some(visitor) = self.visitor.take() else {
+            unreachable!()
+        };
+        let hall = self.hall;
+        let seat = visitor.leave(hall.gate);
+        if let Some(other) = mem::replace(&mut self.visitor, Some(Visitor::Outside(seat))) {
+            let _seat = other.leave(hall.gate);
+        }
+    }
+}
+
+/// The turn of a visitor that is inside.
+pub(crate) fn turn_of(visitor: &Option<Visitor>) -> &Turn
+    requires { is_inside (standing visitor.now) ≡ true }
+    ensures { standing visitor.now ≡ Inside result.now }
+{
+    let Some(Visitor::Inside(turn)) = visitor else {
+        unreachable!()
+    };
+    turn
+}

@@ -1,0 +1,86 @@
+//! Two clients over any supply.
+ghost use Rattle.std.specs.Prelude.{◌<◌};
+
+use client_table::{ClientTable, Said};
+use conn_engine::{HoldingPlace, NoMemory, Supply};
+use mqtt_wire::encode_into;
+use std::alloc::Global;
+
+/// A CONNECT of client `w1`, and of client `p`.
+const MEMBER: &[u8] = b"\x10\x0F\x00\x04MQTT\x05\x02\x00\x3C\x00\x00\x02w1";
+
+const PUBLISHER: &[u8] = b"\x10\x0E\x00\x04MQTT\x05\x02\x00\x3C\x00\x00\x01p";
+
+/// A SUBSCRIBE to `$share/g/job`.
+const SUBSCRIBE: &[u8] = b"\x82\x12\x00\x01\x00\x00\x0C$share/g/job\x01";
+
+/// A PUBLISH with the payload A.
+const JOB: &[u8] = b"\x32\x09\x00\x03job\x00\x01\x00A";
+
+/// The PUBACK of identifier 1.
+const ACKNOWLEDGED: &[u8] = b"\x40\x02\x00\x01";
+
+/// A PINGREQ.
+const PING: &[u8] = b"\xC0\x00";
+
+/// What is written: two CONNACKs, a SUBACK, a PUBACK, the PUBLISH, and a PINGRESP.
+pub(crate) const WRITTEN: &[u8] =
+    b"\x20\x0E\x00\x00\x0B\x24\x01\x25\x00\x27\x00\x01\x00\x00\x29\x00\x90\x04\x00\x01\x00\x01\x20\x0E\x00\x00\x0B\x24\x01\x25\x00\x27\x00\x01\x00\x00\x29\x00\x40\x02\x00\x01\x32\x09\x00\x03job\x00\x01\x00A\xD0\x00";
+
+/// A client's piece comes within a visit of its own; a job for the member is handed out behind it.
+fn says<P: HoldingPlace, S: Supply<P>>(
+    supply: &mut S,
+    clients: &mut ClientTable<P>,
+    said: &mut Vec<Said>,
+    number: u8,
+    piece: &[u8],
+) -> Result<(), NoMemory>
+    requires { number < 64 }
+{
+    if supply.begin() {
+        clients.receive(supply, number, 0, piece, said)?;
+        clients.tick(supply, 0, 0, said)?;
+        supply.end();
+    }
+    Ok(())
+}
+
+/// One is a member, and the other publishes; the member acknowledges what it was handed, and goes.
+fn work<P: HoldingPlace, S: Supply<P>>(
+    supply: &mut S,
+    clients: &mut ClientTable<P>,
+    said: &mut Vec<Said>,
+) -> Result<(), NoMemory> {
+    says(supply, clients, said, 0, MEMBER)?;
+    says(supply, clients, said, 0, SUBSCRIBE)?;
+    says(supply, clients, said, 1, PUBLISHER)?;
+    says(supply, clients, said, 1, JOB)?;
+    says(supply, clients, said, 0, ACKNOWLEDGED)?;
+    says(supply, clients, said, 0, PING)
+}
+
+/// What was said, as bytes.
+fn bytes_of(alloc: Global, said: &[Said]) -> Option<Vec<u8>> {
+    let mut bytes = Vec::new(alloc);
+    for words in said {
+        for packet in words.packets() {
+            encode_into(&mut bytes, packet).ok()?;
+        }
+    }
+    Some(bytes)
+}
+
+/// What two clients are written in all, from their CONNECT on.
+pub(crate) fn two_clients<P: HoldingPlace, S: Supply<P>>(
+    alloc: Global,
+    supply: &mut S,
+) -> Option<Vec<u8>> {
+    let mut clients = ClientTable::new(alloc).ok()?;
+    clients.open(0, 0);
+    clients.open(1, 0);
+    let mut said = Vec::new(alloc);
+    let worked = work(supply, &mut clients, &mut said);
+    clients.abandon(supply, 0);
+    worked.ok()?;
+    bytes_of(alloc, &said)
+}
