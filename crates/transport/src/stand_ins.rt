@@ -24,6 +24,8 @@ impl Clock for SetClock {
 pub struct OpenCrossing;
 
 impl Crossing for OpenCrossing {
+    ghost refuses = { λ _ _ _. ⊥ };
+
     fn cross(&self, _worker: u32, _turn: u32) -> bool
         ensures { result ≡ true }
     {

@@ -1,5 +1,5 @@
 //! What stands between a client and who serves it.
-ghost use Rattle.std.specs.Prelude.{◌≡◌, ◌<◌, ◌≤◌, ℕ, List, [], Option, None, length};
+ghost use Rattle.std.specs.Prelude.{◌≡◌, ◌<◌, ◌≤◌, ℕ, List, [], Option, None, length, false};
 ghost use Rattle.std.specs.Io.KnownBytes.{append_known};
 ghost use Rattle.transport.specs.Counting.{ComesNew, MayCome, MayGoOn, after_arrival, after_flushed, after_got, after_put};
 ghost use Rattle.transport.specs.declared.counts.Counts.{Counts};
@@ -112,6 +112,10 @@ pub trait Clock {
 
 /// A place that workers pass before each write, for tests of what they do beside each other.
 pub trait Crossing {
+    /// It refused this worker in this turn.
+    ghost refuses: { Self → ℕ → ℕ → Type 0 };
+
     /// Whether this worker may pass. It is asked in turns from 0 on, until it may.
-    fn cross(&self, worker: u32, turn: u32) -> bool;
+    fn cross(&self, worker: u32, turn: u32) -> bool
+        ensures { result ≡ false → refuses self.now worker turn };
 }
