@@ -66,7 +66,9 @@ fn serve_on<P: HoldingPlace, T: Transport, S: Supply<P>, X: Crossing, C: Clock, 
                     return (Served::Stalled, service.end());
                 }
             }
-            Round::More | Round::Reading | Round::Waiting => {}
+            Round::More => {}
+            Round::Reading => {}
+            Round::Waiting => {}
         }
     }
     unreachable!()
