@@ -4,3 +4,6 @@ pub mod AtEdge
 pub mod OneStep
 pub mod Fronts
 pub mod Rounds
+pub mod Folding
+pub mod Written
+pub mod Read

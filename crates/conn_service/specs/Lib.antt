@@ -6,3 +6,4 @@ pub mod Moments
 pub mod Edges
 pub mod Lives
 pub mod Endings
+pub mod Transcripts

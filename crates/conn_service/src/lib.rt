@@ -17,6 +17,7 @@
 
 mod crossing;
 mod edge;
+pub mod laws;
 mod outgoing;
 mod round;
 mod served;
