@@ -1,0 +1,9 @@
+pub mod Leading
+pub mod Emptied
+pub mod AtEdge
+pub mod OneStep
+pub mod Fronts
+pub mod Rounds
+pub mod Folding
+pub mod Written
+pub mod Read

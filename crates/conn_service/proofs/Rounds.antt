@@ -1,0 +1,67 @@
+-- Parts of a round, one after the other.
+use Rattle.std.proofs.Common.{◌≡◌, ℕ, ◌<◌, Bool, false, List, length, length-append, Option, refl, ap, ◌∙◌, arith}
+use Rattle.transport.specs.declared.counts.Counts.{Counts}
+use Rattle.transport.specs.declared.answers.Put.{Put}
+use Rattle.transport.specs.declared.answers.Put.TheVariants as put
+use Rattle.transport.specs.declared.answers.Got.{Got}
+use Rattle.conn_engine.specs.Facts.{Fact}
+use Rattle.conn_service.specs.Services.{ServiceState, IdlesTick, KeepsIdles}
+use Rattle.conn_service.specs.Acts.{Reads, Writes, Enters, Leaves}
+use Rattle.conn_service.specs.Edges.{ReadsOnce, WritesOnce, LeadsAtEdge}
+use Rattle.conn_service.specs.Lives.{Leads}
+use Rattle.conn_service.proofs.Leading.{edge_one, edge_on, leads_one, leads_on, leads_at_edge}
+
+-- ticks before and behind which no read gave nothing
+pub idles_between : {P T : Type 0} (counts : T → Counts) (now : ℕ) (a b c d : ServiceState P T) → KeepsIdles counts a b → IdlesTick counts now b c → KeepsIdles counts c d → IdlesTick counts now a d
+idles_between counts now a b c d first ticks last =
+    λ changed. last.1 ∙ ticks (λ same. changed (last.0 ∙ same ∙ first.0))
+
+pub idles_before : {P T : Type 0} (counts : T → Counts) (now : ℕ) (a b c : ServiceState P T) → KeepsIdles counts a b → IdlesTick counts now b c → IdlesTick counts now a c
+idles_before counts now a b c first ticks = λ changed. ticks (λ same. changed (same ∙ first.0))
+
+pub idles_behind : {P T : Type 0} (counts : T → Counts) (now : ℕ) (a b c : ServiceState P T) → IdlesTick counts now a b → KeepsIdles counts b c → IdlesTick counts now a c
+idles_behind counts now a b c ticks last = λ changed. last.1 ∙ ticks (λ same. changed (last.0 ∙ same))
+
+pub idles_kept : {P T : Type 0} (counts : T → Counts) (now : ℕ) (a b : ServiceState P T) → KeepsIdles counts a b → IdlesTick counts now a b
+idles_kept counts now a b kept = λ changed. absurd (changed kept.0)
+
+module _ {P T : Type 0} (counts : T → Counts) (given accepted : T → Option (List ℕ)) where
+  -- one write more
+  pub writes_on : (now : ℕ) (put : Put) (old mid new : ServiceState P T) → LeadsAtEdge counts given accepted old mid → WritesOnce counts given accepted now put mid new
+      → LeadsAtEdge counts given accepted old new
+  writes_on now put old mid new led writes = edge_on counts given accepted old mid new led (edge_one counts given accepted (Writes now put) mid new writes)
+
+  -- a write that takes something leaves less
+  pub less_waits : (now count : ℕ) (old new : ServiceState P T) → WritesOnce counts given accepted now (put.Wrote count) old new → length new.outgoing < length old.outgoing
+  less_waits now count old new writes =
+      let whole = ap length writes.front in let both = length-append writes.taken new.outgoing in let taken = writes.count in let some = writes.some in omega arith
+
+module _ {S P T : Type 0} (call : S → Fact P → S → Type 0) (turn : S → S → Type 0) (visiting : S → Bool) (slot_of : P → ℕ)
+    (counts : T → Counts) (given accepted : T → Option (List ℕ)) where
+  -- acts towards the transport, and then others
+  pub edge_then : (old mid new : ServiceState P T) (supply supply' : S) → LeadsAtEdge counts given accepted old mid
+      → Leads call turn visiting slot_of counts given accepted mid supply new supply' → Leads call turn visiting slot_of counts given accepted old supply new supply'
+  edge_then old mid new supply supply' edge led =
+      leads_on call turn visiting slot_of counts given accepted old mid new supply supply supply' (leads_at_edge call turn visiting slot_of counts given accepted old mid supply edge) led
+
+  pub then_edge : (old mid new : ServiceState P T) (supply supply' : S) → Leads call turn visiting slot_of counts given accepted old supply mid supply'
+      → LeadsAtEdge counts given accepted mid new → Leads call turn visiting slot_of counts given accepted old supply new supply'
+  then_edge old mid new supply supply' led edge =
+      leads_on call turn visiting slot_of counts given accepted old mid new supply supply' supply' led (leads_at_edge call turn visiting slot_of counts given accepted mid new supply' edge)
+
+  -- a read, and then others
+  pub read_then : (size : ℕ) (got : Got) (bytes : List ℕ) (old mid new : ServiceState P T) (supply supply' : S) → ReadsOnce counts given accepted size got bytes old mid
+      → Leads call turn visiting slot_of counts given accepted mid supply new supply' → Leads call turn visiting slot_of counts given accepted old supply new supply'
+  read_then size got bytes old mid new supply supply' reads led = edge_then old mid new supply supply' (edge_one counts given accepted (Reads size got bytes) old mid reads) led
+
+  -- a visit: what is done in it stands between its beginning and its end
+  pub visited : (is_open : Bool) (old inside new : ServiceState P T) (supply between mid supply' : S) → inside ≡ old → turn supply between → visiting between ≡ is_open
+      → Leads call turn visiting slot_of counts given accepted (record inside { drained = false }) between new mid → turn mid supply'
+      → Leads call turn visiting slot_of counts given accepted old supply new supply'
+  visited is_open old inside new supply between mid supply' is entered told led left =
+      let begun = record inside { drained = false } in
+      leads_on call turn visiting slot_of counts given accepted old begun new supply between supply'
+      (leads_one call turn visiting slot_of counts given accepted (Enters is_open) old begun supply between
+      (record { turned = entered; told = told; becomes = ap (λ (s : ServiceState P T). record s { drained = false }) is }))
+      (leads_on call turn visiting slot_of counts given accepted begun new new between mid supply' led
+      (leads_one call turn visiting slot_of counts given accepted Leaves new new mid supply' (record { turned = left; same = refl })))

@@ -1,0 +1,25 @@
+-- A connection that is served to its end.
+use Rattle.std.specs.Prelude.{◌≡◌, ◌⊎◌, ℕ, Bool, List, Option, Some}
+use Rattle.transport.specs.declared.counts.Counts.{Counts}
+use Rattle.conn_engine.specs.declared.standing.Standing.TheVariants.{Ended}
+use Rattle.conn_engine.specs.Facts.{Fact}
+use Rattle.conn_service.specs.declared.served.Served.{Served}
+use Rattle.conn_service.specs.declared.served.Served.TheVariants as served
+use Rattle.conn_service.specs.Services.{ServiceState, opened}
+use Rattle.conn_service.specs.Lives.{Leads}
+
+module _ {S P T : Type 0} (call : S → Fact P → S → Type 0) (turn : S → S → Type 0) (visiting : S → Bool) (slot_of : P → ℕ)
+    (counts : T → Counts) (given accepted : T → Option (List ℕ)) where
+  -- acts led a connection to its end, which was this, and left this transport
+  pub record EndsAs (first : ServiceState P T) (supply : S) (how : Served) (transport : T) (supply' : S) : Type 0 where
+    pub last : ServiceState P T
+    pub led : Leads call turn visiting slot_of counts given accepted first supply last supply'
+    pub ending : last.ending ≡ Some how
+    pub over : last.client.conn.standing ≡ Ended
+    pub left : transport ≡ last.transport
+
+  -- so it was from its opening, at some moment; or there was no memory to open it, and nothing was asked of its transport
+  abbrev pub IsServedToItsEnd : ℕ → T → S → Served → T → S → Type 0
+  IsServedToItsEnd number transport supply how transport' supply' =
+      ((opening : ℕ) × EndsAs (opened number opening transport) supply how transport' supply')
+      ⊎ ((how ≡ served.Memory) × (transport' ≡ transport) × (supply' ≡ supply))

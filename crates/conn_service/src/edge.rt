@@ -1,0 +1,171 @@
+//! What a connection does with its transport: it reads, and writes what waits.
+ghost use Rattle.std.specs.Prelude.{◌≡◌, ◌≢◌, ◌<◌, ◌≤◌, true, [], List, ℕ, length, None, Some, Err, Ok, MatchResult, OnOk, OnErr, IfErr, if◌then◌else◌};
+ghost use Rattle.transport.specs.declared.answers.Got.TheVariants as gots;
+ghost use Rattle.conn_service.specs.declared.served.Served.TheVariants as endings;
+ghost use Rattle.conn_service.specs.Crossings.{RefusesAlways};
+ghost use Rattle.conn_engine.specs.declared.standing.Standing.TheVariants.{Ended};
+ghost use Rattle.conn_service.specs.Services.{KeepsIdles, most_refused};
+ghost use Rattle.conn_service.specs.Lives.{Leads};
+ghost use Rattle.conn_service.specs.Edges.{MayRead, ReadsOnce, WritesOnce, LeadsAtEdge};
+
+use crate::crossing::may_pass;
+use crate::served::Served;
+use crate::service::Service;
+use conn_engine::{HoldingPlace, NoMemory, Supply};
+use transport::{Crossing, Got, Put, Transport};
+
+/// For how many milliseconds a transport may take nothing of what waits.
+const PATIENCE: u64 = 60_000;
+
+/// And where the connection has ended.
+const LINGER: u64 = 1_000;
+
+/// How many writes in a row may give nothing, where each of them waits.
+pub(crate) const MOST_REFUSED: u32 = 600;
+
+impl<P: HoldingPlace, T: Transport> Service<P, T> {
+    /// Reads once, into a buffer with room, and keeps what came for the client.
+    pub(crate) fn read_once(&mut self, buffer: &mut [u8]) -> Result<Got, Served>
+        requires may { MayRead T.counts T.given T.accepted self.old }
+        requires room { 0 < length buffer.old }
+        ensures read { MatchResult result
+            (λ got. (bytes : List ℕ) × ReadsOnce T.counts T.given T.accepted (length buffer.old) got bytes self.old self.new)
+            (λ served. LeadsAtEdge T.counts T.given T.accepted self.old self.new × (self.new.ending ≡ Some served)) }
+        ensures whole { result ≢ Ok gots.Failed }
+        ensures idles { OnErr result (KeepsIdles T.counts self.old self.new) }
+        ensures no_crossing { result ≢ Err endings.NoCrossing }
+    {
+        let size = buffer.len();
+        let got = self.transport.read(buffer);
+        match got {
+            Got::Bytes(count) => {
+                if let Err(NoMemory) = self.client.feed(&buffer[..count]) {
+                    self.ending = Some(Served::Memory);
+                    return Err(Served::Memory);
+                }
+                self.drained = count < size;
+                self.kept = kept_after(self.kept, count, self.client.wants_input());
+            }
+            Got::Idle => self.drained = true,
+            Got::End => {
+                self.drained = true;
+                self.at_end = true;
+            }
+            Got::Failed => {
+                self.drained = true;
+                self.ending = Some(Served::Read);
+                return Err(Served::Read);
+            }
+        }
+        Ok(got)
+    }
+
+    /// Writes once of what waits.
+    fn write_once(&mut self, now: u64) -> Put
+        requires going { self.old.ending ≡ None }
+        requires waits { self.old.outgoing ≢ [] }
+        ensures { WritesOnce T.counts T.given T.accepted now result self.old self.new }
+    {
+        let bytes = self.outgoing.bytes();
+        let put = self.transport.write(bytes);
+        match put {
+            Put::Wrote(count) => {
+                self.outgoing.take_front(count);
+                self.since = now;
+                self.refused = 0;
+            }
+            Put::Idle => self.refused = self.refused.saturating_add(1).min(MOST_REFUSED),
+            Put::Failed => self.ending = Some(Served::Write),
+        }
+        put
+    }
+
+    /// Writes what waits, as far as the transport takes it.
+    pub(crate) fn send<X: Crossing>(
+        &mut self,
+        crossing: &X,
+        worker: u32,
+        now: u64,
+    ) -> Result<(), Served>
+        requires going { self.old.ending ≡ None }
+        ensures led { LeadsAtEdge T.counts T.given T.accepted self.old self.new }
+        ensures client { self.new.client ≡ self.old.client }
+        ensures ticked { self.new.ticked ≡ self.old.ticked }
+        ensures idles { KeepsIdles T.counts self.old self.new }
+        ensures sent { OnOk result (self.new.ending ≡ None) }
+        ensures ended { IfErr result (λ served. self.new.ending ≡ Some served) }
+        ensures crossing { result ≡ Err endings.NoCrossing → RefusesAlways X.refuses crossing.now worker }
+    {
+        'writes: while !self.outgoing.is_empty() {
+            if !may_pass(crossing, worker) {
+                self.ending = Some(Served::NoCrossing);
+                return Err(Served::NoCrossing);
+            }
+            match self.write_once(now) {
+                Put::Wrote(_) => {}
+                Put::Idle => return Ok(()),
+                Put::Failed => return Err(Served::Write),
+            }
+        }
+        Ok(())
+    }
+
+    /// Whether 600 writes in a row gave nothing: where each of them waits, too many.
+    pub fn is_refused(&self) -> bool
+        ensures { result ≡ true → most_refused ≤ self.now.refused }
+    {
+        self.refused >= MOST_REFUSED
+    }
+
+    /// Gives it up, since its transport takes nothing of what waits, in too many writes.
+    pub fn stall<S: Supply<P>>(&mut self, supply: &mut S, now: u64)
+        requires going { self.old.ending ≡ None }
+        requires waits { self.old.outgoing ≢ [] }
+        requires refused { most_refused ≤ self.old.refused }
+        ensures led { Leads S.call S.turn S.visiting P.slot_of T.counts T.given T.accepted self.old supply.old self.new supply.new }
+        ensures ended { self.new.ending ≡ Some endings.Stalled }
+        ensures over { self.new.client.conn.standing ≡ Ended }
+    {
+        self.ending = Some(Served::Stalled);
+        self.give_up(supply, now);
+    }
+
+    /// Whether it has ended by now: all that it said is written, or the transport took nothing of it for too long.
+    pub(crate) fn conclude(&mut self, now: u64) -> Result<(), Served>
+        requires going { self.old.ending ≡ None }
+        ensures led { LeadsAtEdge T.counts T.given T.accepted self.old self.new }
+        ensures client { self.new.client ≡ self.old.client }
+        ensures idles { KeepsIdles T.counts self.old self.new }
+        ensures goes_on { OnOk result ((self.new ≡ self.old) × (self.old.outgoing ≡ [] → self.old.client.conn.standing ≢ Ended)) }
+        ensures ended { IfErr result (λ served. self.new.ending ≡ Some served) }
+        ensures no_crossing { result ≢ Err endings.NoCrossing }
+    {
+        let over = self.client.has_ended();
+        if self.outgoing.is_empty() {
+            if over {
+                self.ending = Some(Served::Ended);
+                return Err(Served::Ended);
+            }
+        } else if now.saturating_sub(self.since) >= patience(over) {
+            self.ending = Some(Served::Stalled);
+            return Err(Served::Stalled);
+        }
+        Ok(())
+    }
+}
+
+/// For how many milliseconds a transport may take nothing of what waits, where the connection has ended or not.
+fn patience(over: bool) -> u64
+    ensures { result ≡ (if over then 1000 else 60000) }
+{
+    if over { LINGER } else { PATIENCE }
+}
+
+/// How many bytes of the stream are kept since the connection waits for a session, behind so many more; none where it does not wait.
+fn kept_after(kept: usize, count: usize, wants_input: bool) -> usize {
+    if wants_input {
+        0
+    } else {
+        kept.saturating_add(count)
+    }
+}

@@ -1,0 +1,308 @@
+//! Rounds: a connection goes on as far as it can without waiting.
+ghost use Rattle.std.specs.Prelude.{◌≡◌, ◌≢◌, ◌⊎◌, ◌<◌, [], length, if◌then◌else◌, None, Some, Ok, Err, true, false, OnOk, IfErr};
+ghost use Rattle.conn_engine.specs.declared.standing.Standing.TheVariants.{Ended};
+ghost use Rattle.conn_engine.specs.Looking.{IsSilentTooLong};
+ghost use Rattle.conn_engine.specs.Standings.{IsWaiting};
+ghost use Rattle.conn_service.specs.declared.served.Round.TheVariants as rounds;
+ghost use Rattle.conn_service.specs.declared.served.Served.TheVariants as endings;
+ghost use Rattle.conn_service.specs.Crossings.{RefusesAlways};
+ghost use Rattle.conn_service.specs.Edges.{MayRead};
+ghost use Rattle.conn_engine.specs.declared.input.Input.TheVariants as inputs;
+ghost use Rattle.conn_engine.specs.Facts.Fact.{Kicked};
+ghost use Rattle.conn_service.specs.Moments.{is_tick_for};
+ghost use Rattle.conn_service.specs.Services.{IsOnTime, IsServed, IsTold, IdlesTick, KeepsEdge, KeepsEdgeAt};
+ghost use Rattle.conn_service.specs.Lives.{IsDue, Leads};
+
+use crate::served::{Round, Served};
+use crate::service::Service;
+use conn_engine::{HoldingPlace, Input, Supply};
+use transport::{Crossing, Got, Transport};
+
+/// How many milliseconds there are between two Ticks at most.
+const TICK_PERIOD: u64 = 100;
+
+/// How many bytes of its stream are kept at least, while a connection waits for its session.
+const KEPT: usize = 65_536;
+
+impl<P: HoldingPlace, T: Transport> Service<P, T> {
+    /// Goes on as far as it can without waiting, at this moment in milliseconds, and tells what it waits for: what waits is written, what came is read,
+    /// once, into the buffer, which has room, and stepped packet by packet, and what that says is written.
+    pub fn round<S: Supply<P>, X: Crossing>(
+        &mut self,
+        supply: &mut S,
+        crossing: &X,
+        worker: u32,
+        now: u64,
+        buffer: &mut [u8],
+    ) -> Round
+        requires going { self.old.ending ≡ None }
+        requires room { 0 < length buffer.old }
+        ensures led { Leads S.call S.turn S.visiting P.slot_of T.counts T.given T.accepted self.old supply.old self.new supply.new }
+        ensures told { IsTold result self.new now }
+        ensures idles { IdlesTick T.counts now self.old self.new }
+        ensures crossing { result ≡ rounds.Ended endings.NoCrossing → RefusesAlways X.refuses crossing.now worker }
+    {
+        match self.go_on(supply, crossing, worker, now, buffer) {
+            Ok(all) => self.outlook(all, now),
+            Err(served) => {
+                self.give_up(supply, now);
+                Round::Ended(served)
+            }
+        }
+    }
+
+    /// What it waits for, behind a round in which all that is whole was stepped, or not.
+    fn outlook(&self, all: bool, now: u64) -> Round
+        requires going { self.now.ending ≡ None }
+        requires not_over { self.now.outgoing ≡ [] → self.now.client.conn.standing ≢ Ended }
+        requires all { all ≡ true → IsServed self.now now }
+        ensures { IsTold result self.now now }
+    {
+        if !self.outgoing.is_empty() {
+            Round::Writing
+        } else if all && self.drained {
+            Round::Reading
+        } else if all && self.keeps_enough() {
+            Round::Waiting
+        } else {
+            Round::More
+        }
+    }
+
+    /// Whether it waits for its session, and has kept as much of its stream as it may.
+    fn keeps_enough(&self) -> bool
+        ensures { result ≡ true → IsWaiting self.now.client.conn.standing }
+    {
+        self.kept >= KEPT && !self.client.wants_input()
+    }
+
+    /// Writes, steps, and writes again. Whether all that is whole was stepped.
+    fn go_on<S: Supply<P>, X: Crossing>(
+        &mut self,
+        supply: &mut S,
+        crossing: &X,
+        worker: u32,
+        now: u64,
+        buffer: &mut [u8],
+    ) -> Result<bool, Served>
+        requires going { self.old.ending ≡ None }
+        requires room { 0 < length buffer.old }
+        ensures led { Leads S.call S.turn S.visiting P.slot_of T.counts T.given T.accepted self.old supply.old self.new supply.new }
+        ensures all { result ≡ Ok true → IsServed self.new now }
+        ensures not_over { OnOk result (self.new.outgoing ≡ [] → self.new.client.conn.standing ≢ Ended) }
+        ensures going { OnOk result (self.new.ending ≡ None) }
+        ensures ended { IfErr result (λ served. self.new.ending ≡ Some served) }
+        ensures idles { IdlesTick T.counts now self.old self.new }
+        ensures crossing { result ≡ Err endings.NoCrossing → RefusesAlways X.refuses crossing.now worker }
+    {
+        self.send(crossing, worker, now)?;
+        let all = self.visit(supply, now, buffer)?;
+        self.send(crossing, worker, now)?;
+        self.conclude(now)?;
+        Ok(all)
+    }
+
+    /// One visit of the supply, in which it is stepped; or its close, where the supply is shut. Whether all that is whole was stepped.
+    fn visit<S: Supply<P>>(
+        &mut self,
+        supply: &mut S,
+        now: u64,
+        buffer: &mut [u8],
+    ) -> Result<bool, Served>
+        requires going { self.old.ending ≡ None }
+        requires room { 0 < length buffer.old }
+        ensures led { Leads S.call S.turn S.visiting P.slot_of T.counts T.given T.accepted self.old supply.old self.new supply.new }
+        ensures all { result ≡ Ok true → IsServed self.new now }
+        ensures no_crossing { result ≢ Err endings.NoCrossing }
+        ensures going { OnOk result (self.new.ending ≡ None) }
+        ensures ended { IfErr result (λ served. self.new.ending ≡ Some served) }
+        ensures idles { IdlesTick T.counts now self.old self.new }
+    {
+        if self.client.has_ended() {
+            return Ok(true);
+        }
+        let open = supply.begin();
+        self.drained = false;
+        let all = self.step_within(supply, now, buffer, open);
+        supply.end();
+        all
+    }
+
+    /// It is stepped within a visit, or closed where the supply is shut.
+    fn step_within<S: Supply<P>>(
+        &mut self,
+        supply: &mut S,
+        now: u64,
+        buffer: &mut [u8],
+        is_open: bool,
+    ) -> Result<bool, Served>
+        requires going { self.old.ending ≡ None }
+        requires not_over { self.old.client.conn.standing ≢ Ended }
+        requires visiting { S.visiting supply.old ≡ is_open }
+        requires room { 0 < length buffer.old }
+        ensures led { Leads S.call S.turn S.visiting P.slot_of T.counts T.given T.accepted self.old supply.old self.new supply.new }
+        ensures all { result ≡ Ok true → IsServed self.new now }
+        ensures no_crossing { result ≢ Err endings.NoCrossing }
+        ensures going { OnOk result (self.new.ending ≡ None) }
+        ensures ended { IfErr result (λ served. self.new.ending ≡ Some served) }
+        ensures idles { IdlesTick T.counts now self.old self.new }
+    {
+        if is_open {
+            self.proceed(supply, now, buffer)
+        } else {
+            self.close(supply, now)
+        }
+    }
+
+    /// The broker closes.
+    fn close<S: Supply<P>>(&mut self, supply: &mut S, now: u64) -> Result<bool, Served>
+        requires going { self.old.ending ≡ None }
+        requires not_over { self.old.client.conn.standing ≢ Ended }
+        requires shut { S.visiting supply.old ≡ false }
+        ensures led { Leads S.call S.turn S.visiting P.slot_of T.counts T.given T.accepted self.old supply.old self.new supply.new }
+        ensures all { result ≡ Ok true → IsServed self.new now }
+        ensures no_crossing { result ≢ Err endings.NoCrossing }
+        ensures going { OnOk result (self.new.ending ≡ None) }
+        ensures ended { IfErr result (λ served. self.new.ending ≡ Some served) }
+        ensures idles { IdlesTick T.counts now self.old self.new }
+    {
+        self.step(supply, now, Input::Closing)?;
+        Ok(true)
+    }
+
+    /// Where something waits to be written, it is stepped only if it is taken over or overdue. Else it ticks, if it is time; and then what is
+    /// left from the round before is stepped, and what comes is read.
+    fn proceed<S: Supply<P>>(
+        &mut self,
+        supply: &mut S,
+        now: u64,
+        buffer: &mut [u8],
+    ) -> Result<bool, Served>
+        requires going { self.old.ending ≡ None }
+        requires not_over { self.old.client.conn.standing ≢ Ended }
+        requires visiting { S.visiting supply.old ≡ true }
+        requires room { 0 < length buffer.old }
+        ensures led { Leads S.call S.turn S.visiting P.slot_of T.counts T.given T.accepted self.old supply.old self.new supply.new }
+        ensures all { result ≡ Ok true → IsServed self.new now }
+        ensures no_crossing { result ≢ Err endings.NoCrossing }
+        ensures going { OnOk result (self.new.ending ≡ None) }
+        ensures ended { IfErr result (λ served. self.new.ending ≡ Some served) }
+        ensures idles { IdlesTick T.counts now self.old self.new }
+        ensures visiting { S.visiting supply.new ≡ S.visiting supply.old }
+    {
+        if !self.outgoing.is_empty() {
+            let urgent = self.is_urgent(supply, now);
+            self.tick_if(supply, now, urgent)?;
+            return Ok(false);
+        }
+        let due = self.is_tick_due(now);
+        self.tick_if(supply, now, due)?;
+        if !self.step_each(supply, now)? {
+            return Ok(false);
+        }
+        if !self.may_read() {
+            return Ok(true);
+        }
+        self.read(supply, now, buffer)
+    }
+
+    /// Reads, and steps by what came: a read that gives nothing is a Tick, and so is each one while the connection waits for its session.
+    fn read<S: Supply<P>>(
+        &mut self,
+        supply: &mut S,
+        now: u64,
+        buffer: &mut [u8],
+    ) -> Result<bool, Served>
+        requires may { MayRead T.counts T.given T.accepted self.old }
+        requires visiting { S.visiting supply.old ≡ true }
+        requires room { 0 < length buffer.old }
+        requires on_time { IsOnTime self.old now }
+        ensures led { Leads S.call S.turn S.visiting P.slot_of T.counts T.given T.accepted self.old supply.old self.new supply.new }
+        ensures all { result ≡ Ok true → IsServed self.new now }
+        ensures no_crossing { result ≢ Err endings.NoCrossing }
+        ensures going { OnOk result (self.new.ending ≡ None) }
+        ensures ended { IfErr result (λ served. self.new.ending ≡ Some served) }
+        ensures idles { IdlesTick T.counts now self.old self.new }
+        ensures visiting { S.visiting supply.new ≡ S.visiting supply.old }
+    {
+        let got = self.read_once(buffer)?;
+        if let Got::End = got {
+            return self.end_input(supply, now);
+        }
+        let due = is_tick(got, !self.client.wants_input());
+        self.tick_if(supply, now, due)?;
+        self.step_each(supply, now)
+    }
+
+    /// The stream has ended.
+    fn end_input<S: Supply<P>>(&mut self, supply: &mut S, now: u64) -> Result<bool, Served>
+        requires due { IsDue S.call S.turn S.visiting P.slot_of T.counts T.given T.accepted inputs.EndOfInput now self.old supply.old }
+        ensures led { Leads S.call S.turn S.visiting P.slot_of T.counts T.given T.accepted self.old supply.old self.new supply.new }
+        ensures over { OnOk result (self.new.client.conn.standing ≡ Ended) }
+        ensures no_crossing { result ≢ Err endings.NoCrossing }
+        ensures going { OnOk result (self.new.ending ≡ None) }
+        ensures ended { IfErr result (λ served. self.new.ending ≡ Some served) }
+        ensures stays { KeepsEdge self.old self.new }
+        ensures visiting { S.visiting supply.new ≡ S.visiting supply.old }
+    {
+        self.step(supply, now, Input::EndOfInput)?;
+        Ok(true)
+    }
+
+    /// A Tick, where one is due.
+    fn tick_if<S: Supply<P>>(&mut self, supply: &mut S, now: u64, due: bool) -> Result<(), Served>
+        requires due { due ≡ true → IsDue S.call S.turn S.visiting P.slot_of T.counts T.given T.accepted inputs.Tick now self.old supply.old }
+        requires going { self.old.ending ≡ None }
+        ensures led { Leads S.call S.turn S.visiting P.slot_of T.counts T.given T.accepted self.old supply.old self.new supply.new }
+        ensures no_crossing { result ≢ Err endings.NoCrossing }
+        ensures going { OnOk result (self.new.ending ≡ None) }
+        ensures ended { IfErr result (λ served. self.new.ending ≡ Some served) }
+        ensures stays { KeepsEdgeAt (if due then now else self.old.ticked) self.old self.new }
+        ensures visiting { S.visiting supply.new ≡ S.visiting supply.old }
+    {
+        if due {
+            self.step(supply, now, Input::Tick)
+        } else {
+            Ok(())
+        }
+    }
+
+    /// Whether more is read now: all that was said is written, and it is not over; and if it waits for its session, it has not kept enough.
+    fn may_read(&self) -> bool
+        ensures { result ≡ true → (self.now.client.conn.standing ≢ Ended) × (self.now.outgoing ≡ []) × (self.now.at_end ≡ false) }
+    {
+        !self.at_end && !self.client.has_ended() && self.outgoing.is_empty() && !self.keeps_enough()
+    }
+
+    /// Whether a Tick can't wait until the transport takes more: it is overdue, or another connection asked for its session.
+    fn is_urgent<S: Supply<P>>(&self, supply: &S, now: u64) -> bool
+        ensures { result ≡ true → IsSilentTooLong self.now.client.conn.standing now ⊎ S.call supply.now (Kicked self.now.client.conn.number true) supply.now }
+    {
+        self.is_overdue(now) || self.client.is_kicked(supply)
+    }
+
+    /// Whether it is time for a Tick.
+    fn is_tick_due(&self, now: u64) -> bool
+        ensures { result ≡ false → IsOnTime self.now now }
+    {
+        now.saturating_sub(self.ticked) >= TICK_PERIOD
+    }
+
+    /// Whether a Tick at this moment ends it for silence.
+    fn is_overdue(&self, now: u64) -> bool
+        ensures { result ≡ true → IsSilentTooLong self.now.client.conn.standing now }
+    {
+        matches!(self.client.deadline(), Some(deadline) if deadline <= now)
+    }
+}
+
+/// Whether what a read gave is a Tick: nothing is one, and anything while the connection waits for its session.
+fn is_tick(got: Got, waits: bool) -> bool
+    ensures { result ≡ is_tick_for got waits }
+{
+    match got {
+        Got::Bytes(_) => waits,
+        Got::Idle => true,
+        Got::End | Got::Failed => false,
+    }
+}

@@ -1,0 +1,123 @@
+//! A connection that is served.
+ghost use Rattle.std.specs.Prelude.{◌≡◌, ◌<◌, ◌≤◌, ◌^◌, ◌↔◌, ℕ, IsTrue, MatchOption, MatchResult};
+ghost use Rattle.transport.specs.Counting.{no_counts};
+ghost use Rattle.conn_engine.specs.Looking.{IsSilentTooLong, TakesAt};
+ghost use Rattle.conn_engine.specs.declared.standing.Standing.TheVariants as standings;
+ghost use Rattle.conn_service.specs.Services.{opened};
+
+use crate::outgoing::Outgoing;
+use crate::served::Served;
+use client_table::Client;
+use conn_engine::HoldingPlace;
+use mqtt_wire::Packet;
+use std::alloc::Global;
+use std::marker::Model;
+use transport::Transport;
+
+/// A connection that is served: its client, its transport, and what is still to be written. `P` is a place in a group.
+///
+/// Its client may have a session, so it can't be dropped until the connection has ended.
+pub struct Service<P: HoldingPlace, T: Transport> {
+    pub(crate) client: Client<P>,
+    pub(crate) transport: T,
+    pub(crate) outgoing: Outgoing,
+    // The packets of a step, until they are put down.
+    pub(crate) packets: Vec<Packet>,
+    // Since when the transport has taken nothing of what waits.
+    pub(crate) since: u64,
+    // How many writes gave nothing since then, counted up to 600.
+    pub(crate) refused: u32,
+    pub(crate) ticked: u64,
+    // How many bytes of the stream were kept since the connection waits for a session.
+    pub(crate) kept: usize,
+    pub(crate) drained: bool,
+    pub(crate) at_end: bool,
+    pub(crate) ending: Option<Served>,
+}
+
+impl<P: HoldingPlace, T: Transport> Model for Service<P, T> {
+    ghost use Rattle.conn_service.specs.Services.{ServiceState, IsCounted};
+
+    ghost Value = { ServiceState P T };
+
+    ghost view = { λ s. record {
+      client = s.client;
+      transport = s.transport;
+      outgoing = s.outgoing;
+      since = s.since;
+      refused = s.refused;
+      ticked = s.ticked;
+      drained = s.drained;
+      at_end = s.at_end;
+      ending = s.ending;
+    } };
+
+    ghost invariant = { λ s. IsCounted (T.counts s.transport) s.at_end s.ending };
+}
+
+impl<P: HoldingPlace, T: Transport> Service<P, T> {
+    /// A connection of this number, below 1,024, that was opened at this moment in milliseconds over a transport of which nothing was asked yet.
+    /// Takes the memory for what waits to be written. A want of memory hands the transport back.
+    pub fn open(alloc: Global, number: u16, now: u64, transport: T) -> Result<Service<P, T>, T>
+        requires number { number < 1024 }
+        requires new { T.counts transport ≡ no_counts }
+        ensures { MatchResult result (λ service. service ≡ opened number now transport) (λ back. back ≡ transport) }
+    {
+        match Outgoing::new(alloc) {
+            Ok(outgoing) => Ok(Service {
+                client: Client::open(alloc, number, now),
+                transport,
+                outgoing,
+                packets: Vec::new(alloc),
+                since: now,
+                refused: 0,
+                ticked: now,
+                kept: 0,
+                drained: false,
+                at_end: false,
+                ending: None,
+            }),
+            Err(_) => Err(transport),
+        }
+    }
+
+    /// The moment, in milliseconds, from which a Tick ends the connection for silence: see [`Conn::deadline`](conn_engine::Conn::deadline).
+    pub fn deadline(&self) -> Option<u64>
+        ensures { MatchOption result
+            ((now : ℕ) → now < 2 ^ 64 → ¬ IsSilentTooLong self.now.client.conn.standing now)
+            (λ deadline. (now : ℕ) → IsSilentTooLong self.now.client.conn.standing now ↔ deadline ≤ now) }
+    {
+        self.client.deadline()
+    }
+
+    /// The slot of the group that its client would be handed a message of now: see [`Conn::takes_from`](conn_engine::Conn::takes_from).
+    pub fn takes_from(&self) -> Option<u8>
+        ensures { MatchOption result
+            ((place : P) → ¬ TakesAt self.now.client.conn.standing place)
+            (λ slot. (place : P) × TakesAt self.now.client.conn.standing place × (P.slot_of place ≡ slot)) }
+    {
+        self.client.takes_from()
+    }
+
+    /// Lets go of a connection that has ended, as [`Round::Ended`](crate::Round::Ended) tells, and gives its transport.
+    pub fn end(self) -> T
+        requires { self.client.conn.standing ≡ standings.Ended }
+        ensures { result ≡ self.transport }
+    {
+        let Service {
+            client,
+            transport,
+            outgoing: _,
+            packets: _,
+            since: _,
+            refused: _,
+            ticked: _,
+            kept: _,
+            drained: _,
+            at_end: _,
+            ending: _,
+        } = self;
+        client.end();
+        transport
+    }
+}
