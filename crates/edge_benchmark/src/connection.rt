@@ -1,11 +1,11 @@
 //! A connection as a worker serves it: what comes is sent back.
-ghost use Rattle.std.specs.Prelude.{IsTrue};
+ghost use Rattle.std.specs.Prelude.{◌≤◌, IsTrue, vec_len};
 ghost use Rattle.transport.specs.Counting.{MayGoOn};
 
 use mio::net::TcpStream;
 use std::alloc::Global;
-use tcp_edge::{Socket, TcpTransport};
-use transport::{Flushed, Got, Put, Transport, WriteBehind};
+use tcp_edge::Socket;
+use transport::{Got, Put, Transport};
 
 /// How many bytes a packet has.
 pub(crate) const PACKET_SIZE: usize = 32;
@@ -13,57 +13,82 @@ pub(crate) const PACKET_SIZE: usize = 32;
 /// How many bytes one read takes at most.
 pub(crate) const READ_SIZE: usize = 4_096;
 
-/// A connection. What waits in it is lost where it is dropped.
+/// How many bytes wait at most to be written.
+const ROOM: usize = 16_384;
+
+/// A connection, and what is still to be written to it, which is lost where it is dropped.
+#[derive(Drop)]
 pub(crate) struct Connection {
-    transport: TcpTransport,
+    socket: Socket<TcpStream>,
+    waiting: Vec<u8>,
 }
 
-impl Drop for Connection {
-    fn drop(self) {
-        let Connection { transport } = self;
-        let (_socket, _waiting) = transport.into_parts();
-    }
+/// Takes so many bytes off the front.
+fn drop_front(bytes: &mut Vec<u8>, count: usize)
+    requires { count ≤ vec_len bytes.old }
+{
+    let left = bytes.len() - count;
+    bytes.copy_within(count.., 0);
+    bytes.truncate(left);
 }
 
 impl Connection {
     /// A connection over a socket; `None` where there is no memory.
     pub(crate) fn new(alloc: Global, socket: Socket<TcpStream>) -> Option<Connection> {
-        match WriteBehind::new(alloc, socket) {
-            Ok(transport) => Some(Connection { transport }),
-            Err(_socket) => None,
+        match Vec::with_capacity(alloc, ROOM) {
+            Ok(waiting) => Some(Connection { socket, waiting }),
+            Err(_) => None,
         }
     }
 
     /// The socket, which is watched no more.
     pub(crate) fn into_socket(self) -> Socket<TcpStream> {
-        let Connection { transport } = self;
-        let (socket, _waiting) = transport.into_parts();
+        let Connection {
+            socket,
+            waiting: _waiting,
+        } = self;
         socket
     }
 
     /// Whether it may be called: it neither failed nor ended too often.
     fn goes_on(&self) -> bool
-        ensures { IsTrue result → MayGoOn self.now.transport.below.counts }
+        ensures { IsTrue result → MayGoOn self.now.socket.counts }
     {
-        self.transport.failures() < u64::MAX && self.transport.ends() < u64::MAX
+        self.socket.failures() < u64::MAX && self.socket.ends() < u64::MAX
     }
 
-    /// Reads what came.
+    /// Writes what waits, as far as it goes in one call. Whether the connection goes on.
+    fn write(&mut self) -> bool {
+        if self.waiting.is_empty() {
+            return true;
+        }
+        if !self.goes_on() {
+            return false;
+        }
+        match self.socket.write(&self.waiting) {
+            Put::Wrote(count) => {
+                drop_front(&mut self.waiting, count);
+                true
+            }
+            Put::Idle => true,
+            Put::Failed => false,
+        }
+    }
+
+    /// Reads what came, once what waits was written as far as it goes.
     fn read(&mut self, buffer: &mut [u8; READ_SIZE]) -> Got {
-        if self.goes_on() {
-            self.transport.read(buffer)
+        if self.write() && self.goes_on() {
+            self.socket.read(buffer)
         } else {
             Got::Failed
         }
     }
 
-    /// Takes these bytes to be sent. Whether it took them all: so many wait at most as were sent at once by the peer, for which
-    /// there is room.
-    fn write(&mut self, bytes: &[u8]) -> bool {
-        if bytes.is_empty() || !self.goes_on() {
-            return false;
-        }
-        self.transport.write(bytes) == Put::Wrote(bytes.len())
+    /// Keeps these bytes to be written. Whether there is room for them: so many wait at most as were sent at once by the peer, for
+    /// which there is.
+    fn keep(&mut self, bytes: &[u8]) -> bool {
+        bytes.len() <= ROOM.saturating_sub(self.waiting.len())
+            && self.waiting.extend_from_slice(bytes).is_ok()
     }
 
     /// Sends back what came, until nothing more came. Whether the connection goes on.
@@ -71,7 +96,7 @@ impl Connection {
         for _ in 0..u64::MAX {
             match self.read(buffer) {
                 Got::Bytes(count) if count <= READ_SIZE => {
-                    if !self.write(&buffer[..count]) {
+                    if !self.keep(&buffer[..count]) {
                         return false;
                     }
                 }
@@ -84,6 +109,6 @@ impl Connection {
 
     /// Sends a packet. Whether it went.
     pub(crate) fn send(&mut self, packet: &[u8; PACKET_SIZE]) -> bool {
-        self.write(packet) && self.goes_on() && self.transport.flush() == Flushed::Done
+        self.keep(packet) && self.write() && self.waiting.is_empty()
     }
 }

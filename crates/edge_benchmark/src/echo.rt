@@ -3,7 +3,7 @@
 use crate::peers::{Peers, connected};
 use crate::worker::Worker;
 use std::alloc::Global;
-use std::net::{Net, TcpListener, TcpStream};
+use std::net::{Ipv4Addr, Net, TcpListener, TcpStream};
 use std::rt::Clock;
 use std::sync::Wait;
 use std::thread;
@@ -55,7 +55,7 @@ fn connect_all<R: Clock + Net<Listener = TcpListener, Stream = TcpStream>>(
     peers: &mut Peers,
     count: usize,
 ) -> Option<Instant> {
-    let mut source = TcpSource::open(rt, 0).ok()?;
+    let mut source = TcpSource::open(rt, Ipv4Addr::LOCALHOST, 0).ok()?;
     for _ in 0..count {
         peers.take_in(connected(rt, source.port())?)?;
         worker.take_in(alloc, accepted(&mut source)?)?;

@@ -12,7 +12,7 @@ use crate::peers::connected;
 use bell::{Bell, Listener, Ringer};
 use mio::Waker;
 use std::alloc::Global;
-use std::net::{Net, TcpListener, TcpStream};
+use std::net::{Ipv4Addr, Net, TcpListener, TcpStream};
 use std::rt::Clock;
 use std::sync::Wait;
 use std::sync::atomic::AtomicU64;
@@ -71,7 +71,7 @@ fn open_ends<R: Net<Listener = TcpListener, Stream = TcpStream>>(
     rt: &R,
     alloc: Global,
 ) -> Option<Ends> {
-    let mut source = TcpSource::open(rt, 0).ok()?;
+    let mut source = TcpSource::open(rt, Ipv4Addr::LOCALHOST, 0).ok()?;
     let stream = connected(rt, source.port())?;
     let mut socket = accepted(&mut source)?;
     let (mut reactor, alarm) = Reactor::open(rt, alloc).ok()?;

@@ -1,4 +1,3 @@
-pub mod Nothing
 pub mod Outcomes
 pub mod Reactors
 pub mod Sockets

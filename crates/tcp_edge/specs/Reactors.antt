@@ -41,6 +41,7 @@ ready_of e = record {
   number = (event.event_token e).0;
   readable = event.is_readable e || event.is_read_closed e || event.is_error e;
   writable = event.is_writable e || event.is_write_closed e;
+  closed = event.is_read_closed e || event.is_error e;
 }
 
 abbrev pub tell : List Bool → Event → Option Ready

@@ -1,8 +1,8 @@
 //! A connection that waits by itself: for a worker that has no other.
-ghost use Rattle.std.specs.Prelude.{◌≡◌, ◌≤◌, ◌<◌, [], length, IfOk};
-ghost use Rattle.tcp_edge.specs.Sockets.{KeepsSocket, ReceivesPatiently, Sends};
+ghost use Rattle.std.specs.Prelude.{◌≡◌, ◌≤◌, ◌<◌, length, IfOk, OnOk};
+ghost use Rattle.tcp_edge.specs.Sockets.{KeepsSocket, KeepsSocketTwice, ReceivesPatiently, SendsPatiently};
 ghost use Rattle.tcp_edge.specs.Outcomes.{raised};
-ghost use Rattle.transport.specs.Counting.{MayGoOn, after_flushed, after_got, after_put};
+ghost use Rattle.transport.specs.Counting.{MayGoOn, after_got, after_put};
 ghost use Rattle.transport.specs.Streams.{GivesWithin, TakesWithin, after_read, after_write};
 
 use crate::reactor::ReactorError;
@@ -14,12 +14,12 @@ use std::alloc::Global;
 use std::marker::Model;
 use std::net::Net;
 use std::time::Duration;
-use transport::{Flushed, Got, Put, Transport};
+use transport::{Got, Put, Transport};
 
-/// How long a read waits at most, in milliseconds.
+/// How long a read or a write waits at most, in milliseconds.
 pub const PATIENCE: u64 = 100;
 
-// Waits for one source.
+// Waits until one socket may be read, or until it may be written.
 #[derive(Drop)]
 struct Watch {
     poll: Poll,
@@ -27,7 +27,23 @@ struct Watch {
 }
 
 impl Watch {
-    // Waits until the source is ready, or for `PATIENCE`, or for less.
+    // Has a socket waited for.
+    fn open<W: Source>(
+        net: &impl Net,
+        alloc: Global,
+        socket: &mut Socket<W>,
+        interest: Interest,
+    ) -> Result<Watch, ReactorError>
+        ensures { OnOk result (KeepsSocket W.keeps socket.old socket.new) }
+    {
+        let events = Events::with_capacity(alloc, 1).map_err(|_| ReactorError::Memory)?;
+        let poll = Poll::new(net).map_err(|_| ReactorError::System)?;
+        let answer = poll.registry().register(socket, Token(0), interest);
+        answer.map_err(|_| ReactorError::System)?;
+        Ok(Watch { poll, events })
+    }
+
+    // Waits until the socket is ready, or for `PATIENCE`, or for less, as at a signal.
     fn pause(&mut self) {
         let _refused = self
             .poll
@@ -35,14 +51,16 @@ impl Watch {
     }
 }
 
-/// A socket whose reads wait: where nothing came yet, a read waits for up to [`PATIENCE`] milliseconds and looks again. Its
-/// writes don't wait.
+/// A socket whose reads and writes wait. Where nothing came yet, a read waits for up to [`PATIENCE`] milliseconds and looks again;
+/// where nothing can be written yet, a write waits as long and tries once more. What comes meanwhile does not end a write's wait: so 600
+/// idle writes take 60 seconds, but for signals.
 ///
 /// Contracts see it as its socket.
 #[derive(Drop)]
 pub struct Patient<W> {
     socket: Socket<W>,
-    watch: Watch,
+    to_read: Watch,
+    to_write: Watch,
 }
 
 impl<W> Model for Patient<W> {
@@ -54,7 +72,7 @@ impl<W> Model for Patient<W> {
 }
 
 impl<W: Source + Drop> Patient<W> {
-    /// Has a socket wait in its reads.
+    /// Has a socket wait in its reads and writes.
     ///
     /// # Errors
     ///
@@ -64,23 +82,19 @@ impl<W: Source + Drop> Patient<W> {
         alloc: Global,
         mut socket: Socket<W>,
     ) -> Result<Patient<W>, ReactorError>
-        ensures { IfOk result (λ patient. KeepsSocket W.keeps socket patient) }
+        ensures { IfOk result (λ patient. KeepsSocketTwice W.keeps socket patient) }
     {
-        let events = Events::with_capacity(alloc, 1).map_err(|_| ReactorError::Memory)?;
-        let poll = Poll::new(net).map_err(|_| ReactorError::System)?;
-        let both = Interest::READABLE | Interest::WRITABLE;
-        let answer = poll.registry().register(&mut socket, Token(0), both);
-        answer.map_err(|_| ReactorError::System)?;
+        let to_read = Watch::open(net, alloc, &mut socket, Interest::READABLE)?;
+        let to_write = Watch::open(net, alloc, &mut socket, Interest::WRITABLE)?;
         Ok(Patient {
             socket,
-            watch: Watch { poll, events },
+            to_read,
+            to_write,
         })
     }
 }
 
 impl<W: Wire> Transport for Patient<W> {
-    ghost use Rattle.tcp_edge.specs.Nothing.{nothing_kept};
-
     ghost counts = { λ s. s.counts };
 
     ghost refusals = { λ s. s.refused };
@@ -88,10 +102,6 @@ impl<W: Wire> Transport for Patient<W> {
     ghost given = { λ s. W.came s.wire };
 
     ghost accepted = { λ s. W.went s.wire };
-
-    ghost left = { λ s. W.went s.wire };
-
-    ghost kept = { λ _. [] };
 
     /// Waits for up to [`PATIENCE`] milliseconds.
     fn read(&mut self, buffer: &mut [u8]) -> Got
@@ -107,13 +117,14 @@ impl<W: Wire> Transport for Patient<W> {
     {
         let first = self.socket.ask(buffer);
         if first == Outcome::NotNow {
-            self.watch.pause();
+            self.to_read.pause();
             self.socket.read(buffer)
         } else {
-            self.socket.settle(first)
+            self.socket.settle_read(first)
         }
     }
 
+    /// Waits for up to [`PATIENCE`] milliseconds.
     fn write(&mut self, bytes: &[u8]) -> Put
         requires goes_on { MayGoOn self.old.counts }
         requires some { 0 < length bytes.now }
@@ -124,16 +135,15 @@ impl<W: Wire> Transport for Patient<W> {
         ensures refusals { self.old.refused ≤ self.new.refused }
         ensures refused { result ≡ Put.Idle → self.old.refused < self.new.refused }
         ensures raised { self.new.refused ≡ raised result self.old.refused }
-        ensures asked { Sends W.sends self.old.refused self.old.wire result self.new.wire }
+        ensures asked { SendsPatiently W.sends self.old.refused self.old.wire result self.new.wire }
     {
-        self.socket.write(bytes)
-    }
-
-    fn flush(&mut self) -> Flushed
-        ensures done { result ≡ Flushed.Done }
-        ensures same { self.new ≡ self.old }
-    {
-        self.socket.flush()
+        let first = self.socket.offer(bytes);
+        if first == Outcome::NotNow {
+            self.to_write.pause();
+            self.socket.write(bytes)
+        } else {
+            self.socket.settle_write(first)
+        }
     }
 
     fn failures(&self) -> u64 {
@@ -147,6 +157,4 @@ impl<W: Wire> Transport for Patient<W> {
     fn idles(&self) -> u64 {
         self.socket.idles()
     }
-
-    ghost in_order = { λ s. nothing_kept (W.went s.wire) };
 }

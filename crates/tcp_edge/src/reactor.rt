@@ -48,6 +48,9 @@ pub struct Ready {
     pub readable: bool,
     /// Something may be written.
     pub writable: bool,
+    /// The peer has ended its stream, or the source failed: nothing tells of it again, so go on reading until it has ended. Where
+    /// this was not told, a read that gives less than its buffer has room for is the last one that is worth a call.
+    pub closed: bool,
 }
 
 /// Wakes the worker of a reactor, from any thread.
@@ -119,6 +122,7 @@ fn told(event: &Event, seats: &[bool]) -> Option<Ready>
             number,
             readable: event.is_readable() || event.is_read_closed() || event.is_error(),
             writable: event.is_writable() || event.is_write_closed(),
+            closed: event.is_read_closed() || event.is_error(),
         })
     } else {
         None
@@ -241,7 +245,7 @@ impl Reactor {
     /// Waits until a source is ready, or the alarm rang, or the time is up, or for less, as at a signal. Answers whether the
     /// alarm rang.
     ///
-    /// A source is told of when it becomes ready, and once: go on with it until it is idle.
+    /// A source is told of when it becomes ready, and once: go on with it until it is idle, or as [`Ready::closed`] says.
     ///
     /// # Errors
     ///

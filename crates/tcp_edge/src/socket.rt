@@ -1,22 +1,19 @@
 //! A transport over a stream that never waits.
-ghost use Rattle.std.specs.Prelude.{◌≡◌, ◌≤◌, ◌<◌, [], length, Some};
+ghost use Rattle.std.specs.Prelude.{◌≡◌, ◌≤◌, ◌<◌, length};
 ghost use Rattle.tcp_edge.specs.Sockets.{Receives, Sends, new_socket};
 ghost use Rattle.tcp_edge.specs.Outcomes.{CountsWithin, got_of, passed_on, put_of, raised};
-ghost use Rattle.transport.specs.Counting.{MayGoOn, after_flushed, after_got, after_put};
+ghost use Rattle.transport.specs.Counting.{MayGoOn, after_got, after_put};
 ghost use Rattle.transport.specs.Streams.{GivesWithin, TakesWithin, after_read, after_write};
 
 use crate::wire::{Outcome, Wire};
 use mio::event::Source;
-use mio::net::TcpStream;
 use mio::{Interest, Registry, Token};
 use std::io;
 use std::marker::Model;
-use transport::{Counts, Flushed, Got, Put, Transport, WriteBehind};
+use transport::{Counts, Got, Put, Transport};
 
-/// A TCP connection as it is served: many small packets go in one call of the system.
-pub type TcpTransport = WriteBehind<Socket<TcpStream>>;
-
-/// A transport over a stream that never waits. What the stream does not take at once is idle, and nothing is kept back.
+/// A transport over a stream that never waits. Each read and each write is one call of the stream; what that does not take at once is
+/// idle, and nothing is kept back.
 ///
 /// Contracts see it as a `SocketState`: the stream, the counts, and how often a write was idle.
 #[derive(Drop)]
@@ -69,7 +66,7 @@ impl<W: Wire> Socket<W> {
     }
 
     /// What a read gives, where the stream came to this. Counts it.
-    pub(crate) fn settle(&mut self, outcome: Outcome) -> Got
+    pub(crate) fn settle_read(&mut self, outcome: Outcome) -> Got
         requires { MayGoOn self.old.counts }
         ensures got { result ≡ got_of outcome }
         ensures counts { self.new.counts ≡ after_got result self.old.counts }
@@ -79,6 +76,34 @@ impl<W: Wire> Socket<W> {
         let got = got_from(outcome);
         self.counts.count_got(got);
         got
+    }
+
+    /// Offers bytes to the stream, and counts nothing yet.
+    pub(crate) fn offer(&mut self, bytes: &[u8]) -> Outcome
+        ensures within { CountsWithin result bytes.now }
+        ensures came { W.came self.new.wire ≡ W.came self.old.wire }
+        ensures went { W.went self.new.wire ≡ passed_on (W.went self.old.wire) result bytes.now }
+        ensures asked { W.sends self.old.wire result self.new.wire }
+        ensures counts { self.new.counts ≡ self.old.counts }
+        ensures refused { self.new.refused ≡ self.old.refused }
+    {
+        self.wire.send(bytes)
+    }
+
+    /// What a write takes, where the stream came to this. Counts it.
+    pub(crate) fn settle_write(&mut self, outcome: Outcome) -> Put
+        requires { MayGoOn self.old.counts }
+        ensures put { result ≡ put_of outcome self.old.refused }
+        ensures counts { self.new.counts ≡ after_put result self.old.counts }
+        ensures wire { self.new.wire ≡ self.old.wire }
+        ensures refused { self.new.refused ≡ raised result self.old.refused }
+    {
+        let put = put_from(outcome, self.refused);
+        self.counts.count_put(put);
+        if put == Put::Idle {
+            self.refused += 1;
+        }
+        put
     }
 }
 
@@ -108,8 +133,6 @@ fn put_from(outcome: Outcome, refused: u64) -> Put
 }
 
 impl<W: Wire> Transport for Socket<W> {
-    ghost use Rattle.tcp_edge.specs.Nothing.{nothing_kept};
-
     ghost counts = { λ s. s.counts };
 
     ghost refusals = { λ s. s.refused };
@@ -117,10 +140,6 @@ impl<W: Wire> Transport for Socket<W> {
     ghost given = { λ s. W.came s.wire };
 
     ghost accepted = { λ s. W.went s.wire };
-
-    ghost left = { λ s. W.went s.wire };
-
-    ghost kept = { λ _. [] };
 
     fn read(&mut self, buffer: &mut [u8]) -> Got
         requires goes_on { MayGoOn self.old.counts }
@@ -134,7 +153,7 @@ impl<W: Wire> Transport for Socket<W> {
         ensures asked { Receives W.receives self.old.wire result self.new.wire }
     {
         let outcome = self.ask(buffer);
-        self.settle(outcome)
+        self.settle_read(outcome)
     }
 
     fn write(&mut self, bytes: &[u8]) -> Put
@@ -149,19 +168,8 @@ impl<W: Wire> Transport for Socket<W> {
         ensures raised { self.new.refused ≡ raised result self.old.refused }
         ensures asked { Sends W.sends self.old.refused self.old.wire result self.new.wire }
     {
-        let put = put_from(self.wire.send(bytes), self.refused);
-        self.counts.count_put(put);
-        if put == Put::Idle {
-            self.refused += 1;
-        }
-        put
-    }
-
-    fn flush(&mut self) -> Flushed
-        ensures done { result ≡ Flushed.Done }
-        ensures same { self.new ≡ self.old }
-    {
-        Flushed::Done
+        let outcome = self.offer(bytes);
+        self.settle_write(outcome)
     }
 
     fn failures(&self) -> u64 {
@@ -175,8 +183,6 @@ impl<W: Wire> Transport for Socket<W> {
     fn idles(&self) -> u64 {
         self.counts.idles
     }
-
-    ghost in_order = { λ s. nothing_kept (W.went s.wire) };
 }
 
 impl<W: Source> Source for Socket<W> {

@@ -1,4 +1,4 @@
-//! Where connections come from: a listener on the loopback.
+//! Where connections come from: a listener.
 ghost use Rattle.std.specs.Prelude.{◌≡◌, ◌<◌, IfOk, IfErr, IfSome, Some};
 ghost use Rattle.std.specs.IoError.{error_kind, raw_os_error};
 ghost use Rattle.tcp_edge.specs.Sources.{IsFresh, IsPortFor, is_short, open_error_of, passed_over, refused_arrival};
@@ -38,7 +38,7 @@ pub enum OpenError {
     System,
 }
 
-/// A listener on 127.0.0.1. It never waits: where no connection waits it is idle, and also where the system is short of something for one
+/// A listener at an address of this machine. It never waits: where no connection waits it is idle, and also where the system is short of something for one
 /// ([`not_accepted`]). Those that come while it is up wait for it.
 ///
 /// Contracts see it as a `SourceState`: the listener of the system's, its port, and how often it gave and failed.
@@ -108,17 +108,17 @@ pub fn not_accepted(error: &io::Error) -> Option<Arrival<Socket<TcpStream>>>
 }
 
 impl TcpSource {
-    /// Listens at a port of 127.0.0.1; at port 0 the system chooses one.
+    /// Listens at a port of this address, or of every address of this machine where it is 0.0.0.0. At port 0 the system chooses one.
     ///
     /// # Errors
     ///
     /// [`OpenError::PortInUse`], [`OpenError::System`].
-    pub fn open(net: &impl Net, port: u16) -> Result<TcpSource, OpenError>
+    pub fn open(net: &impl Net, address: Ipv4Addr, port: u16) -> Result<TcpSource, OpenError>
         ensures port { IfOk result (λ source. IsPortFor port source.port) }
         ensures fresh { IfOk result (λ source. source.tally ≡ record { failures = 0; arrivals = 0 }) }
     {
-        let address = SocketAddr::from((Ipv4Addr::LOCALHOST, port));
-        let listener = TcpListener::bind(net, address).map_err(|e| open_error(e.kind()))?;
+        let place = SocketAddr::from((address, port));
+        let listener = TcpListener::bind(net, place).map_err(|e| open_error(e.kind()))?;
         let chosen = listener.local_addr().map_err(|_| OpenError::System)?.port();
         if chosen == 0 || port != 0 && chosen != port {
             return Err(OpenError::System);

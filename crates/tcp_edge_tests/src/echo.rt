@@ -4,8 +4,8 @@ use std::alloc::{AllocError, Global};
 use std::process::Abort;
 use std::sync::Wait;
 use std::time::Duration;
-use tcp_edge::{MOST_SOURCES, Reactor, Socket, TcpSource, TcpTransport};
-use transport::{Arrival, Got, Put, Source, Transport, WriteBehind, flush_within};
+use tcp_edge::{MOST_SOURCES, Reactor, Socket, TcpSource};
+use transport::{Arrival, Got, Put, Source, Transport};
 
 /// How often the worker waits at most: a run that takes longer has failed.
 const ROUNDS: u32 = 200_000;
@@ -18,8 +18,9 @@ pub struct Served {
 }
 
 /// A connection, and what it was not sent yet of the last read.
+#[derive(Drop)]
 struct Room {
-    transport: TcpTransport,
+    socket: Socket<TcpStream>,
     rest: Vec<u8>,
 }
 
@@ -46,7 +47,7 @@ impl Room {
             if self.rest.is_empty() {
                 break;
             }
-            match write(rt, &mut self.transport, &self.rest) {
+            match write(rt, &mut self.socket, &self.rest) {
                 Put::Wrote(count) => {
                     let left = self.rest.len().saturating_sub(count);
                     if count <= self.rest.len() {
@@ -70,7 +71,7 @@ impl Room {
                 Some(false) => return true,
                 None => return false,
             }
-            match read(rt, &mut self.transport, &mut buffer) {
+            match read(rt, &mut self.socket, &mut buffer) {
                 Got::Bytes(count) => {
                     if count > buffer.len()
                         || self.rest.extend_from_slice(&buffer[..count]).is_err()
@@ -87,7 +88,7 @@ impl Room {
     }
 }
 
-/// Takes a connection in, where there is room and memory.
+/// Takes a connection in, where there is room.
 fn take_in(
     rt: &impl Abort,
     alloc: Global,
@@ -98,39 +99,16 @@ fn take_in(
     let Ok(number) = reactor.register(&mut socket) else {
         panic!(rt; "no number");
     };
-    match WriteBehind::new(alloc, socket) {
-        Err(_) => panic!(rt; "out of memory"),
-        Ok(transport) => {
-            let room = Room {
-                transport,
-                rest: Vec::new(alloc),
-            };
-            match rooms.get_mut(number) {
-                None => panic!(rt; "no room"),
-                Some(place) => match place.replace(room) {
-                    None => {}
-                    Some(other) => {
-                        leave(rt, other);
-                        panic!(rt; "a number that is taken");
-                    }
-                },
-            }
-        }
+    let Some(place) = rooms.get_mut(number) else {
+        panic!(rt; "no room");
+    };
+    let room = Room {
+        socket,
+        rest: Vec::new(alloc),
+    };
+    if place.replace(room).is_some() {
+        panic!(rt; "a number that is taken");
     }
-}
-
-/// Sends what waits, and lets a connection go.
-fn leave(rt: &impl Abort, room: Room) -> Socket<TcpStream> {
-    let Room {
-        mut transport,
-        rest: _,
-    } = room;
-    if transport.failures() == u64::MAX || transport.ends() == u64::MAX {
-        panic!(rt; "too often");
-    }
-    let _flushed = flush_within(&mut transport, 3);
-    let (socket, _waiting) = transport.into_parts();
-    socket
 }
 
 /// Takes in those who wait at the door. How many.
@@ -179,7 +157,10 @@ fn go_on(
     match place.take() {
         None => 0,
         Some(room) => {
-            let mut socket = leave(rt, room);
+            let Room {
+                mut socket,
+                rest: _rest,
+            } = room;
             if !reactor.has(number) || reactor.let_go(number, &mut socket).is_err() {
                 panic!(rt; "it was not watched");
             }
@@ -221,19 +202,6 @@ fn free_rooms(alloc: Global) -> Result<Vec<Option<Room>>, AllocError> {
     Ok(rooms)
 }
 
-/// Lets everybody go.
-fn close(rt: &impl Abort, mut rooms: Vec<Option<Room>>) {
-    match rooms.pop() {
-        None => rooms.destroy_empty(),
-        Some(place) => {
-            if let Some(room) = place {
-                let _socket = leave(rt, room);
-            }
-            close(rt, rooms);
-        }
-    }
-}
-
 /// Sends back what comes, until so many connections have come and ended.
 pub fn serve<R: Wait + Abort>(
     rt: &R,
@@ -265,6 +233,5 @@ pub fn serve<R: Wait + Abort>(
             &mut served,
         );
     }
-    close(rt, rooms);
     served
 }

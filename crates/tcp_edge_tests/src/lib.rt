@@ -8,6 +8,8 @@ mod bells;
 #[cfg(test)]
 mod echo;
 #[cfg(test)]
+mod ends;
+#[cfg(test)]
 mod peers;
 #[cfg(test)]
 mod sources;

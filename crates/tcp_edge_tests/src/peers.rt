@@ -52,7 +52,8 @@ fn comes_back(rt: &impl Abort, stream: &mut TcpStream, first: u8) -> bool {
 
 /// A worker and where it listens.
 fn open<R: Net + Alloc<A = Global> + Abort>(rt: &R) -> (Reactor, TcpSource, u16) {
-    match (Reactor::open(rt, rt.alloc()), TcpSource::open(rt, 0)) {
+    let listener = TcpSource::open(rt, Ipv4Addr::LOCALHOST, 0);
+    match (Reactor::open(rt, rt.alloc()), listener) {
         (Ok((reactor, _alarm)), Ok(source)) => {
             let port = source.port();
             (reactor, source, port)
@@ -208,7 +209,7 @@ fn a_port_in_use_is_told_apart(rt: HostRuntime) -> Result<(), Fail> {
     let (_reactor, _source, port) = open(&rt);
     assert!(rt; port != 0);
     assert_eq!(rt;
-        TcpSource::open(&rt, port).err(),
+        TcpSource::open(&rt, Ipv4Addr::LOCALHOST, port).err(),
         Some(OpenError::PortInUse)
     );
     Ok(())

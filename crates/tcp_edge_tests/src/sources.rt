@@ -8,7 +8,7 @@ use transport::{Arrival, Source};
 
 #[test]
 fn a_source_ends_once_its_flag_is_set(rt: HostRuntime) -> Result<(), Fail> {
-    let source = TcpSource::open(&rt, 0)?;
+    let source = TcpSource::open(&rt, Ipv4Addr::LOCALHOST, 0)?;
     let address = SocketAddr::from((Ipv4Addr::LOCALHOST, source.port()));
     let closes = AtomicBool::new(false);
     let mut until = Until::new(source, &closes);
@@ -21,6 +21,16 @@ fn a_source_ends_once_its_flag_is_set(rt: HostRuntime) -> Result<(), Fail> {
     assert!(rt; matches!(until.next(), Arrival::End));
     assert_eq!(rt; (until.arrivals(), until.failures()), (1, 0));
     assert!(rt; matches!(until.into_source().next(), Arrival::Came(_)));
+    Ok(())
+}
+
+#[test]
+fn a_source_listens_at_its_address(rt: HostRuntime) -> Result<(), Fail> {
+    let other = Ipv4Addr::new(127, 0, 0, 2);
+    let mut source = TcpSource::open(&rt, other, 0)?;
+    let address = SocketAddr::from((other, source.port()));
+    let _peer = TcpStream::connect(&rt, address)?;
+    assert!(rt; matches!(source.next(), Arrival::Came(_)));
     Ok(())
 }
 

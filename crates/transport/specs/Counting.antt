@@ -6,8 +6,6 @@ use Rattle.transport.specs.declared.answers.Got.{Got}
 use Rattle.transport.specs.declared.answers.Got.TheVariants as got
 use Rattle.transport.specs.declared.answers.Put.{Put}
 use Rattle.transport.specs.declared.answers.Put.TheVariants as put
-use Rattle.transport.specs.declared.answers.Flushed.{Flushed}
-use Rattle.transport.specs.declared.answers.Flushed.TheVariants as flushed
 use Rattle.transport.specs.declared.answers.Arrival.{Arrival}
 use Rattle.transport.specs.declared.answers.Arrival.TheVariants as arrival
 
@@ -35,12 +33,6 @@ abbrev pub after_put : Put → Counts → Counts
 after_put (put.Wrote count) counts = counts
 after_put put.Idle counts = counts
 after_put put.Failed counts = one_failure counts
-
--- after a flush
-abbrev pub after_flushed : Flushed → Counts → Counts
-after_flushed flushed.Done counts = counts
-after_flushed flushed.Idle counts = counts
-after_flushed flushed.Failed counts = one_failure counts
 
 -- it may fail and may give once more
 pub record MayCome (tally : Tally) : Type 0 where

@@ -1,4 +1,4 @@
--- What a read gives, what a write takes, and what of that has left: lists of bytes, where they are known.
+-- What a read gives and what a write takes: lists of bytes, where they are known.
 use Rattle.std.specs.Prelude.{ℕ, ◌<◌, ◌≤◌, List, length, take, Option}
 use Rattle.std.specs.Io.KnownBytes.{append_known}
 use Rattle.transport.specs.declared.answers.Got.{Got}

@@ -24,17 +24,6 @@ pub enum Put {
     Failed,
 }
 
-/// What a flush comes to.
-#[derive(Clone, Copy, Debug, PartialEq, Eq)]
-pub enum Flushed {
-    /// Nothing is kept back.
-    Done,
-    /// Something is still kept back.
-    Idle,
-    /// The transport failed.
-    Failed,
-}
-
 /// What a source gives.
 #[derive(Drop)]
 pub enum Arrival<T> {

@@ -1,10 +1,10 @@
 //! A transport that plays a script, for tests of what a connection may meet.
-ghost use Rattle.std.specs.Prelude.{◌≡◌, ◌<◌, ◌≤◌, ◌-◌, ℕ, [], Option, Some, length, take, drop, IfOk};
-ghost use Rattle.transport.specs.Counting.{MayGoOn, after_flushed, after_got, after_put};
+ghost use Rattle.std.specs.Prelude.{◌≡◌, ◌<◌, ◌≤◌, ◌-◌, ℕ, Option, Some, length, take, drop, IfOk};
+ghost use Rattle.transport.specs.Counting.{MayGoOn, after_got, after_put};
 ghost use Rattle.transport.specs.Scripts.{Script, got_count, new_script, played_read, played_write, read_answer, write_answer};
 ghost use Rattle.transport.specs.Streams.{GivesWithin, TakesWithin, after_read, after_write};
 
-use crate::answers::{Flushed, Got, Put};
+use crate::answers::{Got, Put};
 use crate::counts::Counts;
 use crate::traits::Transport;
 use crate::turns::{ReadTurn, WriteTurn, next_turn, read_at, write_at};
@@ -82,9 +82,6 @@ impl Scripted {
 }
 
 impl Transport for Scripted {
-    ghost use Rattle.std.proofs.Common.{ap, append-nil, sym};
-    ghost use Rattle.std.specs.Prelude.{◌++◌};
-
     ghost counts = { λ s. s.counts };
 
     ghost refusals = { λ s. s.writes_made };
@@ -92,10 +89,6 @@ impl Transport for Scripted {
     ghost given = { λ s. Some (take s.given s.input) };
 
     ghost accepted = { λ s. Some s.output };
-
-    ghost left = { λ s. Some s.output };
-
-    ghost kept = { λ _. [] };
 
     fn read(&mut self, buffer: &mut [u8]) -> Got
         requires goes_on { MayGoOn self.old.counts }
@@ -144,13 +137,6 @@ impl Transport for Scripted {
         put
     }
 
-    fn flush(&mut self) -> Flushed
-        ensures done { result ≡ Flushed.Done }
-        ensures played { self.new ≡ self.old }
-    {
-        Flushed::Done
-    }
-
     fn failures(&self) -> u64 {
         self.counts.failures
     }
@@ -162,6 +148,4 @@ impl Transport for Scripted {
     fn idles(&self) -> u64 {
         self.counts.idles
     }
-
-    ghost in_order = { λ s. ap Some (sym (append-nil s.output)) };
 }

@@ -1,5 +1,5 @@
 //! What stands in for a clock and for a crossing.
-ghost use Rattle.std.specs.Prelude.{◌≡◌, true};
+ghost use Rattle.std.specs.Prelude.{◌≡◌, true, false};
 
 use crate::traits::{Clock, Crossing};
 
@@ -19,7 +19,7 @@ impl Clock for SetClock {
     }
 }
 
-/// A crossing that lets every worker pass.
+/// A crossing that lets every worker pass: it refuses nobody.
 #[derive(Clone, Copy, Debug, PartialEq, Eq)]
 pub struct OpenCrossing;
 
@@ -27,7 +27,8 @@ impl Crossing for OpenCrossing {
     ghost refuses = { λ _ _ _. ⊥ };
 
     fn cross(&self, _worker: u32, _turn: u32) -> bool
-        ensures { result ≡ true }
+        ensures passes { result ≡ true }
+        ensures refused { result ≡ false → ⊥ }
     {
         true
     }

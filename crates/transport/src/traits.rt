@@ -1,19 +1,18 @@
 //! What stands between a client and who serves it.
-ghost use Rattle.std.specs.Prelude.{◌≡◌, ◌<◌, ◌≤◌, ℕ, List, [], Option, None, length, false};
-ghost use Rattle.std.specs.Io.KnownBytes.{append_known};
-ghost use Rattle.transport.specs.Counting.{ComesNew, MayCome, MayGoOn, after_arrival, after_flushed, after_got, after_put};
+ghost use Rattle.std.specs.Prelude.{◌≡◌, ◌<◌, ◌≤◌, ℕ, List, Option, false, length};
+ghost use Rattle.transport.specs.Counting.{ComesNew, MayCome, MayGoOn, after_arrival, after_got, after_put};
 ghost use Rattle.transport.specs.declared.counts.Counts.{Counts};
 ghost use Rattle.transport.specs.declared.counts.Tally.{Tally};
 ghost use Rattle.transport.specs.Streams.{GivesWithin, TakesWithin, after_read, after_write};
 
-use crate::answers::{Arrival, Flushed, Got, Put};
+use crate::answers::{Arrival, Got, Put};
 
 /// A stream of bytes to a peer and one from it. No call waits for the peer, unless its own page says so.
 pub trait Transport {
     /// How often it failed, ended and was idle.
     ghost counts: { Self → Counts };
 
-    /// How often its writes and flushes were idle, or more: each `Idle` of one raises it, and nothing lowers it.
+    /// How often its writes were idle, or more: each `Idle` of one raises it, and nothing lowers it.
     ghost refusals: { Self → ℕ };
 
     /// All that its reads gave, where that is known.
@@ -21,12 +20,6 @@ pub trait Transport {
 
     /// All that its writes took, where that is known.
     ghost accepted: { Self → Option (List ℕ) };
-
-    /// What of that has left for the peer.
-    ghost left: { Self → Option (List ℕ) };
-
-    /// What of it is kept back.
-    ghost kept: { Self → List ℕ };
 
     /// Reads into a buffer with room.
     ///
@@ -53,19 +46,6 @@ pub trait Transport {
         ensures refusals { refusals self.old ≤ refusals self.new }
         ensures refused { result ≡ Put.Idle → refusals self.old < refusals self.new };
 
-    /// Sends what is kept back.
-    ///
-    /// Neither [`failures`](Transport::failures) nor [`ends`](Transport::ends) may have come to `u64::MAX`.
-    fn flush(&mut self) -> Flushed
-        requires goes_on { MayGoOn (counts self.old) }
-        ensures done { result ≡ Flushed.Done → kept self.new ≡ [] }
-        ensures idle { result ≡ Flushed.Idle → 0 < length (kept self.new) }
-        ensures given { given self.new ≡ given self.old }
-        ensures accepted { accepted self.new ≡ accepted self.old }
-        ensures counts { counts self.new ≡ after_flushed result (counts self.old) }
-        ensures refusals { refusals self.old ≤ refusals self.new }
-        ensures refused { result ≡ Flushed.Idle → refusals self.old < refusals self.new };
-
     /// How often it failed: raised by one by each `Failed`, and by nothing else.
     fn failures(&self) -> u64
         ensures { result ≡ (counts self.now).failures };
@@ -77,9 +57,6 @@ pub trait Transport {
     /// How often a read was idle: raised by one, up to `u64::MAX`, by each `Idle` of a read, and by nothing else.
     fn idles(&self) -> u64
         ensures { result ≡ (counts self.now).idles };
-
-    /// What has left is a beginning of what was taken, and the rest of that is kept back.
-    ghost in_order: { (transport : Self) → accepted transport ≡ append_known (left transport) (kept transport) };
 }
 
 /// Where connections come from.
@@ -112,10 +89,10 @@ pub trait Clock {
 
 /// A place that workers pass before each write, for tests of what they do beside each other.
 pub trait Crossing {
-    /// It refused this worker in this turn.
+    /// Holds where it refuses this worker at this turn.
     ghost refuses: { Self → ℕ → ℕ → Type 0 };
 
     /// Whether this worker may pass. It is asked in turns from 0 on, until it may.
     fn cross(&self, worker: u32, turn: u32) -> bool
-        ensures { result ≡ false → refuses self.now worker turn };
+        ensures refused { result ≡ false → refuses self.now worker turn };
 }

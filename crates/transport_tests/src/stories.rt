@@ -1,13 +1,13 @@
 //! Stories over scripted transports.
-ghost use Rattle.std.specs.Prelude.{◌≡◌, IfOk};
+ghost use Rattle.std.specs.Prelude.{◌≡◌, ◌<◌, ℕ, false, IfOk};
 ghost use Rattle.transport.specs.Counting.{MayCome, no_counts};
 
 use std::alloc::{AllocError, Global};
 use std::process::Abort;
 use std::test::Fail;
 use transport::{
-    Arrival, Clock, Crossing, Flushed, Got, OpenCrossing, Put, ReadTurn, Scripted, ScriptedSource,
-    SetClock, Source, Transport, WriteBehind, WriteTurn, flush_within,
+    Arrival, Clock, Crossing, Got, OpenCrossing, Put, ReadTurn, Scripted, ScriptedSource, SetClock,
+    Source, Transport, WriteTurn,
 };
 
 /// A scripted transport with room for 64 KiB of output.
@@ -47,22 +47,6 @@ fn write<T: Transport>(rt: &impl Abort, transport: &mut T, bytes: &[u8]) -> Put 
     transport.write(bytes)
 }
 
-/// What a flush comes to.
-fn flush<T: Transport>(rt: &impl Abort, transport: &mut T) -> Flushed {
-    if transport.failures() == u64::MAX || transport.ends() == u64::MAX {
-        panic!(rt; "too often");
-    }
-    transport.flush()
-}
-
-/// What so many flushes come to.
-fn flush_all<T: Transport>(rt: &impl Abort, transport: &mut T, tries: u32) -> Flushed {
-    if transport.failures() == u64::MAX || transport.ends() == u64::MAX {
-        panic!(rt; "too often");
-    }
-    flush_within(transport, tries)
-}
-
 #[test]
 fn each_turn(rt: HostRuntime) -> Result<(), Fail> {
     let reads = [
@@ -93,59 +77,6 @@ fn each_turn(rt: HostRuntime) -> Result<(), Fail> {
         [transport.failures(), transport.ends(), transport.idles()],
         [2, 2, 1]
     );
-    Ok(())
-}
-
-/// A hundred small writes are one below: behind that, a further one would fail.
-#[test]
-fn written_behind(rt: HostRuntime) -> Result<(), Fail> {
-    let writes = [WriteTurn::Idle, WriteTurn::AtMost(600), WriteTurn::Failed];
-    let below = scripted(&rt, rt.alloc(), b"ab", &[ReadTurn::AtMost(1)], &writes);
-    let Ok(mut transport) = WriteBehind::new(rt.alloc(), below) else {
-        panic!(rt; "out of memory");
-    };
-    for number in 0..100u8 {
-        assert_eq!(rt; write(&rt, &mut transport, &[number; 6]), Put::Wrote(6));
-    }
-    let mut buffer = [0; 4];
-    // The first read finds the peer idle, and reads all the same; the second gives what waits.
-    assert_eq!(rt; read(&rt, &mut transport, &mut buffer), Got::Bytes(1));
-    assert_eq!(rt; read(&rt, &mut transport, &mut buffer), Got::Bytes(1));
-    assert_eq!(rt; [transport.failures(), transport.idles()], [0, 0]);
-    let (below, waiting) = transport.into_parts();
-    assert_eq!(rt; [below.output().len(), waiting.len()], [600, 0]);
-    for (place, byte) in below.output().iter().enumerate() {
-        assert_eq!(rt; usize::from(*byte), place / 6);
-    }
-    Ok(())
-}
-
-/// A peer that takes a byte, is idle, takes another, fails, and goes on.
-#[test]
-fn slow_peer(rt: HostRuntime) -> Result<(), Fail> {
-    let writes = [
-        WriteTurn::AtMost(1),
-        WriteTurn::Idle,
-        WriteTurn::AtMost(1),
-        WriteTurn::Failed,
-        WriteTurn::Idle,
-        WriteTurn::AtMost(7),
-        WriteTurn::Idle,
-        WriteTurn::Idle,
-    ];
-    let below = scripted(&rt, rt.alloc(), b"", &[], &writes);
-    let Ok(mut transport) = WriteBehind::new(rt.alloc(), below) else {
-        panic!(rt; "out of memory");
-    };
-    let large = [7; 20_000];
-    assert_eq!(rt; write(&rt, &mut transport, &large), Put::Wrote(16_384));
-    assert_eq!(rt; write(&rt, &mut transport, &large), Put::Wrote(1));
-    assert_eq!(rt; flush(&rt, &mut transport), Flushed::Failed);
-    assert_eq!(rt; transport.failures(), 1);
-    assert_eq!(rt; flush_all(&rt, &mut transport, 2), Flushed::Idle);
-    assert_eq!(rt; flush_all(&rt, &mut transport, 2), Flushed::Done);
-    let (below, waiting) = transport.into_parts();
-    assert_eq!(rt; [below.output().len(), waiting.len()], [16_385, 0]);
     Ok(())
 }
 
@@ -196,17 +127,26 @@ fn arrivals(rt: HostRuntime) -> Result<(), Fail> {
     Ok(())
 }
 
-/// The moment that a clock tells, where a crossing is open.
-fn moment<C: Clock, X: Crossing>(clock: &mut C, crossing: &X) -> Option<u64> {
-    if crossing.cross(0, 0) {
-        Some(clock.now())
-    } else {
-        None
+/// Whether a crossing lets a worker pass within so many turns. Where not, it refused each.
+fn passes<X: Crossing>(crossing: &X, worker: u32, turns: u32) -> bool
+    ensures { result ≡ false → (turn : ℕ) → turn < turns → X.refuses crossing.now worker turn }
+{
+    for turn in 0..turns {
+        if crossing.cross(worker, turn) {
+            return true;
+        }
     }
+    false
+}
+
+/// The moment that a clock of any kind tells.
+fn moment<C: Clock>(clock: &mut C) -> u64 {
+    clock.now()
 }
 
 #[test]
 fn stand_ins(rt: HostRuntime) {
     let mut clock = SetClock { moment: 7 };
-    assert_eq!(rt; moment(&mut clock, &OpenCrossing), Some(7));
+    assert_eq!(rt; moment(&mut clock), 7);
+    assert!(rt; passes(&OpenCrossing, 1, 1));
 }

@@ -1,5 +1,5 @@
 use Rattle.std.proofs.Common.{◌++◌, take, drop, Some, ap, ◌∙◌, arith}
-use Rattle.transport.proofs.Appended.{copied}
+use Rattle.transport.proofs.Copied.{copied}
 use Rattle.transport.proofs.scripted.ScriptedTransport.read.Goals as goal
 
 pub returns-in-Bytes-clause-given : goal.returns-in-Bytes-clause-given
