@@ -10,16 +10,13 @@ use Rattle.conn_engine.specs.declared.input.Input.{Input}
 use Rattle.conn_engine.specs.declared.input.Input.TheVariants as inputs
 use Rattle.conn_engine.specs.declared.standing.Standing.TheVariants.{Ended}
 use Rattle.conn_engine.specs.Facts.{Fact}
-use Rattle.conn_laws.specs.Behind.{IsLast}
 use Rattle.conn_laws.specs.Quotas.{IsWithinQuota}
 use Rattle.conn_laws.proofs.Quotas as steps
-use Rattle.conn_laws.proofs.Ended.{ends_by}
-use Rattle.client_table.specs.Clients.{ClientState, moment_of, words, Said, Moves, FailsToMove, IsGivenUp}
+use Rattle.client_table.specs.Clients.{ClientState, moment_of, words, Said, Moves, IsGivenUp}
 use Rattle.conn_service.specs.declared.served.Served.{Served}
-use Rattle.conn_service.specs.declared.served.Served.TheVariants as served
 use Rattle.conn_service.specs.Services.{ServiceState}
-use Rattle.conn_service.specs.Acts.{Act, Enters, Leaves, Reads, Writes, Steps, Loses, Fails, Starves, IsFull, IsStopped, Stalls, GivesUp, Ends, Others, ending_in, endings_of, input_in, inputs_of}
-use Rattle.conn_service.specs.Moments.{ending_read, ending_write, fed_by}
+use Rattle.conn_service.specs.Acts.{Act, Enters, Leaves, Reads, Writes, Steps, Loses, Fails, Starves, IsFull, IsStopped, Stalls, GivesUp, Ends, Others, ending_in, endings_of}
+use Rattle.conn_service.specs.Moments.{fed_by}
 use Rattle.conn_service.specs.Lives.{Does, DoesAll}
 use Rattle.conn_service.specs.Transcripts.{IsQuiet}
 

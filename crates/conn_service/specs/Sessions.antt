@@ -1,11 +1,10 @@
 -- What one step of a life does for the session of its connection (sections 4.4 and 4.9).
-use Rattle.std.specs.Prelude.{ℕ, Bool, List, Option, ⊤}
-use Rattle.transport.specs.declared.counts.Counts.{Counts}
+use Rattle.std.specs.Prelude.{⊤}
 use Rattle.conn_engine.specs.Facts.{Fact}
 use Rattle.conn_laws.specs.Calls.{FailedCalls}
 use Rattle.conn_laws.specs.Transcripts.{IsNotEnding, Transcribes}
 use Rattle.conn_service.specs.Services.{ServiceState}
-use Rattle.conn_service.specs.Acts.{Act, Enters, Leaves, Reads, Writes, Steps, Loses, Fails, Starves, IsFull, IsStopped, Stalls, GivesUp, Ends, Others}
+use Rattle.conn_service.specs.Acts.{Act, Steps, Loses, Fails}
 
 module _ {S P T : Type 0} (call : S → Fact P → S → Type 0) where
   -- a step adds to the transcript of its session, where that is not ending: its PUBLISH packets are those of the marks; what is handed out is what
