@@ -9,3 +9,4 @@ pub mod Written
 pub mod Read
 pub mod Ended
 pub mod Sessions
+pub mod Marks

@@ -1,10 +1,21 @@
 -- What one step of a life does for the session of its connection (sections 4.4 and 4.9).
-use Rattle.std.specs.Prelude.{⊤}
+use Rattle.std.specs.Prelude.{◌≡◌, ◌⊎◌, ℕ, false, List, [], Option, Some, Result, ⊤}
+use Rattle.group_jobs.specs.Stamps.{Held}
+use Rattle.member_window.specs.Contents.{Contents, IsSound}
+use Rattle.member_window.specs.Marks.{Mark}
+use Rattle.member_window.specs.Transcript.{IsLegalFrom}
+use Rattle.member_window.specs.Runs.{standing_of}
+use Rattle.session_desk.specs.declared.session.Session.{Session}
+use Rattle.session_desk.specs.Attaching.{Request}
+use Rattle.session_desk.specs.declared.attached.Attached.{Attached}
+use Rattle.session_desk.specs.declared.error.DeskError.{DeskError}
 use Rattle.conn_engine.specs.Facts.{Fact}
+use Rattle.conn_engine.specs.Facts.Fact.{Attach}
 use Rattle.conn_laws.specs.Calls.{FailedCalls}
-use Rattle.conn_laws.specs.Transcripts.{IsNotEnding, Transcribes}
+use Rattle.conn_laws.specs.Transcripts.{IsNotEnding, session_given, Transcribes}
+use Rattle.conn_laws.specs.Marks.{publishes_in, publishes_of}
 use Rattle.conn_service.specs.Services.{ServiceState}
-use Rattle.conn_service.specs.Acts.{Act, Steps, Loses, Fails}
+use Rattle.conn_service.specs.Acts.{Act, Steps, Loses, Fails, packets_said}
 
 module _ {S P T : Type 0} (call : S → Fact P → S → Type 0) where
   -- a step adds to the transcript of its session, where that is not ending: its PUBLISH packets are those of the marks; what is handed out is what
@@ -17,3 +28,26 @@ module _ {S P T : Type 0} (call : S → Fact P → S → Type 0) where
       IsNotEnding old.client.conn.standing → Transcribes call supply old.client.conn.number old.client.conn.standing input packets next new.client.conn.standing supply'
   TellsItsSession (Fails now input) old supply new supply' = FailedCalls call supply old.client.conn.number old.client.conn.standing input supply'
   TellsItsSession _ old supply new supply' = ⊤
+
+-- a session was handed out to the connection of this number
+pub record IsGiven {S P : Type 0} (call : S → Fact P → S → Type 0) (number : ℕ) (session : Session Held P) : Type 0 where
+  pub request : Request
+  pub whose : request.connection ≡ number
+  pub answer : Result (Attached Held P) DeskError
+  pub given : session_given answer ≡ Some session
+  pub before : S
+  pub behind : S
+  pub asked : call before (Attach request answer) behind
+
+-- the PUBLISH packets of these acts are those of a legal transcript, from what this window held
+pub record SendsLegally (acts : List Act) (window : Contents Held) : Type 0 where
+  pub marks : List (Mark Held)
+  pub publishes : publishes_in (packets_said acts) ≡ publishes_of marks
+  pub legal : IsLegalFrom (standing_of window) marks
+
+-- no PUBLISH is said; or a session was handed out, and what is said is legal from what its window held, where that is sound, as every `Window` of a
+-- program is, and not ending
+abbrev pub IsLegalLife : {S P : Type 0} → (S → Fact P → S → Type 0) → ℕ → List Act → Type 0
+IsLegalLife {S} {P} call number acts =
+    (publishes_in (packets_said acts) ≡ [])
+    ⊎ ((session : Session Held P) × IsGiven call number session × (IsSound session.window → session.window.retired ≡ false → SendsLegally acts session.window))

@@ -8,7 +8,7 @@ ghost use Rattle.conn_laws.specs.Quotas.{IsWithinQuota};
 ghost use Rattle.conn_service.specs.Acts.{Act, endings_of};
 ghost use Rattle.conn_service.specs.Services.{ServiceState, opened};
 ghost use Rattle.conn_service.specs.Lives.{Does, DoesAll};
-ghost use Rattle.conn_service.specs.Sessions.{TellsItsSession};
+ghost use Rattle.conn_service.specs.Sessions.{IsLegalLife, TellsItsSession};
 ghost use Rattle.conn_service.specs.Transcripts.{IsQuiet, ReadsItsStream, WritesItsPackets};
 
 use conn_engine::{HoldingPlace, Supply};
@@ -59,4 +59,14 @@ pub fn quota_law<P: HoldingPlace, T: Transport, S: Supply<P>>()
 pub fn session_law<P: HoldingPlace, T: Transport, S: Supply<P>>()
     ensures { (act : Act) (old new : ServiceState P T) (supply supply' : S) →
         Does S.call S.turn S.visiting P.slot_of T.counts T.given T.accepted act old supply new supply' → TellsItsSession S.call act old supply new supply' }
+{}
+
+/// **The PUBLISH packets of a life are those of a legal transcript** (sections 4.4 and 4.9), from what the window held of the session that the connection
+/// was given: each message that is sent for the first time goes out with DUP 0 under the least identifier that is free, behind all that is sent again;
+/// what is sent again has its own identifier, in the order of first sending; only what is held is acknowledged; and no more is unacknowledged than the
+/// Receive Maximum, at each moment. A connection that was given no session sends no PUBLISH.
+pub fn transcript_law<P: HoldingPlace, T: Transport, S: Supply<P>>()
+    ensures { (number now : ℕ) (first : T) (acts : List Act) (service : ServiceState P T) (supply supply' : S) →
+        DoesAll S.call S.turn S.visiting P.slot_of T.counts T.given T.accepted acts (opened number now first) supply service supply' →
+        IsLegalLife S.call number acts }
 {}
