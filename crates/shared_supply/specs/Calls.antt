@@ -2,7 +2,7 @@
 use Rattle.std.specs.Prelude.{◌≡◌, ℕ, true, Option, Some, Result, Ok, Err, IfSome}
 use Rattle.mqtt_topic.specs.Names.{Share}
 use Rattle.mqtt_topic.specs.Routes.{slot_of, routed, places_of}
-use Rattle.group_jobs.specs.Stamps.{Held, job_of}
+use Rattle.group_jobs.specs.Stamps.{Held}
 use Rattle.session_desk.specs.declared.session.Session.{Session}
 use Rattle.session_desk.specs.Books.{Books, IsKicked}
 use Rattle.session_desk.specs.Calls.{Call}
@@ -13,16 +13,23 @@ use Rattle.conn_engine.specs.declared.supply.BindRefusal.TheVariants as bind
 use Rattle.conn_engine.specs.Facts.{Fact}
 use Rattle.conn_engine.specs.Facts.Fact.{Attach, Withdraw, Kicked, Park, ParkAsIs, Keep, Bury, Sweep, LendPlace, TakePlace, Bind, Find, Match, Offer, Take, TakeBack, Settle, GiveBack}
 use Rattle.group_queue.specs.Ports.{GroupId}
-use Rattle.group_queue.specs.Places.{PlaceState, GiveBackAnswers, IsSamePlace, SettlesHeld, TakeAnswers, TakeBackAnswers}
+use Rattle.group_queue.specs.Places.{PlaceState, GiveBackAnswers, TakeAnswers, TakeBackAnswers}
 use Rattle.broker_groups.specs.Answers.{in_group, seen_main, seen_returns}
 use Rattle.broker_groups.specs.Offering.{OffersTo}
 use Rattle.broker_groups.specs.Outs.{HasOut}
 use Rattle.shared_routes.specs.Known.{KnownState, BindAnswers, HasNoSlot}
+use Rattle.shared_supply.specs.declared.wakes.Wakes.{Wakes}
+use Rattle.shared_supply.specs.Waking.{asking_back, freeing, one_more_if}
 use Rattle.shared_supply.specs.Workers.{Worker}
+use Rattle.shared_supply.specs.Settling.{SettlesAndGathers}
 
 -- the call was made of the desk, as it stood between other workers' calls
 abbrev pub IsMadeOfDesk : Call Held PlaceState → Type 0
 IsMadeOfDesk call = IsMade HasOut (λ (p : PlaceState). p.group) (λ (p : PlaceState). p.number) call
+
+-- the same worker, who has these to wake
+abbrev pub waking : Worker → Wakes → Worker
+waking worker wakes = record worker { wakes = wakes }
 
 -- a call of the desk; the worker is as it was
 abbrev pub AsksDesk : Worker → Call Held PlaceState → Worker → Type 0
@@ -49,11 +56,11 @@ Binds old share (Err bind.Memory) new = ⊥
 module _ (group : ℕ → GroupId) where
   -- what each call makes, with its answer, in a broker with these groups
   abbrev pub Calls : Worker → Fact PlaceState → Worker → Type 0
-  Calls old (Attach request answer) new = AsksDesk old (desk.Attach request answer) new
+  Calls old (Attach request answer) new = AsksDesk (waking old (asking_back answer old.wakes)) (desk.Attach request answer) new
   Calls old (Withdraw connection) new = AsksDesk old (desk.Withdraw connection) new
   Calls old (Kicked connection answer) new = (answer ≡ true → IsKickedSomewhere connection) × (new ≡ old)
-  Calls old (Park session now answer) new = AsksDesk old (desk.Park session now answer) new
-  Calls old (ParkAsIs session) new = HandsIn old (λ back. desk.ParkAsIs session back) new
+  Calls old (Park session now answer) new = AsksDesk (waking old (freeing old.wakes)) (desk.Park session now answer) new
+  Calls old (ParkAsIs session) new = HandsIn (waking old (freeing old.wakes)) (λ back. desk.ParkAsIs session back) new
   Calls old (Keep session) new = HandsIn old (λ back. desk.Keep session back) new
   Calls old (Bury session) new = HandsIn old (λ back. desk.Bury session back) new
   Calls old (Sweep now answer) new = IfSome answer (λ session. IsMadeOfDesk (desk.Sweep now (Some session))) × (new ≡ old)
@@ -62,8 +69,10 @@ module _ (group : ℕ → GroupId) where
   Calls old (Bind share answer) new = Binds old.known share answer new.known × (new ≡ record old { known = new.known })
   Calls old (Find share answer) new = (answer ≡ slot_of share.text old.known.shares) × (new ≡ old)
   Calls old (Match topic slots) new = (slots ≡ places_of 0 (routed topic old.known.shares)) × (new ≡ old)
-  Calls old (Offer slot connection message answer) new = OffersTo group old.ports slot message answer new.ports × (new ≡ record old { ports = new.ports })
+  Calls old (Offer slot connection message answer) new =
+      OffersTo group old.ports slot message answer new.ports × (new ≡ waking (record old { ports = new.ports }) (one_more_if answer slot old.wakes))
   Calls old (Take place place' answer) new = TakeAnswers seen_main place (in_group answer) place' × (new ≡ old)
   Calls old (TakeBack place place' answer) new = TakeBackAnswers seen_returns place (in_group answer) place' × (new ≡ old)
-  Calls old (Settle place place' envelope fate) new = SettlesHeld place (job_of envelope.stamp) fate place' × IsSamePlace place place' × (new ≡ old)
-  Calls old (GiveBack place place' envelope answer) new = GiveBackAnswers place envelope answer place' × (new ≡ old)
+  Calls old (Settle place place' envelope fate) new = SettlesAndGathers place envelope fate place' × (new ≡ old)
+  Calls old (GiveBack place place' envelope answer) new =
+      GiveBackAnswers place envelope answer place' × (new ≡ waking old (one_more_if answer place.group old.wakes))

@@ -1,3 +1,5 @@
+pub mod Waking
 pub mod Workers
+pub mod Settling
 pub mod Calls
 pub mod Endings

@@ -1,4 +1,4 @@
--- What a worker of a broker has: where it stands at the gate, what it publishes through, and what it knows of the routes.
+-- What a worker of a broker has: where it stands at the gate, what it publishes through, what it knows of the routes, and whom it has to wake.
 use Rattle.std.specs.Prelude.{◌≡◌, ◌⊎◌, Bool, true, false, List, Option, Some, None}
 use Rattle.gate_word.specs.declared.visitor.Visitor.{Visitor}
 use Rattle.gate_word.specs.declared.visitor.Visitor.TheVariants.{Outside, Inside}
@@ -7,11 +7,13 @@ use Rattle.gate_word.specs.Visits.{seat_in, Tries, Ends}
 use Rattle.group_queue.specs.Ports.{PortState}
 use Rattle.shared_routes.specs.Known.{KnownState, Grows}
 use Rattle.broker_groups.specs.Brokers.{no_gate}
+use Rattle.shared_supply.specs.declared.wakes.Wakes.{Wakes}
 
 pub record Worker : Type 0 where
   pub visitor : Visitor
   pub ports : List PortState
   pub known : KnownState
+  pub wakes : Wakes
 
 -- a visit is going on
 abbrev pub is_inside : Visitor → Bool
@@ -36,6 +38,7 @@ pub record Begins (old new : Worker) : Type 0 where
   pub tried : Tries old.visitor new.visitor
   pub ports : new.ports ≡ old.ports
   pub known : Grows old.known new.known
+  pub wakes : new.wakes ≡ old.wakes
 
 -- the worker leaves
 pub record Leaves (old new : Worker) : Type 0 where

@@ -9,6 +9,7 @@ ghost use Rattle.shared_supply.specs.Calls.{Calls};
 ghost use Rattle.shared_supply.specs.Workers.{is_visiting, Begins, Leaves, Turns};
 
 use crate::letting_go::dissolve;
+use crate::settling::settle;
 use crate::supply::{SharedSupply, turn_of};
 use broker_groups::{Broker, BrokerPlace};
 use conn_engine::{BindRefusal, NoMemory, OfferRefusal, Supply};
@@ -16,7 +17,7 @@ use gate_word::Visitor;
 use group_jobs::{Envelope, Fate, SharedMessage, Stamp};
 use mqtt_topic::{Share, Slots, TopicName};
 use mqtt_wire::Text;
-use session_desk::{Attached, DeskError, Session};
+use session_desk::{Attached, DeskError, Place, Session};
 use std::sync::Wait;
 
 impl<'a, 'g, B: Broker, R: Wait> Supply<BrokerPlace<B>> for SharedSupply<'a, 'g, B, R> {
@@ -56,8 +57,11 @@ impl<'a, 'g, B: Broker, R: Wait> Supply<BrokerPlace<B>> for SharedSupply<'a, 'g,
         now: u64,
     ) -> Result<Attached<Envelope, BrokerPlace<B>>, DeskError> {
         let hall = self.hall;
-        hall.desk
-            .attach(self.rt, connection, client.shared_bytes(), clean, now)
+        let attached = hall
+            .desk
+            .attach(self.rt, connection, client.shared_bytes(), clean, now);
+        self.wakes.note(&attached);
+        attached
     }
 
     fn withdraw(&mut self, connection: u16) {
@@ -80,6 +84,7 @@ impl<'a, 'g, B: Broker, R: Wait> Supply<BrokerPlace<B>> for SharedSupply<'a, 'g,
         ensures called { Calls B.group self.old (Park session now result) self.new }
         ensures visiting { is_visiting self.new ≡ is_visiting self.old }
     {
+        self.wakes.free_session();
         let hall = self.hall;
         hall.desk.park(self.rt, session, now)
     }
@@ -89,6 +94,7 @@ impl<'a, 'g, B: Broker, R: Wait> Supply<BrokerPlace<B>> for SharedSupply<'a, 'g,
         ensures called { Calls B.group self.old (ParkAsIs session) self.new }
         ensures visiting { is_visiting self.new ≡ is_visiting self.old }
     {
+        self.wakes.free_session();
         let hall = self.hall;
         dissolve(hall.desk.park_as_is(self.rt, session));
     }
@@ -150,7 +156,13 @@ impl<'a, 'g, B: Broker, R: Wait> Supply<BrokerPlace<B>> for SharedSupply<'a, 'g,
     ) -> Result<Stamp, OfferRefusal> {
         let hall = self.hall;
         let turn = turn_of(&self.visitor);
-        self.ports.offer(&hall.groups, self.rt, turn, slot, message)
+        match self.ports.offer(&hall.groups, self.rt, turn, slot, message) {
+            Ok(stamp) => {
+                self.wakes.count(slot);
+                Ok(stamp)
+            }
+            Err(refusal) => Err(refusal),
+        }
     }
 
     fn take(&mut self, place: &mut BrokerPlace<B>) -> Result<Option<Envelope>, NoMemory> {
@@ -164,7 +176,8 @@ impl<'a, 'g, B: Broker, R: Wait> Supply<BrokerPlace<B>> for SharedSupply<'a, 'g,
     }
 
     fn settle(&mut self, place: &mut BrokerPlace<B>, envelope: Envelope, fate: Fate) {
-        let _stamp = place.settle(envelope, fate);
+        let hall = self.hall;
+        settle(self.rt, self.alloc, &hall.groups, place, envelope, fate);
     }
 
     fn give_back(
@@ -173,6 +186,13 @@ impl<'a, 'g, B: Broker, R: Wait> Supply<BrokerPlace<B>> for SharedSupply<'a, 'g,
         envelope: Envelope,
     ) -> Result<(), Envelope> {
         let hall = self.hall;
-        place.give_back(&hall.groups, self.rt, envelope)
+        let slot = place.slot();
+        match place.give_back(&hall.groups, self.rt, envelope) {
+            Ok(()) => {
+                self.wakes.count(slot);
+                Ok(())
+            }
+            Err(envelope) => Err(envelope),
+        }
     }
 }

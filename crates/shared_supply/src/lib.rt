@@ -5,8 +5,11 @@ mod calls;
 mod ending;
 mod hall;
 mod letting_go;
+mod settling;
 mod supply;
+mod wakes;
 
 pub use ending::StillOpen;
 pub use hall::Hall;
 pub use supply::SharedSupply;
+pub use wakes::{AskedBack, Wakes};

@@ -2,18 +2,21 @@
 ghost use Rattle.std.specs.Prelude.{◌≡◌, true};
 ghost use Rattle.gate_word.specs.Visits.{Ends};
 ghost use Rattle.gate_word.specs.declared.visitor.Visitor.TheVariants.{Inside, Outside};
+ghost use Rattle.shared_supply.specs.Waking.{no_wakes};
 ghost use Rattle.shared_supply.specs.Workers.{Begins, Leaves, standing, is_inside};
 
 use crate::hall::Hall;
+use crate::wakes::Wakes;
 use broker_groups::{Broker, Key, Ports};
 use gate_word::{Turn, Visitor};
 use shared_routes::KnownRoutes;
+use std::alloc::Global;
 use std::marker::Model;
 use std::mem;
 use std::sync::Wait;
 
 /// What a worker asks: the hall that it shares with the others, and what it has for itself, a visitor of the broker's gate, a port of each group, and
-/// what it knows of the routes.
+/// what it knows of the routes, and what it did that others may wait for.
 ///
 /// Contracts see it as a `Worker`.
 pub struct SharedSupply<'a, 'g, B: Broker, R: Wait> {
@@ -23,29 +26,33 @@ pub struct SharedSupply<'a, 'g, B: Broker, R: Wait> {
     pub(crate) visitor: Option<Visitor>,
     pub(crate) ports: Ports<B>,
     pub(crate) known: KnownRoutes<'a>,
+    pub(crate) alloc: Global,
+    pub(crate) wakes: Wakes,
 }
 
 impl<'a, 'g, B: Broker, R: Wait> Model for SharedSupply<'a, 'g, B, R> {
+    ghost use Rattle.std.specs.Prelude.{◌≡◌};
     ghost use Rattle.shared_supply.specs.Workers.{Worker, standing, IsVisitorOf};
 
     ghost Value = { Worker };
 
-    ghost view = { λ s. record { visitor = standing s.visitor; ports = s.ports; known = s.known } };
+    ghost view = { λ s. record { visitor = standing s.visitor; ports = s.ports; known = s.known; wakes = s.wakes } };
 
-    ghost invariant = { λ s. IsVisitorOf B.gate s.visitor };
+    ghost invariant = { λ s. IsVisitorOf B.gate s.visitor × (s.known.table ≡ s.hall.now) };
 }
 
 impl<'a, 'g, B: Broker, R: Wait> SharedSupply<'a, 'g, B, R> {
-    /// A worker's, which is outside the gate.
+    /// A worker's, which is outside the gate. Its places gather with this memory.
     pub fn new(
         rt: &'a R,
+        alloc: Global,
         hall: &'a Hall<'g, B>,
         key: Key<B>,
         ports: Ports<B>,
         known: KnownRoutes<'a>,
     ) -> SharedSupply<'a, 'g, B, R>
         requires { known.table ≡ hall.now }
-        ensures { result ≡ record { visitor = Outside key; ports = ports; known = known.entry } }
+        ensures { result ≡ record { visitor = Outside key; ports = ports; known = known.entry; wakes = no_wakes } }
     {
         SharedSupply {
             rt,
@@ -53,7 +60,24 @@ impl<'a, 'g, B: Broker, R: Wait> SharedSupply<'a, 'g, B, R> {
             visitor: Some(key.into_visitor()),
             ports,
             known,
+            alloc,
+            wakes: Wakes::none(),
         }
+    }
+
+    /// The hall that it asks, of whose routes it knows.
+    pub fn hall(&self) -> &'a Hall<'g, B>
+        ensures { self.now.known.table ≡ result.now }
+    {
+        self.hall
+    }
+
+    /// What it did since it was last asked that others may wait for. Who asks behind a visit can wake just these.
+    pub fn take_wakes(&mut self) -> Wakes
+        ensures told { result ≡ self.old.wakes }
+        ensures cleared { self.new ≡ record self.old { wakes = no_wakes } }
+    {
+        mem::replace(&mut self.wakes, Wakes::none())
     }
 
     /// Its key and its ports. A worker that is inside leaves first.
@@ -67,6 +91,8 @@ impl<'a, 'g, B: Broker, R: Wait> SharedSupply<'a, 'g, B, R> {
             visitor,
             ports,
             known: _,
+            alloc: _,
+            wakes: _,
         } = self;
         let Some(visitor) = visitor else {
             unreachable!()

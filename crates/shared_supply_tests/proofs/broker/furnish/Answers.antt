@@ -2,7 +2,7 @@
 use Rattle.std.proofs.Common.{Some}
 use Rattle.std.proofs.lemmas.List.Elements.{All-pop}
 use Rattle.broker_groups.specs.Naming.{HasNoneOut}
-use Rattle.shared_supply_tests.proofs.one_day.furnish.Goals as goal
+use Rattle.shared_supply_tests.proofs.broker.furnish.Goals as goal
 
 pub give_place-requires : goal.give_place-requires
 give_place-requires g c = (All-pop HasNoneOut c.places.places.items c.pop.new.self.items (Some c.in-Some.place) c.in-Some.ensures.items c.places.invariant).1

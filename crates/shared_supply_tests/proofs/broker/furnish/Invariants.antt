@@ -1,7 +1,7 @@
 -- Nothing is out at the places that are left.
 use Rattle.std.proofs.Common.{All, vec_len}
 use Rattle.broker_groups.specs.Naming.{HasNoneOut}
-use Rattle.shared_supply_tests.proofs.one_day.furnish.Given as goal
+use Rattle.shared_supply_tests.proofs.broker.furnish.Given as goal
 
 abbrev pub invariant-places : goal.invariant-places
 invariant-places g l = All HasNoneOut l.places.items

@@ -1,6 +1,6 @@
 -- So many are left.
 use Rattle.std.proofs.Common.{vec_len}
-use Rattle.shared_supply_tests.proofs.one_day.count.Given as goal
+use Rattle.shared_supply_tests.proofs.broker.count.Given as goal
 
 abbrev pub invariant-answers : goal.invariant-answers
 invariant-answers l = Unit {0}

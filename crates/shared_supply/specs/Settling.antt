@@ -1,0 +1,29 @@
+-- How a place settles a message, and when it gathers what it settled into its group's ledger.
+use Rattle.std.specs.Prelude.{◌≡◌, ℕ, ◌+◌, ◌%◌, ◌<◌, min, length, Bool, Result}
+use Rattle.group_jobs.specs.declared.error.JobError.{JobError}
+use Rattle.group_jobs.specs.declared.fate.Fate.{Fate}
+use Rattle.group_jobs.specs.declared.fate.Fate.TheVariants.{Acknowledged, Refused}
+use Rattle.group_jobs.specs.Settled.{runs_of}
+use Rattle.group_jobs.specs.Stamps.{Held, job_of}
+use Rattle.group_queue.specs.Places.{PlaceState, GatherAnswers, IsSamePlace, SettlesHeld}
+use Rattle.broker_groups.specs.Answers.{seen_ledger}
+
+-- how many runs a place's docket has, of whatever fate, or 2^64 - 1 where they are more
+abbrev pub runs_at : PlaceState → ℕ
+runs_at place = min (length (runs_of Acknowledged place.docket.settled) + length (runs_of Refused place.docket.settled)) 18446744073709551615
+
+-- the docket, which had so many runs, has so many now: they are more, and a further 64 of them are full
+abbrev pub IsDue : ℕ → ℕ → Type 0
+IsDue before after = (before < after) × (after % 64 ≡ 0)
+
+-- the place gathered: what it had settled is in the group's ledger, or another had that in hands, or there was no memory
+abbrev pub Gathers : PlaceState → PlaceState → Type 0
+Gathers old new = (answer : Result Bool JobError) × GatherAnswers seen_ledger old answer new
+
+-- a message was settled at the place, and just where that filled a further 64 runs of its docket, the place gathered
+pub record SettlesAndGathers (old : PlaceState) (envelope : Held) (fate : Fate) (new : PlaceState) : Type 0 where
+  pub settled : PlaceState
+  pub settles : SettlesHeld old (job_of envelope.stamp) fate settled
+  pub same : IsSamePlace old settled
+  pub due : IsDue (runs_at old) (runs_at settled) → Gathers settled new
+  pub spared : ¬ IsDue (runs_at old) (runs_at settled) → new ≡ settled

@@ -1,0 +1,57 @@
+//! How a place settles a message, and when it gathers.
+ghost use Rattle.std.specs.Prelude.{◌≡◌};
+ghost use Rattle.conn_engine.specs.Holding.{IsAmong, KeepsOut, SpendsOut};
+ghost use Rattle.broker_groups.specs.Outs.{HasOut};
+ghost use Rattle.shared_supply.specs.Settling.{Gathers, IsDue, SettlesAndGathers, runs_at};
+
+use broker_groups::{Broker, BrokerGroups, BrokerPlace};
+use group_jobs::{Envelope, Fate};
+use std::alloc::Global;
+use std::sync::Wait;
+
+/// At each further so many runs in its docket a place gathers.
+const FULL: usize = 64;
+
+/// Settles a message that is out at a place, for good, and gathers where that filled a further 64 runs of the place's docket. So a gather that finds
+/// another at the ledger, or no memory, is made again 64 runs later, and not before. A step of the ledger's queue may wait for another thread's.
+pub(crate) fn settle<B: Broker, R: Wait>(
+    rt: &R,
+    alloc: Global,
+    groups: &BrokerGroups<'_, B>,
+    place: &mut BrokerPlace<B>,
+    envelope: Envelope,
+    fate: Fate,
+)
+    requires { IsAmong HasOut place.old envelope }
+    ensures settled { SettlesAndGathers place.old envelope fate place.new }
+    ensures out { SpendsOut HasOut place.old envelope place.new }
+{
+    let before = run_count(place);
+    let _stamp = place.settle(envelope, fate);
+    gather_if_due(rt, alloc, groups, place, before);
+}
+
+/// Gathers where the place's docket has more runs than these, and a further 64 of them are full.
+fn gather_if_due<B: Broker, R: Wait>(
+    rt: &R,
+    alloc: Global,
+    groups: &BrokerGroups<'_, B>,
+    place: &mut BrokerPlace<B>,
+    before: usize,
+)
+    ensures due { IsDue before (runs_at place.old) → Gathers place.old place.new }
+    ensures spared { ¬ IsDue before (runs_at place.old) → place.new ≡ place.old }
+    ensures out { KeepsOut HasOut place.old place.new }
+{
+    let after = run_count(place);
+    if before < after && after % FULL == 0 {
+        let _gathered = place.gather(groups, rt, alloc);
+    }
+}
+
+/// How many runs the place's docket has. It looks at none of them.
+fn run_count<B: Broker>(place: &BrokerPlace<B>) -> usize
+    ensures { result ≡ runs_at place.now }
+{
+    place.docket().settled().run_count()
+}

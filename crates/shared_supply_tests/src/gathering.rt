@@ -1,0 +1,121 @@
+//! Two places in turn settle what one port accepted: each other number is the other place's, so each settled job is a run of its own in its docket.
+ghost use Rattle.std.specs.Prelude.{◌≡◌, [], true};
+ghost use Rattle.broker_groups.specs.Outs.{HasOut};
+
+use crate::broker::{Counts, Day, Hand, keep, open};
+use crate::calls::{acknowledge, offer};
+use broker_groups::{Broker, BrokerPlace, Key, Ports};
+use conn_engine::Supply;
+use gate_word::Gate;
+use shared_supply::{Hall, SharedSupply};
+use std::alloc::Global;
+use std::sync::Wait;
+use std::test::Fail;
+use std::thread::Threads;
+
+/// How many jobs each place settles.
+const JOBS: u32 = 100;
+
+/// How many runs the dockets of two places have at the end.
+#[derive(Drop)]
+struct Runs {
+    near: usize,
+    far: usize,
+}
+
+/// Two jobs are offered; each place is handed one of them, and acknowledges it.
+fn turn<B: Broker, S: Supply<BrokerPlace<B>>>(
+    alloc: Global,
+    supply: &mut S,
+    near: &mut BrokerPlace<B>,
+    far: &mut BrokerPlace<B>,
+)
+    requires near { HasOut near.old [] }
+    requires far { HasOut far.old [] }
+    ensures near { HasOut near.new [] }
+    ensures far { HasOut far.new [] }
+{
+    if supply.begin() {
+        let _first = offer(alloc, supply);
+        let _second = offer(alloc, supply);
+        let _first = acknowledge(supply, near);
+        let _second = acknowledge(supply, far);
+        supply.end();
+    }
+}
+
+/// So many turns of each of two places, which go back to the desk.
+fn turns<B: Broker, S: Supply<BrokerPlace<B>>>(alloc: Global, supply: &mut S) -> Option<Runs> {
+    let mut near = supply.lend_place(0)?;
+    let mut far = supply.lend_place(0)?;
+    'turns: for _ in 0..JOBS {
+        turn(alloc, supply, &mut near, &mut far);
+    }
+    let runs = Runs {
+        near: near.docket().settled().run_count(),
+        far: far.docket().settled().run_count(),
+    };
+    supply.take_place(near);
+    supply.take_place(far);
+    Some(runs)
+}
+
+impl Day for Runs {
+    fn pass<B: Broker + Send + Sync, R: Threads + Wait + Sync>(
+        &mut self,
+        rt: &R,
+        alloc: Global,
+        gate: &Gate,
+        hall: &Hall<'_, B>,
+        hands: Vec<Hand<B>>,
+        spare: Key<B>,
+    ) -> Vec<Ports<B>> {
+        let _ = gate;
+        drop(spare);
+        let mut hands = hands;
+        let mut all = Vec::new(alloc);
+        if let Some(hand) = hands.pop() {
+            keep(&mut all, work(rt, alloc, hall, hand, self));
+        }
+        all
+    }
+}
+
+/// The turns by a worker, whose ports come back.
+fn work<B: Broker, R: Wait>(
+    rt: &R,
+    alloc: Global,
+    hall: &Hall<'_, B>,
+    hand: Hand<B>,
+    runs: &mut Runs,
+) -> Ports<B> {
+    let Hand { key, ports } = hand;
+    let known = match hall.know_routes(alloc) {
+        Ok(known) => known,
+        Err(_) => return ports,
+    };
+    let mut supply = SharedSupply::new(rt, alloc, hall, key, ports, known);
+    if let Some(told) = turns(alloc, &mut supply) {
+        *runs = told;
+    }
+    let (_key, ports) = supply.into_parts();
+    ports
+}
+
+// Each docket gathers its first 64 runs, and keeps the 36 behind them; the report has them all.
+#[test]
+fn a_full_docket_is_gathered(rt: HostRuntime) -> Result<(), Fail> {
+    let mut runs = Runs { near: 0, far: 0 };
+    let counts = open(&rt, rt.alloc(), 8, 1, &mut runs).ok_or("a day")?;
+    let all = Counts {
+        accepted: 200,
+        acknowledged: 200,
+        refused: 0,
+        held: 0,
+        queued: 0,
+        returned: 0,
+    };
+    assert_eq!(rt; (runs.near, runs.far), (36, 36));
+    assert_eq!(rt; counts.last(), Some(&all));
+    Ok(())
+}
