@@ -7,3 +7,5 @@ pub mod Rounds
 pub mod Folding
 pub mod Written
 pub mod Read
+pub mod Ended
+pub mod Sessions

@@ -7,3 +7,4 @@ pub mod Edges
 pub mod Lives
 pub mod Endings
 pub mod Transcripts
+pub mod Sessions

@@ -1,11 +1,15 @@
 //! Laws of a connection that is served: what holds of every life, over every transport and every supply, whatever others do to the supply between
 //! its acts. Each is the contract of a function that does nothing, stated over the definitions that the contracts of
 //! [`Service`](crate::Service) and [`serve`](crate::serve) cite.
-ghost use Rattle.std.specs.Prelude.{◌≡◌, ℕ, List};
-ghost use Rattle.conn_service.specs.Acts.{Act};
+ghost use Rattle.std.specs.Prelude.{◌≡◌, ◌≢◌, ℕ, List, None};
+ghost use Rattle.std.specs.List.{AllByRecursion};
+ghost use Rattle.std.specs.Option.{option_to_list};
+ghost use Rattle.conn_laws.specs.Quotas.{IsWithinQuota};
+ghost use Rattle.conn_service.specs.Acts.{Act, endings_of};
 ghost use Rattle.conn_service.specs.Services.{ServiceState, opened};
-ghost use Rattle.conn_service.specs.Lives.{DoesAll};
-ghost use Rattle.conn_service.specs.Transcripts.{ReadsItsStream, WritesItsPackets};
+ghost use Rattle.conn_service.specs.Lives.{Does, DoesAll};
+ghost use Rattle.conn_service.specs.Sessions.{TellsItsSession};
+ghost use Rattle.conn_service.specs.Transcripts.{IsQuiet, ReadsItsStream, WritesItsPackets};
 
 use conn_engine::{HoldingPlace, Supply};
 use transport::Transport;
@@ -26,4 +30,33 @@ pub fn writing_law<P: HoldingPlace, T: Transport, S: Supply<P>>()
     ensures { (number now : ℕ) (first : T) (acts : List Act) (service : ServiceState P T) (supply supply' : S) →
         DoesAll S.call S.turn S.visiting P.slot_of T.counts T.given T.accepted acts (opened number now first) supply service supply' →
         WritesItsPackets T.accepted first acts service }
+{}
+
+/// **A connection ends once, for a reason** (`once`): of all its acts, one ends it, and its ending says which: a read that failed (901), a write that
+/// failed (902), a step, a read or a packet that memory was wanted for (903), a crossing that let nothing pass (904), a transport that took nothing for too
+/// long (905), or that a step closed it and all that was said is written (0). Behind that it is not read, written or stepped, but given up, where its
+/// last step is missing (`quiet`).
+pub fn ending_law<P: HoldingPlace, T: Transport, S: Supply<P>>()
+    ensures once { (number now : ℕ) (first : T) (acts : List Act) (service : ServiceState P T) (supply supply' : S) →
+        DoesAll S.call S.turn S.visiting P.slot_of T.counts T.given T.accepted acts (opened number now first) supply service supply' →
+        endings_of acts ≡ option_to_list service.ending }
+    ensures quiet { (acts : List Act) (old new : ServiceState P T) (supply supply' : S) → old.ending ≢ None →
+        DoesAll S.call S.turn S.visiting P.slot_of T.counts T.given T.accepted acts old supply new supply' → AllByRecursion IsQuiet acts }
+{}
+
+/// **The quota is kept** (section 4.9) in every life, with memory and without: of the PUBLISH packets that were sent on a connection, those that
+/// wait for their PUBACK are never more than the Receive Maximum of its CONNECT, and never more than 256.
+pub fn quota_law<P: HoldingPlace, T: Transport, S: Supply<P>>()
+    ensures { (number now : ℕ) (first : T) (acts : List Act) (service : ServiceState P T) (supply supply' : S) →
+        DoesAll S.call S.turn S.visiting P.slot_of T.counts T.given T.accepted acts (opened number now first) supply service supply' →
+        IsWithinQuota service.client.conn.standing }
+{}
+
+/// **Each step of a life keeps its session** (sections 4.4, 4.8.2 and 4.9), as each step of a connection does: its PUBLISH packets are those of the marks
+/// that it adds to the transcript of its session, what its place was handed is what it sends for the first time, in that order, what is acknowledged is
+/// settled, and where it ends the connection, the session is handed in with all that it holds. A step that wanted memory made the calls that its table has
+/// for that, and no others.
+pub fn session_law<P: HoldingPlace, T: Transport, S: Supply<P>>()
+    ensures { (act : Act) (old new : ServiceState P T) (supply supply' : S) →
+        Does S.call S.turn S.visiting P.slot_of T.counts T.given T.accepted act old supply new supply' → TellsItsSession S.call act old supply new supply' }
 {}

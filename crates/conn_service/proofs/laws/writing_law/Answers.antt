@@ -1,7 +1,6 @@
 -- What is written begins what is said.
-use Rattle.std.proofs.Common.{List, [], refl}
-use Rattle.conn_service.specs.Acts.{Act}
-use Rattle.conn_service.specs.Services.{ServiceState, opened}
+use Rattle.std.proofs.Common.{[], refl}
+use Rattle.conn_service.specs.Services.{opened}
 use Rattle.conn_service.specs.Transcripts.{WritesItsPackets}
 use Rattle.conn_service.proofs.Folding.{folded}
 use Rattle.conn_service.proofs.Written.{written_on, unwritten}

@@ -1,5 +1,4 @@
 -- One round more.
-use Rattle.std.proofs.Common.{rules}
 use Rattle.conn_service.proofs.Leading.{leads_on}
 use Rattle.conn_service.proofs.serving.serve_on.Goals as goal
 

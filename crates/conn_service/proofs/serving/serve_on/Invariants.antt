@@ -1,5 +1,5 @@
 -- The rounds so far.
-use Rattle.std.proofs.Common.{◌≡◌, None, length}
+use Rattle.std.proofs.Common.{◌≡◌, None}
 use Rattle.conn_service.specs.Lives.{Leads}
 use Rattle.conn_service.proofs.serving.serve_on.Given as goal
 

@@ -1,0 +1,131 @@
+-- How a connection ends, and what comes behind that.
+use Rattle.std.proofs.Common.{◌≡◌, ◌≢◌, ◌⊎◌, ℕ, Bool, List, [], ◌∷◌, ◌++◌, filter_map, Option, Some, None, refl, sym, ap, subst, ◌∙◌, append-nil, inl, inr, ⊎_elim}
+use Rattle.std.specs.List.{AllByRecursion}
+use Rattle.std.specs.Option.{option_to_list}
+use Rattle.std.proofs.lemmas.List.Elements.{filter_map-append}
+use Rattle.transport.specs.declared.counts.Counts.{Counts}
+use Rattle.transport.specs.declared.answers.Got.{Got}
+use Rattle.transport.specs.declared.answers.Got.TheVariants as got
+use Rattle.conn_engine.specs.declared.input.Input.{Input}
+use Rattle.conn_engine.specs.declared.input.Input.TheVariants as inputs
+use Rattle.conn_engine.specs.declared.standing.Standing.TheVariants.{Ended}
+use Rattle.conn_engine.specs.Facts.{Fact}
+use Rattle.conn_laws.specs.Quotas.{IsWithinQuota}
+use Rattle.conn_laws.proofs.Quotas as steps
+use Rattle.client_table.specs.Clients.{ClientState, moment_of, words, Said, Moves, IsGivenUp}
+use Rattle.conn_service.specs.declared.served.Served.{Served}
+use Rattle.conn_service.specs.Services.{ServiceState}
+use Rattle.conn_service.specs.Acts.{Act, Enters, Leaves, Reads, Writes, Steps, Loses, Fails, Starves, IsFull, IsStopped, Stalls, GivesUp, Ends, Others, ending_in, endings_of}
+use Rattle.conn_service.specs.Moments.{fed_by}
+use Rattle.conn_service.specs.Lives.{Does, DoesAll}
+use Rattle.conn_service.specs.Transcripts.{IsQuiet}
+
+endings_on : (done : List Act) (act : Act) → endings_of (done ++ act ∷ []) ≡ endings_of done ++ filter_map ending_in (act ∷ [])
+endings_on done act = filter_map-append ending_in done (act ∷ [])
+
+module _ {S P T : Type 0} (call : S → Fact P → S → Type 0) (turn : S → S → Type 0) (visiting : S → Bool) (slot_of : P → ℕ)
+    (counts : T → Counts) (given accepted : T → Option (List ℕ)) where
+  -- an act either leaves the ending, or ends a connection that had not ended
+  abbrev Turns : Option Served → Option Served → Option Served → Type 0
+  Turns its old new = ((its ≡ None) × (new ≡ old)) ⊎ ((old ≡ None) × (new ≡ its))
+
+  turns : (act : Act) (old new : ServiceState P T) (supply supply' : S) → Does call turn visiting slot_of counts given accepted act old supply new supply'
+      → Turns (ending_in act) old.ending new.ending
+  turns (Enters is_open) old new supply supply' does = inl (refl, ap (λ (s : ServiceState P T). s.ending) does.becomes)
+  turns Leaves old new supply supply' does = inl (refl, ap (λ (s : ServiceState P T). s.ending) does.same)
+  turns Others old new supply supply' does = inl (refl, ap (λ (s : ServiceState P T). s.ending) does)
+  turns (Reads size its bytes) old new supply supply' does = inr (does.does.may.going, ap (λ (s : ServiceState P T). s.ending) does.does.becomes)
+  turns (Starves its bytes) old new supply supply' does = inr (does.does.may.going, ap (λ (s : ServiceState P T). s.ending) does.does.becomes)
+  turns (Writes now put) old new supply supply' does = inr (does.does.going, ap (λ (s : ServiceState P T). s.ending) does.does.becomes)
+  turns (Steps now input packets next) old new supply supply' does = inl (refl, ap (λ (s : ServiceState P T). s.ending) does.becomes)
+  turns (Loses now input packets next) old new supply supply' does = inr (does.due.going, ap (λ (s : ServiceState P T). s.ending) does.becomes)
+  turns (Fails now input) old new supply supply' does = inr (does.due.going, ap (λ (s : ServiceState P T). s.ending) does.becomes)
+  turns (IsFull now) old new supply supply' does = inr (does.going, ap (λ (s : ServiceState P T). s.ending) does.becomes)
+  turns (GivesUp now) old new supply supply' does = inl (refl, ap (λ (s : ServiceState P T). s.ending) does.becomes)
+  turns IsStopped old new supply supply' does = inr (does.does.going, ap (λ (s : ServiceState P T). s.ending) does.does.becomes)
+  turns (Stalls now) old new supply supply' does = inr (does.does.going, ap (λ (s : ServiceState P T). s.ending) does.does.becomes)
+  turns Ends old new supply supply' does = inr (does.does.going, ap (λ (s : ServiceState P T). s.ending) does.does.becomes)
+
+  one_ending : (its : Option Served) (act : Act) → ending_in act ≡ its → filter_map ending_in (act ∷ []) ≡ option_to_list its
+  one_ending None act is = rw is
+  one_ending (Some how) act is = rw is
+
+  pub ending_on : (done : List Act) (act : Act) (old new : ServiceState P T) (supply supply' : S) → endings_of done ≡ option_to_list old.ending
+      → Does call turn visiting slot_of counts given accepted act old supply new supply' → endings_of (done ++ act ∷ []) ≡ option_to_list new.ending
+  ending_on done act old new supply supply' so does =
+      ⊎_elim
+      (λ (stays : (ending_in act ≡ None) × (new.ending ≡ old.ending)).
+      endings_on done act ∙ ap (λ (l : List Served). endings_of done ++ l) (one_ending None act stays.0) ∙ append-nil (endings_of done) ∙ so ∙ ap option_to_list (sym stays.1))
+      (λ (ends : (old.ending ≡ None) × (new.ending ≡ ending_in act)).
+      endings_on done act ∙ ap (λ (l : List Served). l ++ filter_map ending_in (act ∷ [])) (so ∙ ap option_to_list ends.0) ∙ one_ending (ending_in act) act refl ∙ ap option_to_list (sym ends.1))
+      (turns act old new supply supply' does)
+
+  quiet_one : (act : Act) (old new : ServiceState P T) (supply supply' : S) → old.ending ≢ None → Does call turn visiting slot_of counts given accepted act old supply new supply' → IsQuiet act
+  quiet_one (Enters is_open) old new supply supply' ended does = tt
+  quiet_one Leaves old new supply supply' ended does = tt
+  quiet_one Others old new supply supply' ended does = tt
+  quiet_one (GivesUp now) old new supply supply' ended does = tt
+  quiet_one (Reads size its bytes) old new supply supply' ended does = ended does.does.may.going
+  quiet_one (Starves its bytes) old new supply supply' ended does = ended does.does.may.going
+  quiet_one (Writes now put) old new supply supply' ended does = ended does.does.going
+  quiet_one (Steps now input packets next) old new supply supply' ended does = ended does.due.going
+  quiet_one (Loses now input packets next) old new supply supply' ended does = ended does.due.going
+  quiet_one (Fails now input) old new supply supply' ended does = ended does.due.going
+  quiet_one (IsFull now) old new supply supply' ended does = ended does.going
+  quiet_one IsStopped old new supply supply' ended does = ended does.does.going
+  quiet_one (Stalls now) old new supply supply' ended does = ended does.does.going
+  quiet_one Ends old new supply supply' ended does = ended does.does.going
+
+  stays_ended : (act : Act) (old new : ServiceState P T) (supply supply' : S) → old.ending ≢ None → Does call turn visiting slot_of counts given accepted act old supply new supply' → new.ending ≢ None
+  stays_ended act old new supply supply' ended does =
+      ⊎_elim (λ (stays : (ending_in act ≡ None) × (new.ending ≡ old.ending)) (none : new.ending ≡ None). ended (sym stays.1 ∙ none))
+      (λ (ends : (old.ending ≡ None) × (new.ending ≡ ending_in act)) (none : new.ending ≡ None). ended ends.0) (turns act old new supply supply' does)
+
+  -- behind its end it is quiet
+  pub quiet : (acts : List Act) (old new : ServiceState P T) (supply supply' : S) → old.ending ≢ None → DoesAll call turn visiting slot_of counts given accepted acts old supply new supply'
+      → AllByRecursion IsQuiet acts
+  quiet [] old new supply supply' ended does = tt
+  quiet (act ∷ acts) old new supply supply' ended does =
+      (quiet_one act old does.0 supply does.1 ended does.2, quiet acts does.0 new does.1 supply' (stays_ended act old does.0 supply does.1 ended does.2) does.3)
+
+  -- the quota is kept (4.9)
+  abbrev IsWithin : ServiceState P T → Type 0
+  IsWithin service = IsWithinQuota service.client.conn.standing
+
+  same_client : (old new : ServiceState P T) → new.client ≡ old.client → IsWithin old → IsWithin new
+  same_client old new is within = subst (λ (c : ClientState P). IsWithinQuota c.conn.standing) (sym is) within
+
+  moves : (now : ℕ) (input : Input) (said : Said) (client client' : ClientState P) (supply supply' : S) → Moves call slot_of supply client now input said client' supply'
+      → IsWithinQuota client.conn.standing → IsWithinQuota client'.conn.standing
+  moves now input said client client' supply supply' moved within =
+      steps.within call slot_of client.conn.number (moment_of client now) client.conn.standing client'.conn.standing input said.packets said.next supply supply' moved.stepped within
+
+  over_within : (client : ClientState P) → client.conn.standing ≡ Ended → IsWithinQuota client.conn.standing
+  over_within client over = subst IsWithinQuota (sym over) tt
+
+  given_up : (now : ℕ) (input : Input) (client client' : ClientState P) (supply supply' : S) → IsGivenUp call slot_of supply client now input client' supply'
+      → IsWithinQuota client.conn.standing → IsWithinQuota client'.conn.standing
+  given_up now input client client' supply supply' (inl moved) within = moves now input moved.0 client client' supply supply' moved.1 within
+  given_up now input client client' supply supply' (inr fails) within = over_within client' fails.over
+
+  same_standing : (its : Got) (client : ClientState P) (bytes : List ℕ) → (fed_by its client bytes).conn.standing ≡ client.conn.standing
+  same_standing (got.Bytes count) client bytes = refl
+  same_standing got.Idle client bytes = refl
+  same_standing got.End client bytes = refl
+  same_standing got.Failed client bytes = refl
+
+  pub quota_on : (act : Act) (old new : ServiceState P T) (supply supply' : S) → IsWithin old → Does call turn visiting slot_of counts given accepted act old supply new supply' → IsWithin new
+  quota_on (Enters is_open) old new supply supply' within does = same_client old new (ap (λ (s : ServiceState P T). s.client) does.becomes) within
+  quota_on Leaves old new supply supply' within does = same_client old new (ap (λ (s : ServiceState P T). s.client) does.same) within
+  quota_on Others old new supply supply' within does = same_client old new (ap (λ (s : ServiceState P T). s.client) does) within
+  quota_on (Starves its bytes) old new supply supply' within does = same_client old new (ap (λ (s : ServiceState P T). s.client) does.does.becomes) within
+  quota_on (Writes now put) old new supply supply' within does = same_client old new (ap (λ (s : ServiceState P T). s.client) does.does.becomes) within
+  quota_on (Reads size its bytes) old new supply supply' within does = subst IsWithinQuota (sym (ap (λ (s : ServiceState P T). s.client.conn.standing) does.does.becomes ∙ same_standing its old.client bytes)) within
+  quota_on (Steps now input packets next) old new supply supply' within does = moves now input (words old.client.conn.number packets next) old.client new.client supply supply' does.moved within
+  quota_on (Loses now input packets next) old new supply supply' within does = moves now input (words old.client.conn.number packets next) old.client new.client supply supply' does.moved within
+  quota_on (Fails now input) old new supply supply' within does = over_within new.client does.failed.over
+  quota_on (IsFull now) old new supply supply' within does = given_up now inputs.EndOfInput old.client new.client supply supply' does.given_up within
+  quota_on (GivesUp now) old new supply supply' within does = given_up now inputs.EndOfInput old.client new.client supply supply' does.given_up within
+  quota_on IsStopped old new supply supply' within does = same_client old new (ap (λ (s : ServiceState P T). s.client) does.does.becomes) within
+  quota_on (Stalls now) old new supply supply' within does = same_client old new (ap (λ (s : ServiceState P T). s.client) does.does.becomes) within
+  quota_on Ends old new supply supply' within does = same_client old new (ap (λ (s : ServiceState P T). s.client) does.does.becomes) within
