@@ -1,5 +1,5 @@
 -- The marks of all steps of a life, one after the other, are legal.
-use Rattle.std.proofs.Common.{◌≡◌, ◌≢◌, ◌⊎◌, ℕ, ◌≤◌, Bool, false, List, [], ◌∷◌, ◌++◌, length, Option, Some, None, Result, Ok, Err, IsSome, refl, sym, ap, subst, ◌∙◌, append-nil, inl, inr}
+use Rattle.std.proofs.Common.{◌≡◌, ◌≢◌, ◌⊎◌, ℕ, Bool, false, List, [], ◌∷◌, ◌++◌, Option, Some, None, Ok, Err, IsSome, refl, sym, ap, subst, ◌∙◌, append-nil, inl, inr}
 use Rattle.std.specs.List.{AllByRecursion}
 use Rattle.std.specs.Option.{is_some}
 use Rattle.std.proofs.lemmas.Bool.{false≢true}
@@ -9,7 +9,7 @@ use Rattle.transport.specs.declared.counts.Counts.{Counts}
 use Rattle.transport.specs.declared.answers.Got.{Got}
 use Rattle.transport.specs.declared.answers.Got.TheVariants as got
 use Rattle.group_jobs.specs.Stamps.{Held}
-use Rattle.member_window.specs.Contents.{Contents, held_of, after_up, after_down, IsSound}
+use Rattle.member_window.specs.Contents.{Contents, after_up, after_down, IsSound}
 use Rattle.member_window.specs.Marks.{Mark, Standing as Point, standing_after, standing_after_all}
 use Rattle.member_window.specs.Marks as marks
 use Rattle.member_window.specs.Transcript.{IsLegalFrom}
@@ -36,7 +36,7 @@ use Rattle.conn_service.specs.Services.{ServiceState}
 use Rattle.conn_service.specs.Acts.{Act, Enters, Leaves, Reads, Writes, Steps, Loses, Fails, Starves, IsFull, IsStopped, Stalls, GivesUp, Ends, Others, said_in, packets_said}
 use Rattle.conn_service.specs.Moments.{fed_by}
 use Rattle.conn_service.specs.Lives.{Does}
-use Rattle.conn_service.specs.Sessions.{IsGiven, SendsLegally, IsLegalLife}
+use Rattle.conn_service.specs.Sessions.{IsGiven, IsLegalLife}
 use Rattle.conn_service.proofs.Folding.{one_more}
 
 -- a transcript is legal from what a window held, and another window stands where it leads
@@ -130,8 +130,12 @@ module _ {S P : Type 0} (call : S → Fact P → S → Type 0) where
   pub lives : (number : ℕ) (done : List Act) (standing : Standing P) → IsAt number done standing → IsLegalLife call number done
   lives number done standing (inl none) = inl none.0
   lives number done standing (inr has) =
-      inr (has.session, has.given, λ sound going. let it = has.tells sound going in
-      record { marks = it.marks; publishes = it.publishes; legal = legal_at has.session.window it.marks standing it.legal })
+      inr (
+        has.session,
+        has.given,
+        λ sound going. let it = has.tells sound going in
+            record { marks = it.marks; publishes = it.publishes; legal = legal_at has.session.window it.marks standing it.legal },
+      )
 
   -- an act that says nothing, and leaves how far the connection has come
   quiet_at : (number : ℕ) (done : List Act) (act : Act) (old new : Standing P) → said_in act ≡ [] → new ≡ old → IsAt number done old → IsAt number (done ++ act ∷ []) new

@@ -1,5 +1,5 @@
 -- What one step of a life does for the session of its connection (sections 4.4 and 4.9).
-use Rattle.std.specs.Prelude.{◌≡◌, ◌⊎◌, ℕ, false, List, [], Option, Some, Result, ⊤}
+use Rattle.std.specs.Prelude.{◌≡◌, ◌⊎◌, ℕ, false, List, [], Some, Result, ⊤}
 use Rattle.group_jobs.specs.Stamps.{Held}
 use Rattle.member_window.specs.Contents.{Contents, IsSound}
 use Rattle.member_window.specs.Marks.{Mark}
