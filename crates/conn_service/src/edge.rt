@@ -1,5 +1,5 @@
 //! What a connection does with its transport: it reads, and writes what waits.
-ghost use Rattle.std.specs.Prelude.{◌≡◌, ◌≢◌, ◌<◌, ◌≤◌, true, [], List, ℕ, length, None, Some, Err, Ok, MatchResult, OnOk, OnErr, IfErr, if◌then◌else◌};
+ghost use Rattle.std.specs.Prelude.{◌≡◌, ◌≢◌, ◌↔◌, ◌<◌, ◌≤◌, true, [], List, ℕ, length, None, Some, Err, Ok, MatchResult, OnOk, OnErr, IfErr, if◌then◌else◌};
 ghost use Rattle.transport.specs.declared.answers.Got.TheVariants as gots;
 ghost use Rattle.conn_service.specs.declared.served.Served.TheVariants as endings;
 ghost use Rattle.conn_service.specs.Crossings.{RefusesAlways};
@@ -112,7 +112,7 @@ impl<P: HoldingPlace, T: Transport> Service<P, T> {
 
     /// Whether 600 writes in a row gave nothing: where each of them waits, too many.
     pub fn is_refused(&self) -> bool
-        ensures { result ≡ true → most_refused ≤ self.now.refused }
+        ensures { result ≡ true ↔ most_refused ≤ self.now.refused }
     {
         self.refused >= MOST_REFUSED
     }
