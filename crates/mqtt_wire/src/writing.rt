@@ -36,12 +36,13 @@ pub fn encode(alloc: Global, packet: &Packet) -> Result<Vec<u8>, Fault>
 /// What is written of a kind that a client sends is read again as the same packet, where it has at most 65,536 bytes.
 ///
 /// Refusals: 103 exactly where the Remaining Length would be over 268,435,455; 104 where the buffer has no room and memory
-/// is refused. Then it holds what it held.
+/// is refused. Then it holds what it held. Its capacity never shrinks.
 pub fn encode_into(out: &mut Vec<u8>, packet: &Packet) -> Result<(), Fault>
     ensures ok { OnOk result (out.new.items ≡ out.old.items ++ written packet.now) }
     ensures err { OnErr result (out.new.items ≡ out.old.items) }
     ensures too_large { IsErrOf result (Fault.Stream StreamFault.TooLarge) ↔ (268435455 < remaining_length packet.now) }
     ensures memory { IsErrOf result Fault.Memory → vec_capacity out.old < vec_len out.old + length (written packet.now) }
+    ensures capacity { vec_capacity out.old ≤ vec_capacity out.new }
     ensures refused { IfErr result (λ fault. (fault ≡ Fault.Stream StreamFault.TooLarge) ⊎ (fault ≡ Fault.Memory)) }
     ensures spelled { OnOk result (IsClientKind packet.now → length (written packet.now) ≤ maximum_packet_size →
         Spells packet.now (written packet.now)) }
