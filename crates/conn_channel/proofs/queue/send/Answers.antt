@@ -1,0 +1,5 @@
+use Rattle.conn_channel.proofs.Steps.{sends}
+use Rattle.conn_channel.proofs.queue.send.Goals as goal
+
+pub send_as-requires-clause-rule : goal.send_as-requires-clause-rule
+send_as-requires-clause-rule g c = (sends _ _ _ _ c.requires.parts c.requires.right c.requires.may, λ items views h at. tt)

@@ -1,0 +1,197 @@
+//! The ends of the channel.
+ghost use Rattle.std.specs.Prelude.{◌≡◌, ◌≤◌, ◌+◌, ◌-◌, [], if◌then◌else◌, length, vec_capacity, IfOk, MatchResult};
+ghost use Rattle.crossbeam_channel.specs.Claims.{view, IsSeatAt};
+ghost use Rattle.crossbeam_channel.specs.Ends.{sends_on, receives_on};
+ghost use Rattle.conn_channel.specs.Rule.{first_hand, hand, joined};
+ghost use Rattle.conn_channel.specs.Ends.{AreOf, AreReceivers, IsSettled, Receives, channel_of, ended_in, received_in};
+
+use crate::queue;
+use crate::queue::{ChannelPass, Receiving, Sending};
+use crate::sent::{Received, Sent};
+use std::alloc::{AllocError, Global};
+use std::marker::Model;
+use std::sync::Wait;
+
+/// The end that sends connections. It may go to another thread.
+///
+/// Contracts see it as a `SenderState`: which channel it is, how many ends receive, and how many connections and end marks were sent.
+#[derive(Drop)]
+pub struct Sender<T: Drop> {
+    ends: Sending<T>,
+    pass: ChannelPass<T>,
+    receivers: usize,
+}
+
+impl<T: Drop> Model for Sender<T> {
+    ghost use Rattle.std.specs.Prelude.{◌≡◌, ◌≤◌, ◌-◌};
+    ghost use Rattle.crossbeam_channel.specs.Claims.{view as known, IsSeatAt};
+    ghost use Rattle.crossbeam_channel.specs.Ends.{sends_on};
+    ghost use Rattle.conn_channel.specs.Rule.{hand};
+    ghost use Rattle.conn_channel.specs.Ends.{SenderState, channel_of};
+
+    ghost Value = { SenderState T };
+
+    ghost view = { λ s. record { channel = channel_of s.pass; receivers = s.receivers; sent = (known s.pass).sent; marked = (known s.pass).marked } };
+
+    ghost invariant = { λ s. IsSeatAt (sends_on s.ends) s.pass × (s.receivers ≤ 64)
+        × (known s.pass ≡ hand (128 - s.receivers) 1 (known s.pass).sent (known s.pass).marked 0 0) };
+}
+
+/// An end that receives. It may go to another thread.
+///
+/// Contracts see it as a `ReceiverState`: which channel it is, and how many connections and end marks were received by it.
+#[derive(Drop)]
+pub struct Receiver<T: Drop> {
+    ends: Receiving<T>,
+    pass: ChannelPass<T>,
+}
+
+impl<T: Drop> Model for Receiver<T> {
+    ghost use Rattle.std.specs.Prelude.{◌≡◌};
+    ghost use Rattle.crossbeam_channel.specs.Claims.{view as known, IsSeatAt};
+    ghost use Rattle.crossbeam_channel.specs.Ends.{receives_on};
+    ghost use Rattle.conn_channel.specs.Rule.{hand};
+    ghost use Rattle.conn_channel.specs.Ends.{ReceiverState, channel_of};
+
+    ghost Value = { ReceiverState T };
+
+    ghost view = { λ r. record { channel = channel_of r.pass; received = (known r.pass).received; ended = (known r.pass).ended } };
+
+    ghost invariant = { λ r. IsSeatAt (receives_on r.ends) r.pass × (known r.pass ≡ hand 1 0 0 0 (known r.pass).received (known r.pass).ended) };
+}
+
+/// An empty channel, for [`CAPACITY`](crate::CAPACITY) connections: the end that sends, and so many that receive, at most 64. Takes all the memory
+/// that it needs.
+///
+/// # Errors
+///
+/// Want of memory.
+pub fn open<T: Drop>(
+    alloc: Global,
+    receivers: usize,
+) -> Result<(Sender<T>, Vec<Receiver<T>>), AllocError>
+    requires { receivers ≤ 64 }
+    ensures sender { IfOk result (λ made. (made.0.receivers ≡ receivers) × (made.0.sent ≡ 0) × (made.0.marked ≡ 0)) }
+    ensures receivers { IfOk result (λ made. AreReceivers made.0.channel receivers made.1.items) }
+{
+    let row = Vec::with_capacity(alloc, receivers)?;
+    let (sending, receiving, mut pass) = queue::open(alloc)?;
+    let row = seat_receivers(&sending, &receiving, &mut pass, row, receivers)?;
+    let sender = Sender {
+        ends: sending,
+        pass,
+        receivers,
+    };
+    Ok((sender, row))
+}
+
+/// Puts so many ends that receive into an empty row that has room for them.
+fn seat_receivers<T: Drop>(
+    sending: &Sending<T>,
+    receiving: &Receiving<T>,
+    pass: &mut ChannelPass<T>,
+    row: Vec<Receiver<T>>,
+    count: usize,
+) -> Result<Vec<Receiver<T>>, AllocError>
+    requires one { receives_on receiving.now ≡ sends_on sending.now }
+    requires pass { IsSeatAt (sends_on sending.now) pass.old × (view pass.old ≡ first_hand) }
+    requires row { (row.items ≡ []) × (count ≤ vec_capacity row) × (count ≤ 64) }
+    ensures pass { IfOk result (λ _. IsSeatAt (sends_on sending.now) pass.new × (view pass.new ≡ hand (128 - count) 1 0 0 0 0)) }
+    ensures channel { IfOk result (λ _. channel_of pass.new ≡ channel_of pass.old) }
+    ensures receivers { IfOk result (λ seated. AreReceivers (channel_of pass.old) count seated.items) }
+{
+    let mut row = row;
+    'receivers: for _ in 0..count {
+        row.push_reserved(receiver_of(sending, receiving, pass)?);
+    }
+    Ok(row)
+}
+
+/// One more end that receives.
+fn receiver_of<T: Drop>(
+    sending: &Sending<T>,
+    receiving: &Receiving<T>,
+    pass: &mut ChannelPass<T>,
+) -> Result<Receiver<T>, AllocError>
+    requires one { receives_on receiving.now ≡ sends_on sending.now }
+    requires pass { IsSeatAt (sends_on sending.now) pass.old × (2 ≤ (view pass.old).parts) }
+    ensures pass { IfOk result (λ _. IsSeatAt (sends_on sending.now) pass.new × (view pass.new ≡ record (view pass.old) { parts = (view pass.old).parts - 1 })) }
+    ensures channel { channel_of pass.new ≡ channel_of pass.old }
+    ensures receiver { IfOk result (λ receiver. receiver ≡ record { channel = channel_of pass.old; received = 0; ended = 0 }) }
+{
+    let ends = receiving.try_clone()?;
+    let pass = queue::cut(sending, pass);
+    Ok(Receiver { ends, pass })
+}
+
+impl<T: Drop> Sender<T> {
+    /// Sends a connection. Waits while the channel is full.
+    ///
+    /// # Errors
+    ///
+    /// The connection, where no end that receives is left. Nothing has changed then.
+    pub fn send<R: Wait>(&mut self, rt: &R, connection: T) -> Result<(), T>
+        requires { self.old.marked ≡ 0 }
+        ensures { MatchResult result (λ _. self.new ≡ record self.old { sent = self.old.sent + 1 }) (λ back. (back ≡ connection) × (self.new ≡ self.old)) }
+    {
+        match queue::send(rt, &self.ends, &mut self.pass, Sent::Connection(connection)) {
+            Ok(()) => Ok(()),
+            Err(Sent::Connection(connection)) => Err(connection),
+            Err(Sent::EndMark) => unreachable!(),
+        }
+    }
+
+    /// Sends an end mark, behind which no connection is sent. Waits while the channel is full. Whether it was sent: it was not where no end that receives
+    /// is left.
+    pub fn end<R: Wait>(&mut self, rt: &R) -> bool
+        ensures { self.new ≡ (if result then record self.old { marked = self.old.marked + 1 } else self.old) }
+    {
+        queue::send(rt, &self.ends, &mut self.pass, Sent::EndMark).is_ok()
+    }
+
+    /// Takes back all ends that receive: what was sent was received by one of them, or is left; and nothing is left where one received an end mark.
+    pub fn settle(self, receivers: Vec<Receiver<T>>)
+        requires of { AreOf self.channel receivers.items }
+        requires all { length receivers.items ≡ self.receivers }
+        ensures { IsSettled self.sent receivers.items }
+    {
+        let Sender {
+            ends,
+            mut pass,
+            receivers: _,
+        } = self;
+        join_all(&ends, &mut pass, receivers);
+        queue::learn(&ends, &mut pass);
+    }
+}
+
+/// Takes in the passes of all ends that receive.
+fn join_all<T: Drop>(ends: &Sending<T>, pass: &mut ChannelPass<T>, receivers: Vec<Receiver<T>>)
+    requires pass { IsSeatAt (sends_on ends.now) pass.old × (1 ≤ (view pass.old).parts) }
+    requires of { AreOf (channel_of pass.old) receivers.items }
+    ensures pass { IsSeatAt (sends_on ends.now) pass.new }
+    ensures all { view pass.new ≡ joined (view pass.old) (hand (length receivers.items) 0 0 0 (received_in receivers.items) (ended_in receivers.items)) }
+{
+    let mut receivers = receivers;
+    if let Some(receiver) = receivers.pop() {
+        let Receiver {
+            ends: _,
+            pass: other,
+        } = receiver;
+        queue::join(ends, pass, other);
+        join_all(ends, pass, receivers);
+    }
+}
+
+impl<T: Drop> Receiver<T> {
+    /// Receives what is in front of the channel.
+    pub fn receive<R: Wait>(&mut self, rt: &R) -> Received<T>
+        ensures { Receives self.old result self.new }
+    {
+        match queue::receive(rt, &self.ends, &mut self.pass) {
+            Some(Sent::Connection(connection)) => Received::Connection(connection),
+            Some(Sent::EndMark) => Received::EndMark,
+            None => Received::Nothing,
+        }
+    }
+}

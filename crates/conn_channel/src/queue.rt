@@ -1,0 +1,187 @@
+//! The channel: one of `crossbeam_channel`, under the rule that what was sent was received or is in it, and that no connection is behind an end mark.
+ghost use Rattle.std.specs.Prelude.{◌≡◌, ◌≤◌, ◌-◌, List, IfOk, MatchOption, MatchResult};
+ghost use Rattle.crossbeam_channel.specs.Claims.{view, IsSeatAt};
+ghost use Rattle.crossbeam_channel.specs.Ends.{sends_on, receives_on};
+ghost use Rattle.crossbeam_channel.specs.Err.{send_message};
+ghost use Rattle.conn_channel.specs.Rule.{first_hand, hand, joined, sending, receiving, KnowsAll, MaySend};
+ghost use Rattle.conn_channel.specs.declared.sent.Sent.{Sent as Item};
+
+use crate::sent::Sent;
+use crate::view::Hand;
+use crossbeam_channel::protocol::{Join, Lesson, Outcome, Protocol, Split};
+use crossbeam_channel::{Pass, RuledReceiver, RuledSender, SendError, TryRecvError, bounded_with};
+use std::alloc::{AllocError, Global};
+use std::sync::Wait;
+
+/// How many connections may wait in the channel.
+pub const CAPACITY: usize = 64;
+
+/// What was sent was received or is in the channel, and no connection is behind an end mark.
+pub struct Conserving;
+
+impl<T> Protocol<Sent<T>, Hand> for Conserving {
+    ghost use Rattle.conn_channel.specs.Rule.{Conserves, first_hand};
+
+    ghost holds = { Conserves };
+
+    ghost first = { first_hand };
+}
+
+pub(crate) type Sending<T> = RuledSender<Sent<T>, Hand, Conserving>;
+
+pub(crate) type Receiving<T> = RuledReceiver<Sent<T>, Hand, Conserving>;
+
+pub(crate) type ChannelPass<T> = Pass<Sent<T>, Hand>;
+
+/// Something is sent.
+pub(crate) struct Putting;
+
+impl<T> Outcome<Sent<T>, Hand> for Putting {
+    ghost use Rattle.std.specs.Prelude.{◌≡◌};
+    ghost use Rattle.conn_channel.specs.Rule.{sending};
+
+    ghost then = { λ v x w. w ≡ sending v x };
+}
+
+impl<T> Lesson<Sent<T>, Hand> for Putting {
+    ghost use Rattle.std.specs.Prelude.{⊤};
+
+    ghost fact = { λ _ _. ⊤ };
+}
+
+/// Something is received.
+pub(crate) struct Getting;
+
+impl<T> Outcome<Sent<T>, Hand> for Getting {
+    ghost use Rattle.std.specs.Prelude.{◌≡◌};
+    ghost use Rattle.conn_channel.specs.Rule.{receiving};
+
+    ghost then = { λ v x w. w ≡ receiving v x };
+}
+
+impl<T> Lesson<Sent<T>, Hand> for Getting {
+    ghost use Rattle.std.specs.Prelude.{⊤};
+
+    ghost fact = { λ _ _. ⊤ };
+}
+
+/// Who has every part knows of all.
+pub(crate) struct Totals;
+
+impl<T> Lesson<Sent<T>, Hand> for Totals {
+    ghost use Rattle.conn_channel.specs.Rule.{KnowsAll};
+
+    ghost fact = { KnowsAll };
+}
+
+/// Gives one part away, and not the right to send.
+pub(crate) struct CutPart;
+
+impl Split<Hand> for CutPart {
+    ghost use Rattle.std.specs.Prelude.{◌-◌};
+    ghost use Rattle.conn_channel.specs.Rule.{hand};
+
+    ghost left = { λ v. record v { parts = v.parts - 1 } };
+
+    ghost right = { λ v. hand 1 0 0 0 0 0 };
+}
+
+/// Takes in another pass.
+pub(crate) struct TakeParts;
+
+impl Join<Hand> for TakeParts {
+    ghost use Rattle.conn_channel.specs.Rule.{hand, joined};
+
+    ghost both = { joined };
+
+    ghost spent = { hand 0 0 0 0 0 0 };
+}
+
+/// The two ends of an empty channel, with the pass of who opened it.
+pub(crate) fn open<T: Drop>(
+    alloc: Global,
+) -> Result<(Sending<T>, Receiving<T>, ChannelPass<T>), AllocError>
+    ensures { IfOk result (λ made. (receives_on made.1 ≡ sends_on made.0) × IsSeatAt (sends_on made.0) made.2 × (view made.2 ≡ first_hand)) }
+{
+    bounded_with(alloc, CAPACITY)
+}
+
+/// Gives one part away.
+pub(crate) fn cut<T: Drop>(ends: &Sending<T>, pass: &mut ChannelPass<T>) -> ChannelPass<T>
+    requires channel { IsSeatAt (sends_on ends.now) pass.old }
+    requires parts { 2 ≤ (view pass.old).parts }
+    ensures channel { IsSeatAt (sends_on ends.now) pass.new × IsSeatAt (sends_on ends.now) result }
+    ensures left { view pass.new ≡ record (view pass.old) { parts = (view pass.old).parts - 1 } }
+    ensures right { view result ≡ hand 1 0 0 0 0 0 }
+{
+    ends.another::<CutPart>(pass)
+}
+
+/// Sends, and waits while the channel is full. What was to be sent comes back where nobody receives any more.
+pub(crate) fn send<T: Drop, R: Wait>(
+    rt: &R,
+    ends: &Sending<T>,
+    pass: &mut ChannelPass<T>,
+    item: Sent<T>,
+) -> Result<(), Sent<T>>
+    requires channel { IsSeatAt (sends_on ends.now) pass.old }
+    requires right { (view pass.old).sends ≡ 1 }
+    requires parts { 1 ≤ (view pass.old).parts }
+    requires may { MaySend (view pass.old) item }
+    ensures channel { IsSeatAt (sends_on ends.now) pass.new }
+    ensures sent { MatchResult result (λ _. view pass.new ≡ sending (view pass.old) item) (λ back. (back ≡ item) × (view pass.new ≡ view pass.old)) }
+{
+    match ends.send_as::<Putting, R>(rt, pass, item) {
+        Ok(()) => Ok(()),
+        Err(refused) => Err(back_of(refused)),
+    }
+}
+
+/// What was to be sent.
+fn back_of<T: Drop>(refused: SendError<Sent<T>>) -> Sent<T>
+    ensures { result ≡ send_message refused }
+{
+    match refused {
+        SendError::Disconnected(item) => item,
+        SendError::OutOfMemory(item) => item,
+    }
+}
+
+/// Receives what is in front. `None` where the channel was empty at a moment of the call.
+pub(crate) fn receive<T: Drop, R: Wait>(
+    rt: &R,
+    ends: &Receiving<T>,
+    pass: &mut ChannelPass<T>,
+) -> Option<Sent<T>>
+    requires channel { IsSeatAt (receives_on ends.now) pass.old }
+    requires parts { 1 ≤ (view pass.old).parts }
+    ensures channel { IsSeatAt (receives_on ends.now) pass.new }
+    ensures received { MatchOption result (view pass.new ≡ view pass.old) (λ item. view pass.new ≡ receiving (view pass.old) item) }
+{
+    match ends.try_recv_as::<Getting, R>(rt, pass) {
+        Ok(item) => Some(item),
+        Err(TryRecvError::Empty) => None,
+        Err(TryRecvError::Disconnected) => None,
+    }
+}
+
+/// Takes in another pass, with its parts and what it knows.
+pub(crate) fn join<T: Drop>(ends: &Sending<T>, pass: &mut ChannelPass<T>, other: ChannelPass<T>)
+    requires channel { IsSeatAt (sends_on ends.now) pass.old × IsSeatAt (sends_on ends.now) other }
+    requires parts { 1 ≤ (view pass.old).parts }
+    ensures channel { IsSeatAt (sends_on ends.now) pass.new }
+    ensures all { view pass.new ≡ joined (view pass.old) (view other) }
+{
+    ends.absorb::<TakeParts>(pass, other);
+}
+
+/// Learns of all, with every part.
+pub(crate) fn learn<T: Drop>(ends: &Sending<T>, pass: &mut ChannelPass<T>)
+    requires channel { IsSeatAt (sends_on ends.now) pass.old }
+    requires parts { (view pass.old).parts ≡ 128 }
+    ensures channel { IsSeatAt (sends_on ends.now) pass.new }
+    ensures same { view pass.new ≡ view pass.old }
+    ensures learnt { (items : List (Item T)) × KnowsAll (view pass.old) items }
+{
+    ends.learn_as::<Totals>(pass);
+}
