@@ -105,11 +105,11 @@ cut_of-push (a ∷ all) y (f ∷ front) x behind e =
     cong2 : {b c : Posted} {l m : List Posted} → b ≡ c → l ≡ m → b ∷ l ≡ c ∷ m
     cong2 p q = cc
 
-pub numbered-push : (all : List Posted) (y : Posted) → AreNumbered all → y.job.number ≡ length (through y.job.port all) → y.job.number < 1048576 → AreNumbered (all ++ y ∷ [])
+pub numbered-push : (all : List Posted) (y : Posted) → AreNumbered all → y.job.number ≡ length (through y.job.port all) → y.job.number < 1099511627776 → AreNumbered (all ++ y ∷ [])
 numbered-push all y numbered next few = λ front behind x e.
     ⊎_elim (λ inner. numbered front inner.0 x inner.1)
     (λ last.
-    let P : Posted × List Posted → Type 0 = λ q. (q.0.job.number ≡ length (through q.0.job.port q.1)) × (q.0.job.number < 1048576) in
+    let P : Posted × List Posted → Type 0 = λ q. (q.0.job.number ≡ length (through q.0.job.port q.1)) × (q.0.job.number < 1099511627776) in
     subst P (λ i. (sym last.1 i, sym last.2 i)) (next, few))
     (cut_of-push all y front x behind e)
 

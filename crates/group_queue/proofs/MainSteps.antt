@@ -64,7 +64,7 @@ module _ (past past' : List Pop) (items items' : List Posted) (owner : Name → 
       (at_set views pass j (with_first keeps a b name (list ++ x ∷ []) es) u e)
 
 -- a port's next message is pushed
-adds_one : (pass : ℕ) (sent : List Posted) (x : Posted) → x.job.number ≡ length sent → x.job.number < 1048576
+adds_one : (pass : ℕ) (sent : List Posted) (x : Posted) → x.job.number ≡ length sent → x.job.number < 1099511627776
     → (items : List Posted) (views : List View) → HasPast items views → get_elem? views pass ≡ some (one (Port x.job.port) sent)
     → HasPast (items ++ x ∷ []) (set views pass (one (Port x.job.port) (sent ++ x ∷ [])))
 adds_one pass sent x next few items views h at =
@@ -114,7 +114,7 @@ takes_one pass keeps a b name list es x pops last items views h at =
 pub learns : (pass : ℕ) (v : View) → Learns HasPast pass v (Stands v)
 learns pass v items views h at = record { views = views; pass = pass; there = at; holds = h }
 
-pub pushes : (capacity pass : ℕ) (v : View) (x : Posted) → IsOf (Port x.job.port) v → x.job.number ≡ length (list_in v) → x.job.number < 1048576
+pub pushes : (capacity pass : ℕ) (v : View) (x : Posted) → IsOf (Port x.job.port) v → x.job.number ≡ length (list_in v) → x.job.number < 1099511627776
     → Pushes HasPast capacity pass v x (Adds v x)
 pushes capacity pass v x is next few items views room h at =
     let sent = list_in v in

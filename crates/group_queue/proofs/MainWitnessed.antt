@@ -23,7 +23,7 @@ module _ (saw : List Posted → List View → Type 0) where
   pub learns_left : (pass : ℕ) (v : View) → Learns Watched pass v (Stands v)
   learns_left pass v items views h at = record { views = views; pass = pass; there = at; holds = h.0 }
 
-  pub pushes_main : (capacity pass : ℕ) (v : View) (x : Posted) → IsOf (Port x.job.port) v → x.job.number ≡ length (list_in v) → x.job.number < 1048576 → FollowsPort saw x.job.port
+  pub pushes_main : (capacity pass : ℕ) (v : View) (x : Posted) → IsOf (Port x.job.port) v → x.job.number ≡ length (list_in v) → x.job.number < 1099511627776 → FollowsPort saw x.job.port
       → Pushes Watched capacity pass v x (Adds v x)
   pushes_main capacity pass v x is next few follows items views room h at =
       let r = pushes capacity pass v x is next few items views room h.0 at in

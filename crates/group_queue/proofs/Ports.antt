@@ -28,7 +28,7 @@ port_at group number accepted sender = record { group = group; number = number; 
 
 module _ (group number accepted : ℕ) (s t : Sender) (message : Message) (h : IsCounted number accepted s)
     (adds : Adds (view s) (record { job = record { port = number; number = accepted }; message = message }) (view t)) where
-  pub keeps_sender : t.me.1 ≡ [] → accepted ≢ 1048576 → IsCounted number (accepted + 1) t
+  pub keeps_sender : t.me.1 ≡ [] → accepted ≢ 1099511627776 → IsCounted number (accepted + 1) t
   keeps_sender bare few =
       let grew = list-grown (Port number) (view s) (view t) (record { job = record { port = number; number = accepted }; message = message }) h.sender_is.of adds.is in
       let most = h.few in
@@ -38,7 +38,7 @@ module _ (group number accepted : ℕ) (s t : Sender) (message : Message) (h : I
         many = rw grew (omega (arith, length-append (list_in (view s)) ((record { job = record { port = number; number = accepted }; message = message }) ∷ []), h.many));
       }
 
-  pub accepts : t.table_id ≡ s.table_id → accepted ≢ 1048576
+  pub accepts : t.table_id ≡ s.table_id → accepted ≢ 1099511627776
       → Accepts (port_at group number accepted s) message (record { group = group; port = number; number = accepted }) (port_at group number (accepted + 1) t)
   accepts table few = record {
     stamp_is = λ i. record { group = group; port = number; number = len i };

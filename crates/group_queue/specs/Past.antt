@@ -32,10 +32,10 @@ list_of (Port port) past items = through port (all_of past items)
 list_of (Place place) past items = popped_by (Place place) past
 list_of Finisher past items = popped_by Finisher past
 
--- each message has as its number how many came through its port before it, which are fewer than 2^20
+-- each message has as its number how many came through its port before it, which are fewer than 2^40
 abbrev pub AreNumbered : List Posted → Type 0
 AreNumbered all = (front behind : List Posted) (posted : Posted) → all ≡ front ++ posted ∷ behind
-    → (posted.job.number ≡ length (through posted.job.port front)) × (posted.job.number < 1048576)
+    → (posted.job.number ≡ length (through posted.job.port front)) × (posted.job.number < 1099511627776)
 
 -- what a pass knows is what those did whose names it has, and it is the one pass that has them
 pub record Fits (past : List Pop) (items : List Posted) (owner : Name → ℕ) (pass : ℕ) (v : View) : Type 0 where

@@ -16,6 +16,6 @@ pub record IsSender (number : ℕ) (pass : Pass Posted View) : Type 0 where
 
 -- a port's messages are counted, and are no more than it may send
 pub record IsCounted (number accepted : ℕ) (pass : Pass Posted View) : Type 0 where
-  pub few : accepted ≤ 1048576
+  pub few : accepted ≤ 1099511627776
   pub sender_is : IsSender number pass
   pub many : length (sent_by pass) ≡ accepted

@@ -12,7 +12,7 @@ pub enum OfferError {
     /// 501: as many messages waited as may.
     #[error("the queue is full")]
     Full,
-    /// 502: the port accepted 2^20 messages.
+    /// 502: the port accepted 2^40 messages.
     #[error("the numbers of the port are used up")]
     LifeSpent,
 }

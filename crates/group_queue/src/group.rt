@@ -18,8 +18,8 @@ use std::alloc::Global;
 use std::marker::Model;
 use std::sync::Wait;
 
-/// How many messages a port accepts in all: 2^20 (profile).
-pub(crate) const LIFE: u64 = 1 << 20;
+/// How many messages a port accepts in all: 2^40 (profile).
+pub(crate) const LIFE: u64 = 1 << 40;
 
 /// A group of one share behind a gate, which threads use by reference. It is ended by [`SharedGroup::finish`], or given up by
 /// [`SharedGroup::abandon`]. `W` is its witness, for contracts alone.
@@ -65,7 +65,7 @@ impl<'a, W: Witness> SharedGroup<'a, W> {
     ///
     /// # Errors
     ///
-    /// [`NotTaken`] with the message: 502 [`OfferError::LifeSpent`] exactly where the port accepted 2^20 messages, which is
+    /// [`NotTaken`] with the message: 502 [`OfferError::LifeSpent`] exactly where the port accepted 2^40 messages, which is
     /// looked at first; 501 [`OfferError::Full`] only where the group's [`Witness`] saw the queue full. The port is
     /// unchanged then.
     pub fn offer<R: Wait>(

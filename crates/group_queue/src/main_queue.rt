@@ -166,7 +166,7 @@ pub fn push<W: Witness, R: Wait>(
     requires queue { IsPassOf queue.now pass.old }
     requires port { IsOf (names.Port posted.job.port) (view pass.old) }
     requires next { posted.job.number ≡ length (list_in (view pass.old)) }
-    requires few { posted.job.number < 1048576 }
+    requires few { posted.job.number < 1099511627776 }
     requires follows { FollowsPort W.saw_main posted.job.port }
     ensures queue { IsPassOf queue.now pass.new }
     ensures answer { MatchResult result (λ _. Adds (view pass.old) posted (view pass.new))

@@ -46,10 +46,10 @@ impl<W: Witness> Port<W> {
         self.number
     }
 
-    /// How many messages it accepted, 2^20 at most: their numbers are those below.
+    /// How many messages it accepted, 2^40 at most: their numbers are those below.
     pub fn accepted(&self) -> u64
         ensures value { result ≡ self.now.accepted }
-        ensures few { result ≤ 1048576 }
+        ensures few { result ≤ 1099511627776 }
     {
         self.accepted
     }

@@ -29,9 +29,9 @@ pub record Group : Type 0 where
   -- those that were given back, the one that was given back first in front
   pub returned : List Waiting
 
--- a port accepts so many messages in its life: 2^20 (profile)
+-- a port accepts so many messages in its life: 2^40 (profile)
 abbrev pub life : ℕ
-life = 1048576
+life = 1099511627776
 
 abbrev pub waits : Job → Message → Waiting
 waits job message = record { job = job; message = message }

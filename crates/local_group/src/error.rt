@@ -13,7 +13,7 @@ pub enum OfferError {
     /// 401: the group is closed.
     #[error("the group is closed")]
     Shut,
-    /// 502: the port has accepted 2^20 messages.
+    /// 502: the port has accepted 2^40 messages.
     #[error("the port has accepted all messages of its life")]
     LifeSpent,
     /// 501: as many messages wait as the group's capacity allows.

@@ -17,7 +17,7 @@ use std::collections::VecDeque;
 use std::marker::Model;
 
 /// How many messages a port accepts in its life.
-const LIFE: u64 = 1 << 20;
+const LIFE: u64 = 1 << 40;
 
 /// A group on one thread: it accepts messages through its 64 ports, hands each to one of its 32 places, and keeps the list of
 /// what happened. Ports and places are numbers, from 0 on.

@@ -120,6 +120,16 @@ impl<'a> KnownRoutes<'a> {
         Slots::from_byte(byte_of(self.seen.as_slice(), name))
     }
 
+    /// The share that is bound to a slot, as far as is known.
+    pub fn share(&self, slot: u8) -> Option<&'a Share>
+        ensures { MatchOption result (slice_get self.now.shares slot ≡ None) (λ share. slice_get self.now.shares slot ≡ Some share.now) }
+    {
+        match self.seen.get(usize::from(slot)) {
+            Some(seen) => Some(seen.share),
+            None => None,
+        }
+    }
+
     /// Binds the share: the slot that it is bound to already, or the least free one. Of two workers that bind it at once the one is given the slot
     /// that the other bound. It takes no memory, and may wait for a thread that writes a cell.
     ///

@@ -69,7 +69,7 @@ pub fn identifier_law()
 /// - `accepted`: a group accepted the messages of the PUBLISH packets that were offered when it was among those that take them: its filter matched
 ///   (4.7), and it had room; in order, and no others. `answered`: the PUBACK of such a packet says whether no filter matched, all groups that match
 ///   took the message, or some did not (3.4.2.1).
-/// - `waiting`: no group accepted more than 2^20 messages, the most that one connection may publish to a group, and in none more wait than the
+/// - `waiting`: no group accepted more than 2^40 messages, the most that one connection may publish to a group, and in none more wait than the
 ///   capacity (profile).
 /// - `in_order`: the PUBLISH packets that were sent are one for each hand-out, and those of a group are its first accepted messages, in order, each
 ///   under the identifier of its hand-out, with DUP 0. So none goes out twice, and none before an older one (4.6).
