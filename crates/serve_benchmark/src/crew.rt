@@ -15,13 +15,11 @@ const MOST_EVENTS: usize = 1_024;
 /// After how many nanoseconds without a step a thread gives up.
 const PATIENCE: u64 = 10_000_000_000;
 
-/// How a thread waits.
+/// How a thread waits: it rests for so many microseconds, so that more comes at once, and then waits for so many milliseconds at most.
 #[derive(Clone, Copy)]
-pub(crate) enum Waiting {
-    /// Until something comes, for so many milliseconds at most.
-    Asleep(u64),
-    /// It looks every so many microseconds.
-    Looking(u64),
+pub(crate) struct Waiting {
+    pub(crate) rest: u64,
+    pub(crate) longest: u64,
 }
 
 /// The connections of one thread, by their numbers.
@@ -60,17 +58,6 @@ pub(crate) fn nanoseconds_since<R: Clock>(rt: &R, start: Instant) -> Option<u64>
     u64::try_from(start.elapsed(rt).ok()?.as_nanos()).ok()
 }
 
-/// For how long a wait may go on by now.
-fn longest_wait<R: Clock>(rt: &R, waiting: Waiting) -> Duration {
-    match waiting {
-        Waiting::Asleep(milliseconds) => Duration::from_millis(milliseconds),
-        Waiting::Looking(microseconds) => {
-            thread::sleep(rt, Duration::from_micros(microseconds));
-            Duration::from_millis(0)
-        }
-    }
-}
-
 impl Crew {
     /// No connections yet, and room for so many; `None` where memory or the system refused.
     pub(crate) fn new(net: &impl Net, alloc: Global, count: usize) -> Option<Crew> {
@@ -107,7 +94,10 @@ impl Crew {
         desk: &mut D,
         waiting: Waiting,
     ) -> Option<u64> {
-        let longest = longest_wait(rt, waiting);
+        if waiting.rest > 0 {
+            thread::sleep(rt, Duration::from_micros(waiting.rest));
+        }
+        let longest = Duration::from_millis(waiting.longest);
         self.poll.poll(&mut self.events, Some(longest)).ok()?;
         let moment = nanoseconds_since(rt, start)?;
         let all_speak = desk.learn(moment);

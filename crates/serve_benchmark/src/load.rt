@@ -20,6 +20,8 @@ pub(crate) struct Load {
     pub(crate) pace: u64,
     /// How many jobs may be published and not delivered; 0 for as many as there are.
     pub(crate) ahead: u64,
+    /// For how many microseconds a thread rests before it looks what came, where there is no pace.
+    pub(crate) rest: u64,
 }
 
 impl Load {

@@ -31,7 +31,7 @@ const REFUSED: u8 = 4;
 
 /// What the words may be.
 const USAGE_LINE: &str =
-    "usage: serve_benchmark PORT PUBLISHERS MEMBERS JOBS [--window N] [--payload N] [--receive N] [--pace N] [--silent N] [--ahead N] [--share TEXT] [--topic TEXT]";
+    "usage: serve_benchmark PORT PUBLISHERS MEMBERS JOBS [--window N] [--payload N] [--receive N] [--pace N] [--silent N] [--ahead N] [--rest N] [--share TEXT] [--topic TEXT]";
 
 fn main(rt: HostRuntime) -> ExitCode {
     match read_words(&rt) {

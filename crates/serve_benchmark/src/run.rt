@@ -113,14 +113,36 @@ fn connect_publishers<R: Net<Listener = TcpListener, Stream = TcpStream>>(
     Some(crew)
 }
 
+/// How threads wait until the broker has taken in all connections.
+const JOINING: Waiting = Waiting {
+    rest: 0,
+    longest: LONGEST_WAIT,
+};
+
 /// How the publishers of a load wait.
-fn waiting_of(load: Load) -> Waiting {
+fn publishers_wait(load: Load) -> Waiting {
     if load.pace > 0 {
-        Waiting::Looking(LOOK)
-    } else if load.ahead > 0 {
-        Waiting::Asleep(SHORT_WAIT)
+        Waiting {
+            rest: LOOK,
+            longest: 0,
+        }
     } else {
-        Waiting::Asleep(LONGEST_WAIT)
+        Waiting {
+            rest: load.rest,
+            longest: if load.ahead > 0 {
+                SHORT_WAIT
+            } else {
+                LONGEST_WAIT
+            },
+        }
+    }
+}
+
+/// How the members of a load wait.
+fn members_wait(load: Load) -> Waiting {
+    Waiting {
+        rest: if load.pace > 0 { 0 } else { load.rest },
+        longest: LONGEST_WAIT,
     }
 }
 
@@ -150,9 +172,9 @@ fn deliver<R: Clock>(
     start: Instant,
     mut crew: Crew,
     mut desk: Members<'_>,
+    waiting: Waiting,
     shared: &Shared,
 ) -> Handed {
-    let waiting = Waiting::Asleep(LONGEST_WAIT);
     let whole = crew.work(rt, start, &mut desk, Until::Done, waiting);
     shared.stopped.store(1, Ordering::SeqCst);
     crew.say_farewell();
@@ -188,22 +210,28 @@ where
     R: Clock + Net<Listener = TcpListener, Stream = TcpStream> + Threads + Sync,
 {
     let opening = Instant::now(rt).ok()?;
-    let waiting = Waiting::Asleep(LONGEST_WAIT);
     let mut members = Members::new(alloc, load, shared)?;
     let mut publishers = Publishers::new(alloc, load, topic, shared)?;
     let mut listening = connect_members(rt, alloc, load, share)?;
-    if !listening.work(rt, opening, &mut members, Until::Joined, waiting) {
+    if !listening.work(rt, opening, &mut members, Until::Joined, JOINING) {
         return None;
     }
     let mut speaking = connect_publishers(rt, alloc, load)?;
-    if !speaking.work(rt, opening, &mut publishers, Until::Joined, waiting) {
+    if !speaking.work(rt, opening, &mut publishers, Until::Joined, JOINING) {
         return None;
     }
     let start = Instant::now(rt).ok()?;
     let (published, handed) = thread::join(
         rt,
-        || publish(rt, start, speaking, publishers, waiting_of(load), shared),
-        || deliver(rt, start, listening, members, shared),
+        || publish(
+            rt,
+            start,
+            speaking,
+            publishers,
+            publishers_wait(load),
+            shared,
+        ),
+        || deliver(rt, start, listening, members, members_wait(load), shared),
     );
     Some(Outcome { published, handed })
 }

@@ -36,6 +36,7 @@ struct Numbers {
     pace: u64,
     silent: u64,
     ahead: u64,
+    rest: u64,
 }
 
 /// What the words come to.
@@ -80,6 +81,7 @@ impl Asked {
                 pace: 0,
                 silent: 0,
                 ahead: 0,
+                rest: 100,
             },
             share,
             topic,
@@ -126,6 +128,7 @@ impl Numbers {
             "--pace" => self.pace = value,
             "--silent" => self.silent = value,
             "--ahead" => self.ahead = value,
+            "--rest" => self.rest = value,
             _ => return false,
         }
         true
@@ -146,6 +149,7 @@ impl Numbers {
             receive_maximum: u16::try_from(within(self.receive, 1, 65_535)?).ok()?,
             pace: within(self.pace, 0, 10_000_000)?,
             ahead: self.ahead,
+            rest: within(self.rest, 0, 1_000_000)?,
         })
     }
 }
