@@ -1,5 +1,5 @@
 //! What a worker knows of the table.
-ghost use Rattle.std.specs.Prelude.{◌≡◌, ◌<◌, ◌≤◌, ◌+◌, ◌∷◌, [], true, false, bytes_eq, length, slice_get, position, All, Some, None, IfOk, IfSome, MatchResult};
+ghost use Rattle.std.specs.Prelude.{◌≡◌, ◌<◌, ◌≤◌, ◌+◌, ◌∷◌, [], true, false, bytes_eq, length, slice_get, position, All, Some, None, IfOk, IfSome, MatchOption, MatchResult};
 ghost use Rattle.mqtt_topic.specs.Names.{Share as share_type};
 ghost use Rattle.mqtt_topic.specs.Routes.{slot_of, routed, byte_of, sets_of, places_of};
 ghost use Rattle.shared_routes.specs.Known.{SeenState, shares_of, learning, Grows, IsBoundBehind, BindAnswers, AgreeFrom};
@@ -124,10 +124,11 @@ impl<'a> KnownRoutes<'a> {
     pub fn share(&self, slot: u8) -> Option<&'a Share>
         ensures { MatchOption result (slice_get self.now.shares slot ≡ None) (λ share. slice_get self.now.shares slot ≡ Some share.now) }
     {
-        match self.seen.get(usize::from(slot)) {
-            Some(seen) => Some(seen.share),
-            None => None,
+        let place = usize::from(slot);
+        if place >= self.seen.len() {
+            return None;
         }
+        Some(self.share_at(place))
     }
 
     /// Binds the share: the slot that it is bound to already, or the least free one. Of two workers that bind it at once the one is given the slot
@@ -201,6 +202,14 @@ impl<'a> KnownRoutes<'a> {
         }
         self.token(slot).agrees(other.token(slot));
         self.agree_from(other, slot + 1);
+    }
+
+    /// The share of a slot that is known.
+    fn share_at(&self, slot: usize) -> &'a Share
+        requires { slot < length self.now.shares }
+        ensures { slice_get self.now.shares slot ≡ Some result.now }
+    {
+        self.seen[slot].share
     }
 
     /// What shows the share of a slot that is known.
