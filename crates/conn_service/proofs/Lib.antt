@@ -1,5 +1,6 @@
 pub mod Leading
 pub mod Emptied
+pub mod Filling
 pub mod AtEdge
 pub mod OneStep
 pub mod Fronts

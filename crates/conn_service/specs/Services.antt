@@ -39,6 +39,11 @@ bytes_of packets = flat_map written packets
 abbrev pub write_room : ℕ
 write_room = 16384
 
+-- a buffer of this length, of which so much at the front is written, has room for as much
+pub record IsKeptIn (written length capacity : ℕ) : Type 0 where
+  pub within : written ≤ length
+  pub room : write_room ≤ capacity
+
 -- how many milliseconds there are between two Ticks at most
 abbrev pub tick_period : ℕ
 tick_period = 100
