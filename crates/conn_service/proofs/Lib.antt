@@ -5,6 +5,7 @@ pub mod AtEdge
 pub mod OneStep
 pub mod Fronts
 pub mod Rounds
+pub mod Advancing
 pub mod Folding
 pub mod Written
 pub mod Read
