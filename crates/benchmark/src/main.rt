@@ -46,11 +46,18 @@ enum Run {
 }
 
 fn main(rt: HostRuntime) -> ExitCode {
-    let Ok(Some(run)) = run_in_words(&rt) else {
-        let _ = eprintln!(rt;
-            "usage: benchmark desk OTHERS TIMES | group JOBS | job JOBS | matching NAMES | reading PACKETS PIECE | server JOBS WINDOW | service JOBS WINDOW | settling PORTS JOBS | sweeps SESSIONS SWEEPS"
-        );
-        return ExitCode::from(USAGE);
+    let run = match run_in_words(&rt) {
+        Ok(Some(run)) => run,
+        Ok(None) => {
+            let _ = eprintln!(rt;
+                "usage: benchmark desk OTHERS TIMES | group JOBS | job JOBS | matching NAMES | reading PACKETS PIECE | server JOBS WINDOW | service JOBS WINDOW | settling PORTS JOBS | sweeps SESSIONS SWEEPS"
+            );
+            return ExitCode::from(USAGE);
+        }
+        Err(_) => {
+            let _ = eprintln!(rt; "memory");
+            return ExitCode::from(MEMORY);
+        }
     };
     let counted = match run {
         Run::Desk { others, times } => desk::resumed(rt.alloc(), others, times),
