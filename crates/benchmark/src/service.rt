@@ -132,10 +132,10 @@ fn end(
     requires over { goes ≡ false → service.client.conn.standing ≡ Ended }
     requires room { 0 < length buffer.old }
 {
-    let mut goes = goes;
+    let mut still = goes;
     'rounds: for _ in rt.forever() {
-        goes = go_on(&mut service, goes, supply, buffer);
-        if !goes {
+        still = go_on(&mut service, still, supply, buffer);
+        if !still {
             return service.end();
         }
     }

@@ -5,6 +5,6 @@ use Rattle.benchmark.proofs.service.end.Given as goal
 
 abbrev pub invariant-rounds : goal.invariant-rounds
 invariant-rounds g l = record {
-  goes : l.goes ≡ true → l.service.ending ≡ None;
-  over : l.goes ≡ false → l.service.client.conn.standing ≡ Ended;
+  goes : l.still ≡ true → l.service.ending ≡ None;
+  over : l.still ≡ false → l.service.client.conn.standing ≡ Ended;
 }
