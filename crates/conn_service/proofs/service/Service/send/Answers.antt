@@ -1,5 +1,5 @@
 -- One write more.
-use Rattle.std.proofs.Common.{ap, ◌∙◌, inl, inr, rules}
+use Rattle.std.proofs.Common.{ap, ◌∙◌, inr, rules}
 use Rattle.conn_service.specs.Services.{ServiceState}
 use Rattle.conn_service.proofs.AtEdge.{held_up}
 use Rattle.conn_service.proofs.Leading.{edge_on}
