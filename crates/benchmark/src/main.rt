@@ -9,6 +9,7 @@ mod job;
 mod matching;
 mod reading;
 mod server;
+mod service;
 mod settling;
 
 use std::process::ExitCode;
@@ -36,6 +37,8 @@ enum Run {
     Reading { packets: u32, piece: usize },
     /// So many jobs go through a server to a member, so many of them at once.
     Server { jobs: u32, window: u16 },
+    /// So many jobs go through two served connections, so many of them at once.
+    Service { jobs: u32, window: u16 },
     /// So many isolated jobs of so many ports, in turn, are put into a list of jobs.
     Settling { ports: u8, jobs: u32 },
     /// So many sweeps find nothing due among so many parked sessions.
@@ -43,11 +46,18 @@ enum Run {
 }
 
 fn main(rt: HostRuntime) -> ExitCode {
-    let Ok(Some(run)) = run_in_words(&rt) else {
-        let _ = eprintln!(rt;
-            "usage: benchmark desk OTHERS TIMES | group JOBS | job JOBS | matching NAMES | reading PACKETS PIECE | server JOBS WINDOW | settling PORTS JOBS | sweeps SESSIONS SWEEPS"
-        );
-        return ExitCode::from(USAGE);
+    let run = match run_in_words(&rt) {
+        Ok(Some(run)) => run,
+        Ok(None) => {
+            let _ = eprintln!(rt;
+                "usage: benchmark desk OTHERS TIMES | group JOBS | job JOBS | matching NAMES | reading PACKETS PIECE | server JOBS WINDOW | service JOBS WINDOW | settling PORTS JOBS | sweeps SESSIONS SWEEPS"
+            );
+            return ExitCode::from(USAGE);
+        }
+        Err(_) => {
+            let _ = eprintln!(rt; "memory");
+            return ExitCode::from(MEMORY);
+        }
     };
     let counted = match run {
         Run::Desk { others, times } => desk::resumed(rt.alloc(), others, times),
@@ -56,6 +66,7 @@ fn main(rt: HostRuntime) -> ExitCode {
         Run::Matching { names } => matching::matched(rt.alloc(), names),
         Run::Reading { packets, piece } => reading::read(rt.alloc(), packets, piece),
         Run::Server { jobs, window } => server::served(rt.alloc(), jobs, window),
+        Run::Service { jobs, window } => service::served(&rt, rt.alloc(), jobs, window),
         Run::Settling { ports, jobs } => settling::isolated(rt.alloc(), ports, jobs),
         Run::Sweeps { sessions, sweeps } => desk::idle_sweeps(rt.alloc(), sessions, sweeps),
     };
@@ -75,6 +86,9 @@ fn main(rt: HostRuntime) -> ExitCode {
         ),
         Run::Server { jobs, window } => println!(rt;
             "{jobs} jobs through a server, {window} at once, wrote {counted} bytes"
+        ),
+        Run::Service { jobs, window } => println!(rt;
+            "{jobs} jobs through served connections, {window} at once, wrote {counted} bytes"
         ),
         Run::Settling { ports, jobs } => {
             println!(rt; "{jobs} isolated jobs of {ports} ports make {counted} runs")
@@ -112,6 +126,9 @@ fn run_in_words(rt: &(impl Env + Alloc)) -> io::Result<Option<Run>> {
         ("server", Some(jobs), Some(window)) => u16::try_from(window)
             .ok()
             .map(|window| Run::Server { jobs, window }),
+        ("service", Some(jobs), Some(window)) => u16::try_from(window)
+            .ok()
+            .map(|window| Run::Service { jobs, window }),
         ("settling", Some(ports), Some(jobs)) => u8::try_from(ports)
             .ok()
             .map(|ports| Run::Settling { ports, jobs }),

@@ -8,10 +8,12 @@ use Rattle.transport.specs.declared.answers.Got.TheVariants as got
 use Rattle.transport.specs.declared.answers.Put.TheVariants as put
 use Rattle.conn_engine.specs.declared.standing.Standing.{Standing}
 use Rattle.conn_engine.specs.declared.standing.Standing.TheVariants.{Unconnected, Waiting, Connected, Ended}
+use Rattle.conn_engine.specs.Standings.{IsWaiting}
 use Rattle.client_table.specs.Clients.{ClientState}
 use Rattle.client_table.specs.Streams.{fed}
 use Rattle.conn_service.specs.declared.served.Served.TheVariants as served
 use Rattle.conn_service.specs.Services.{ServiceState, patience}
+use Rattle.conn_service.specs.Moments.{kept_since}
 use Rattle.conn_service.specs.Acts.{Reads, Starves, IsStopped, Stalls, Ends}
 use Rattle.conn_service.specs.Edges.{MayRead, ReadsOnce, WritesOnce, LeadsAtEdge}
 use Rattle.conn_service.proofs.Leading.{edge_one}
@@ -110,24 +112,36 @@ module _ {P T : Type 0} (counts : T → Counts) (given accepted : T → Option (
   may_along : (old inside : ServiceState P T) → inside ≡ old → MayRead counts given accepted old → MayRead counts given accepted inside
   may_along old inside is may = subst (MayRead counts given accepted) (sym is) may
 
-  gave_here : (size count : ℕ) (old : ServiceState P T) (client : ClientState P) (transport : T) (bytes : List ℕ) (drained : Bool) → MayRead counts given accepted old
-      → client ≡ fed old.client bytes → drained ≡ nat_lt count size → length bytes ≡ count → counts transport ≡ counts old.transport
+  gave_here : (size count : ℕ) (old : ServiceState P T) (client : ClientState P) (transport : T) (bytes : List ℕ) (kept : ℕ) (drained : Bool) → MayRead counts given accepted old
+      → client ≡ fed old.client bytes → kept ≡ kept_since old.client.conn.standing old.kept count → drained ≡ nat_lt count size → length bytes ≡ count → counts transport ≡ counts old.transport
       → given transport ≡ append_known (given old.transport) bytes → accepted transport ≡ accepted old.transport
-      → ReadsOnce counts given accepted size (got.Bytes count) bytes old (record old { client = client; transport = transport; drained = drained })
-  gave_here size count old client transport bytes drained may client_is drained_is length_is counted given_is accepted_is =
+      → ReadsOnce counts given accepted size (got.Bytes count) bytes old (record old { client = client; transport = transport; kept = kept; drained = drained })
+  gave_here size count old client transport bytes kept drained may client_is kept_is drained_is length_is counted given_is accepted_is =
       record {
         may = may;
         gives = record { count = length_is; counted = counted; given_is = given_is; accepted_is = accepted_is };
-        becomes = λ i. record old { client = client_is i; transport = transport; drained = drained_is i; at_end = may.not_at_end i; ending = may.going i };
+        becomes = λ i. record old { client = client_is i; transport = transport; kept = kept_is i; drained = drained_is i; at_end = may.not_at_end i; ending = may.going i };
       }
 
-  pub gave : (size count : ℕ) (old inside : ServiceState P T) (client : ClientState P) (transport : T) (bytes : List ℕ) (drained : Bool) → inside ≡ old → MayRead counts given accepted old
-      → client ≡ fed inside.client bytes → drained ≡ nat_lt count size → length bytes ≡ count → counts transport ≡ counts inside.transport
+  pub gave : (size count : ℕ) (old inside : ServiceState P T) (client : ClientState P) (transport : T) (bytes : List ℕ) (kept : ℕ) (drained : Bool) → inside ≡ old
+      → MayRead counts given accepted old → client ≡ fed inside.client bytes → kept ≡ kept_since inside.client.conn.standing inside.kept count → drained ≡ nat_lt count size → length bytes ≡ count → counts transport ≡ counts inside.transport
       → given transport ≡ append_known (given inside.transport) bytes → accepted transport ≡ accepted inside.transport
-      → ReadsOnce counts given accepted size (got.Bytes count) bytes old (record inside { client = client; transport = transport; drained = drained })
-  gave size count old inside client transport bytes drained is may client_is drained_is length_is counted given_is accepted_is =
-      subst (λ (s : ServiceState P T). ReadsOnce counts given accepted size (got.Bytes count) bytes s (record inside { client = client; transport = transport; drained = drained })) is
-      (gave_here size count inside client transport bytes drained (may_along old inside is may) client_is drained_is length_is counted given_is accepted_is)
+      → ReadsOnce counts given accepted size (got.Bytes count) bytes old (record inside { client = client; transport = transport; kept = kept; drained = drained })
+  gave size count old inside client transport bytes kept drained is may client_is kept_is drained_is length_is counted given_is accepted_is =
+      subst (λ (s : ServiceState P T). ReadsOnce counts given accepted size (got.Bytes count) bytes s (record inside { client = client; transport = transport; kept = kept; drained = drained })) is
+      (gave_here size count inside client transport bytes kept drained (may_along old inside is may) client_is kept_is drained_is length_is counted given_is accepted_is)
+
+  -- how much of a stream is kept, where the connection waits and where it does not
+  pub kept_is : (standing : Standing P) (wants : Bool) (kept count next : ℕ) → (IsTrue wants → ¬ IsWaiting standing) × (¬ IsWaiting standing → IsTrue wants)
+      → next ≡ (if wants then 0 else min (kept + count) 65536) → next ≡ kept_since standing kept count
+  kept_is (Unconnected opened) true kept count next is next_is = next_is
+  kept_is (Unconnected opened) false kept count next is next_is = cc (is.1 (λ waits. waits))
+  kept_is (Waiting request ticks) true kept count next is next_is = absurd (is.0 refl tt)
+  kept_is (Waiting request ticks) false kept count next is next_is = next_is
+  kept_is (Connected link) true kept count next is next_is = next_is
+  kept_is (Connected link) false kept count next is next_is = cc (is.1 (λ waits. waits))
+  kept_is Ended true kept count next is next_is = next_is
+  kept_is Ended false kept count next is next_is = cc (is.1 (λ waits. waits))
 
   -- nothing came
   none_here : (size : ℕ) (old : ServiceState P T) (transport : T) → MayRead counts given accepted old

@@ -14,7 +14,7 @@ module _ {P T : Type 0} (counts : T → Counts) (given accepted : T → Option (
   pub edge_one : (act : Act) (old new : ServiceState P T) → DoesAtEdge counts given accepted act old new → LeadsAtEdge counts given accepted old new
   edge_one act old new does = record { acts = act ∷ []; does = (new, does, refl) }
 
-  edge_both : (these those : List Act) (old mid new : ServiceState P T) → DoesAllAtEdge counts given accepted these old mid → DoesAllAtEdge counts given accepted those mid new
+  pub edge_both : (these those : List Act) (old mid new : ServiceState P T) → DoesAllAtEdge counts given accepted these old mid → DoesAllAtEdge counts given accepted those mid new
       → DoesAllAtEdge counts given accepted (these ++ those) old new
   edge_both [] those old mid new first then = subst (λ (service : ServiceState P T). DoesAllAtEdge counts given accepted those service new) first then
   edge_both (act ∷ these) those old mid new first then = (first.0, first.1, edge_both these those first.0 mid new first.2 then)
@@ -31,7 +31,7 @@ module _ {S P T : Type 0} (call : S → Fact P → S → Type 0) (turn : S → S
       → Leads call turn visiting slot_of counts given accepted old supply new supply'
   leads_one act old new supply supply' does = record { acts = act ∷ []; does = (new, supply', does, (refl, refl)) }
 
-  both : (these those : List Act) (old mid new : ServiceState P T) (supply between supply' : S) → DoesAll call turn visiting slot_of counts given accepted these old supply mid between
+  pub both : (these those : List Act) (old mid new : ServiceState P T) (supply between supply' : S) → DoesAll call turn visiting slot_of counts given accepted these old supply mid between
       → DoesAll call turn visiting slot_of counts given accepted those mid between new supply' → DoesAll call turn visiting slot_of counts given accepted (these ++ those) old supply new supply'
   both [] those old mid new supply between supply' first then =
       subst (λ (s : S). DoesAll call turn visiting slot_of counts given accepted those old s new supply') first.1
@@ -61,7 +61,7 @@ module _ {S P T : Type 0} (call : S → Fact P → S → Type 0) (turn : S → S
   at_edge Ends old new supply does = record { does = does; same = refl }
   at_edge Others old new supply does = absurd does
 
-  all_at_edge : (acts : List Act) (old new : ServiceState P T) (supply : S) → DoesAllAtEdge counts given accepted acts old new
+  pub all_at_edge : (acts : List Act) (old new : ServiceState P T) (supply : S) → DoesAllAtEdge counts given accepted acts old new
       → DoesAll call turn visiting slot_of counts given accepted acts old supply new supply
   all_at_edge [] old new supply same = (same, refl)
   all_at_edge (act ∷ acts) old new supply does = (does.0, supply, at_edge act old does.0 supply does.1, all_at_edge acts does.0 new supply does.2)

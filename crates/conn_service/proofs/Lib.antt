@@ -1,9 +1,11 @@
 pub mod Leading
 pub mod Emptied
+pub mod Filling
 pub mod AtEdge
 pub mod OneStep
 pub mod Fronts
 pub mod Rounds
+pub mod Advancing
 pub mod Folding
 pub mod Written
 pub mod Read

@@ -11,7 +11,6 @@ use Rattle.transport.specs.declared.answers.Got.TheVariants as got
 use Rattle.group_jobs.specs.Stamps.{Held}
 use Rattle.member_window.specs.Contents.{Contents, after_up, after_down, IsSound}
 use Rattle.member_window.specs.Marks.{Mark, Standing as Point, standing_after, standing_after_all}
-use Rattle.member_window.specs.Marks as marks
 use Rattle.member_window.specs.Transcript.{IsLegalFrom}
 use Rattle.member_window.specs.Calls.{Call, Up, Down, Put, NextResend, Ack, TakeFirst, Restore, IsAllowed, Makes}
 use Rattle.member_window.specs.Runs.{MakesAll, marks_of, transcript_of, standing_of}

@@ -64,15 +64,16 @@ module _ {S P T : Type 0} (call : S → Fact P → S → Type 0) (turn : S → S
   pub lost : (now : ℕ) (input : Input) (packets : List Packet) (next : Then) (old inside : ServiceState P T) (client : ClientState P) (outgoing : List ℕ) (ticked : ℕ) (supply supply' : S)
       → inside ≡ old → IsDue call turn visiting slot_of counts given accepted input now old supply → TakesFront inside.client.unread input client.unread
       → Moves call slot_of supply inside.client now input (words inside.client.conn.number packets next) client supply'
-      → outgoing ≡ inside.outgoing → ticked ≡ ticked_by input now inside.ticked
+      → outgoing ≡ inside.outgoing → write_room < length (inside.outgoing ++ bytes_of packets) → ticked ≡ ticked_by input now inside.ticked
       → Leads call turn visiting slot_of counts given accepted old supply (record inside { client = client; outgoing = outgoing; ticked = ticked; ending = Some served.Memory }) supply'
-  lost now input packets next old inside client outgoing ticked supply supply' is due front moved outgoing_is ticked_is =
+  lost now input packets next old inside client outgoing ticked supply supply' is due front moved outgoing_is full ticked_is =
       subst (λ (s : ServiceState P T). Leads call turn visiting slot_of counts given accepted s supply (record inside { client = client; outgoing = outgoing; ticked = ticked; ending = Some served.Memory }) supply') is
       (leads_one call turn visiting slot_of counts given accepted (Loses now input packets next) inside (record inside { client = client; outgoing = outgoing; ticked = ticked; ending = Some served.Memory }) supply supply'
       (record {
         due = subst (λ (s : ServiceState P T). IsDue call turn visiting slot_of counts given accepted input now s supply) (sym is) due;
         front = front;
         moved = moved;
+        full = full;
         becomes = λ i. record inside { client = client; outgoing = outgoing_is i; ticked = ticked_is i; ending = Some served.Memory };
       }))
 
@@ -121,11 +122,11 @@ module _ {S P T : Type 0} (call : S → Fact P → S → Type 0) (turn : S → S
   pub lost_front : (now : ℕ) (packets : List Packet) (next : Then) (old inside : ServiceState P T) (client : ClientState P) (outgoing : List ℕ) (supply supply' : S)
       → inside ≡ old → old.ending ≡ None → old.client.conn.standing ≢ Ended → visiting supply ≡ true → length old.outgoing < write_room
       → ((input : Input) × IsInFront inside.client.unread input client.unread × Moves call slot_of supply inside.client now input (words inside.client.conn.number packets next) client supply')
-      → outgoing ≡ inside.outgoing
+      → outgoing ≡ inside.outgoing → write_room < length (inside.outgoing ++ bytes_of packets)
       → Leads call turn visiting slot_of counts given accepted old supply (record inside { client = client; outgoing = outgoing; ending = Some served.Memory }) supply'
-  lost_front now packets next old inside client outgoing supply supply' is going not_over visited room front outgoing_is =
+  lost_front now packets next old inside client outgoing supply supply' is going not_over visited room front outgoing_is full =
       lost now front.0 packets next old inside client outgoing inside.ticked supply supply' is
-      (due_inside front.0 now old inside client.unread supply is front.1 going not_over visited room) (takes_front front.0 inside.client.unread client.unread front.1) front.2 outgoing_is
+      (due_inside front.0 now old inside client.unread supply is front.1 going not_over visited room) (takes_front front.0 inside.client.unread client.unread front.1) front.2 outgoing_is full
       (sym (no_tick front.0 inside.client.unread client.unread now inside.ticked front.1))
 
   -- memory was wanted for it

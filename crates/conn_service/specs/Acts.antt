@@ -23,7 +23,7 @@ pub data Act : Type 0 where
   Writes : (now : ℕ) → (put : Put) → Act
   -- one step, whose packets wait to be written from then on
   Steps : (now : ℕ) → (input : Input) → (packets : List Packet) → (next : Then) → Act
-  -- one step, for whose packets there was no memory; nothing is written any more
+  -- one step, for whose packets there was no memory, as they are more than there is room for; nothing is written any more
   Loses : (now : ℕ) → (input : Input) → (packets : List Packet) → (next : Then) → Act
   -- one step that wanted memory; nothing is written any more
   Fails : (now : ℕ) → (input : Input) → Act

@@ -9,9 +9,9 @@ use Rattle.transport.specs.declared.answers.Put.{Put}
 use Rattle.conn_engine.specs.declared.standing.Standing.TheVariants.{Ended}
 use Rattle.client_table.specs.Streams.{IsRead}
 use Rattle.conn_service.specs.declared.served.Served.TheVariants as served
-use Rattle.conn_service.specs.Services.{ServiceState, patience, most_refused}
+use Rattle.conn_service.specs.Services.{ServiceState, KeepsEnough, patience, most_refused}
 use Rattle.conn_service.specs.Acts.{Act, Reads, Writes, Starves, IsStopped, Stalls, Ends}
-use Rattle.conn_service.specs.Moments.{ending_read, ending_write, ends_by, since_write, refused_write, fed_by, drained_by, TakesSome}
+use Rattle.conn_service.specs.Moments.{ending_read, ending_write, ends_by, since_write, refused_write, fed_by, kept_by, drained_by, TakesSome}
 
 module _ {T : Type 0} (counts : T → Counts) (given accepted : T → Option (List ℕ)) where
   -- the transport gave these bytes
@@ -22,13 +22,15 @@ module _ {T : Type 0} (counts : T → Counts) (given accepted : T → Option (Li
     pub accepted_is : accepted new ≡ accepted old
 
 module _ {P T : Type 0} (counts : T → Counts) (given accepted : T → Option (List ℕ)) where
-  -- when the transport may be read: all that was read before is answered, and all that was said is written
+  -- when the transport may be read: all that was read before is answered, and all that was said is written; while the connection waits for its session,
+  -- until it keeps enough
   pub record MayRead (service : ServiceState P T) : Type 0 where
     pub going : service.ending ≡ None
     pub not_over : service.client.conn.standing ≢ Ended
     pub not_at_end : service.at_end ≡ false
     pub answered : IsRead service.client
     pub nothing_waits : service.outgoing ≡ []
+    pub keeps_little : ¬ KeepsEnough service
 
   -- one read into a buffer of this size
   pub record ReadsOnce (size : ℕ) (got : Got) (bytes : List ℕ) (old new : ServiceState P T) : Type 0 where
@@ -37,6 +39,7 @@ module _ {P T : Type 0} (counts : T → Counts) (given accepted : T → Option (
     pub becomes : new ≡ record old {
       client = fed_by got old.client bytes;
       transport = new.transport;
+      kept = kept_by got old.client.conn.standing old.kept;
       drained = drained_by got size;
       at_end = ends_by got;
       ending = ending_read got;

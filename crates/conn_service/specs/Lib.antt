@@ -5,6 +5,7 @@ pub mod Acts
 pub mod Moments
 pub mod Edges
 pub mod Lives
+pub mod Advances
 pub mod Endings
 pub mod Transcripts
 pub mod Sessions

@@ -68,11 +68,12 @@ module _ {S P T : Type 0} (call : S → Fact P → S → Type 0) (turn : S → S
       ticked = ticked_by input now old.ticked;
     }
 
-  -- one step, for whose packets there was no memory
+  -- one step, for whose packets there was no memory: with what waits they have more bytes than there is room for from the start
   pub record LosesPackets (now : ℕ) (input : Input) (packets : List Packet) (next : Then) (old : ServiceState P T) (supply : S) (new : ServiceState P T) (supply' : S) : Type 0 where
     pub due : IsDue input now old supply
     pub front : TakesFront old.client.unread input new.client.unread
     pub moved : Moves call slot_of supply old.client now input (words old.client.conn.number packets next) new.client supply'
+    pub full : write_room < length (old.outgoing ++ bytes_of packets)
     pub becomes : new ≡ record old { client = new.client; ticked = ticked_by input now old.ticked; ending = Some served.Memory }
 
   -- one step that wanted memory

@@ -6,6 +6,8 @@ use Rattle.transport.specs.declared.answers.Put.{Put}
 use Rattle.transport.specs.declared.answers.Put.TheVariants as put
 use Rattle.conn_engine.specs.declared.input.Input.{Input}
 use Rattle.conn_engine.specs.declared.input.Input.TheVariants as inputs
+use Rattle.conn_engine.specs.declared.standing.Standing.{Standing}
+use Rattle.conn_engine.specs.declared.standing.Standing.TheVariants.{Unconnected, Waiting, Connected, Ended}
 use Rattle.client_table.specs.Clients.{ClientState}
 use Rattle.client_table.specs.Streams.{fed}
 use Rattle.conn_service.specs.declared.served.Served.{Served}
@@ -61,6 +63,19 @@ fed_by (got.Bytes count) client bytes = fed client bytes
 fed_by got.Idle client bytes = client
 fed_by got.End client bytes = client
 fed_by got.Failed client bytes = client
+
+-- how much of a stream is kept while the connection waits for its session, behind so many bytes more, counted up to 65,536; none where it does not wait
+abbrev pub kept_since : {P : Type 0} → Standing P → ℕ → ℕ → ℕ
+kept_since (Unconnected opened) kept count = 0
+kept_since (Waiting request ticks) kept count = min (kept + count) 65536
+kept_since (Connected link) kept count = 0
+kept_since Ended kept count = 0
+
+abbrev pub kept_by : {P : Type 0} → Got → Standing P → ℕ → ℕ
+kept_by (got.Bytes count) standing kept = kept_since standing kept count
+kept_by got.Idle standing kept = kept
+kept_by got.End standing kept = kept
+kept_by got.Failed standing kept = kept
 
 -- a read gave less than there was room for
 abbrev pub drained_by : Got → ℕ → Bool

@@ -24,6 +24,8 @@ pub record ServiceState (P T : Type 0) : Type 0 where
   pub refused : ℕ
   -- the moment of the latest Tick, or of the opening
   pub ticked : ℕ
+  -- how many bytes of its stream were kept since it waits for its session, counted up to 65,536
+  pub kept : ℕ
   -- in this round a read gave less than there was room for
   pub drained : Bool
   -- the transport has ended
@@ -38,6 +40,15 @@ bytes_of packets = flat_map written packets
 -- how many bytes may wait to be written before a further packet is stepped: 16 KiB
 abbrev pub write_room : ℕ
 write_room = 16384
+
+-- how many bytes of its stream may be kept, while a connection waits for its session, before it is not read any more: 64 KiB
+abbrev pub kept_room : ℕ
+kept_room = 65536
+
+-- a buffer of this length, of which so much at the front is written, has room for as much
+pub record IsKeptIn (written length capacity : ℕ) : Type 0 where
+  pub within : written ≤ length
+  pub room : write_room ≤ capacity
 
 -- how many milliseconds there are between two Ticks at most
 abbrev pub tick_period : ℕ
@@ -69,6 +80,7 @@ opened number now transport = record {
   since = now;
   refused = 0;
   ticked = now;
+  kept = 0;
   drained = false;
   at_end = false;
   ending = None;
@@ -77,6 +89,15 @@ opened number now transport = record {
 -- all that came and is whole was answered, or the connection is over
 abbrev pub IsAnswered : {P T : Type 0} → ServiceState P T → Type 0
 IsAnswered service = IsRead service.client ⊎ (service.client.conn.standing ≡ Ended)
+
+-- it waits for its session, and has kept as much of its stream meanwhile as it may
+abbrev pub KeepsEnough : {P T : Type 0} → ServiceState P T → Type 0
+KeepsEnough service = IsWaiting service.client.conn.standing × (kept_room ≤ service.kept)
+
+-- no more can be done at once, where nothing waits to be written: a read gave less than there was room for, it is over, or it waits for its session and
+-- keeps enough
+abbrev pub HasNoMore : {P T : Type 0} → ServiceState P T → Type 0
+HasNoMore service = (service.drained ≡ true) ⊎ ((service.client.conn.standing ≡ Ended) ⊎ KeepsEnough service)
 
 -- nothing was asked of the transport, and the latest Tick was at this moment
 pub record KeepsEdgeAt {P T : Type 0} (ticked : ℕ) (old new : ServiceState P T) : Type 0 where

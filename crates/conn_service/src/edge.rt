@@ -1,10 +1,11 @@
 //! What a connection does with its transport: it reads, and writes what waits.
-ghost use Rattle.std.specs.Prelude.{◌≡◌, ◌≢◌, ◌↔◌, ◌<◌, ◌≤◌, true, [], List, ℕ, length, None, Some, Err, Ok, MatchResult, OnOk, OnErr, IfErr, if◌then◌else◌};
+ghost use Rattle.std.specs.Prelude.{◌≡◌, ◌≢◌, ◌⊎◌, ◌↔◌, ◌<◌, ◌≤◌, ◌+◌, min, true, false, [], List, ℕ, length, None, Some, Err, Ok, MatchResult, OnOk, OnErr, IfErr, if◌then◌else◌};
 ghost use Rattle.transport.specs.declared.answers.Got.TheVariants as gots;
 ghost use Rattle.conn_service.specs.declared.served.Served.TheVariants as endings;
 ghost use Rattle.conn_service.specs.Crossings.{RefusesAlways};
 ghost use Rattle.conn_engine.specs.declared.standing.Standing.TheVariants.{Ended};
-ghost use Rattle.conn_service.specs.Services.{KeepsIdles, most_refused};
+ghost use Rattle.conn_service.specs.Services.{KeepsEnough, KeepsIdles, kept_room, most_refused};
+ghost use Rattle.conn_service.specs.Advances.{AdvancesAtEdge};
 ghost use Rattle.conn_service.specs.Lives.{Leads};
 ghost use Rattle.conn_service.specs.Edges.{MayRead, ReadsOnce, WritesOnce, LeadsAtEdge};
 
@@ -20,10 +21,21 @@ const PATIENCE: u64 = 60_000;
 /// And where the connection has ended.
 const LINGER: u64 = 1_000;
 
+/// How many bytes of its stream are kept at least, while a connection waits for its session, before it is not read any more: 64 KiB.
+const KEPT_ROOM: usize = 65_536;
+
 /// How many writes in a row may give nothing, where each of them waits.
 pub(crate) const MOST_REFUSED: u32 = 600;
 
 impl<P: HoldingPlace, T: Transport> Service<P, T> {
+    /// Whether it waits for its session, and has kept as much of its stream meanwhile as it may.
+    pub(crate) fn keeps_enough(&self) -> bool
+        ensures yes { result ≡ true → KeepsEnough self.now }
+        ensures no { result ≡ false → ¬ KeepsEnough self.now }
+    {
+        self.kept >= KEPT_ROOM && !self.client.wants_input()
+    }
+
     /// Reads once, into a buffer with room, and keeps what came for the client.
     pub(crate) fn read_once(&mut self, buffer: &mut [u8]) -> Result<Got, Served>
         requires may { MayRead T.counts T.given T.accepted self.old }
@@ -93,6 +105,7 @@ impl<P: HoldingPlace, T: Transport> Service<P, T> {
         ensures ticked { self.new.ticked ≡ self.old.ticked }
         ensures idles { KeepsIdles T.counts self.old self.new }
         ensures sent { OnOk result (self.new.ending ≡ None) }
+        ensures advances { OnOk result ((self.new ≡ self.old) ⊎ (AdvancesAtEdge T.counts T.given T.accepted self.old self.new ⊎ (self.new.outgoing ≢ []))) }
         ensures ended { IfErr result (λ served. self.new.ending ≡ Some served) }
         ensures crossing { result ≡ Err endings.NoCrossing → RefusesAlways X.refuses crossing.now worker }
     {
@@ -161,11 +174,13 @@ fn patience(over: bool) -> u64
     if over { LINGER } else { PATIENCE }
 }
 
-/// How many bytes of the stream are kept since the connection waits for a session, behind so many more; none where it does not wait.
-fn kept_after(kept: usize, count: usize, wants_input: bool) -> usize {
+/// How many bytes of the stream are kept since the connection waits for its session, behind so many more; none where it does not wait.
+fn kept_after(kept: usize, count: usize, wants_input: bool) -> usize
+    ensures { result ≡ (if wants_input then 0 else min (kept + count) kept_room) }
+{
     if wants_input {
         0
     } else {
-        kept.saturating_add(count)
+        kept.saturating_add(count).min(KEPT_ROOM)
     }
 }

@@ -1,6 +1,6 @@
 //! What is still to be written.
-ghost use Rattle.std.specs.Prelude.{◌≡◌, ◌≤◌, ◌++◌, ◌↔◌, [], IsTrue, length, drop, IfOk, OnOk, OnErr};
-ghost use Rattle.conn_service.specs.Services.{bytes_of};
+ghost use Rattle.std.specs.Prelude.{◌≡◌, ◌<◌, ◌≤◌, ◌++◌, ◌↔◌, [], IsTrue, length, drop, vec_capacity, IfOk, OnOk, OnErr};
+ghost use Rattle.conn_service.specs.Services.{bytes_of, write_room};
 ghost use Rattle.conn_service.specs.Moments.{since_step};
 
 use conn_engine::NoMemory;
@@ -11,7 +11,7 @@ use std::marker::Model;
 /// How many bytes may wait before a further packet is stepped, and for how many there is room from the start: 16 KiB.
 pub(crate) const WRITE_ROOM: usize = 16_384;
 
-/// Bytes that wait to be written. Contracts see it as their list.
+/// Bytes that wait to be written, and room for [`WRITE_ROOM`] at least. Contracts see it as their list.
 #[derive(Drop)]
 pub(crate) struct Outgoing {
     buffer: Vec<u8>,
@@ -20,13 +20,14 @@ pub(crate) struct Outgoing {
 }
 
 impl Model for Outgoing {
-    ghost use Rattle.std.specs.Prelude.{ℕ, ◌≤◌, List, drop, length};
+    ghost use Rattle.std.specs.Prelude.{ℕ, ◌≤◌, List, drop, length, vec_capacity};
+    ghost use Rattle.conn_service.specs.Services.{IsKeptIn};
 
     ghost Value = { List ℕ };
 
     ghost view = { λ o. drop o.written o.buffer.items };
 
-    ghost invariant = { λ o. o.written ≤ length o.buffer.items };
+    ghost invariant = { λ o. IsKeptIn o.written (length o.buffer.items) (vec_capacity o.buffer) };
 }
 
 impl Outgoing {
@@ -75,23 +76,42 @@ impl Outgoing {
     ///
     /// # Errors
     ///
-    /// [`NoMemory`], also where a packet is too long to be written. Nothing has changed then.
+    /// [`NoMemory`], only where there would be more than [`WRITE_ROOM`] of them; also where a packet is too long to be written. Nothing has changed then.
     pub(crate) fn put_all(&mut self, packets: &[Packet]) -> Result<(), NoMemory>
         ensures put { OnOk result (self.new ≡ self.old ++ bytes_of packets.now) }
         ensures kept { OnErr result (self.new ≡ self.old) }
+        ensures full { OnErr result (write_room < length (self.old ++ bytes_of packets.now)) }
     {
+        drop_front(&mut self.buffer, self.written);
+        self.written = 0;
         encode_all(&mut self.buffer, packets)
+    }
+}
+
+/// Drops so many bytes at the front of the buffer, which keeps its room.
+fn drop_front(buffer: &mut Vec<u8>, count: usize)
+    requires { count ≤ length buffer.old.items }
+    ensures rest { buffer.new.items ≡ drop count buffer.old.items }
+    ensures capacity { vec_capacity buffer.new ≡ vec_capacity buffer.old }
+{
+    if count > 0 {
+        let rest = buffer.len() - count;
+        buffer.copy_within(count.., 0);
+        buffer.truncate(rest);
     }
 }
 
 /// Writes the packets behind what the buffer holds. Where there is no memory it holds what it held.
 fn encode_all(buffer: &mut Vec<u8>, packets: &[Packet]) -> Result<(), NoMemory>
+    requires room { write_room ≤ vec_capacity buffer.old }
     ensures put { OnOk result (buffer.new.items ≡ buffer.old.items ++ bytes_of packets.now) }
     ensures kept { OnErr result (buffer.new.items ≡ buffer.old.items) }
+    ensures full { OnErr result (write_room < length (buffer.old.items ++ bytes_of packets.now)) }
+    ensures room { write_room ≤ vec_capacity buffer.new }
 {
     let before = buffer.len();
     'packets: for packet in packets {
-        if encode_into(buffer, packet).is_err() {
+        if let Err(_fault) = encode_into(buffer, packet) {
             buffer.truncate(before);
             return Err(NoMemory);
         }
@@ -109,6 +129,7 @@ pub(crate) fn put_down(
     ensures put { OnOk result (outgoing.new ≡ outgoing.old ++ bytes_of packets.now) }
     ensures since { IfOk result (λ later. later ≡ since_step outgoing.old now since) }
     ensures kept { OnErr result (outgoing.new ≡ outgoing.old) }
+    ensures full { OnErr result (write_room < length (outgoing.old ++ bytes_of packets.now)) }
 {
     let later = if outgoing.is_empty() { now } else { since };
     outgoing.put_all(packets)?;

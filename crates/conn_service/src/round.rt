@@ -1,17 +1,16 @@
 //! Rounds: a connection goes on as far as it can without waiting.
-ghost use Rattle.std.specs.Prelude.{◌≡◌, ◌≢◌, ◌⊎◌, ◌<◌, [], length, if◌then◌else◌, None, Some, Ok, Err, true, false, OnOk, IfErr};
+ghost use Rattle.std.specs.Prelude.{◌≡◌, ◌≢◌, ◌⊎◌, ◌<◌, [], length, if◌then◌else◌, None, Some, Ok, Err, true, false, OnOk, IfOk, IfErr};
 ghost use Rattle.conn_engine.specs.declared.standing.Standing.TheVariants.{Ended};
 ghost use Rattle.conn_engine.specs.Looking.{IsSilentTooLong};
-ghost use Rattle.conn_engine.specs.Standings.{IsWaiting};
 ghost use Rattle.conn_service.specs.declared.served.Round.TheVariants as rounds;
 ghost use Rattle.conn_service.specs.declared.served.Served.TheVariants as endings;
 ghost use Rattle.conn_service.specs.Crossings.{RefusesAlways};
-ghost use Rattle.conn_service.specs.Edges.{MayRead};
 ghost use Rattle.conn_engine.specs.declared.input.Input.TheVariants as inputs;
 ghost use Rattle.conn_engine.specs.Facts.Fact.{Kicked};
 ghost use Rattle.conn_service.specs.Moments.{is_tick_for};
-ghost use Rattle.conn_service.specs.Services.{IsOnTime, IsServed, IsTold, IdlesTick, KeepsEdge, KeepsEdgeAt};
+ghost use Rattle.conn_service.specs.Services.{HasNoMore, IsAnswered, IsOnTime, IsServed, IsTold, IdlesTick, KeepsEdge, KeepsEdgeAt, KeepsEnough};
 ghost use Rattle.conn_service.specs.Lives.{IsDue, Leads};
+ghost use Rattle.conn_service.specs.Advances.{Advances, IsDoneOrAdvances};
 
 use crate::served::{Round, Served};
 use crate::service::Service;
@@ -20,9 +19,6 @@ use transport::{Crossing, Got, Transport};
 
 /// How many milliseconds there are between two Ticks at most.
 const TICK_PERIOD: u64 = 100;
-
-/// How many bytes of its stream are kept at least, while a connection waits for its session.
-const KEPT: usize = 65_536;
 
 impl<P: HoldingPlace, T: Transport> Service<P, T> {
     /// Goes on as far as it can without waiting, at this moment in milliseconds, and tells what it waits for: what waits is written, what came is read,
@@ -39,6 +35,7 @@ impl<P: HoldingPlace, T: Transport> Service<P, T> {
         requires room { 0 < length buffer.old }
         ensures led { Leads S.call S.turn S.visiting P.slot_of T.counts T.given T.accepted self.old supply.old self.new supply.new }
         ensures told { IsTold result self.new now }
+        ensures more { result ≡ rounds.More → Advances S.call S.turn S.visiting P.slot_of T.counts T.given T.accepted self.old supply.old self.new supply.new }
         ensures idles { IdlesTick T.counts now self.old self.new }
         ensures crossing { result ≡ rounds.Ended endings.NoCrossing → RefusesAlways X.refuses crossing.now worker }
     {
@@ -56,7 +53,8 @@ impl<P: HoldingPlace, T: Transport> Service<P, T> {
         requires going { self.now.ending ≡ None }
         requires not_over { self.now.outgoing ≡ [] → self.now.client.conn.standing ≢ Ended }
         requires all { all ≡ true → IsServed self.now now }
-        ensures { IsTold result self.now now }
+        ensures told { IsTold result self.now now }
+        ensures more { result ≡ rounds.More → (self.now.outgoing ≡ []) × (all ≡ true → ¬ HasNoMore self.now) }
     {
         if !self.outgoing.is_empty() {
             Round::Writing
@@ -67,13 +65,6 @@ impl<P: HoldingPlace, T: Transport> Service<P, T> {
         } else {
             Round::More
         }
-    }
-
-    /// Whether it waits for its session, and has kept as much of its stream as it may.
-    fn keeps_enough(&self) -> bool
-        ensures { result ≡ true → IsWaiting self.now.client.conn.standing }
-    {
-        self.kept >= KEPT && !self.client.wants_input()
     }
 
     /// Writes, steps, and writes again. Whether all that is whole was stepped.
@@ -89,6 +80,7 @@ impl<P: HoldingPlace, T: Transport> Service<P, T> {
         requires room { 0 < length buffer.old }
         ensures led { Leads S.call S.turn S.visiting P.slot_of T.counts T.given T.accepted self.old supply.old self.new supply.new }
         ensures all { result ≡ Ok true → IsServed self.new now }
+        ensures more { IfOk result (λ all. IsDoneOrAdvances S.call S.turn S.visiting P.slot_of T.counts T.given T.accepted all self.old supply.old self.new supply.new) }
         ensures not_over { OnOk result (self.new.outgoing ≡ [] → self.new.client.conn.standing ≢ Ended) }
         ensures going { OnOk result (self.new.ending ≡ None) }
         ensures ended { IfErr result (λ served. self.new.ending ≡ Some served) }
@@ -113,6 +105,7 @@ impl<P: HoldingPlace, T: Transport> Service<P, T> {
         requires room { 0 < length buffer.old }
         ensures led { Leads S.call S.turn S.visiting P.slot_of T.counts T.given T.accepted self.old supply.old self.new supply.new }
         ensures all { result ≡ Ok true → IsServed self.new now }
+        ensures more { IfOk result (λ all. IsDoneOrAdvances S.call S.turn S.visiting P.slot_of T.counts T.given T.accepted all self.old supply.old self.new supply.new) }
         ensures no_crossing { result ≢ Err endings.NoCrossing }
         ensures going { OnOk result (self.new.ending ≡ None) }
         ensures ended { IfErr result (λ served. self.new.ending ≡ Some served) }
@@ -142,6 +135,7 @@ impl<P: HoldingPlace, T: Transport> Service<P, T> {
         requires room { 0 < length buffer.old }
         ensures led { Leads S.call S.turn S.visiting P.slot_of T.counts T.given T.accepted self.old supply.old self.new supply.new }
         ensures all { result ≡ Ok true → IsServed self.new now }
+        ensures more { IfOk result (λ all. IsDoneOrAdvances S.call S.turn S.visiting P.slot_of T.counts T.given T.accepted all self.old supply.old self.new supply.new) }
         ensures no_crossing { result ≢ Err endings.NoCrossing }
         ensures going { OnOk result (self.new.ending ≡ None) }
         ensures ended { IfErr result (λ served. self.new.ending ≡ Some served) }
@@ -161,6 +155,7 @@ impl<P: HoldingPlace, T: Transport> Service<P, T> {
         requires shut { S.visiting supply.old ≡ false }
         ensures led { Leads S.call S.turn S.visiting P.slot_of T.counts T.given T.accepted self.old supply.old self.new supply.new }
         ensures all { result ≡ Ok true → IsServed self.new now }
+        ensures more { IfOk result (λ all. IsDoneOrAdvances S.call S.turn S.visiting P.slot_of T.counts T.given T.accepted all self.old supply.old self.new supply.new) }
         ensures no_crossing { result ≢ Err endings.NoCrossing }
         ensures going { OnOk result (self.new.ending ≡ None) }
         ensures ended { IfErr result (λ served. self.new.ending ≡ Some served) }
@@ -184,6 +179,7 @@ impl<P: HoldingPlace, T: Transport> Service<P, T> {
         requires room { 0 < length buffer.old }
         ensures led { Leads S.call S.turn S.visiting P.slot_of T.counts T.given T.accepted self.old supply.old self.new supply.new }
         ensures all { result ≡ Ok true → IsServed self.new now }
+        ensures more { IfOk result (λ all. IsDoneOrAdvances S.call S.turn S.visiting P.slot_of T.counts T.given T.accepted all self.old supply.old self.new supply.new) }
         ensures no_crossing { result ≢ Err endings.NoCrossing }
         ensures going { OnOk result (self.new.ending ≡ None) }
         ensures ended { IfErr result (λ served. self.new.ending ≡ Some served) }
@@ -200,53 +196,61 @@ impl<P: HoldingPlace, T: Transport> Service<P, T> {
         if !self.step_each(supply, now)? {
             return Ok(false);
         }
-        if !self.may_read() {
-            return Ok(true);
+        if !self.read(supply, now, buffer)? {
+            return Ok(false);
         }
-        self.read(supply, now, buffer)
+        self.end_input(supply, now)?;
+        Ok(true)
     }
 
-    /// Reads, and steps by what came: a read that gives nothing is a Tick, and so is each one while the connection waits for its session.
+    /// Reads, if it may be read, and steps by what came: a read that gives nothing is a Tick, and so is each one while the connection waits for its session.
+    /// Whether all that is whole was stepped.
     fn read<S: Supply<P>>(
         &mut self,
         supply: &mut S,
         now: u64,
         buffer: &mut [u8],
     ) -> Result<bool, Served>
-        requires may { MayRead T.counts T.given T.accepted self.old }
+        requires going { self.old.ending ≡ None }
+        requires answered { IsAnswered self.old }
         requires visiting { S.visiting supply.old ≡ true }
         requires room { 0 < length buffer.old }
         requires on_time { IsOnTime self.old now }
         ensures led { Leads S.call S.turn S.visiting P.slot_of T.counts T.given T.accepted self.old supply.old self.new supply.new }
         ensures all { result ≡ Ok true → IsServed self.new now }
+        ensures more { result ≡ Ok true → self.new.at_end ≡ false → IsDoneOrAdvances S.call S.turn S.visiting P.slot_of T.counts T.given T.accepted true self.old supply.old self.new supply.new }
+        ensures full { result ≡ Ok false → self.new.outgoing ≢ [] }
         ensures no_crossing { result ≢ Err endings.NoCrossing }
         ensures going { OnOk result (self.new.ending ≡ None) }
         ensures ended { IfErr result (λ served. self.new.ending ≡ Some served) }
         ensures idles { IdlesTick T.counts now self.old self.new }
         ensures visiting { S.visiting supply.new ≡ S.visiting supply.old }
     {
-        let got = self.read_once(buffer)?;
-        if let Got::End = got {
-            return self.end_input(supply, now);
+        if !self.may_read() {
+            return Ok(true);
         }
+        let got = self.read_once(buffer)?;
         let due = is_tick(got, !self.client.wants_input());
         self.tick_if(supply, now, due)?;
         self.step_each(supply, now)
     }
 
-    /// The stream has ended.
-    fn end_input<S: Supply<P>>(&mut self, supply: &mut S, now: u64) -> Result<bool, Served>
-        requires due { IsDue S.call S.turn S.visiting P.slot_of T.counts T.given T.accepted inputs.EndOfInput now self.old supply.old }
+    /// Where the stream has ended, and all that is whole was stepped, its end is stepped, unless the connection is over.
+    fn end_input<S: Supply<P>>(&mut self, supply: &mut S, now: u64) -> Result<(), Served>
+        requires going { self.old.ending ≡ None }
+        requires answered { IsAnswered self.old }
         ensures led { Leads S.call S.turn S.visiting P.slot_of T.counts T.given T.accepted self.old supply.old self.new supply.new }
-        ensures over { OnOk result (self.new.client.conn.standing ≡ Ended) }
+        ensures over { OnOk result ((self.new.client.conn.standing ≡ Ended) ⊎ ((self.new ≡ self.old) × (self.old.at_end ≡ false))) }
         ensures no_crossing { result ≢ Err endings.NoCrossing }
         ensures going { OnOk result (self.new.ending ≡ None) }
         ensures ended { IfErr result (λ served. self.new.ending ≡ Some served) }
         ensures stays { KeepsEdge self.old self.new }
         ensures visiting { S.visiting supply.new ≡ S.visiting supply.old }
     {
-        self.step(supply, now, Input::EndOfInput)?;
-        Ok(true)
+        if self.at_end && !self.client.has_ended() {
+            return self.step(supply, now, Input::EndOfInput);
+        }
+        Ok(())
     }
 
     /// A Tick, where one is due.
@@ -257,6 +261,7 @@ impl<P: HoldingPlace, T: Transport> Service<P, T> {
         ensures no_crossing { result ≢ Err endings.NoCrossing }
         ensures going { OnOk result (self.new.ending ≡ None) }
         ensures ended { IfErr result (λ served. self.new.ending ≡ Some served) }
+        ensures waits { OnOk result (self.old.outgoing ≢ [] → self.new.outgoing ≢ []) }
         ensures stays { KeepsEdgeAt (if due then now else self.old.ticked) self.old self.new }
         ensures visiting { S.visiting supply.new ≡ S.visiting supply.old }
     {
@@ -269,7 +274,8 @@ impl<P: HoldingPlace, T: Transport> Service<P, T> {
 
     /// Whether more is read now: all that was said is written, and it is not over; and if it waits for its session, it has not kept enough.
     fn may_read(&self) -> bool
-        ensures { result ≡ true → (self.now.client.conn.standing ≢ Ended) × (self.now.outgoing ≡ []) × (self.now.at_end ≡ false) }
+        ensures yes { result ≡ true → (self.now.client.conn.standing ≢ Ended) × (self.now.outgoing ≡ []) × (self.now.at_end ≡ false) × ¬ KeepsEnough self.now }
+        ensures no { result ≡ false → self.now.outgoing ≡ [] → self.now.at_end ≡ false → HasNoMore self.now }
     {
         !self.at_end && !self.client.has_ended() && self.outgoing.is_empty() && !self.keeps_enough()
     }

@@ -28,7 +28,7 @@ pub struct Service<P: HoldingPlace, T: Transport> {
     // How many writes gave nothing since then, counted up to 600.
     pub(crate) refused: u32,
     pub(crate) ticked: u64,
-    // How many bytes of the stream were kept since the connection waits for a session.
+    // How many bytes of its stream were kept since it waits for its session, counted up to 65,536.
     pub(crate) kept: usize,
     pub(crate) drained: bool,
     pub(crate) at_end: bool,
@@ -47,6 +47,7 @@ impl<P: HoldingPlace, T: Transport> Model for Service<P, T> {
       since = s.since;
       refused = s.refused;
       ticked = s.ticked;
+      kept = s.kept;
       drained = s.drained;
       at_end = s.at_end;
       ending = s.ending;

@@ -1,5 +1,5 @@
 //! The steps of a connection that is served.
-ghost use Rattle.std.specs.Prelude.{◌≡◌, ◌≢◌, ◌<◌, length, None, Some, Ok, true, false, OnOk, IfErr};
+ghost use Rattle.std.specs.Prelude.{◌≡◌, ◌≢◌, ◌<◌, length, [], None, Some, Ok, true, false, OnOk, IfErr};
 ghost use Rattle.conn_engine.specs.Step.{IsNoPacket};
 ghost use Rattle.conn_engine.specs.declared.input.Then.TheVariants.{Go};
 ghost use Rattle.conn_engine.specs.declared.standing.Standing.TheVariants.{Ended};
@@ -49,6 +49,7 @@ impl<P: HoldingPlace, T: Transport> Service<P, T> {
         ensures led { Leads S.call S.turn S.visiting P.slot_of T.counts T.given T.accepted self.old supply.old self.new supply.new }
         ensures goes_on { OnOk result (self.new.ending ≡ None) }
         ensures last { OnOk result (IsLast input → self.new.client.conn.standing ≡ Ended) }
+        ensures waits { OnOk result (self.old.outgoing ≢ [] → self.new.outgoing ≢ []) }
         ensures ended { IfErr result (λ served. (served ≡ endings.Memory) × (self.new.ending ≡ Some served)) }
         ensures stays { KeepsEdgeAt (ticked_by input now self.old.ticked) self.old self.new }
         ensures visiting { S.visiting supply.new ≡ S.visiting supply.old }
@@ -116,6 +117,7 @@ impl<P: HoldingPlace, T: Transport> Service<P, T> {
         requires visiting { S.visiting supply.old ≡ true }
         ensures led { Leads S.call S.turn S.visiting P.slot_of T.counts T.given T.accepted self.old supply.old self.new supply.new }
         ensures all { result ≡ Ok true → IsAnswered self.new }
+        ensures full { result ≡ Ok false → self.new.outgoing ≢ [] }
         ensures going { OnOk result (self.new.ending ≡ None) }
         ensures ended { IfErr result (λ served. (served ≡ endings.Memory) × (self.new.ending ≡ Some served)) }
         ensures stays { KeepsEdge self.old self.new }

@@ -13,4 +13,6 @@ mod failing;
 #[cfg(test)]
 mod noting;
 #[cfg(test)]
+mod played;
+#[cfg(test)]
 mod together;

@@ -1,6 +1,7 @@
 -- A round: what waits is written, then it is stepped, and then again what waits is written.
 use Rattle.conn_service.proofs.Leading.{leads_at_edge}
 use Rattle.conn_service.proofs.Rounds.{edge_then, then_edge, idles_kept, idles_before, idles_behind}
+use Rattle.conn_service.proofs.Advancing.{round_more}
 use Rattle.conn_service.proofs.service.Service.go_on.Goals as goal
 
 pub returns-in_err-send-clause-led : goal.returns-in_err-send-clause-led
@@ -62,3 +63,9 @@ returns-clause-idles g c =
     idles_behind g.T.Transport.counts c.args.now c.args.self.now c.send-2.new.self c.conclude.new.self
     (idles_behind g.T.Transport.counts c.args.now c.args.self.now c.visit.new.self c.send-2.new.self
     (idles_before g.T.Transport.counts c.args.now c.args.self.now c.send.new.self c.visit.new.self c.send.ensures.idles c.visit.ensures.idles) c.send-2.ensures.idles) c.conclude.ensures.idles
+
+pub returns-clause-more : goal.returns-clause-more
+returns-clause-more g c =
+    round_more g.S.Supply.call g.S.Supply.turn g.S.Supply.visiting g.P.Place.slot_of g.T.Transport.counts g.T.Transport.given g.T.Transport.accepted c.in_ok-all.all
+    c.args.self.now c.send.new.self c.visit.new.self c.send-2.new.self c.conclude.new.self c.args.supply.now c.visit.new.supply c.send.ensures.led c.visit.ensures.led
+    c.in_ok-all.ensures.more c.in_ok-send-2.ensures.advances c.in_ok-conclude.ensures.goes_on.0

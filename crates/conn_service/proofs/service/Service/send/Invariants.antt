@@ -1,7 +1,8 @@
 -- What was written so far.
-use Rattle.std.proofs.Common.{◌≡◌, None, length}
+use Rattle.std.proofs.Common.{◌≡◌, ◌⊎◌, None, length}
 use Rattle.conn_service.specs.Services.{KeepsIdles}
 use Rattle.conn_service.specs.Edges.{LeadsAtEdge}
+use Rattle.conn_service.specs.Advances.{AdvancesAtEdge}
 use Rattle.conn_service.proofs.service.Service.send.Given as goal
 
 abbrev pub invariant-writes : goal.invariant-writes
@@ -9,6 +10,7 @@ invariant-writes g l = record {
   led : LeadsAtEdge g.T.Transport.counts g.T.Transport.given g.T.Transport.accepted l.fn.self l.self;
   going : l.self.ending ≡ None;
   client : l.self.client ≡ l.fn.self.client;
+  advances : (l.self ≡ l.fn.self) ⊎ AdvancesAtEdge g.T.Transport.counts g.T.Transport.given g.T.Transport.accepted l.fn.self l.self;
   idles : KeepsIdles g.T.Transport.counts l.fn.self l.self;
 }
 

@@ -1,7 +1,7 @@
 -- What stands in front is stepped.
-use Rattle.std.proofs.Common.{List, ◌++◌, ap, ◌∙◌, inr}
+use Rattle.std.proofs.Common.{List, ◌<◌, ◌++◌, length, ap, subst, ◌∙◌, inr}
 use Rattle.mqtt_wire.specs.declared.packet.Packet.{Packet}
-use Rattle.conn_service.specs.Services.{ServiceState, bytes_of}
+use Rattle.conn_service.specs.Services.{ServiceState, bytes_of, write_room}
 use Rattle.conn_service.proofs.OneStep.{stepped_front, lost_front, failed_front}
 use Rattle.conn_service.proofs.Fronts.{front_goes, front_stops, ok_is}
 use Rattle.conn_service.proofs.service.Service.step_front.Goals as goal
@@ -30,6 +30,7 @@ returns-in-Err-put_down-clause-led g c =
     c.step_front.new.packets.items c.in-Ok-Some.next c.args.self.now _ c.step_front.new.self c.put_down.new.outgoing c.args.supply.now
     c.step_front.new.supply c.self.view_is c.requires.going c.requires.not_over c.requires.visiting c.requires.room (rw c.in-Ok-Some.field-0-is at c.in-Ok-Some.ensures.stepped)
     c.in-Err-put_down.ensures.kept
+    (subst (λ (p : List Packet). write_room < length (c.self.inside.outgoing ++ bytes_of p)) c.deref.ensures.value c.in-Err-put_down.ensures.full)
 
 pub returns-in-Err-clause-led : goal.returns-in-Err-clause-led
 returns-in-Err-clause-led g c =
