@@ -15,6 +15,8 @@ pub struct Listening {
     is_settled: bool,
     // It rang since the group's members were served.
     is_rung: bool,
+    // And this worker may have been the one that was called for it.
+    is_called: bool,
     ghost own: { listener.bell ≡ (arc_value bell).word },
 }
 
@@ -28,6 +30,7 @@ impl Listening {
             listener,
             is_settled: false,
             is_rung: true,
+            is_called: false,
         }
     }
 
@@ -36,6 +39,7 @@ impl Listening {
         if self.is_settled {
             if !self.bell.settle(&mut self.listener) {
                 self.is_rung = true;
+                self.is_called = true;
             }
             self.bell.listen(&mut self.listener);
             self.is_settled = false;
@@ -57,6 +61,13 @@ impl Listening {
     /// Notes that there is something for the group's members.
     pub(crate) fn note(&mut self) {
         self.is_rung = true;
+    }
+
+    /// Whether this worker may have been called for what there is; if so, it sees to it from now on.
+    pub(crate) fn take_called(&mut self) -> bool {
+        let called = self.is_called;
+        self.is_called = false;
+        called
     }
 
     /// Whether there is something for the group's members; they are served from now on.

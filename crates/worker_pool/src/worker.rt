@@ -281,6 +281,11 @@ impl<
         if let Some(ear) = self.ears.get_mut(slot) {
             ear.note();
         }
+        self.ring_others(slot, count);
+    }
+
+    /// Rings for so many workers that have members of a group.
+    fn ring_others(&mut self, slot: usize, count: usize) {
         let mut left = count;
         for hand in &mut self.hands {
             if hand.slot() == slot && left > 0 {
@@ -289,13 +294,17 @@ impl<
         }
     }
 
-    /// Goes on with members of the groups for which it rang. Where there are none any more, the ring is passed on.
+    /// Goes on with members of the groups for which it rang. Where this worker was called, and has none any more that would be handed a job, it rings for
+    /// another one.
     fn hand_out(&mut self, now: u64, buffer: &mut [u8; READ_SIZE]) {
         for slot in 0..SLOTS {
-            let rung = match self.ears.get_mut(slot) {
-                Some(ear) => ear.take_rung(),
-                None => false,
+            let (rung, called) = match self.ears.get_mut(slot) {
+                Some(ear) => (ear.take_rung(), ear.take_called()),
+                None => (false, false),
             };
+            if called && !self.members.has_taker(slot) {
+                self.ring_others(slot, 1);
+            }
             if rung {
                 self.hand_out_of(slot, now, buffer);
             }
