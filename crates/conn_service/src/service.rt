@@ -2,13 +2,14 @@
 ghost use Rattle.std.specs.Prelude.{◌≡◌, ◌<◌, ◌≤◌, ◌^◌, ◌↔◌, ℕ, IsTrue, MatchOption, MatchResult};
 ghost use Rattle.transport.specs.Counting.{no_counts};
 ghost use Rattle.conn_engine.specs.Looking.{IsSilentTooLong, TakesAt};
+ghost use Rattle.conn_engine.specs.Standings.{IsWaiting};
 ghost use Rattle.conn_engine.specs.declared.standing.Standing.TheVariants as standings;
 ghost use Rattle.conn_service.specs.Services.{opened};
 
 use crate::outgoing::Outgoing;
 use crate::served::Served;
 use client_table::Client;
-use conn_engine::HoldingPlace;
+use conn_engine::{HoldingPlace, Supply};
 use mqtt_wire::Packet;
 use std::alloc::Global;
 use std::marker::Model;
@@ -98,6 +99,35 @@ impl<P: HoldingPlace, T: Transport> Service<P, T> {
             (λ slot. (place : P) × TakesAt self.now.client.conn.standing place × (P.slot_of place ≡ slot)) }
     {
         self.client.takes_from()
+    }
+
+    /// Whether its client waits for a session that another connection has.
+    pub fn is_waiting(&self) -> bool
+        ensures { IsTrue result ↔ IsWaiting self.now.client.conn.standing }
+    {
+        !self.client.wants_input()
+    }
+
+    /// Lets go of a connection wherever it stands, and gives its transport: its client ends as where the broker closes, and nothing is written any more.
+    pub fn abandon<S: Supply<P>>(self, supply: &mut S, now: u64) -> T
+        ensures transport { result ≡ self.transport }
+        ensures visiting { S.visiting supply.new ≡ S.visiting supply.old }
+    {
+        let Service {
+            client,
+            transport,
+            outgoing: _,
+            packets: _,
+            since: _,
+            refused: _,
+            ticked: _,
+            kept: _,
+            drained: _,
+            at_end: _,
+            ending: _,
+        } = self;
+        client.abandon(supply, now);
+        transport
     }
 
     /// Lets go of a connection that has ended, as [`Round::Ended`](crate::Round::Ended) tells, and gives its transport.

@@ -108,11 +108,34 @@ impl<P: HoldingPlace, T: Transport> ServiceTable<P, T> {
         }
     }
 
+    /// Whether the client in a cell waits for a session that another connection has: see [`Service::is_waiting`].
+    pub fn is_waiting(&self, cell: usize) -> bool
+        requires { cell < length self.now.cells }
+    {
+        match &self.cells[cell] {
+            Some(service) => service.is_waiting(),
+            None => false,
+        }
+    }
+
     /// Whether all cells are free.
     pub fn is_empty(&self) -> bool
         ensures { IsTrue result ↔ All IsVacant self.now.cells }
     {
         self.cells.iter().all(|cell| cell.is_none())
+    }
+
+    /// Lets go of a table with all its connections: they end as where the broker closes, and nothing is written any more.
+    pub fn abandon<S: Supply<P>>(self, supply: &mut S, now: u64)
+    where
+        T: Drop,
+    {
+        let ServiceTable {
+            first: _,
+            cells,
+            alloc: _,
+        } = self;
+        abandon_each(cells, supply, now);
     }
 
     /// Lets go of a table whose cells are free.
@@ -125,6 +148,24 @@ impl<P: HoldingPlace, T: Transport> ServiceTable<P, T> {
             alloc: _,
         } = self;
         end_each(cells);
+    }
+}
+
+/// Lets go of the connections in these cells, the last one first.
+fn abandon_each<P: HoldingPlace, T: Transport + Drop, S: Supply<P>>(
+    cells: Vec<Option<Service<P, T>>>,
+    supply: &mut S,
+    now: u64,
+) {
+    let mut cells = cells;
+    match cells.pop() {
+        None => cells.destroy_empty(),
+        Some(cell) => {
+            if let Some(service) = cell {
+                drop(service.abandon(supply, now));
+            }
+            abandon_each(cells, supply, now);
+        }
     }
 }
 

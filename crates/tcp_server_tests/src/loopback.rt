@@ -101,5 +101,5 @@ fn a_day_over_the_loopback(rt: HostRuntime) {
     assert_eq!(rt; saw, Some(()));
     assert!(rt; ended.is_ok());
     let text = b"listening 18830\n$share/g/job accepted 1 acknowledged 1 refused 0 held 0 queued 0 returned 0\n";
-    assert!(rt; output.as_slice() == text);
+    assert!(rt; output.as_slice() == text.as_slice());
 }

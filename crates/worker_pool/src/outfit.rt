@@ -17,7 +17,7 @@ pub(crate) struct Outfit<W> {
 }
 
 /// What every worker has of the bells of so many groups, in the order of workers. The alarms of each ward wake its workers, in their order.
-pub(crate) fn outfits<W: Wake>(
+pub(crate) fn outfits<W: Wake + Drop>(
     alloc: Global,
     wards: &[Arc<Vec<W>, Global>],
     workers: usize,
@@ -37,7 +37,7 @@ pub(crate) fn outfits<W: Wake>(
 }
 
 /// Gives the workers of all wards what they have of the bells of a group.
-fn fit_slot<W: Wake>(
+fn fit_slot<W: Wake + Drop>(
     alloc: Global,
     wards: &[Arc<Vec<W>, Global>],
     slot: usize,
@@ -52,7 +52,7 @@ fn fit_slot<W: Wake>(
 }
 
 /// Gives the workers of a ward an ear at its bell, and every worker a hand there. How many workers the ward has.
-fn fit_ward<W: Wake>(
+fn fit_ward<W: Wake + Drop>(
     alloc: Global,
     ward: &Arc<Vec<W>, Global>,
     slot: usize,
@@ -78,7 +78,7 @@ fn fit_ward<W: Wake>(
 }
 
 /// A bell of a group for the workers of a ward: their ears, the last one first, and so many hands.
-fn bell_of<W: Wake>(
+fn bell_of<W: Wake + Drop>(
     alloc: Global,
     ward: &Arc<Vec<W>, Global>,
     count: usize,
@@ -119,7 +119,7 @@ fn ear_at(bell: &Arc<Bell, Global>, listener: Listener) -> Result<Listening, NoM
 }
 
 /// Hands at a bell.
-fn seat_hands<W: Wake>(
+fn seat_hands<W: Wake + Drop>(
     alloc: Global,
     bell: &Arc<Bell, Global>,
     ward: &Arc<Vec<W>, Global>,
@@ -138,7 +138,7 @@ fn seat_hands<W: Wake>(
 }
 
 /// A hand at a bell.
-fn hand_at<W: Wake>(
+fn hand_at<W: Wake + Drop>(
     bell: &Arc<Bell, Global>,
     ward: &Arc<Vec<W>, Global>,
     slot: usize,

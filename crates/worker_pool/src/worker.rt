@@ -31,7 +31,7 @@ const END_PAUSE: u64 = 1;
 const SLOTS: usize = 8;
 
 /// What a worker has: where it waits, its connections, what it asks of the broker, and how it calls others and is called.
-pub(crate) struct Worker<'a, 'g, B: Broker, T: Transport, Q, W, X, C, R: Wait> {
+pub(crate) struct Worker<'a, 'g, B: Broker, T: Transport + Drop, Q, W, X, C, R: Wait> {
     pub(crate) number: usize,
     pub(crate) table: ServiceTable<BrokerPlace<B>, T>,
     pub(crate) supply: SharedSupply<'a, 'g, B, R>,
@@ -59,10 +59,10 @@ impl<
     'g,
     B: Broker,
     T: Transport + Drop,
-    Q: Poller<T>,
-    W: Wake,
+    Q: Poller<T> + Drop,
+    W: Wake + Drop,
     X: Crossing,
-    C: Clock,
+    C: Clock + Drop,
     R: Wait,
 > Worker<'a, 'g, B, T, Q, W, X, C, R> {
     /// Serves connections until the broker has closed and the last of them has ended.
