@@ -4,6 +4,10 @@
 #[cfg(test)]
 mod client;
 #[cfg(test)]
+mod day;
+#[cfg(test)]
+mod frames;
+#[cfg(test)]
 mod input;
 #[cfg(test)]
 mod loopback;

@@ -252,6 +252,7 @@ impl<
 
     /// Tells the others what its connections did that they may wait for.
     fn tell(&mut self) {
+        self.tell_whether_waiting();
         let wakes = self.supply.take_wakes();
         for slot in 0..SLOTS {
             let count = wakes.messages[slot];
@@ -266,13 +267,17 @@ impl<
             }
             AskedBack::Several => self.roster.call_everybody(),
         }
+        if wakes.has_freed_session {
+            self.roster.call_waiting();
+        }
+    }
+
+    /// Tells the others whether a connection of it waits for a session, where that has changed.
+    fn tell_whether_waiting(&mut self) {
         let waits = self.members.has_waiting();
         if waits != self.waits {
             self.waits = waits;
             self.roster.note_waiting(self.number, waits);
-        }
-        if wakes.has_freed_session {
-            self.roster.call_waiting();
         }
     }
 
