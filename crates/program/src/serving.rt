@@ -85,5 +85,15 @@ fn serve_as<H: Threads + Wait + Net + Clock + Sync, R: Read, W: Write>(
         workers,
         setup,
     } = service;
-    serve_at(rt, alloc, setup, workers, address, port, reader, output)
+    serve_at(
+        rt,
+        alloc,
+        setup.capacity,
+        setup.groups,
+        workers,
+        address,
+        port,
+        reader,
+        output,
+    )
 }

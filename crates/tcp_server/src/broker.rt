@@ -7,8 +7,7 @@ use broker_groups::{Broker, BrokerPlace, Key, Named, Opened, Ports};
 use bytes::Bytes;
 use gate_word::{Gate, GateSeat};
 use line_io::RunError;
-use local_server::Setup;
-use mqtt_topic::Share;
+use mqtt_topic::{Routes, Share};
 use mqtt_wire::Text;
 use shared_desk::SharedDesk;
 use shared_routes::{KnownRoutes, SharedRoutes};
@@ -31,7 +30,7 @@ pub(crate) fn open<'g, B: Broker, R: Wait>(
     seats: &mut Vec<GateSeat>,
     opened: Opened<'g>,
     workers: u8,
-    setup: &Setup,
+    shares: &Routes,
 ) -> Result<OpenBroker<'g, B>, RunError>
     requires gate { gate.now ≡ B.gate }
     requires seats { AreSeatsOf gate.now seats.old.items }
@@ -53,7 +52,7 @@ pub(crate) fn open<'g, B: Broker, R: Wait>(
     furnish(rt, &desk, places);
     let hands = deal(alloc, gate, seats, ports);
     let hall = Hall::new(gate, groups, desk, SharedRoutes::new());
-    match bind_all(rt, alloc, &hall, setup) {
+    match bind_all(rt, alloc, &hall, shares) {
         Ok(()) => Ok(OpenBroker { hall, hands }),
         Err(error) => {
             give_up(rt, alloc, hall, Vec::new(alloc));
@@ -133,10 +132,10 @@ fn bind_all<B: Broker, R: Wait>(
     rt: &R,
     alloc: Global,
     hall: &Hall<'_, B>,
-    setup: &Setup,
+    shares: &Routes,
 ) -> Result<(), RunError> {
     let mut known = hall.know_routes(alloc)?;
-    for share in setup.groups.shares() {
+    for share in shares.shares() {
         if let Some(copy) = copy_of(alloc, share)? {
             let _slot = known.bind(rt, copy);
         }

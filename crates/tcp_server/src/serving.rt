@@ -10,7 +10,7 @@ use crate::reporting::lines;
 use broker_groups::{Broker, Opened, Ports};
 use gate_word::{Gate, GateSeat};
 use line_io::{RunError, write_all};
-use local_server::Setup;
+use mqtt_topic::Routes;
 use shared_supply::Hall;
 use std::alloc::Global;
 use std::io::{Read, Write};
@@ -43,18 +43,21 @@ pub enum Served {
 pub fn serve_at<R: Threads + Wait + Net + SystemClock + Sync, I: Read, O: Write>(
     rt: &R,
     alloc: Global,
-    setup: Setup,
+    capacity: usize,
+    groups: Routes,
     workers: u8,
     address: Ipv4Addr,
     port: u16,
     input: &mut I,
     output: &mut O,
 ) -> Result<(), RunError>
-    requires capacity { (1 ≤ setup.capacity) × (setup.capacity ≤ 65536) }
+    requires capacity { (1 ≤ capacity) × (capacity ≤ 65536) }
     requires workers { (1 ≤ workers) × (workers ≤ 64) }
 {
     match TcpSource::open(rt, address, port) {
-        Ok(source) => serve_with(rt, alloc, setup, workers, source, input, output),
+        Ok(source) => serve_with(
+            rt, alloc, capacity, groups, workers, source, input, output,
+        ),
         Err(_) => Err(RunError::Network),
     }
 }
@@ -63,13 +66,14 @@ pub fn serve_at<R: Threads + Wait + Net + SystemClock + Sync, I: Read, O: Write>
 pub fn serve_with<R: Threads + Wait + Net + SystemClock + Sync, I: Read, O: Write>(
     rt: &R,
     alloc: Global,
-    setup: Setup,
+    capacity: usize,
+    groups: Routes,
     workers: u8,
     source: TcpSource,
     input: &mut I,
     output: &mut O,
 ) -> Result<(), RunError>
-    requires capacity { (1 ≤ setup.capacity) × (setup.capacity ≤ 65536) }
+    requires capacity { (1 ≤ capacity) × (capacity ≤ 65536) }
     requires workers { (1 ≤ workers) × (workers ≤ 64) }
 {
     let port = source.port();
@@ -77,7 +81,7 @@ pub fn serve_with<R: Threads + Wait + Net + SystemClock + Sync, I: Read, O: Writ
     let Ok((gate, seats)) = Gate::open(alloc, usize::from(workers) + 2) else {
         return Err(RunError::Memory);
     };
-    let Ok(opened) = Opened::open(alloc, &gate, setup.capacity, workers) else {
+    let Ok(opened) = Opened::open(alloc, &gate, capacity, workers) else {
         return Err(RunError::Memory);
     };
     let line = format!(in alloc; "listening {port}\n");
@@ -89,7 +93,7 @@ pub fn serve_with<R: Threads + Wait + Net + SystemClock + Sync, I: Read, O: Writ
             seats,
             opened,
             workers,
-            &setup,
+            &groups,
             source,
             line.as_bytes(),
             input,
@@ -116,7 +120,7 @@ fn live<B: Broker + Send + Sync, R: Threads + Wait + Net + SystemClock + Sync, I
     seats: Vec<GateSeat>,
     opened: Opened<'_>,
     workers: u8,
-    setup: &Setup,
+    groups: &Routes,
     source: Awaited<TcpSource>,
     line: &[u8],
     input: &mut I,
@@ -128,7 +132,7 @@ fn live<B: Broker + Send + Sync, R: Threads + Wait + Net + SystemClock + Sync, I
 {
     let mut seats = seats;
     let OpenBroker { hall, hands } = open::<B, R>(
-        rt, alloc, gate, &mut seats, opened, workers, setup,
+        rt, alloc, gate, &mut seats, opened, workers, groups,
     )?;
     let (ports, served) = attend(
         rt, alloc, gate, seats, &hall, hands, source, line, input, output,

@@ -2,7 +2,6 @@
 use crate::client::{connect, ends, gets, send};
 use crate::input::Held;
 use line_io::RunError;
-use local_server::Setup;
 use mqtt_topic::Routes;
 use std::alloc::Global;
 use std::net::{Ipv4Addr, Net, TcpListener, TcpStream};
@@ -33,14 +32,6 @@ const SUBACK: [u8; 6] = *b"\x90\x04\x00\x01\x00\x01";
 const PUBACK: [u8; 4] = *b"\x40\x02\x00\x07";
 
 const JOB: [u8; 11] = *b"\x32\x09\x00\x03job\x00\x01\x00A";
-
-/// What the broker begins with.
-fn setup(alloc: Global) -> Setup {
-    Setup {
-        capacity: 1_024,
-        groups: Routes::new(alloc),
-    }
-}
 
 /// What the client sends and gets, up to the close.
 fn day<R: Net<Listener = TcpListener, Stream = TcpStream> + Clock>(
@@ -83,7 +74,8 @@ fn both<R: Threads + Wait + Net<Listener = TcpListener, Stream = TcpStream> + Cl
             serve_at(
                 rt,
                 alloc,
-                setup(alloc),
+                1_024,
+                Routes::new(alloc),
                 2,
                 Ipv4Addr::LOCALHOST,
                 PORT,
