@@ -70,21 +70,27 @@ pub fn serve_arguments(alloc: Global, words: &[String]) -> Result<Service, Error
 /// The command and its options.
 fn serve_command<'a>(alloc: Global) -> Result<Command<'a>, AllocError> {
     Command::new(alloc, "share_broker serve")
-        .about("Serves MQTT clients on TCP until standard input ends, and then prints what became of the jobs of each group")
+        .about(
+            "Serves MQTT clients on TCP until standard input ends, and then prints what became of the jobs of each group",
+        )
         .arg(
             Arg::new(alloc, "port")
                 .long("port")
                 .value_name("P")
                 .required(true)
                 .value_parser(value_parser!(u32).range(0..=65_535))
-                .help("The port to listen at; 0 lets the system choose, and the first line printed tells which"),
+                .help(
+                    "The port to listen at; 0 lets the system choose, and the first line printed tells which",
+                ),
         )?
         .arg(
             Arg::new(alloc, "address")
                 .long("address")
                 .value_name("IP")
                 .default_value("127.0.0.1")
-                .help("The IPv4 address of this machine to listen at, or 0.0.0.0 for each of them. Nobody is asked for a password"),
+                .help(
+                    "The IPv4 address of this machine to listen at, or 0.0.0.0 for each of them. Nobody is asked for a password",
+                ),
         )?
         .arg(
             Arg::new(alloc, "workers")
@@ -123,7 +129,10 @@ fn address_of(alloc: Global, matches: &ArgMatches) -> Result<Ipv4Addr, Error> {
     };
     match parse_address(text) {
         Some(address) => Ok(address),
-        None => Err(wrong(alloc, "an address is four numbers from 0 to 255 with dots between")?),
+        None => Err(wrong(
+            alloc,
+            "an address is four numbers from 0 to 255 with dots between",
+        )?),
     }
 }
 

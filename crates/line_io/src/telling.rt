@@ -21,10 +21,8 @@ pub fn tell<W: Write>(alloc: Global, error: RunError, writer: &mut W) -> Result<
     ensures cause { IfErr result (λ failure. (failure ≡ WriteFailed) ⊎ (failure ≡ Memory)) }
 {
     match error {
-        RunError::ReadFailed
-        | RunError::TooManyReads
-        | RunError::WriteFailed
-        | RunError::Network => write_all(writer, b"device\n"),
+        RunError::ReadFailed | RunError::TooManyReads | RunError::WriteFailed | RunError::Network =>
+            write_all(writer, b"device\n"),
         RunError::Memory => write_all(writer, b"memory\n"),
         RunError::Unfinished => write_all(writer, b"unfinished\n"),
         RunError::Line(number) => {

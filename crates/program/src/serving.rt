@@ -19,12 +19,7 @@ const SERVE: &str = "serve";
 ///
 /// Of `serve` the status is 0 where the reader has ended, 2 where its words are wrong, 3 where the reader, the output or the network failed, 4 where memory was
 /// refused or the end of a group is not known. It returns only once all connections have ended.
-pub fn run_with<
-    H: Threads + Wait + Net + Clock + Sync,
-    R: Read,
-    W: Write,
-    E: Write,
->(
+pub fn run_with<H: Threads + Wait + Net + Clock + Sync, R: Read, W: Write, E: Write>(
     rt: &H,
     alloc: Global,
     words: io::Result<Vec<String>>,

@@ -59,9 +59,7 @@ pub(crate) fn attend<
     let stopper = closer_of(gate, &mut seats);
     match (closer, stopper, crew_of(rt, alloc, hands)) {
         (Some(closer), Some(stopper), Ok(crew)) => match write_all(output, line) {
-            Ok(()) => serve(
-                rt, alloc, hall, crew, source, closer, stopper, input,
-            ),
+            Ok(()) => serve(rt, alloc, hall, crew, source, closer, stopper, input),
             Err(error) => (ports_of_crew(alloc, crew), Err(error)),
         },
         (_, _, Ok(crew)) => (ports_of_crew(alloc, crew), Err(RunError::Memory)),
@@ -180,9 +178,7 @@ fn crew_of<'a, B: Broker, R: Net + SystemClock>(
     hands: Vec<Hand<B>>,
 ) -> Result<Crew<'a, B, R>, Vec<Hand<B>>> {
     match reactors(rt, alloc, hands.len()) {
-        Some((pollers, alarms, start)) => Ok(enlist(
-            rt, alloc, hands, pollers, alarms, start,
-        )),
+        Some((pollers, alarms, start)) => Ok(enlist(rt, alloc, hands, pollers, alarms, start)),
         None => Err(hands),
     }
 }

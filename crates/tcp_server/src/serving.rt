@@ -55,9 +55,7 @@ pub fn serve_at<R: Threads + Wait + Net + SystemClock + Sync, I: Read, O: Write>
     requires workers { (1 ≤ workers) × (workers ≤ 64) }
 {
     match TcpSource::open(rt, address, port) {
-        Ok(source) => serve_with(
-            rt, alloc, capacity, groups, workers, source, input, output,
-        ),
+        Ok(source) => serve_with(rt, alloc, capacity, groups, workers, source, input, output),
         Err(_) => Err(RunError::Network),
     }
 }

@@ -19,9 +19,7 @@ pub(crate) fn connect<R: Net<Listener = TcpListener, Stream = TcpStream> + Clock
     for _ in 0..TRIES {
         let address = SocketAddr::from((Ipv4Addr::LOCALHOST, port));
         if let Ok(stream) = TcpStream::connect(rt, address) {
-            stream
-                .set_read_timeout(Some(Duration::from_secs(10)))
-                .ok()?;
+            stream.set_read_timeout(Some(Duration::from_secs(10))).ok()?;
             stream.set_nodelay(true).ok()?;
             return Some(stream);
         }

@@ -40,11 +40,7 @@ pub(crate) struct Night {
 pub(crate) fn live<
     R: Threads + Wait + Net<Listener = TcpListener, Stream = TcpStream> + Clock + Sync,
     D: Day,
->(
-    rt: &R,
-    alloc: Global,
-    day: &D,
-) -> Night {
+>(rt: &R, alloc: Global, day: &D) -> Night {
     let closes = AtomicBool::new(false);
     let mut output = Vec::new(alloc);
     let mut input = Held { rt, ends: &closes };

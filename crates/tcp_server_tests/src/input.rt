@@ -1,10 +1,9 @@
 //! An input that ends once a flag is set.
-use std::io;
 use std::io::Read;
 use std::rt::Clock;
 use std::sync::atomic::{AtomicBool, Ordering};
-use std::thread;
 use std::time::Duration;
+use std::{io, thread};
 
 /// For how many milliseconds a read waits before it looks again, and how often it looks at most.
 const PAUSE: u64 = 5;

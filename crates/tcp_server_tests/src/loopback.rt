@@ -195,7 +195,8 @@ fn one_job(rt: HostRuntime) {
     let night = live(&rt, rt.alloc(), &OneJob);
     assert_eq!(rt; night.saw, Some(()));
     assert!(rt; night.ended.is_ok());
-    let text = b"listening 18830\n$share/g/job accepted 1 acknowledged 1 refused 0 held 0 queued 0 returned 0\n";
+    let text =
+        b"listening 18830\n$share/g/job accepted 1 acknowledged 1 refused 0 held 0 queued 0 returned 0\n";
     assert!(rt; night.output.as_slice() == text.as_slice());
 }
 
@@ -212,7 +213,8 @@ fn resume(rt: HostRuntime) {
     let night = live(&rt, rt.alloc(), &Resume);
     assert_eq!(rt; night.saw, Some(()));
     assert!(rt; night.ended.is_ok());
-    let text = b"listening 18832\n$share/g/job accepted 1 acknowledged 0 refused 0 held 1 queued 0 returned 0\n";
+    let text =
+        b"listening 18832\n$share/g/job accepted 1 acknowledged 0 refused 0 held 1 queued 0 returned 0\n";
     assert!(rt; night.output.as_slice() == text.as_slice());
 }
 
@@ -221,14 +223,13 @@ fn a_crowd(rt: HostRuntime) {
     let night = live(&rt, rt.alloc(), &Crowd);
     assert_eq!(rt; night.saw, Some(()));
     assert!(rt; night.ended.is_ok());
-    let text = b"listening 18833\n$share/g/job accepted 18 acknowledged 18 refused 0 held 0 queued 0 returned 0\n";
+    let text =
+        b"listening 18833\n$share/g/job accepted 18 acknowledged 18 refused 0 held 0 queued 0 returned 0\n";
     assert!(rt; night.output.as_slice() == text.as_slice());
 }
 
 /// How serving ends at a port that is listened to.
-fn served_twice<
-    R: Threads + Wait + Net<Listener = TcpListener, Stream = TcpStream> + Clock + Sync,
->(
+fn served_twice<R: Threads + Wait + Net<Listener = TcpListener, Stream = TcpStream> + Clock + Sync>(
     rt: &R,
     alloc: Global,
 ) -> Option<Result<(), RunError>> {

