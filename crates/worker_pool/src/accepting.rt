@@ -133,8 +133,13 @@ impl<'a, T: Transport + Drop, S: Source<T>, W: Wake> Acceptor<'a, T, S, W> {
     fn close<R: Wait>(&mut self, rt: &R) {
         self.is_closed = true;
         self.roster.close();
-        for _ in 0..self.roster.len() {
-            let _sent = self.sender.end(rt);
-        }
+        send_marks(rt, &mut self.sender, self.roster.len());
+    }
+}
+
+/// Sends so many end marks.
+fn send_marks<T: Transport + Drop, R: Wait>(rt: &R, sender: &mut Sender<Arrived<T>>, count: usize) {
+    for _ in 0..count {
+        let _sent = sender.end(rt);
     }
 }

@@ -63,11 +63,13 @@ fn fit_ward<W: Wake + Drop>(
     if count == 0 || count > MOST_WORKERS {
         return Ok(count);
     }
-    let (mut ears, mut hands) = bell_of(alloc, ward, count, slot, all.len())?;
-    for worker in 0..count {
-        if let (Some(ear), Some(outfit)) = (ears.pop(), all.get_mut(first.saturating_add(worker))) {
+    let (ears, mut hands) = bell_of(alloc, ward, count, slot, all.len())?;
+    let mut worker = first;
+    for ear in ears {
+        if let Some(outfit) = all.get_mut(worker) {
             outfit.ears.push(ear)?;
         }
+        worker = worker.saturating_add(1);
     }
     for outfit in all {
         if let Some(hand) = hands.pop() {
@@ -77,7 +79,7 @@ fn fit_ward<W: Wake + Drop>(
     Ok(count)
 }
 
-/// A bell of a group for the workers of a ward: their ears, the last one first, and so many hands.
+/// A bell of a group for the workers of a ward: their ears, in the order of workers, and so many hands.
 fn bell_of<W: Wake + Drop>(
     alloc: Global,
     ward: &Arc<Vec<W>, Global>,
@@ -95,7 +97,7 @@ fn bell_of<W: Wake + Drop>(
     Ok((ears, hands))
 }
 
-/// Ears at a bell, the last listener's first.
+/// Ears at a bell, in the order of its listeners.
 fn seat_ears(
     alloc: Global,
     bell: &Arc<Bell, Global>,
@@ -103,9 +105,8 @@ fn seat_ears(
 ) -> Result<Vec<Listening>, NoMemory>
     requires { AreListenersOf (arc_value bell.now).word listeners.items }
 {
-    let mut listeners = listeners;
     let mut ears = Vec::new(alloc);
-    'ears: while let Some(listener) = listeners.pop() {
+    for listener in listeners {
         ears.push(ear_at(bell, listener)?)?;
     }
     Ok(ears)
@@ -129,9 +130,8 @@ fn seat_hands<W: Wake + Drop>(
     requires ringers { AreRingersOf (arc_value bell.now).word ringers.items }
     requires ward { length (arc_value ward.now).items ≡ (arc_value bell.now).workers }
 {
-    let mut ringers = ringers;
     let mut hands = Vec::new(alloc);
-    'hands: while let Some(ringer) = ringers.pop() {
+    for ringer in ringers {
         hands.push(hand_at(bell, ward, slot, ringer)?)?;
     }
     Ok(hands)

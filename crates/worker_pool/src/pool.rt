@@ -199,16 +199,20 @@ where
     let mut outfits = outfits.into_iter();
     let mut number = 0usize;
     for recruit in recruits {
-        match (receivers.next(), outfits.next()) {
-            (Some(receiver), Some(outfit)) => {
-                match make(
-                    rt, alloc, hall, number, share, recruit, receiver, outfit, roster, crossing,
-                ) {
-                    Ok(worker) => keep_worker(&mut workers, &mut hands, worker),
-                    Err(hand) => keep(&mut hands, hand),
-                }
-            }
-            _ => keep(&mut hands, recruit.hand),
+        match make(
+            rt,
+            alloc,
+            hall,
+            number,
+            share,
+            recruit,
+            receivers.next(),
+            outfits.next(),
+            roster,
+            crossing,
+        ) {
+            Ok(worker) => keep_worker(&mut workers, &mut hands, worker),
+            Err(hand) => keep(&mut hands, hand),
         }
         number = number.saturating_add(1);
     }
@@ -277,8 +281,8 @@ fn make<'a, 'g, B, T, Q, W, X, C, R>(
     number: usize,
     share: u16,
     recruit: Recruit<B, Q, C>,
-    receiver: Receiver<Arrived<T>>,
-    outfit: Outfit<W>,
+    receiver: Option<Receiver<Arrived<T>>>,
+    outfit: Option<Outfit<W>>,
     roster: &'a Roster<W>,
     crossing: &'a X,
 ) -> Result<Worker<'a, 'g, B, T, Q, W, X, C, R>, Hand<B>>
@@ -296,13 +300,18 @@ where
         poller,
         clock,
     } = recruit;
+    let Some(receiver) = receiver else {
+        return Err(Hand { key, ports });
+    };
+    let Some(Outfit { ears, hands }) = outfit else {
+        return Err(Hand { key, ports });
+    };
     let Ok(known) = hall.know_routes(alloc) else {
         return Err(Hand { key, ports });
     };
     let Ok((table, due, members)) = cells_of::<B, T>(alloc, number, share) else {
         return Err(Hand { key, ports });
     };
-    let Outfit { ears, hands } = outfit;
     Ok(Worker {
         number,
         table,
@@ -341,6 +350,44 @@ fn cells_of<B: Broker, T: Transport>(
     Ok((table, marks, members))
 }
 
+/// Workers that serve together.
+struct Crew<'a, 'g, B: Broker, T: Transport + Drop, Q, W, X, C, R: Wait> {
+    rt: &'a R,
+    workers: Vec<Worker<'a, 'g, B, T, Q, W, X, C, R>>,
+}
+
+impl<
+    'a,
+    'g,
+    B: Broker + Send + Sync,
+    T: Transport + Drop + Send,
+    Q: Poller<T> + Drop + Send,
+    W: Wake + Drop + Send + Sync,
+    X: Crossing + Sync,
+    C: Clock + Drop + Send,
+    R: Threads + Wait + Sync,
+> Crew<'a, 'g, B, T, Q, W, X, C, R> {
+    /// Each worker serves, in a thread of its own.
+    fn run_all(mut self) -> Self {
+        let rt = self.rt;
+        let workers = self.workers.as_mut_slice();
+        let count = workers.len();
+        if count > 0 {
+            thread::for_each_mut(rt, workers, count, &|_, worker| worker.run(rt));
+        }
+        self
+    }
+}
+
+/// Takes connections from the source until it has ended or failed.
+fn accept_with<T: Transport + Drop, S: Source<T>, W: Wake, R: Wait + SystemClock>(
+    rt: &R,
+    acceptor: Acceptor<'_, T, S, W>,
+) -> SourceEnd {
+    let mut acceptor = acceptor;
+    acceptor.accept_all(rt)
+}
+
 /// The workers serve, each in a thread, while connections are taken.
 fn serve<
     'a,
@@ -359,34 +406,16 @@ fn serve<
     workers: Vec<Worker<'a, 'g, B, T, Q, W, X, C, R>>,
     acceptor: Acceptor<'_, T, S, W>,
 ) -> Pooled<B> {
-    let mut workers = workers;
-    let mut acceptor = acceptor;
-    let (_served, source) = thread::join_mut(
+    let crew = Crew { rt, workers };
+    let (crew, source) = thread::join(
         rt,
-        &mut || run_all(rt, workers.as_mut_slice()),
-        &mut || acceptor.accept_all(rt),
+        move || crew.run_all(),
+        move || accept_with(rt, acceptor),
     );
+    let Crew { rt: _, workers } = crew;
     Pooled {
         workers: retire(alloc, workers),
         source,
-    }
-}
-
-/// Each worker serves, in a thread of its own.
-fn run_all<
-    'a,
-    'g,
-    B: Broker + Send + Sync,
-    T: Transport + Drop + Send,
-    Q: Poller<T> + Drop + Send,
-    W: Wake + Drop + Send + Sync,
-    X: Crossing + Sync,
-    C: Clock + Drop + Send,
-    R: Threads + Wait + Sync,
->(rt: &'a R, workers: &mut [Worker<'a, 'g, B, T, Q, W, X, C, R>]) {
-    let count = workers.len();
-    if count > 0 {
-        thread::for_each_mut(rt, workers, count, &|_, worker| worker.run(rt));
     }
 }
 

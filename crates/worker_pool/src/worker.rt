@@ -209,7 +209,7 @@ impl<
         if cell >= self.table.len() {
             return None;
         }
-        let worker = self.number as u32;
+        let worker = u32::try_from(self.number).unwrap_or(u32::MAX);
         match self
             .table
             .round(cell, &mut self.supply, self.crossing, worker, now, buffer)
