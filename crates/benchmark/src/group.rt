@@ -6,7 +6,7 @@ use local_group::LocalGroup;
 use mqtt_wire::{RareProperties, Text};
 use std::alloc::Global;
 
-/// How many of so many jobs were acknowledged; `None` where memory is refused. A port accepts 2^20.
+/// How many of so many jobs were acknowledged; `None` where memory is refused.
 pub(crate) fn settled(alloc: Global, jobs: u32) -> Option<u64> {
     let mut group = LocalGroup::open(alloc, 0, 16).ok()?;
     let mut acknowledged = 0u64;

@@ -13,7 +13,7 @@ use std::alloc::Global;
 use std::mem::size_of;
 use std::sync::Wait;
 
-/// How many ports and places there are: a port accepts 2^20 messages, so ten of them accept 10^7.
+/// How many ports and places there are.
 const PORTS: u8 = 10;
 
 const PLACES: u8 = 4;

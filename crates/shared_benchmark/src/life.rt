@@ -1,4 +1,4 @@
-//! The life of a port: it accepts 2^20 messages.
+//! A long life of a port: it offers 2^20 messages, and then one more.
 ghost use Rattle.std.specs.Prelude.{◌≡◌, All};
 ghost use Rattle.gate_word.specs.Seats.{AreSeatsOf};
 ghost use Rattle.group_queue.specs.Ports.{IsPortOf};
@@ -10,7 +10,7 @@ use group_queue::{Place, Port, SharedGroup};
 use std::alloc::Global;
 use std::sync::Wait;
 
-/// How many messages a port accepts.
+/// How many messages a port offers.
 const LIFE: u32 = 1 << 20;
 
 /// What came of it: how many messages were acknowledged, in how many runs the docket keeps them, and by which number the
@@ -22,7 +22,7 @@ pub(crate) struct Life {
     pub(crate) refused: Option<u16>,
 }
 
-/// A port offers as many messages as it may, each of which is acknowledged, and then one more; `None` where memory is refused.
+/// A port offers so many messages, each of which is acknowledged, and then one more; `None` where memory is refused.
 pub(crate) fn spent<R: Wait>(rt: &R, alloc: Global) -> Option<Life> {
     let (gate, mut seats) = Gate::open(alloc, 1).ok()?;
     let seat = take_seat(&gate, &mut seats)?;
@@ -85,7 +85,7 @@ fn live<R: Wait>(
     })
 }
 
-/// How many of the messages of a port's life were acknowledged; `None` where memory is refused.
+/// How many of so many messages of a port were acknowledged; `None` where memory is refused.
 fn acknowledge_all<R: Wait>(
     rt: &R,
     alloc: Global,

@@ -64,7 +64,7 @@ fn jobs_done<R: Runtime + AllocGlobal + Threads + Wait + Sync>(
     Some(())
 }
 
-/// A port accepts as many jobs as it may.
+/// A port offers 2^20 jobs, and then one more.
 fn life_done<R: Print + AllocGlobal + Wait>(rt: &R) -> Option<()> {
     let life = life::spent(rt, rt.alloc())?;
     let (acknowledged, runs) = (life.acknowledged, life.runs);

@@ -4,7 +4,7 @@ use crate::pairs::Pairs;
 use std::rt::Env;
 use std::{env, io};
 
-/// How many messages a port accepts.
+/// How many messages a pair publishes at most.
 const LIFE: u32 = 1 << 20;
 
 /// A run that the words ask for.
@@ -12,7 +12,7 @@ const LIFE: u32 = 1 << 20;
 pub(crate) enum Run {
     /// So many pairs of threads publish and take so many jobs each, at most 2^20.
     Jobs { pairs: Pairs, jobs: u32 },
-    /// A port accepts as many jobs as it may in its life.
+    /// A port offers 2^20 jobs, and then one more.
     Life,
     /// So many jobs through all ports and places in turn, which gather.
     Gather { jobs: u32 },
