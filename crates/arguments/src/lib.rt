@@ -9,7 +9,5 @@
 mod command;
 mod groups;
 pub mod laws;
-mod serving;
 
 pub use command::{Request, arguments};
-pub use serving::{Service, serve_arguments};
