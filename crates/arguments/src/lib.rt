@@ -9,5 +9,7 @@
 mod command;
 mod groups;
 pub mod laws;
+mod serving;
 
 pub use command::{Request, arguments};
+pub use serving::{Service, serve_arguments};

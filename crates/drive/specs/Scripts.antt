@@ -4,7 +4,7 @@ use Rattle.hex.specs.Hex.{decode_of}
 use Rattle.hex.specs.declared.error.FromHexError.{FromHexError}
 use Rattle.line_io.specs.Lines.{lines_of}
 use Rattle.line_io.specs.declared.error.RunError.{RunError}
-use Rattle.line_io.specs.declared.error.RunError.TheVariants.{ReadFailed, TooManyReads, WriteFailed, Memory, Line}
+use Rattle.line_io.specs.declared.error.RunError.TheVariants.{ReadFailed, TooManyReads, WriteFailed, Network, Memory, Unfinished, Line}
 use Rattle.local_server.specs.declared.event.Event.{Event}
 use Rattle.local_server.specs.declared.event.Event.TheVariants.{Open, Bytes, Tick, End, Close}
 use Rattle.local_server.specs.declared.event.TimedEvent.{TimedEvent}
@@ -71,6 +71,8 @@ script_of input = script_from 1 (lines_of input)
 abbrev pub NamesBadLine : Result (List TimedEvent) ℕ → RunError → Type 0
 NamesBadLine script ReadFailed = ⊥
 NamesBadLine script TooManyReads = ⊥
+NamesBadLine script Network = ⊥
+NamesBadLine script Unfinished = ⊥
 NamesBadLine script WriteFailed = ⊥
 NamesBadLine script Memory = Unit {0}
 NamesBadLine script (Line number) = script ≡ Err number

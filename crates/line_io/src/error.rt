@@ -14,8 +14,12 @@ pub enum RunError {
     TooManyReads,
     /// 3: the writer failed.
     WriteFailed,
+    /// 3: an address was not listened at, or connections were not accepted.
+    Network,
     /// 4: an allocation was refused.
     Memory,
+    /// 4: what became of the messages of a group is not known.
+    Unfinished,
     /// 5: this line of the input, counted from 1, is none that the program takes.
     Line(u64),
 }
@@ -26,8 +30,11 @@ impl RunError {
         ensures { result ≡ status_of self.now }
     {
         match self {
-            RunError::ReadFailed | RunError::TooManyReads | RunError::WriteFailed => 3,
-            RunError::Memory => 4,
+            RunError::ReadFailed
+            | RunError::TooManyReads
+            | RunError::WriteFailed
+            | RunError::Network => 3,
+            RunError::Memory | RunError::Unfinished => 4,
             RunError::Line(_) => 5,
         }
     }

@@ -10,7 +10,7 @@ use crate::output::write_all;
 use std::alloc::Global;
 use std::io::Write;
 
-/// Writes the line of an error: `device`, `memory`, or `input line N`. At a failure the writer has a beginning of it.
+/// Writes the line of an error: `device`, `memory`, `unfinished`, or `input line N`. At a failure the writer has a beginning of it.
 ///
 /// # Errors
 ///
@@ -21,10 +21,10 @@ pub fn tell<W: Write>(alloc: Global, error: RunError, writer: &mut W) -> Result<
     ensures cause { IfErr result (λ failure. (failure ≡ WriteFailed) ⊎ (failure ≡ Memory)) }
 {
     match error {
-        RunError::ReadFailed | RunError::TooManyReads | RunError::WriteFailed => {
-            write_all(writer, b"device\n")
-        }
+        RunError::ReadFailed | RunError::TooManyReads | RunError::WriteFailed | RunError::Network =>
+            write_all(writer, b"device\n"),
         RunError::Memory => write_all(writer, b"memory\n"),
+        RunError::Unfinished => write_all(writer, b"unfinished\n"),
         RunError::Line(number) => {
             let line = format!(in alloc; "input line {number}\n")?;
             write_all(writer, line.as_bytes())

@@ -3,7 +3,7 @@ use Rattle.std.proofs.Common.{◌≡◌, ◌≢◌, ℕ, List, Option, Some, Non
 use Rattle.std.specs.Io.KnownBytes.{Keeps}
 use Rattle.arguments.specs.declared.command.Request.{Request}
 use Rattle.line_io.specs.declared.error.RunError.{RunError}
-use Rattle.line_io.specs.declared.error.RunError.TheVariants.{ReadFailed, TooManyReads, WriteFailed, Memory, Line}
+use Rattle.line_io.specs.declared.error.RunError.TheVariants.{ReadFailed, TooManyReads, WriteFailed, Network, Memory, Unfinished, Line}
 use Rattle.drive.specs.Transcripts.{Writes, BeginsTo}
 use Rattle.program.specs.Ending.{NamesBadLine, IsOutputFor, Wrote}
 
@@ -18,5 +18,7 @@ wrote request (Some input) (Ok done) old new whole bad begun kept = whole
 wrote request (Some input) (Err ReadFailed) old new whole bad begun kept = kept (λ e. absurd cc)
 wrote request (Some input) (Err TooManyReads) old new whole bad begun kept = kept (λ e. absurd cc)
 wrote request (Some input) (Err WriteFailed) old new whole bad begun kept = begun refl
+wrote request (Some input) (Err Network) old new whole bad begun kept = kept (λ e. absurd cc)
+wrote request (Some input) (Err Unfinished) old new whole bad begun kept = kept (λ e. absurd cc)
 wrote request (Some input) (Err Memory) old new whole bad begun kept = kept (λ e. absurd cc)
 wrote request (Some input) (Err (Line number)) old new whole bad begun kept = (bad number refl, kept (λ e. absurd cc))

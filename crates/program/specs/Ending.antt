@@ -4,7 +4,7 @@ use Rattle.std.specs.Io.KnownBytes.{Appends, Keeps}
 use Rattle.arguments.specs.declared.command.Request.{Request}
 use Rattle.arguments.specs.declared.command.Request.TheVariants.{Solo, Drive}
 use Rattle.line_io.specs.declared.error.RunError.{RunError}
-use Rattle.line_io.specs.declared.error.RunError.TheVariants.{ReadFailed, TooManyReads, WriteFailed, Memory, Line}
+use Rattle.line_io.specs.declared.error.RunError.TheVariants.{ReadFailed, TooManyReads, WriteFailed, Network, Memory, Unfinished, Line}
 use Rattle.line_io.specs.Status.{status_of, error_line}
 use Rattle.line_io.specs.Passing.{Begins}
 use Rattle.drive.specs.Scripts.{script_of}
@@ -53,7 +53,9 @@ Wrote request input (Ok done) old new = Writes (IsOutputFor request input) old n
 Wrote request input (Err ReadFailed) old new = Keeps old new
 Wrote request input (Err TooManyReads) old new = Keeps old new
 Wrote request input (Err WriteFailed) old new = BeginsTo (IsOutputFor request input) old new
+Wrote request input (Err Network) old new = Keeps old new
 Wrote request input (Err Memory) old new = Keeps old new
+Wrote request input (Err Unfinished) old new = Keeps old new
 Wrote request input (Err (Line number)) old new = NamesBadLine request input number × Keeps old new
 
 -- A command came to its end, or to an error.

@@ -101,7 +101,7 @@ fn command<R: Read, W: Write>(
 }
 
 /// How the program ends where what it did came to an end so: an error is told.
-fn conclude<E: Write>(alloc: Global, ended: Result<(), RunError>, errors: &mut E) -> Exit
+pub(crate) fn conclude<E: Write>(alloc: Global, ended: Result<(), RunError>, errors: &mut E) -> Exit
     ensures status { result.status ≡ status_at ended }
     ensures told { Tells ended result.told (E.contents errors.old) (E.contents errors.new) }
 {

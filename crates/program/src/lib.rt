@@ -7,6 +7,8 @@
 
 mod asking;
 mod ending;
+mod serving;
 
 pub use asking::{Asked, asked_by};
 pub use ending::{Exit, perform, run};
+pub use serving::run_with;

@@ -1,0 +1,94 @@
+//! The program with all its commands: `serve` needs threads, sockets and a clock.
+use crate::asking::answer;
+use crate::ending::{Exit, conclude, perform, run};
+use arguments::{Service, serve_arguments};
+use line_io::RunError;
+use std::alloc::Global;
+use std::io;
+use std::io::{Read, Write};
+use std::net::Net;
+use std::rt::Clock;
+use std::sync::Wait;
+use std::thread::Threads;
+use tcp_server::serve_at;
+
+/// The word of the command.
+const SERVE: &str = "serve";
+
+/// The program with all its commands: `serve` serves on TCP until the reader has ended, and all others are [`run`]'s.
+///
+/// Of `serve` the status is 0 where the reader has ended, 2 where its words are wrong, 3 where the reader, the output or the network failed, 4 where memory was
+/// refused or the end of a group is not known. It returns only once all connections have ended.
+pub fn run_with<H: Threads + Wait + Net + Clock + Sync, R: Read, W: Write, E: Write>(
+    rt: &H,
+    alloc: Global,
+    words: io::Result<Vec<String>>,
+    reader: &mut R,
+    output: &mut W,
+    errors: &mut E,
+) -> Exit {
+    match words {
+        Ok(words) => {
+            if asks_to_serve(&words) {
+                serve(rt, alloc, &words, reader, output, errors)
+            } else {
+                run(alloc, Ok(words), reader, output, errors)
+            }
+        }
+        Err(error) => run(alloc, Err(error), reader, output, errors),
+    }
+}
+
+/// Whether the words, the program's name in front, are those of `serve`.
+fn asks_to_serve(words: &[String]) -> bool {
+    match words.get(1) {
+        Some(word) => word.as_str() == SERVE,
+        None => false,
+    }
+}
+
+/// Serves as the words say, and says how the program ends.
+fn serve<H: Threads + Wait + Net + Clock + Sync, R: Read, W: Write, E: Write>(
+    rt: &H,
+    alloc: Global,
+    words: &[String],
+    reader: &mut R,
+    output: &mut W,
+    errors: &mut E,
+) -> Exit {
+    let (_name, words) = words.split_at(1.min(words.len()));
+    match serve_arguments(alloc, words) {
+        Ok(service) => {
+            let ended = serve_as(rt, alloc, service, reader, output);
+            conclude(alloc, ended, errors)
+        }
+        Err(error) => perform(alloc, answer(alloc, &error), reader, output, errors),
+    }
+}
+
+/// Serves as was asked for.
+fn serve_as<H: Threads + Wait + Net + Clock + Sync, R: Read, W: Write>(
+    rt: &H,
+    alloc: Global,
+    service: Service,
+    reader: &mut R,
+    output: &mut W,
+) -> Result<(), RunError> {
+    let Service {
+        address,
+        port,
+        workers,
+        setup,
+    } = service;
+    serve_at(
+        rt,
+        alloc,
+        setup.capacity,
+        setup.groups,
+        workers,
+        address,
+        port,
+        reader,
+        output,
+    )
+}

@@ -1,0 +1,45 @@
+-- The connections of a worker, each in the cell of its number: what happens to one of them.
+use Rattle.std.specs.Prelude.{◌≡◌, ℕ, Bool, List, Option, Some, None, slice_get, slice_set}
+use Rattle.transport.specs.declared.counts.Counts.{Counts}
+use Rattle.conn_engine.specs.Facts.{Fact}
+use Rattle.conn_service.specs.declared.served.Round.TheVariants as rounds
+use Rattle.conn_service.specs.Services.{ServiceState, opened, IsTold}
+use Rattle.conn_service.specs.Lives.{Leads}
+use Rattle.service_table.specs.declared.turned.Turned.{Turned}
+use Rattle.service_table.specs.declared.turned.Turned.TheVariants.{Vacant, Goes, Ended}
+
+-- the cell becomes another, and the others stay
+pub record InCell {P T : Type 0} (old : List (Option (ServiceState P T))) (cell : ℕ)
+    (Becomes : Option (ServiceState P T) → Option (ServiceState P T) → Type 0) (new : List (Option (ServiceState P T))) : Type 0 where
+  pub before : Option (ServiceState P T)
+  pub after : Option (ServiceState P T)
+  pub has : slice_get old cell ≡ Some before
+  pub becomes : Becomes before after
+  pub is : new ≡ slice_set old cell after
+
+-- a connection of some number was opened at this moment
+abbrev pub IsOpened : {P T : Type 0} → ℕ → T → Option (ServiceState P T) → Type 0
+IsOpened now transport None = ⊥
+IsOpened now transport (Some service) = service ≡ opened service.client.conn.number now transport
+
+-- a connection is opened in a free cell
+abbrev pub Opens : {P T : Type 0} → ℕ → T → Option (ServiceState P T) → Option (ServiceState P T) → Type 0
+Opens now transport before after = (before ≡ None) × IsOpened now transport after
+
+-- none is: the transport comes back
+abbrev pub Refuses : {P T : Type 0} → T → Option (ServiceState P T) → Option (ServiceState P T) → T → Type 0
+Refuses transport before after back = (after ≡ before) × (back ≡ transport)
+
+-- what a round tells of the connection behind it, and what is in its cell then
+abbrev pub Tells : {P T : Type 0} → Turned T → ServiceState P T → ℕ → Option (ServiceState P T) → Type 0
+Tells Vacant service now after = ⊥
+Tells (Goes round) service now after = IsTold round service now × (after ≡ Some service)
+Tells (Ended served transport) service now after = IsTold (rounds.Ended served) service now × (transport ≡ service.transport) × (after ≡ None)
+
+module _ {S P T : Type 0} (call : S → Fact P → S → Type 0) (turn : S → S → Type 0) (visiting : S → Bool) (slot_of : P → ℕ)
+    (counts : T → Counts) (given accepted : T → Option (List ℕ)) where
+  -- the connection in a cell goes on by a round, where there is one
+  abbrev pub Turns : ℕ → Option (ServiceState P T) → S → Turned T → Option (ServiceState P T) → S → Type 0
+  Turns now None supply turned after supply' = (turned ≡ Vacant) × (after ≡ None) × (supply' ≡ supply)
+  Turns now (Some service) supply turned after supply' =
+      (behind : ServiceState P T) × Leads call turn visiting slot_of counts given accepted service supply behind supply' × Tells turned behind now after

@@ -1,0 +1,156 @@
+//! The connections of a worker, by the cells of their numbers.
+ghost use Rattle.std.specs.Prelude.{◌≡◌, ◌<◌, length, MatchResult};
+ghost use Rattle.transport.specs.Counting.{no_counts};
+ghost use Rattle.service_table.specs.Cells.{InCell, Opens, Refuses};
+
+use crate::cell;
+use crate::cell::Seat;
+use crate::turned::Turned;
+use conn_engine::{HoldingPlace, NoMemory, Supply};
+use std::alloc::{AllocError, Global};
+use std::marker::Model;
+use transport::{Crossing, Transport};
+
+/// The connections of a worker, each in a cell: the connection in the cell `n` has the number `first + n`. `P` is a place in a group.
+///
+/// Contracts see it as its cells.
+pub struct ServiceTable<P: HoldingPlace, T: Transport> {
+    first: u16,
+    cells: Vec<Option<Seat<P, T>>>,
+    alloc: Global,
+}
+
+impl<P: HoldingPlace, T: Transport> Model for ServiceTable<P, T> {
+    ghost use Rattle.std.specs.Prelude.{List, Option};
+    ghost use Rattle.conn_service.specs.Services.{ServiceState};
+
+    ghost Value = { List (Option (ServiceState P T)) };
+
+    ghost view = { λ t. t.cells.items };
+}
+
+impl<P: HoldingPlace, T: Transport> ServiceTable<P, T> {
+    /// A table with so many free cells, whose connections have the numbers from this one on. Takes the memory for the cells.
+    ///
+    /// # Errors
+    ///
+    /// [`NoMemory`].
+    pub fn new(alloc: Global, first: u16, count: u16) -> Result<ServiceTable<P, T>, NoMemory> {
+        let cells = free_cells(alloc, usize::from(count))?;
+        Ok(ServiceTable {
+            first,
+            cells,
+            alloc,
+        })
+    }
+
+    /// How many cells there are.
+    pub fn len(&self) -> usize
+        ensures { result ≡ length self.now }
+    {
+        self.cells.len()
+    }
+
+    /// Opens a connection in a cell, at this moment in milliseconds, over a transport of which nothing was asked yet.
+    ///
+    /// # Errors
+    ///
+    /// The transport, where the cell has a connection, its number is not below 1,024, or memory is wanted. Nothing has changed then.
+    pub fn open(&mut self, cell: usize, now: u64, transport: T) -> Result<(), T>
+        requires cell { cell < length self.old }
+        requires new { T.counts transport ≡ no_counts }
+        ensures { InCell self.old cell (λ before after. MatchResult result (λ _. Opens now transport before after) (Refuses transport before after)) self.new }
+    {
+        let number = usize::from(self.first).saturating_add(cell);
+        cell::open(&mut self.cells[cell], self.alloc, number, now, transport)
+    }
+
+    /// The connection in a cell goes on by a round, at this moment in milliseconds: see [`Service::round`](conn_service::Service::round). Where that ends it, it
+    /// leaves the cell.
+    pub fn round<S: Supply<P>, X: Crossing>(
+        &mut self,
+        cell: usize,
+        supply: &mut S,
+        crossing: &X,
+        worker: u32,
+        now: u64,
+        buffer: &mut [u8],
+    ) -> Turned<T>
+        requires cell { cell < length self.old }
+        requires room { 0 < length buffer.old }
+        ensures { length self.new ≡ length self.old }
+    {
+        cell::round(&mut self.cells[cell], supply, crossing, worker, now, buffer)
+    }
+
+    /// The slot of the group that the client in a cell would be handed a message of now: see
+    /// [`Service::takes_from`](conn_service::Service::takes_from).
+    pub fn takes_from(&self, cell: usize) -> Option<u8>
+        requires { cell < length self.now }
+    {
+        match &self.cells[cell] {
+            Some(seat) => seat.service().takes_from(),
+            None => None,
+        }
+    }
+
+    /// Whether the client in a cell waits for a session that another connection has: see [`Service::is_waiting`](conn_service::Service::is_waiting).
+    pub fn is_waiting(&self, cell: usize) -> bool
+        requires { cell < length self.now }
+    {
+        match &self.cells[cell] {
+            Some(seat) => seat.service().is_waiting(),
+            None => false,
+        }
+    }
+
+    /// Whether all cells are free.
+    pub fn is_empty(&self) -> bool {
+        self.cells.iter().all(|cell| cell.is_none())
+    }
+
+    /// Lets go of a table with all its connections: they end as where the broker closes, and nothing is written any more.
+    pub fn abandon<S: Supply<P>>(self, supply: &mut S, now: u64)
+    where
+        T: Drop,
+    {
+        let ServiceTable {
+            first: _,
+            cells,
+            alloc: _,
+        } = self;
+        abandon_each(cells, supply, now);
+    }
+}
+
+/// So many free cells.
+fn free_cells<P: HoldingPlace, T: Transport>(
+    alloc: Global,
+    count: usize,
+) -> Result<Vec<Option<Seat<P, T>>>, AllocError> {
+    let mut cells = Vec::with_capacity(alloc, count)?;
+    for _ in 0..count {
+        if cells.len() < cells.capacity() {
+            cells.push_reserved(None);
+        }
+    }
+    Ok(cells)
+}
+
+/// Lets go of the connections in these cells, the last one first.
+fn abandon_each<P: HoldingPlace, T: Transport + Drop, S: Supply<P>>(
+    cells: Vec<Option<Seat<P, T>>>,
+    supply: &mut S,
+    now: u64,
+) {
+    let mut cells = cells;
+    match cells.pop() {
+        None => cells.destroy_empty(),
+        Some(cell) => {
+            if let Some(seat) = cell {
+                drop(seat.into_service().abandon(supply, now));
+            }
+            abandon_each(cells, supply, now);
+        }
+    }
+}

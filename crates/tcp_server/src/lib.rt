@@ -1,0 +1,14 @@
+//! A broker on TCP: its workers, its listener, and its end.
+//!
+//! [`serve_at`] listens at an address and serves until its input ends; then it closes, and writes the report of each group whose share is bound.
+#![tactic(auto)]
+
+mod attending;
+mod broker;
+mod elapsed;
+mod listening;
+mod reporting;
+mod serving;
+mod socket_poller;
+
+pub use serving::{serve_at, serve_with};

@@ -1,0 +1,166 @@
+//! Serving, from the listener to the last line.
+ghost use Rattle.std.specs.Prelude.{◌≡◌, ◌≤◌};
+ghost use Rattle.gate_word.specs.Seats.{AreSeatsOf};
+ghost use Rattle.broker_groups.specs.Naming.{IsOfBroker};
+
+use crate::attending::attend;
+use crate::broker::{OpenBroker, bound_shares, give_up, open};
+use crate::listening::Awaited;
+use crate::reporting::lines;
+use broker_groups::{Broker, Opened, Ports};
+use gate_word::{Gate, GateSeat};
+use line_io::{RunError, write_all};
+use mqtt_topic::Routes;
+use shared_supply::Hall;
+use std::alloc::Global;
+use std::io::{Read, Write};
+use std::marker::Brand;
+use std::net::{Ipv4Addr, Net};
+use std::rt::Clock as SystemClock;
+use std::sync::Wait;
+use std::thread::Threads;
+use tcp_edge::TcpSource;
+
+/// How a broker that was served came to its end.
+#[derive(Clone, Copy, Debug, PartialEq, Eq)]
+pub enum Served {
+    /// Its input ended.
+    Ended,
+    /// Its input failed, which counts as its end.
+    InputFailed,
+    /// Connections were not accepted any more.
+    NotAccepted,
+}
+
+/// Serves a broker at an address and port of this machine, which the system chooses where the port is 0, with so many workers. Writes `listening PORT` on a
+/// line, serves until the input has ended, closes, and writes the lines of the reports of the groups whose shares are bound, in the order of their slots.
+///
+/// # Errors
+///
+/// [`RunError::Network`]: the address was not listened at, and nothing was written; or connections were not accepted any more: then the broker closed at once,
+/// and all was written. [`RunError::ReadFailed`]: the input failed, and all was written. [`RunError::WriteFailed`]; [`RunError::Memory`];
+/// [`RunError::Unfinished`]: a beginning was written.
+pub fn serve_at<R: Threads + Wait + Net + SystemClock + Sync, I: Read, O: Write>(
+    rt: &R,
+    alloc: Global,
+    capacity: usize,
+    groups: Routes,
+    workers: u8,
+    address: Ipv4Addr,
+    port: u16,
+    input: &mut I,
+    output: &mut O,
+) -> Result<(), RunError>
+    requires capacity { (1 ≤ capacity) × (capacity ≤ 65536) }
+    requires workers { (1 ≤ workers) × (workers ≤ 64) }
+{
+    match TcpSource::open(rt, address, port) {
+        Ok(source) => serve_with(rt, alloc, capacity, groups, workers, source, input, output),
+        Err(_) => Err(RunError::Network),
+    }
+}
+
+/// Serves a broker over a listener, as [`serve_at`].
+pub fn serve_with<R: Threads + Wait + Net + SystemClock + Sync, I: Read, O: Write>(
+    rt: &R,
+    alloc: Global,
+    capacity: usize,
+    groups: Routes,
+    workers: u8,
+    source: TcpSource,
+    input: &mut I,
+    output: &mut O,
+) -> Result<(), RunError>
+    requires capacity { (1 ≤ capacity) × (capacity ≤ 65536) }
+    requires workers { (1 ≤ workers) × (workers ≤ 64) }
+{
+    let port = source.port();
+    let source = Awaited::new(rt, alloc, source).map_err(|_| RunError::Network)?;
+    let Ok((gate, seats)) = Gate::open(alloc, usize::from(workers) + 2) else {
+        return Err(RunError::Memory);
+    };
+    let Ok(opened) = Opened::open(alloc, &gate, capacity, workers) else {
+        return Err(RunError::Memory);
+    };
+    let line = format!(in alloc; "listening {port}\n");
+    let (text, ended) = match line {
+        Ok(line) => live::<Brand, R, I, O>(
+            rt,
+            alloc,
+            &gate,
+            seats,
+            opened,
+            workers,
+            &groups,
+            source,
+            line.as_bytes(),
+            input,
+            output,
+        )?,
+        Err(_) => {
+            opened.abandon();
+            return Err(RunError::Memory);
+        }
+    };
+    write_all(output, &text)?;
+    match ended {
+        Served::Ended => Ok(()),
+        Served::InputFailed => Err(RunError::ReadFailed),
+        Served::NotAccepted => Err(RunError::Network),
+    }
+}
+
+/// Opens a broker, serves, and ends it. The lines of its reports, and how it came to its end.
+fn live<B: Broker + Send + Sync, R: Threads + Wait + Net + SystemClock + Sync, I: Read, O: Write>(
+    rt: &R,
+    alloc: Global,
+    gate: &Gate,
+    seats: Vec<GateSeat>,
+    opened: Opened<'_>,
+    workers: u8,
+    groups: &Routes,
+    source: Awaited<TcpSource>,
+    line: &[u8],
+    input: &mut I,
+    output: &mut O,
+) -> Result<(Vec<u8>, Served), RunError>
+    requires gate { gate.now ≡ B.gate }
+    requires seats { AreSeatsOf gate.now seats.items }
+    requires opened { IsOfBroker B.gate B.group workers opened }
+{
+    let mut seats = seats;
+    let OpenBroker { hall, hands } = open::<B, R>(
+        rt, alloc, gate, &mut seats, opened, workers, groups,
+    )?;
+    let (ports, served) = attend(
+        rt, alloc, gate, seats, &hall, hands, source, line, input, output,
+    );
+    conclude(rt, alloc, hall, ports, served)
+}
+
+/// Ends a broker: the lines of its reports, where it was served.
+fn conclude<B: Broker, R: Wait>(
+    rt: &R,
+    alloc: Global,
+    hall: Hall<'_, B>,
+    ports: Vec<Ports<B>>,
+    served: Result<Served, RunError>,
+) -> Result<(Vec<u8>, Served), RunError> {
+    let shares = match bound_shares(alloc, &hall) {
+        Ok(shares) => shares,
+        Err(error) => {
+            give_up(rt, alloc, hall, ports);
+            return Err(error);
+        }
+    };
+    match hall.finish(rt, alloc, ports) {
+        Ok(ended) => {
+            let text = lines(alloc, ended, &shares)?;
+            Ok((text, served?))
+        }
+        Err(left) => {
+            left.abandon();
+            Err(RunError::Memory)
+        }
+    }
+}

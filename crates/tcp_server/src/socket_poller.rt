@@ -1,0 +1,49 @@
+//! A worker waits at a reactor for its sockets.
+ghost use Rattle.std.specs.Prelude.{◌≡◌};
+
+use mio::net::TcpStream;
+use std::sync::Wait;
+use std::time::Duration;
+use tcp_edge::{Reactor, Socket};
+use worker_pool::Poller;
+
+/// A reactor, as a worker waits there.
+#[derive(Drop)]
+pub(crate) struct SocketPoller {
+    reactor: Reactor,
+}
+
+impl SocketPoller {
+    /// A worker waits at this reactor.
+    pub(crate) fn new(reactor: Reactor) -> SocketPoller {
+        SocketPoller { reactor }
+    }
+}
+
+impl Poller<Socket<TcpStream>> for SocketPoller {
+    fn register(&mut self, transport: &mut Socket<TcpStream>) -> Option<usize>
+        ensures { transport.new.counts ≡ transport.old.counts }
+    {
+        self.reactor.register(transport).ok()
+    }
+
+    fn let_go(&mut self, number: usize, transport: &mut Socket<TcpStream>) {
+        if self.reactor.has(number) {
+            let _refused = self.reactor.let_go(number, transport);
+        }
+    }
+
+    fn wait<R: Wait>(&mut self, rt: &R, at_most: u64) -> bool {
+        match self.reactor.wait(rt, Duration::from_millis(at_most)) {
+            Ok(called) => called,
+            Err(_) => false,
+        }
+    }
+
+    fn take_ready(&mut self) -> Option<usize> {
+        match self.reactor.take_ready() {
+            Some(ready) => Some(ready.number),
+            None => None,
+        }
+    }
+}

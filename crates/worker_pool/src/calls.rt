@@ -1,0 +1,180 @@
+//! What workers call one another for, and how many connections each has.
+
+use bell::Wake;
+use std::alloc::Global;
+use std::sync::Arc;
+use std::sync::atomic::{AtomicU64, Ordering};
+
+// What a worker is called for: bits of its word. The bits from the third on count invitations.
+const ALL_DUE: u64 = 1;
+
+const CLOSING: u64 = 2;
+
+const INVITED: u64 = 4;
+
+/// What others tell a worker.
+#[derive(Drop)]
+pub struct Post {
+    calls: AtomicU64,
+    // How many connections it has, and how many were sent for it.
+    open: AtomicU64,
+    // Whether one of them waits for a session: 1, or 0.
+    waits: AtomicU64,
+}
+
+impl Post {
+    /// That of a worker that has no connection.
+    pub fn new() -> Post {
+        Post {
+            calls: AtomicU64::new(0),
+            open: AtomicU64::new(0),
+            waits: AtomicU64::new(0),
+        }
+    }
+}
+
+/// What a worker was called for.
+#[derive(Clone, Copy, Debug, PartialEq, Eq)]
+pub(crate) struct Calls {
+    /// So many connections were sent for it.
+    pub(crate) invited: u64,
+    /// Each of its connections is to go on.
+    pub(crate) all_due: bool,
+    /// The broker closes.
+    pub(crate) closing: bool,
+}
+
+/// The workers of a broker, as each of them knows the others.
+#[derive(Drop)]
+pub struct Roster<W> {
+    posts: Vec<Post>,
+    alarms: Vec<Arc<Vec<W>, Global>>,
+    // How many connections a worker has at most.
+    share: u64,
+}
+
+// How many workers one list of alarms has.
+const WARD: usize = 32;
+
+impl<W: Wake> Roster<W> {
+    /// Workers with these posts, of whom each has so many connections at most, and who are woken by these alarms, 32 in each list.
+    pub fn new(posts: Vec<Post>, alarms: Vec<Arc<Vec<W>, Global>>, share: u64) -> Roster<W> {
+        Roster {
+            posts,
+            alarms,
+            share,
+        }
+    }
+
+    /// How many workers there are.
+    pub fn len(&self) -> usize {
+        self.posts.len()
+    }
+
+    /// Wakes a worker.
+    fn wake(&self, worker: usize) {
+        if let Some(ward) = self.alarms.get(worker / WARD) {
+            if let Some(alarm) = ward.get(worker % WARD) {
+                alarm.wake();
+            }
+        }
+    }
+
+    /// Calls a worker.
+    fn call(&self, worker: usize, call: u64) {
+        if let Some(post) = self.posts.get(worker) {
+            let _before = post.calls.fetch_or(call, Ordering::SeqCst);
+            self.wake(worker);
+        }
+    }
+
+    /// Each connection of a worker is to go on.
+    pub(crate) fn call_all_due(&self, worker: usize) {
+        self.call(worker, ALL_DUE);
+    }
+
+    /// A session is free: workers of whose connections one waits for a session look whether it is theirs.
+    pub(crate) fn call_waiting(&self) {
+        for worker in 0..self.posts.len() {
+            if let Some(post) = self.posts.get(worker) {
+                if post.waits.load(Ordering::SeqCst) > 0 {
+                    self.call(worker, ALL_DUE);
+                }
+            }
+        }
+    }
+
+    /// Each connection of every worker is to go on.
+    pub(crate) fn call_everybody(&self) {
+        for worker in 0..self.posts.len() {
+            self.call(worker, ALL_DUE);
+        }
+    }
+
+    /// The broker closes.
+    pub fn close(&self) {
+        for worker in 0..self.posts.len() {
+            self.call(worker, CLOSING);
+        }
+    }
+
+    /// A connection was sent for this worker.
+    pub fn invite(&self, worker: usize) {
+        if let Some(post) = self.posts.get(worker) {
+            let _count = post.open.fetch_add(1, Ordering::SeqCst);
+            let _before = post.calls.fetch_add(INVITED, Ordering::SeqCst);
+            self.wake(worker);
+        }
+    }
+
+    /// A connection of this worker has ended.
+    pub(crate) fn leave(&self, worker: usize) {
+        if let Some(post) = self.posts.get(worker) {
+            let _count = post.open.fetch_sub(1, Ordering::SeqCst);
+        }
+    }
+
+    /// Whether a connection of this worker waits for a session.
+    pub(crate) fn note_waiting(&self, worker: usize, waits: bool) {
+        if let Some(post) = self.posts.get(worker) {
+            post.waits.store(u64::from(waits), Ordering::SeqCst);
+        }
+    }
+
+    /// What a worker was called for since it asked last.
+    pub(crate) fn take_calls(&self, worker: usize) -> Calls {
+        let word = match self.posts.get(worker) {
+            Some(post) => post.calls.swap(0, Ordering::SeqCst),
+            None => 0,
+        };
+        Calls {
+            invited: word / INVITED,
+            all_due: word & ALL_DUE != 0,
+            closing: word & CLOSING != 0,
+        }
+    }
+
+    /// The worker that has the fewest connections, if it may have one more.
+    pub fn least_full(&self) -> Option<usize> {
+        let mut least = self.share;
+        let mut found = None;
+        for worker in 0..self.posts.len() {
+            if let Some(post) = self.posts.get(worker) {
+                let open = post.open.load(Ordering::SeqCst);
+                if open < least {
+                    least = open;
+                    found = Some(worker);
+                }
+            }
+        }
+        found
+    }
+
+    /// The worker whose connections have numbers about this one.
+    pub(crate) fn worker_of(&self, connection: u16) -> usize {
+        if self.share == 0 {
+            return 0;
+        }
+        (u64::from(connection) / self.share) as usize
+    }
+}

@@ -1,0 +1,44 @@
+//! How the connections of a worker ended.
+use conn_service::Served;
+
+/// How many connections ended in each way.
+#[derive(Clone, Copy, Debug, PartialEq, Eq)]
+pub struct ServedCounts {
+    /// 0: a step closed them, and all that they were sent is written.
+    pub ended: u64,
+    /// 901: a read failed.
+    pub read: u64,
+    /// 902: a write failed.
+    pub write: u64,
+    /// 903: memory was wanted, also to open them, or the system refused to watch them.
+    pub memory: u64,
+    /// 904: the crossing let nothing pass.
+    pub no_crossing: u64,
+    /// 905: the peer took nothing for too long.
+    pub stalled: u64,
+}
+
+impl ServedCounts {
+    /// None yet.
+    pub const NONE: ServedCounts = ServedCounts {
+        ended: 0,
+        read: 0,
+        write: 0,
+        memory: 0,
+        no_crossing: 0,
+        stalled: 0,
+    };
+
+    /// Counts one that ended so.
+    pub(crate) fn count(&mut self, served: Served) {
+        let count = match served {
+            Served::Ended => &mut self.ended,
+            Served::Read => &mut self.read,
+            Served::Write => &mut self.write,
+            Served::Memory => &mut self.memory,
+            Served::NoCrossing => &mut self.no_crossing,
+            Served::Stalled => &mut self.stalled,
+        };
+        *count = count.saturating_add(1);
+    }
+}
