@@ -61,7 +61,7 @@ pub(crate) struct Acceptor<'a, T: Transport + Drop, S, W> {
     is_closed: bool,
     // How the source ended, once it has.
     end: SourceEnd,
-    ghost unmarked: { is_closed ≡ false → sender.marked ≡ 0 },
+    ghost unmarked: { is_closed ≡ false → sender.end_marks_sent ≡ 0 },
 }
 
 impl<'a, T: Transport + Drop, S: Source<T>, W: Wake> Acceptor<'a, T, S, W> {
@@ -72,7 +72,7 @@ impl<'a, T: Transport + Drop, S: Source<T>, W: Wake> Acceptor<'a, T, S, W> {
         roster: &'a Roster<W>,
         closer: Closer<'a>,
     ) -> Acceptor<'a, T, S, W>
-        requires { sender.marked ≡ 0 }
+        requires { sender.end_marks_sent ≡ 0 }
     {
         Acceptor {
             source,

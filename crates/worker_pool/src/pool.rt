@@ -126,7 +126,7 @@ fn provide<T: Transport + Drop, W: Wake + Drop>(
     count: usize,
     alarms: Vec<W>,
 ) -> Result<Provision<T, W>, NoMemory>
-    ensures { IfOk result (λ made. made.sender.marked ≡ 0) }
+    ensures { IfOk result (λ made. made.sender.end_marks_sent ≡ 0) }
 {
     if count > 64 {
         return Err(NoMemory);
@@ -355,7 +355,6 @@ where
         served: ServedCounts::NONE,
         swept: 0,
         closing: false,
-        at_end: false,
         waits: false,
     })
 }

@@ -47,9 +47,8 @@ pub(crate) struct Worker<'a, 'g, B: Broker, T: Transport + Drop, Q, W, X, C, R: 
     pub(crate) served: ServedCounts,
     // The moment at which all connections went on last.
     pub(crate) swept: u64,
-    // The broker closes, and the worker has its end mark.
+    // The broker closes.
     pub(crate) closing: bool,
-    pub(crate) at_end: bool,
     // It is known to others that a connection of it waits for a session.
     pub(crate) waits: bool,
 }
@@ -71,7 +70,7 @@ impl<
         let mut pause = 0;
         'turns: for _ in rt.forever() {
             pause = self.turn(rt, pause, &mut buffer);
-            if self.at_end && self.table.is_empty() {
+            if self.receiver.is_ended() && self.table.is_empty() {
                 return;
             }
         }
@@ -86,7 +85,7 @@ impl<
         if called {
             self.answer(rt, now);
         }
-        if self.closing && !self.at_end {
+        if self.closing && !self.receiver.is_ended() {
             self.receive_all(rt, now);
         }
         self.mark_ready();
@@ -116,7 +115,7 @@ impl<
     /// Receives until the end mark comes, or nothing does.
     fn receive_all(&mut self, rt: &R, now: u64) {
         for _ in 0..CAPACITY {
-            if self.at_end || !self.receive(rt, now) {
+            if self.receiver.is_ended() || !self.receive(rt, now) {
                 return;
             }
         }
@@ -124,7 +123,7 @@ impl<
 
     /// Receives what comes through the channel. Whether something did.
     fn receive(&mut self, rt: &R, now: u64) -> bool {
-        if self.at_end {
+        if self.receiver.is_ended() {
             return false;
         }
         match self.receiver.receive(rt) {
@@ -132,10 +131,7 @@ impl<
                 self.admit(arrived, now);
                 true
             }
-            Received::EndMark => {
-                self.at_end = true;
-                true
-            }
+            Received::EndMark => true,
             Received::Nothing => false,
         }
     }
@@ -348,7 +344,7 @@ impl<
         if !may_wait {
             return 0;
         }
-        if self.closing && !self.at_end {
+        if self.closing && !self.receiver.is_ended() {
             return END_PAUSE;
         }
         SWEEP_PERIOD.saturating_sub(now.saturating_sub(self.swept))
@@ -372,7 +368,6 @@ impl<
             served,
             swept: _,
             closing: _,
-            at_end: _,
             waits: _,
         } = self;
         table.abandon(&mut supply, 0);
