@@ -1,7 +1,9 @@
 -- The connections of a worker, each in the cell of its number: what happens to one of them.
-use Rattle.std.specs.Prelude.{◌≡◌, ℕ, Bool, List, Option, Some, None, slice_get, slice_set}
+use Rattle.std.specs.Prelude.{◌≡◌, ℕ, Bool, cond, List, Option, Some, None, is_some, slice_get, slice_set, count_by, MatchOption}
 use Rattle.transport.specs.declared.counts.Counts.{Counts}
 use Rattle.conn_engine.specs.Facts.{Fact}
+use Rattle.conn_engine.specs.Looking.{TakesAt}
+use Rattle.conn_engine.specs.Standings.{IsWaiting}
 use Rattle.conn_service.specs.declared.served.Round.TheVariants as rounds
 use Rattle.conn_service.specs.Services.{ServiceState, opened, IsTold}
 use Rattle.conn_service.specs.Lives.{Leads}
@@ -16,6 +18,19 @@ pub record InCell {P T : Type 0} (old : List (Option (ServiceState P T))) (cell 
   pub has : slice_get old cell ≡ Some before
   pub becomes : Becomes before after
   pub is : new ≡ slice_set old cell after
+
+-- how many connections a cell has, none or one; and how many these cells have
+abbrev pub taken : {A : Type 0} → Option A → ℕ
+taken cell = cond (is_some cell) 1 0
+
+abbrev pub occupied : {A : Type 0} → List (Option A) → ℕ
+occupied cells = count_by is_some cells
+
+-- how many connections a round ended, none or one
+abbrev pub ended_by : {T : Type 0} → Turned T → ℕ
+ended_by Vacant = 0
+ended_by (Goes round) = 0
+ended_by (Ended served transport) = 1
 
 -- a connection of some number was opened at this moment
 abbrev pub IsOpened : {P T : Type 0} → ℕ → T → Option (ServiceState P T) → Type 0

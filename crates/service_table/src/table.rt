@@ -1,7 +1,7 @@
 //! The connections of a worker, by the cells of their numbers.
-ghost use Rattle.std.specs.Prelude.{◌≡◌, ◌<◌, length, MatchResult};
+ghost use Rattle.std.specs.Prelude.{◌≡◌, ◌+◌, ◌<◌, ◌≤◌, ◌↔◌, None, true, length, replicate, vec_capacity, All, IfOk, IsTrue, MatchResult};
 ghost use Rattle.transport.specs.Counting.{no_counts};
-ghost use Rattle.service_table.specs.Cells.{InCell, Opens, Refuses};
+ghost use Rattle.service_table.specs.Cells.{InCell, Opens, Refuses, ended_by, occupied};
 
 use crate::cell;
 use crate::cell::Seat;
@@ -35,7 +35,10 @@ impl<P: HoldingPlace, T: Transport> ServiceTable<P, T> {
     /// # Errors
     ///
     /// [`NoMemory`].
-    pub fn new(alloc: Global, first: u16, count: u16) -> Result<ServiceTable<P, T>, NoMemory> {
+    pub fn new(alloc: Global, first: u16, count: u16) -> Result<ServiceTable<P, T>, NoMemory>
+        ensures free { IfOk result (λ table. table ≡ replicate count None) }
+        ensures count { IfOk result (λ table. occupied table ≡ 0) }
+    {
         let cells = free_cells(alloc, usize::from(count))?;
         Ok(ServiceTable {
             first,
@@ -59,7 +62,9 @@ impl<P: HoldingPlace, T: Transport> ServiceTable<P, T> {
     pub fn open(&mut self, cell: usize, now: u64, transport: T) -> Result<(), T>
         requires cell { cell < length self.old }
         requires new { T.counts transport ≡ no_counts }
-        ensures { InCell self.old cell (λ before after. MatchResult result (λ _. Opens now transport before after) (Refuses transport before after)) self.new }
+        ensures cell { InCell self.old cell (λ before after. MatchResult result (λ _. Opens now transport before after) (Refuses transport before after)) self.new }
+        ensures len { length self.new ≡ length self.old }
+        ensures count { MatchResult result (λ _. occupied self.new ≡ occupied self.old + 1) (λ _. self.new ≡ self.old) }
     {
         let number = usize::from(self.first).saturating_add(cell);
         cell::open(&mut self.cells[cell], self.alloc, number, now, transport)
@@ -78,7 +83,8 @@ impl<P: HoldingPlace, T: Transport> ServiceTable<P, T> {
     ) -> Turned<T>
         requires cell { cell < length self.old }
         requires room { 0 < length buffer.old }
-        ensures { length self.new ≡ length self.old }
+        ensures len { length self.new ≡ length self.old }
+        ensures count { occupied self.old ≡ occupied self.new + ended_by result }
     {
         cell::round(&mut self.cells[cell], supply, crossing, worker, now, buffer)
     }
@@ -105,8 +111,11 @@ impl<P: HoldingPlace, T: Transport> ServiceTable<P, T> {
     }
 
     /// Whether all cells are free.
-    pub fn is_empty(&self) -> bool {
-        self.cells.iter().all(|cell| cell.is_none())
+    pub fn is_empty(&self) -> bool
+        ensures free { IsTrue result ↔ All (λ cell. cell ≡ None) self.now }
+        ensures count { result ≡ true → occupied self.now ≡ 0 }
+    {
+        all_free(&self.cells)
     }
 
     /// Lets go of a table with all its connections: they end as where the broker closes, and nothing is written any more.
@@ -124,17 +133,21 @@ impl<P: HoldingPlace, T: Transport> ServiceTable<P, T> {
 }
 
 /// So many free cells.
-fn free_cells<P: HoldingPlace, T: Transport>(
-    alloc: Global,
-    count: usize,
-) -> Result<Vec<Option<Seat<P, T>>>, AllocError> {
+fn free_cells<A>(alloc: Global, count: usize) -> Result<Vec<Option<A>>, AllocError>
+    ensures { IfOk result (λ cells. cells.items ≡ replicate count None) }
+{
     let mut cells = Vec::with_capacity(alloc, count)?;
     for _ in 0..count {
-        if cells.len() < cells.capacity() {
-            cells.push_reserved(None);
-        }
+        cells.push_reserved(None);
     }
     Ok(cells)
+}
+
+/// Whether all of these cells are free.
+fn all_free<A>(cells: &[Option<A>]) -> bool
+    ensures { IsTrue result ↔ All (λ cell. cell ≡ None) cells.now }
+{
+    cells.iter().all(|cell| cell.is_none())
 }
 
 /// Lets go of the connections in these cells, the last one first.
