@@ -1,1 +1,2 @@
 pub mod Occupied
+pub mod Turning

@@ -51,6 +51,18 @@ Tells Vacant service now after = ⊥
 Tells (Goes round) service now after = IsTold round service now × (after ≡ Some service)
 Tells (Ended served transport) service now after = IsTold (rounds.Ended served) service now × (transport ≡ service.transport) × (after ≡ None)
 
+-- the slot of the group that the client in a cell would be handed a message of now; a free cell has none
+abbrev pub TakesFrom : {P T : Type 0} → (P → ℕ) → Option (ServiceState P T) → Option ℕ → Type 0
+TakesFrom slot_of None slot = slot ≡ None
+TakesFrom {P} slot_of (Some service) slot =
+    MatchOption slot ((place : P) → ¬ TakesAt service.client.conn.standing place)
+    (λ slot. (place : P) × TakesAt service.client.conn.standing place × (slot_of place ≡ slot))
+
+-- a client is in a cell, and waits for its session
+abbrev pub Waits : {P T : Type 0} → Option (ServiceState P T) → Type 0
+Waits None = ⊥
+Waits (Some service) = IsWaiting service.client.conn.standing
+
 module _ {S P T : Type 0} (call : S → Fact P → S → Type 0) (turn : S → S → Type 0) (visiting : S → Bool) (slot_of : P → ℕ)
     (counts : T → Counts) (given accepted : T → Option (List ℕ)) where
   -- the connection in a cell goes on by a round, where there is one

@@ -1,7 +1,7 @@
 //! The connections of a worker, by the cells of their numbers.
-ghost use Rattle.std.specs.Prelude.{◌≡◌, ◌+◌, ◌<◌, ◌≤◌, ◌↔◌, None, true, length, replicate, vec_capacity, All, IfOk, IsTrue, MatchResult};
+ghost use Rattle.std.specs.Prelude.{◌≡◌, ◌+◌, ◌<◌, ◌≤◌, ◌↔◌, None, true, length, replicate, slice_index_or, All, IfOk, IsTrue, MatchResult};
 ghost use Rattle.transport.specs.Counting.{no_counts};
-ghost use Rattle.service_table.specs.Cells.{InCell, Opens, Refuses, ended_by, occupied};
+ghost use Rattle.service_table.specs.Cells.{InCell, Opens, Refuses, TakesFrom, Turns, Waits, ended_by, occupied};
 
 use crate::cell;
 use crate::cell::Seat;
@@ -83,6 +83,7 @@ impl<P: HoldingPlace, T: Transport> ServiceTable<P, T> {
     ) -> Turned<T>
         requires cell { cell < length self.old }
         requires room { 0 < length buffer.old }
+        ensures turns { InCell self.old cell (λ before after. Turns S.call S.turn S.visiting P.slot_of T.counts T.given T.accepted now before supply.old result after supply.new) self.new }
         ensures len { length self.new ≡ length self.old }
         ensures count { occupied self.old ≡ occupied self.new + ended_by result }
     {
@@ -93,6 +94,7 @@ impl<P: HoldingPlace, T: Transport> ServiceTable<P, T> {
     /// [`Service::takes_from`](conn_service::Service::takes_from).
     pub fn takes_from(&self, cell: usize) -> Option<u8>
         requires { cell < length self.now }
+        ensures { TakesFrom P.slot_of (slice_index_or self.now cell None) result }
     {
         match &self.cells[cell] {
             Some(seat) => seat.service().takes_from(),
@@ -103,6 +105,7 @@ impl<P: HoldingPlace, T: Transport> ServiceTable<P, T> {
     /// Whether the client in a cell waits for a session that another connection has: see [`Service::is_waiting`](conn_service::Service::is_waiting).
     pub fn is_waiting(&self, cell: usize) -> bool
         requires { cell < length self.now }
+        ensures { IsTrue result ↔ Waits (slice_index_or self.now cell None) }
     {
         match &self.cells[cell] {
             Some(seat) => seat.service().is_waiting(),
