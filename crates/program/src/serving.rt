@@ -19,7 +19,7 @@ const SERVE: &str = "serve";
 ///
 /// Of `serve` the status is 0 where the reader has ended, 2 where its words are wrong, 3 where the reader, the output or the network failed, 4 where memory was
 /// refused or the end of a group is not known. It returns only once all connections have ended.
-pub fn run_with<H: Threads + Wait + Net + Clock + Sync, R: Read, W: Write, E: Write>(
+pub fn run_with<H: Threads + Wait + Net + Clock + Sync, R: Read + Send, W: Write, E: Write>(
     rt: &H,
     alloc: Global,
     words: io::Result<Vec<String>>,
@@ -48,7 +48,7 @@ fn asks_to_serve(words: &[String]) -> bool {
 }
 
 /// Serves as the words say, and says how the program ends.
-fn serve<H: Threads + Wait + Net + Clock + Sync, R: Read, W: Write, E: Write>(
+fn serve<H: Threads + Wait + Net + Clock + Sync, R: Read + Send, W: Write, E: Write>(
     rt: &H,
     alloc: Global,
     words: &[String],
@@ -67,7 +67,7 @@ fn serve<H: Threads + Wait + Net + Clock + Sync, R: Read, W: Write, E: Write>(
 }
 
 /// Serves as was asked for.
-fn serve_as<H: Threads + Wait + Net + Clock + Sync, R: Read, W: Write>(
+fn serve_as<H: Threads + Wait + Net + Clock + Sync, R: Read + Send, W: Write>(
     rt: &H,
     alloc: Global,
     service: Service,

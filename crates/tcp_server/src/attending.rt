@@ -4,9 +4,9 @@ ghost use Rattle.gate_word.specs.Seats.{AreSeatsOf};
 
 use crate::broker::take_seat;
 use crate::crew::{Crew, crew_of, keep, ports_of, ports_of_crew};
-use crate::duties::{Serving, Watching, run_both};
 use crate::listening::Awaited;
 use crate::serving::Served;
+use crate::watching::Watching;
 use broker_groups::{Broker, Ports};
 use gate_word::{Gate, GateSeat};
 use line_io::{RunError, write_all};
@@ -20,13 +20,14 @@ use std::sync::atomic::AtomicBool;
 use std::thread;
 use std::thread::Threads;
 use tcp_edge::{TcpSource, Until};
-use worker_pool::{Closer, Hand, Pooled, SourceEnd, Unbegun};
+use transport::OpenCrossing;
+use worker_pool::{Closer, Hand, Pooled, SourceEnd, Unbegun, run};
 
 /// Writes the line, and serves the connections of a source until the input ends. The ports of all workers come back, and how it came to its end.
 pub(crate) fn attend<
     B: Broker + Send + Sync,
     R: Threads + Wait + Net + SystemClock + Sync,
-    I: Read,
+    I: Read + Send,
     O: Write,
 >(
     rt: &R,
@@ -47,7 +48,16 @@ pub(crate) fn attend<
     let stopper = closer_of(gate, &mut seats);
     match (closer, stopper, crew_of(rt, alloc, hands)) {
         (Some(closer), Some(stopper), Ok(crew)) => match write_all(output, line) {
-            Ok(()) => serve(rt, alloc, hall, crew, source, closer, stopper, input),
+            Ok(()) => {
+                let ends = AtomicBool::new(false);
+                let watching = Watching {
+                    stopper,
+                    ends: &ends,
+                    input,
+                    is_read: false,
+                };
+                serve(rt, alloc, hall, crew, source, closer, watching)
+            }
             Err(error) => (ports_of_crew(alloc, crew), Err(error)),
         },
         (_, _, Ok(crew)) => (ports_of_crew(alloc, crew), Err(RunError::Memory)),
@@ -66,40 +76,39 @@ fn closer_of<'a>(gate: &'a Gate, seats: &mut Vec<GateSeat>) -> Option<Closer<'a>
     }
 }
 
-/// Serves with a crew: in a second thread its pool runs, and this one reads the input to its end.
-fn serve<B: Broker + Send + Sync, R: Threads + Wait + Net + SystemClock + Sync, I: Read>(
+/// Serves with a crew, while a thread of its own reads the input to its end.
+fn serve<B: Broker + Send + Sync, R: Threads + Wait + Net + SystemClock + Sync, I: Read + Send>(
     rt: &R,
     alloc: Global,
     hall: &Hall<'_, B>,
     crew: Crew<'_, B, R>,
     source: Awaited<TcpSource>,
     closer: Closer<'_>,
-    stopper: Closer<'_>,
-    input: &mut I,
+    watching: Watching<'_, I>,
 ) -> (Vec<Ports<B>>, Result<Served, RunError>) {
-    let ends = AtomicBool::new(false);
-    let serving = Serving {
+    let mut source = Until::new(source, watching.ends);
+    let mut watching = watching;
+    let Crew { recruits, alarms } = crew;
+    let pooled = run(
         rt,
         alloc,
         hall,
-        crew,
-        source: Until::new(source, &ends),
+        recruits,
+        alarms,
+        &mut source,
+        &OpenCrossing,
         closer,
-    };
-    let watching = Watching {
-        stopper,
-        ends: &ends,
-        input,
-    };
-    let (pooled, (mut stopper, is_read)) = run_both(rt, serving, watching);
-    drain(rt, &mut stopper);
+        &mut watching,
+    );
+    watching.stopper.shut();
+    drain(rt, &mut watching.stopper);
     match pooled {
         Ok(Pooled { workers, source }) => {
             let mut ports = Vec::new(alloc);
             for worker in workers {
                 keep(&mut ports, worker.hand.ports);
             }
-            (ports, Ok(ending(source, is_read)))
+            (ports, Ok(ending(source, watching.is_read)))
         }
         Err(Unbegun { hands }) => (ports_of(alloc, hands), Err(RunError::Memory)),
     }

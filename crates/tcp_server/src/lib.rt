@@ -6,11 +6,11 @@
 mod attending;
 mod broker;
 mod crew;
-mod duties;
 mod elapsed;
 mod listening;
 mod reporting;
 mod serving;
 mod socket_poller;
+mod watching;
 
 pub use serving::{serve_at, serve_with};

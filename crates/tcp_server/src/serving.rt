@@ -40,7 +40,7 @@ pub enum Served {
 /// [`RunError::Network`]: the address was not listened at, and nothing was written; or connections were not accepted any more: then the broker closed at once,
 /// and all was written. [`RunError::ReadFailed`]: the input failed, and all was written. [`RunError::WriteFailed`]; [`RunError::Memory`];
 /// [`RunError::Unfinished`]: a beginning was written.
-pub fn serve_at<R: Threads + Wait + Net + SystemClock + Sync, I: Read, O: Write>(
+pub fn serve_at<R: Threads + Wait + Net + SystemClock + Sync, I: Read + Send, O: Write>(
     rt: &R,
     alloc: Global,
     capacity: usize,
@@ -61,7 +61,7 @@ pub fn serve_at<R: Threads + Wait + Net + SystemClock + Sync, I: Read, O: Write>
 }
 
 /// Serves a broker over a listener, as [`serve_at`].
-pub fn serve_with<R: Threads + Wait + Net + SystemClock + Sync, I: Read, O: Write>(
+pub fn serve_with<R: Threads + Wait + Net + SystemClock + Sync, I: Read + Send, O: Write>(
     rt: &R,
     alloc: Global,
     capacity: usize,
@@ -111,7 +111,12 @@ pub fn serve_with<R: Threads + Wait + Net + SystemClock + Sync, I: Read, O: Writ
 }
 
 /// Opens a broker, serves, and ends it. The lines of its reports, and how it came to its end.
-fn live<B: Broker + Send + Sync, R: Threads + Wait + Net + SystemClock + Sync, I: Read, O: Write>(
+fn live<
+    B: Broker + Send + Sync,
+    R: Threads + Wait + Net + SystemClock + Sync,
+    I: Read + Send,
+    O: Write,
+>(
     rt: &R,
     alloc: Global,
     gate: &Gate,

@@ -16,9 +16,11 @@ mod outfit;
 mod poller;
 mod pool;
 mod served;
+mod watching;
 mod worker;
 
 pub use accepting::{Closer, SourceEnd};
 pub use poller::Poller;
 pub use pool::{Hand, Pooled, Recruit, Retired, Unbegun, run};
 pub use served::ServedCounts;
+pub use watching::Watch;

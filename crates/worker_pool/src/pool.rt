@@ -9,6 +9,7 @@ use crate::members::{Members, Wish};
 use crate::outfit::{Outfit, outfits};
 use crate::poller::Poller;
 use crate::served::ServedCounts;
+use crate::watching::Watch;
 use crate::worker::Worker;
 use bell::{MOST_WORKERS, Wake};
 use broker_groups::{Broker, BrokerPlace, Key, Ports};
@@ -64,7 +65,8 @@ pub struct Unbegun<B: Broker> {
 }
 
 /// Serves the connections of a source with these recruits, each in a thread of its own, until the source has ended or failed, the broker's gate is shut, and all
-/// connections have ended. A thread of its own takes the connections. Worker `n` is woken by the alarm `n`. Where the source fails, the gate is shut.
+/// connections have ended. A thread of its own takes the connections, and another one watches for the end. Worker `n` is woken by the alarm `n`. Where the
+/// source fails, the gate is shut.
 ///
 /// # Errors
 ///
@@ -77,6 +79,7 @@ pub fn run<
     W: Wake + Drop + Send + Sync,
     X: Crossing + Sync,
     C: Clock + Drop + Send,
+    D: Watch + Send,
     R: Threads + Wait + SystemClock + Sync,
 >(
     rt: &R,
@@ -87,6 +90,7 @@ pub fn run<
     source: &mut S,
     crossing: &X,
     closer: Closer<'_>,
+    watch: &mut D,
 ) -> Result<Pooled<B>, Unbegun<B>> {
     let count = recruits.len();
     match provide(alloc, count, alarms) {
@@ -100,7 +104,7 @@ pub fn run<
         ) => {
             let acceptor = Acceptor::new(source, sender, &roster, closer);
             match employ(
-                rt, alloc, hall, recruits, receivers, outfits, &roster, crossing, acceptor,
+                rt, alloc, hall, recruits, receivers, outfits, &roster, crossing, acceptor, watch,
             ) {
                 Ok(posts) => Ok(serve(rt, alloc, posts)),
                 Err(unbegun) => Err(unbegun),
@@ -173,7 +177,7 @@ fn wards_of<W: Drop>(alloc: Global, alarms: Vec<W>) -> Result<Vec<Arc<Vec<W>, Gl
 }
 
 /// Makes the workers, behind who takes connections. Where memory is wanted for one of them, all that they had comes back.
-fn employ<'a, 'g, B, T, S, Q, W, X, C, R>(
+fn employ<'a, 'g, B, T, S, Q, W, X, C, D, R>(
     rt: &'a R,
     alloc: Global,
     hall: &'a Hall<'g, B>,
@@ -183,7 +187,8 @@ fn employ<'a, 'g, B, T, S, Q, W, X, C, R>(
     roster: &'a Roster<W>,
     crossing: &'a X,
     acceptor: Acceptor<'a, T, S, W>,
-) -> Result<Vec<Role<'a, 'g, B, T, S, Q, W, X, C, R>>, Unbegun<B>>
+    watch: &'a mut D,
+) -> Result<Vec<Role<'a, 'g, B, T, S, Q, W, X, C, D, R>>, Unbegun<B>>
 where
     B: Broker,
     T: Transport + Drop,
@@ -192,12 +197,14 @@ where
     W: Wake + Drop,
     X: Crossing,
     C: Clock + Drop,
+    D: Watch,
     R: Wait,
 {
     let share = share_of(recruits.len());
     let mut posts = Vec::new(alloc);
     let mut hands = Vec::new(alloc);
     keep_post(&mut posts, &mut hands, Role::Accepting(acceptor));
+    keep_post(&mut posts, &mut hands, Role::Watching(watch));
     let mut receivers = receivers.into_iter();
     let mut outfits = outfits.into_iter();
     let mut number = 0usize;
@@ -219,7 +226,7 @@ where
         }
         number = number.saturating_add(1);
     }
-    if hands.is_empty() && posts.len() > number {
+    if hands.is_empty() && posts.len() == number.saturating_add(2) {
         return Ok(posts);
     }
     dismiss(posts, &mut hands);
@@ -227,10 +234,10 @@ where
 }
 
 /// Puts a post to the others; where there is no memory for that, what a worker had comes back.
-fn keep_post<'a, 'g, B, T, S, Q, W, X, C, R>(
-    posts: &mut Vec<Role<'a, 'g, B, T, S, Q, W, X, C, R>>,
+fn keep_post<'a, 'g, B, T, S, Q, W, X, C, D, R>(
+    posts: &mut Vec<Role<'a, 'g, B, T, S, Q, W, X, C, D, R>>,
     hands: &mut Vec<Hand<B>>,
-    post: Role<'a, 'g, B, T, S, Q, W, X, C, R>,
+    post: Role<'a, 'g, B, T, S, Q, W, X, C, D, R>,
 )
 where
     B: Broker,
@@ -240,6 +247,7 @@ where
     W: Wake + Drop,
     X: Crossing,
     C: Clock + Drop,
+    D: Watch,
     R: Wait,
 {
     if let Err(refused) = posts.push(post) {
@@ -248,9 +256,9 @@ where
 }
 
 /// What a worker had that does not begin.
-fn leave<'a, 'g, B, T, S, Q, W, X, C, R>(
+fn leave<'a, 'g, B, T, S, Q, W, X, C, D, R>(
     hands: &mut Vec<Hand<B>>,
-    post: Role<'a, 'g, B, T, S, Q, W, X, C, R>,
+    post: Role<'a, 'g, B, T, S, Q, W, X, C, D, R>,
 )
 where
     B: Broker,
@@ -260,6 +268,7 @@ where
     W: Wake + Drop,
     X: Crossing,
     C: Clock + Drop,
+    D: Watch,
     R: Wait,
 {
     match post {
@@ -268,6 +277,7 @@ where
             keep(hands, hand);
         }
         Role::Accepting(acceptor) => drop(acceptor),
+        Role::Watching(_watch) => {}
     }
 }
 
@@ -279,8 +289,8 @@ fn keep<B: Broker>(hands: &mut Vec<Hand<B>>, hand: Hand<B>) {
 }
 
 /// What workers that do not begin had.
-fn dismiss<'a, 'g, B, T, S, Q, W, X, C, R>(
-    posts: Vec<Role<'a, 'g, B, T, S, Q, W, X, C, R>>,
+fn dismiss<'a, 'g, B, T, S, Q, W, X, C, D, R>(
+    posts: Vec<Role<'a, 'g, B, T, S, Q, W, X, C, D, R>>,
     hands: &mut Vec<Hand<B>>,
 )
 where
@@ -291,6 +301,7 @@ where
     W: Wake + Drop,
     X: Crossing,
     C: Clock + Drop,
+    D: Watch,
     R: Wait,
 {
     let mut posts = posts;
@@ -376,12 +387,14 @@ fn cells_of<B: Broker, T: Transport>(
     Ok((table, marks, members))
 }
 
-/// What one thread of a pool does: it serves connections, or takes them from the source.
-enum Role<'a, 'g, B: Broker, T: Transport + Drop, S, Q, W, X, C, R: Wait> {
+/// What one thread of a pool does: it serves connections, takes them from the source, or watches for the end.
+enum Role<'a, 'g, B: Broker, T: Transport + Drop, S, Q, W, X, C, D, R: Wait> {
     /// Serves.
     Serving(Worker<'a, 'g, B, T, Q, W, X, C, R>),
     /// Takes connections.
     Accepting(Acceptor<'a, T, S, W>),
+    /// Watches for the end.
+    Watching(&'a mut D),
 }
 
 impl<
@@ -394,13 +407,15 @@ impl<
     W: Wake + Drop,
     X: Crossing,
     C: Clock + Drop,
+    D: Watch,
     R: Wait + SystemClock,
-> Role<'a, 'g, B, T, S, Q, W, X, C, R> {
+> Role<'a, 'g, B, T, S, Q, W, X, C, D, R> {
     /// Does it to its end.
     fn run(&mut self, rt: &R) {
         match self {
             Role::Serving(worker) => worker.run(rt),
             Role::Accepting(acceptor) => acceptor.accept_all(rt),
+            Role::Watching(watch) => watch.run(),
         }
     }
 }
@@ -416,8 +431,9 @@ fn serve<
     W: Wake + Drop + Send + Sync,
     X: Crossing + Sync,
     C: Clock + Drop + Send,
+    D: Watch + Send,
     R: Threads + Wait + SystemClock + Sync,
->(rt: &R, alloc: Global, posts: Vec<Role<'a, 'g, B, T, S, Q, W, X, C, R>>) -> Pooled<B> {
+>(rt: &R, alloc: Global, posts: Vec<Role<'a, 'g, B, T, S, Q, W, X, C, D, R>>) -> Pooled<B> {
     let mut posts = posts;
     run_all(rt, posts.as_mut_slice());
     retire(alloc, posts)
@@ -434,8 +450,9 @@ fn run_all<
     W: Wake + Drop + Send + Sync,
     X: Crossing + Sync,
     C: Clock + Drop + Send,
+    D: Watch + Send,
     R: Threads + Wait + SystemClock + Sync,
->(rt: &R, posts: &mut [Role<'a, 'g, B, T, S, Q, W, X, C, R>]) {
+>(rt: &R, posts: &mut [Role<'a, 'g, B, T, S, Q, W, X, C, D, R>]) {
     let count = posts.len();
     if count > 0 {
         thread::for_each_mut(rt, posts, count, &|_, post| post.run(rt));
@@ -443,9 +460,9 @@ fn run_all<
 }
 
 /// What workers give back, and how the source ended.
-fn retire<'a, 'g, B, T, S, Q, W, X, C, R>(
+fn retire<'a, 'g, B, T, S, Q, W, X, C, D, R>(
     alloc: Global,
-    posts: Vec<Role<'a, 'g, B, T, S, Q, W, X, C, R>>,
+    posts: Vec<Role<'a, 'g, B, T, S, Q, W, X, C, D, R>>,
 ) -> Pooled<B>
 where
     B: Broker,
@@ -455,6 +472,7 @@ where
     W: Wake + Drop,
     X: Crossing,
     C: Clock + Drop,
+    D: Watch,
     R: Wait,
 {
     let mut workers = Vec::new(alloc);
@@ -469,6 +487,7 @@ where
                 }
             }
             Role::Accepting(acceptor) => source = acceptor.into_end(),
+            Role::Watching(_watch) => {}
         }
     }
     posts.destroy_empty();

@@ -1,0 +1,39 @@
+//! How a broker is told to end: its input ends.
+use std::io::{ErrorKind, Read};
+use std::sync::atomic::{AtomicBool, Ordering};
+use worker_pool::{Closer, Watch};
+
+/// How many bytes of the input a read asks for; what they are does not count.
+const INPUT_SIZE: usize = 4_096;
+
+/// Reads the input to its end, and closes the broker then.
+#[derive(Drop)]
+pub(crate) struct Watching<'a, I> {
+    pub(crate) stopper: Closer<'a>,
+    pub(crate) ends: &'a AtomicBool,
+    pub(crate) input: &'a mut I,
+    /// Whether the input has ended, and did not fail.
+    pub(crate) is_read: bool,
+}
+
+impl<'a, I: Read> Watch for Watching<'a, I> {
+    fn run(&mut self) {
+        self.is_read = read_to_end(self.input);
+        self.stopper.shut();
+        self.ends.store(true, Ordering::SeqCst);
+    }
+}
+
+/// Reads to the end. Whether the reader did not fail.
+fn read_to_end<I: Read>(input: &mut I) -> bool {
+    let mut buffer = [0; INPUT_SIZE];
+    for _ in 0..u64::MAX {
+        match input.read(&mut buffer) {
+            Ok(0) => return true,
+            Ok(_) => {}
+            Err(error) if error.kind() == ErrorKind::Interrupted => {}
+            Err(_) => return false,
+        }
+    }
+    false
+}
