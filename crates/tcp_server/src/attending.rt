@@ -50,13 +50,13 @@ pub(crate) fn attend<
         (Some(closer), Some(stopper), Ok(crew)) => match write_all(output, line) {
             Ok(()) => {
                 let ends = AtomicBool::new(false);
-                let watching = Watching {
+                let mut watching = Watching {
                     stopper,
                     ends: &ends,
                     input,
                     is_read: false,
                 };
-                serve(rt, alloc, hall, crew, source, closer, watching)
+                serve(rt, alloc, hall, crew, source, closer, &mut watching)
             }
             Err(error) => (ports_of_crew(alloc, crew), Err(error)),
         },
@@ -84,10 +84,9 @@ fn serve<B: Broker + Send + Sync, R: Threads + Wait + Net + SystemClock + Sync, 
     crew: Crew<'_, B, R>,
     source: Awaited<TcpSource>,
     closer: Closer<'_>,
-    watching: Watching<'_, I>,
+    watching: &mut Watching<'_, I>,
 ) -> (Vec<Ports<B>>, Result<Served, RunError>) {
     let mut source = Until::new(source, watching.ends);
-    let mut watching = watching;
     let Crew { recruits, alarms } = crew;
     let pooled = run(
         rt,
@@ -98,7 +97,7 @@ fn serve<B: Broker + Send + Sync, R: Threads + Wait + Net + SystemClock + Sync, 
         &mut source,
         &OpenCrossing,
         closer,
-        &mut watching,
+        watching,
     );
     watching.stopper.shut();
     drain(rt, &mut watching.stopper);
