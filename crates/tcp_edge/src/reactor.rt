@@ -1,5 +1,5 @@
 //! Where a worker waits for its connections and for its bell.
-ghost use Rattle.std.specs.Prelude.{◌≡◌, ◌<◌, ◌≤◌, ◌+◌, ◌++◌, [], false, length, replicate, position, not, vec_len, vec_capacity, IfOk, OnOk};
+ghost use Rattle.std.specs.Prelude.{◌≡◌, ◌<◌, ◌≤◌, ◌+◌, ◌++◌, [], false, length, replicate, position, not, vec_len, vec_capacity, ◌⊎◌, IfOk, OnErr, OnOk};
 ghost use Rattle.std.specs.List.{cons_option, list_any};
 ghost use Rattle.mio.specs.Events.{items, capacity as events_capacity};
 ghost use Rattle.tcp_edge.specs.Reactors.{AreFree, IsSeated, LetsGo, Registers, Takes, Waits, is_alarm, is_taken, most_sources, readies, tell};
@@ -211,6 +211,7 @@ impl Reactor {
     pub fn register<S: Source>(&mut self, source: &mut S) -> Result<usize, ReactorError>
         ensures registers { Registers self.old result self.new }
         ensures kept { OnOk result (S.keeps source.old source.new) }
+        ensures refused { OnErr result ((source.new ≡ source.old) ⊎ S.keeps source.old source.new) }
     {
         let Some(number) = free_seat(&self.seats) else {
             return Err(ReactorError::Full);

@@ -55,7 +55,9 @@ impl<S: MioSource + Drop> Awaited<S> {
 
 impl<S> Awaited<S> {
     /// Waits for a while, or for less where something may have come.
-    fn pause(&mut self) {
+    fn pause(&mut self)
+        ensures { self.new ≡ self.old }
+    {
         let _refused = self
             .poll
             .poll(&mut self.events, Some(Duration::from_millis(PATIENCE)));
