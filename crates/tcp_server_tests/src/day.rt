@@ -42,29 +42,52 @@ pub(crate) fn live<
     D: Day,
 >(rt: &R, alloc: Global, day: &D) -> Night {
     let closes = AtomicBool::new(false);
-    let mut output = Vec::new(alloc);
-    let mut input = Held { rt, ends: &closes };
+    let closes = &closes;
     let (port, workers) = day.broker();
-    let (saw, ended) = thread::join_mut(
+    let (saw, (ended, output)) = thread::join(
         rt,
-        &mut || {
-            let saw = day.pass(rt, alloc, &closes);
-            closes.store(true, Ordering::SeqCst);
-            saw
-        },
-        &mut || {
-            serve_at(
-                rt,
-                alloc,
-                1_024,
-                Routes::new(alloc),
-                workers,
-                Ipv4Addr::LOCALHOST,
-                port,
-                &mut input,
-                &mut output,
-            )
-        },
+        || pass(rt, alloc, day, closes),
+        || -> (Result<(), RunError>, Vec<u8>)
+            requires { (1 ≤ workers) × (workers ≤ 64) }
+        { serve(rt, alloc, workers, port, closes) },
     );
     Night { saw, ended, output }
+}
+
+/// What clients do, and the flag behind it. Whether all came as it should.
+fn pass<R: Net<Listener = TcpListener, Stream = TcpStream> + Clock, D: Day>(
+    rt: &R,
+    alloc: Global,
+    day: &D,
+    closes: &AtomicBool,
+) -> Option<()> {
+    let saw = day.pass(rt, alloc, closes);
+    closes.store(true, Ordering::SeqCst);
+    saw
+}
+
+/// Serves until the flag is set. How it ended, and what was written.
+fn serve<R: Threads + Wait + Net<Listener = TcpListener, Stream = TcpStream> + Clock + Sync>(
+    rt: &R,
+    alloc: Global,
+    workers: u8,
+    port: u16,
+    closes: &AtomicBool,
+) -> (Result<(), RunError>, Vec<u8>)
+    requires { (1 ≤ workers) × (workers ≤ 64) }
+{
+    let mut input = Held { rt, ends: closes };
+    let mut output = Vec::new(alloc);
+    let ended = serve_at(
+        rt,
+        alloc,
+        1_024,
+        Routes::new(alloc),
+        workers,
+        Ipv4Addr::LOCALHOST,
+        port,
+        &mut input,
+        &mut output,
+    );
+    (ended, output)
 }
