@@ -19,7 +19,7 @@ use std::net::{Ipv4Addr, Net};
 use std::rt::Clock as SystemClock;
 use std::sync::Wait;
 use std::thread::Threads;
-use tcp_edge::TcpSource;
+use tcp_edge::{ReactorError, TcpSource};
 
 /// How a broker that was served came to its end.
 #[derive(Clone, Copy, Debug, PartialEq, Eq)]
@@ -75,7 +75,11 @@ pub fn serve_with<R: Threads + Wait + Net + SystemClock + Sync, I: Read + Send, 
     requires workers { (1 ≤ workers) × (workers ≤ 64) }
 {
     let port = source.port();
-    let source = Awaited::new(rt, alloc, source).map_err(|_| RunError::Network)?;
+    let source = match Awaited::new(rt, alloc, source) {
+        Ok(source) => source,
+        Err(ReactorError::Memory) => return Err(RunError::Memory),
+        Err(_) => return Err(RunError::Network),
+    };
     let Ok((gate, seats)) = Gate::open(alloc, usize::from(workers) + 2) else {
         return Err(RunError::Memory);
     };
