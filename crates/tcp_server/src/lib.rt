@@ -5,6 +5,8 @@
 
 mod attending;
 mod broker;
+mod crew;
+mod duties;
 mod elapsed;
 mod listening;
 mod reporting;

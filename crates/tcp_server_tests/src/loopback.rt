@@ -50,9 +50,9 @@ impl Day for OneJob {
 }
 
 /// A client connects again while it is connected, and its older connection is told so and ends.
-struct Takeover;
+struct TakingOver;
 
-impl Day for Takeover {
+impl Day for TakingOver {
     fn broker(&self) -> (u16, u8)
         ensures { (1 ≤ result.1) × (result.1 ≤ 64) }
     {
@@ -77,9 +77,9 @@ impl Day for Takeover {
 }
 
 /// A member goes without a word while it holds a job, comes back, and is sent it again; and holds it at the close.
-struct Resume;
+struct Resuming;
 
-impl Day for Resume {
+impl Day for Resuming {
     fn broker(&self) -> (u16, u8)
         ensures { (1 ≤ result.1) × (result.1 ≤ 64) }
     {
@@ -202,7 +202,7 @@ fn one_job(rt: HostRuntime) {
 
 #[test]
 fn takeover(rt: HostRuntime) {
-    let night = live(&rt, rt.alloc(), &Takeover);
+    let night = live(&rt, rt.alloc(), &TakingOver);
     assert_eq!(rt; night.saw, Some(()));
     assert!(rt; night.ended.is_ok());
     assert!(rt; night.output.as_slice() == b"listening 18831\n".as_slice());
@@ -210,7 +210,7 @@ fn takeover(rt: HostRuntime) {
 
 #[test]
 fn resume(rt: HostRuntime) {
-    let night = live(&rt, rt.alloc(), &Resume);
+    let night = live(&rt, rt.alloc(), &Resuming);
     assert_eq!(rt; night.saw, Some(()));
     assert!(rt; night.ended.is_ok());
     let text =
