@@ -1,5 +1,5 @@
 -- The connections of a worker, each in the cell of its number: what happens to one of them.
-use Rattle.std.specs.Prelude.{◌≡◌, ℕ, Bool, List, Option, Some, None, slice_get, slice_set}
+use Rattle.std.specs.Prelude.{◌≡◌, ℕ, ◌+◌, Bool, List, Option, Some, None, slice_get, slice_set, sum_by}
 use Rattle.transport.specs.declared.counts.Counts.{Counts}
 use Rattle.conn_engine.specs.Facts.{Fact}
 use Rattle.conn_service.specs.declared.served.Round.TheVariants as rounds
@@ -43,3 +43,17 @@ module _ {S P T : Type 0} (call : S → Fact P → S → Type 0) (turn : S → S
   Turns now None supply turned after supply' = (turned ≡ Vacant) × (after ≡ None) × (supply' ≡ supply)
   Turns now (Some service) supply turned after supply' =
       (behind : ServiceState P T) × Leads call turn visiting slot_of counts given accepted service supply behind supply' × Tells turned behind now after
+
+-- how many cells have a connection
+abbrev pub in_one : {P T : Type 0} → Option (ServiceState P T) → ℕ
+in_one None = 0
+in_one (Some service) = 1
+
+abbrev pub occupied : {P T : Type 0} → List (Option (ServiceState P T)) → ℕ
+occupied cells = sum_by in_one cells
+
+-- a cell is free behind a round that ended its connection, and only then
+abbrev pub Frees : {T : Type 0} → Turned T → ℕ → ℕ → Type 0
+Frees Vacant before after = after ≡ before
+Frees (Goes round) before after = after ≡ before
+Frees (Ended served transport) before after = before ≡ after + 1

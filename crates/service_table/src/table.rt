@@ -1,7 +1,7 @@
 //! The connections of a worker, by the cells of their numbers.
-ghost use Rattle.std.specs.Prelude.{◌≡◌, ◌<◌, length, MatchResult};
+ghost use Rattle.std.specs.Prelude.{◌≡◌, ◌+◌, ◌<◌, true, length, IfOk, MatchResult};
 ghost use Rattle.transport.specs.Counting.{no_counts};
-ghost use Rattle.service_table.specs.Cells.{InCell, Opens, Refuses};
+ghost use Rattle.service_table.specs.Cells.{Frees, InCell, Opens, Refuses, occupied};
 
 use crate::cell;
 use crate::cell::Seat;
@@ -35,7 +35,9 @@ impl<P: HoldingPlace, T: Transport> ServiceTable<P, T> {
     /// # Errors
     ///
     /// [`NoMemory`].
-    pub fn new(alloc: Global, first: u16, count: u16) -> Result<ServiceTable<P, T>, NoMemory> {
+    pub fn new(alloc: Global, first: u16, count: u16) -> Result<ServiceTable<P, T>, NoMemory>
+        ensures { IfOk result (λ table. occupied table ≡ 0) }
+    {
         let cells = free_cells(alloc, usize::from(count))?;
         Ok(ServiceTable {
             first,
@@ -59,7 +61,8 @@ impl<P: HoldingPlace, T: Transport> ServiceTable<P, T> {
     pub fn open(&mut self, cell: usize, now: u64, transport: T) -> Result<(), T>
         requires cell { cell < length self.old }
         requires new { T.counts transport ≡ no_counts }
-        ensures { InCell self.old cell (λ before after. MatchResult result (λ _. Opens now transport before after) (Refuses transport before after)) self.new }
+        ensures count { MatchResult result (λ _. occupied self.new ≡ occupied self.old + 1) (λ _. occupied self.new ≡ occupied self.old) }
+        ensures cell { InCell self.old cell (λ before after. MatchResult result (λ _. Opens now transport before after) (Refuses transport before after)) self.new }
     {
         let number = usize::from(self.first).saturating_add(cell);
         cell::open(&mut self.cells[cell], self.alloc, number, now, transport)
@@ -78,7 +81,8 @@ impl<P: HoldingPlace, T: Transport> ServiceTable<P, T> {
     ) -> Turned<T>
         requires cell { cell < length self.old }
         requires room { 0 < length buffer.old }
-        ensures { length self.new ≡ length self.old }
+        ensures cells { length self.new ≡ length self.old }
+        ensures count { Frees result (occupied self.old) (occupied self.new) }
     {
         cell::round(&mut self.cells[cell], supply, crossing, worker, now, buffer)
     }
@@ -105,7 +109,9 @@ impl<P: HoldingPlace, T: Transport> ServiceTable<P, T> {
     }
 
     /// Whether all cells are free.
-    pub fn is_empty(&self) -> bool {
+    pub fn is_empty(&self) -> bool
+        ensures { result ≡ true → occupied self.now ≡ 0 }
+    {
         self.cells.iter().all(|cell| cell.is_none())
     }
 

@@ -1,13 +1,13 @@
 //! Serving the connections of a broker that is open.
-ghost use Rattle.std.specs.Prelude.{◌≡◌};
+ghost use Rattle.std.specs.Prelude.{◌≡◌, ◌≤◌, length};
 ghost use Rattle.gate_word.specs.Seats.{AreSeatsOf};
 
 use crate::broker::take_seat;
-use crate::crew::{Crew, crew_of, keep, ports_of, ports_of_crew};
+use crate::crew::{Crew, crew_of};
 use crate::duties::{Serving, Watching, run_both};
 use crate::listening::Awaited;
 use crate::serving::Served;
-use broker_groups::{Broker, Ports};
+use broker_groups::Broker;
 use gate_word::{Gate, GateSeat};
 use line_io::{RunError, write_all};
 use shared_supply::Hall;
@@ -22,7 +22,7 @@ use std::thread::Threads;
 use tcp_edge::{TcpSource, Until};
 use worker_pool::{Closer, Hand, Pooled, SourceEnd, Unbegun};
 
-/// Writes the line, and serves the connections of a source until the input ends. The ports of all workers come back, and how it came to its end.
+/// Writes the line, and serves the connections of a source until the input ends. What all workers had comes back, and how it came to its end.
 pub(crate) fn attend<
     B: Broker + Send + Sync,
     R: Threads + Wait + Net + SystemClock + Sync,
@@ -39,31 +39,29 @@ pub(crate) fn attend<
     line: &[u8],
     input: &mut I,
     output: &mut O,
-) -> (Vec<Ports<B>>, Result<Served, RunError>)
-    requires { AreSeatsOf gate.now seats.items }
+) -> (Vec<Hand<B>>, Result<Served, RunError>)
+    requires seats { AreSeatsOf gate.now seats.items × (2 ≤ length seats.items) }
+    requires hands { (1 ≤ length hands.items) × (length hands.items ≤ 64) }
+    ensures { length result.0.items ≡ length hands.items }
 {
     let mut seats = seats;
     let closer = closer_of(gate, &mut seats);
     let stopper = closer_of(gate, &mut seats);
-    match (closer, stopper, crew_of(rt, alloc, hands)) {
-        (Some(closer), Some(stopper), Ok(crew)) => match write_all(output, line) {
-            Ok(()) => serve(rt, alloc, hall, crew, source, closer, stopper, input),
-            Err(error) => (ports_of_crew(alloc, crew), Err(error)),
-        },
-        (_, _, Ok(crew)) => (ports_of_crew(alloc, crew), Err(RunError::Memory)),
-        (_, _, Err(hands)) => (ports_of(alloc, hands), Err(RunError::Memory)),
+    let Some(crew) = crew_of(rt, alloc, hands.len()) else {
+        return (hands, Err(RunError::Memory));
+    };
+    match write_all(output, line) {
+        Ok(()) => serve(rt, alloc, hall, hands, crew, source, closer, stopper, input),
+        Err(error) => (hands, Err(error)),
     }
 }
 
 /// Who shuts the gate, by the last seat.
-fn closer_of<'a>(gate: &'a Gate, seats: &mut Vec<GateSeat>) -> Option<Closer<'a>>
-    requires { AreSeatsOf gate.now seats.old.items }
-    ensures { AreSeatsOf gate.now seats.new.items }
+fn closer_of<'a>(gate: &'a Gate, seats: &mut Vec<GateSeat>) -> Closer<'a>
+    requires { AreSeatsOf gate.now seats.old.items × (1 ≤ length seats.old.items) }
+    ensures { AreSeatsOf gate.now seats.new.items × (length seats.new.items + 1 ≡ length seats.old.items) }
 {
-    match take_seat(gate, seats) {
-        Some(seat) => Some(Closer::new(gate, seat)),
-        None => None,
-    }
+    Closer::new(gate, take_seat(gate, seats))
 }
 
 /// Serves with a crew: in a second thread its pool runs, and this one reads the input to its end.
@@ -71,17 +69,23 @@ fn serve<B: Broker + Send + Sync, R: Threads + Wait + Net + SystemClock + Sync, 
     rt: &R,
     alloc: Global,
     hall: &Hall<'_, B>,
-    crew: Crew<'_, B, R>,
+    hands: Vec<Hand<B>>,
+    crew: Crew<'_, R>,
     source: Awaited<TcpSource>,
     closer: Closer<'_>,
     stopper: Closer<'_>,
     input: &mut I,
-) -> (Vec<Ports<B>>, Result<Served, RunError>) {
+) -> (Vec<Hand<B>>, Result<Served, RunError>)
+    requires hands { (1 ≤ length hands.items) × (length hands.items ≤ 64) }
+    requires crew { length crew.gear.items ≡ length hands.items }
+    ensures { length result.0.items ≡ length hands.items }
+{
     let ends = AtomicBool::new(false);
     let serving = Serving {
         rt,
         alloc,
         hall,
+        hands,
         crew,
         source: Until::new(source, &ends),
         closer,
@@ -94,14 +98,14 @@ fn serve<B: Broker + Send + Sync, R: Threads + Wait + Net + SystemClock + Sync, 
     let (pooled, (mut stopper, is_read)) = run_both(rt, serving, watching);
     drain(rt, &mut stopper);
     match pooled {
-        Ok(Pooled { workers, source }) => {
-            let mut ports = Vec::new(alloc);
-            for worker in workers {
-                keep(&mut ports, worker.hand.ports);
-            }
-            (ports, Ok(ending(source, is_read)))
-        }
-        Err(Unbegun { hands }) => (ports_of(alloc, hands), Err(RunError::Memory)),
+        Ok(
+            Pooled {
+                hands,
+                served: _,
+                taken,
+            },
+        ) => (hands, Ok(ending(taken.end, is_read))),
+        Err(Unbegun { hands, source: _ }) => (hands, Err(RunError::Memory)),
     }
 }
 

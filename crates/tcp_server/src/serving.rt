@@ -1,10 +1,10 @@
 //! Serving, from the listener to the last line.
-ghost use Rattle.std.specs.Prelude.{◌≡◌, ◌≤◌};
+ghost use Rattle.std.specs.Prelude.{◌≡◌, ◌+◌, ◌≤◌, length};
 ghost use Rattle.gate_word.specs.Seats.{AreSeatsOf};
 ghost use Rattle.broker_groups.specs.Naming.{IsOfBroker};
 
 use crate::attending::attend;
-use crate::broker::{OpenBroker, bound_shares, give_up, open};
+use crate::broker::{OpenBroker, bound_shares, give_up, open, ports_of};
 use crate::listening::Awaited;
 use crate::reporting::lines;
 use broker_groups::{Broker, Opened, Ports};
@@ -125,17 +125,18 @@ fn live<B: Broker + Send + Sync, R: Threads + Wait + Net + SystemClock + Sync, I
     output: &mut O,
 ) -> Result<(Vec<u8>, Served), RunError>
     requires gate { gate.now ≡ B.gate }
-    requires seats { AreSeatsOf gate.now seats.items }
+    requires workers { (1 ≤ workers) × (workers ≤ 64) }
+    requires seats { AreSeatsOf gate.now seats.items × (length seats.items ≡ workers + 2) }
     requires opened { IsOfBroker B.gate B.group workers opened }
 {
     let mut seats = seats;
-    let OpenBroker { hall, hands } = open::<B, R>(
+    let OpenBroker { hall, hands, room } = open::<B, R>(
         rt, alloc, gate, &mut seats, opened, workers, groups,
     )?;
-    let (ports, served) = attend(
+    let (hands, served) = attend(
         rt, alloc, gate, seats, &hall, hands, source, line, input, output,
     );
-    conclude(rt, alloc, hall, ports, served)
+    conclude(rt, alloc, hall, ports_of(hands, room), served)
 }
 
 /// Ends a broker: the lines of its reports, where it was served.

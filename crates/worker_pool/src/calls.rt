@@ -66,6 +66,11 @@ impl<W: Wake> Roster<W> {
         }
     }
 
+    /// What wakes them.
+    pub(crate) fn alarms(&self) -> &[Arc<Vec<W>, Global>] {
+        self.alarms.as_slice()
+    }
+
     /// How many workers there are.
     pub fn len(&self) -> usize {
         self.posts.len()

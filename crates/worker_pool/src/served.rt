@@ -1,4 +1,6 @@
 //! How the connections of a worker ended.
+ghost use Rattle.worker_pool.specs.Serving.{CountsOne};
+
 use conn_service::Served;
 
 /// How many connections ended in each way.
@@ -30,7 +32,9 @@ impl ServedCounts {
     };
 
     /// Counts one that ended so.
-    pub(crate) fn count(&mut self, served: Served) {
+    pub(crate) fn count(&mut self, served: Served)
+        ensures { CountsOne self.old self.new }
+    {
         let count = match served {
             Served::Ended => &mut self.ended,
             Served::Read => &mut self.read,

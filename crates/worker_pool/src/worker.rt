@@ -1,20 +1,27 @@
 //! A worker: what it has, and its turns.
-ghost use Rattle.std.specs.Prelude.{◌≡◌, ◌<◌};
+ghost use Rattle.std.specs.Prelude.{◌≡◌};
+ghost use Rattle.service_table.specs.Cells.{occupied};
+ghost use Rattle.worker_pool.specs.Serving.{IsDone, StaysOf, fresh_connections, total};
 
 use crate::arrived::Arrived;
 use crate::bells::{Listening, Ringing};
 use crate::calls::Roster;
+use crate::connections::{Came, Connections, Went};
+use crate::kit::{Gear, Kit};
 use crate::marks::Marks;
 use crate::members::{Members, Wish};
+use crate::outfit::Outfit;
 use crate::poller::Poller;
 use crate::pool::Hand;
 use crate::served::ServedCounts;
 use bell::Wake;
 use broker_groups::{Broker, BrokerPlace};
-use conn_channel::{CAPACITY, Received, Receiver};
-use conn_service::{Round, Served};
-use service_table::{ServiceTable, Turned};
-use shared_supply::{AskedBack, SharedSupply};
+use conn_channel::{CAPACITY, Receiver};
+use conn_service::Round;
+use service_table::ServiceTable;
+use shared_supply::{AskedBack, Hall, SharedSupply};
+use std::alloc::Global;
+use std::marker::Model;
 use std::sync::Wait;
 use transport::{Clock, Crossing, Transport};
 
@@ -31,27 +38,35 @@ const END_PAUSE: u64 = 1;
 const SLOTS: usize = 8;
 
 /// What a worker has: where it waits, its connections, what it asks of the broker, and how it calls others and is called.
+///
+/// Contracts see it as its connections.
 pub(crate) struct Worker<'a, 'g, B: Broker, T: Transport + Drop, Q, W, X, C, R: Wait> {
-    pub(crate) number: usize,
-    pub(crate) table: ServiceTable<BrokerPlace<B>, T>,
-    pub(crate) supply: SharedSupply<'a, 'g, B, R>,
-    pub(crate) poller: Q,
-    pub(crate) receiver: Receiver<Arrived<T>>,
-    pub(crate) ears: Vec<Listening>,
-    pub(crate) hands: Vec<Ringing<W>>,
-    pub(crate) roster: &'a Roster<W>,
-    pub(crate) crossing: &'a X,
-    pub(crate) clock: C,
-    pub(crate) due: Marks,
-    pub(crate) members: Members,
-    pub(crate) served: ServedCounts,
+    number: usize,
+    connections: Connections<BrokerPlace<B>, T>,
+    supply: SharedSupply<'a, 'g, B, R>,
+    poller: Q,
+    ears: Vec<Listening>,
+    hands: Vec<Ringing<W>>,
+    roster: &'a Roster<W>,
+    crossing: &'a X,
+    clock: C,
+    due: Marks,
+    members: Members,
     // The moment at which all connections went on last.
-    pub(crate) swept: u64,
-    // The broker closes, and the worker has its end mark.
-    pub(crate) closing: bool,
-    pub(crate) at_end: bool,
+    swept: u64,
+    // The broker closes.
+    closing: bool,
     // It is known to others that a connection of it waits for a session.
-    pub(crate) waits: bool,
+    waits: bool,
+}
+
+impl<'a, 'g, B: Broker, T: Transport + Drop, Q, W, X, C, R: Wait> Model
+    for Worker<'a, 'g, B, T, Q, W, X, C, R> {
+    ghost use Rattle.worker_pool.specs.Serving.{ConnectionsState};
+
+    ghost Value = { ConnectionsState T };
+
+    ghost view = { λ w. w.connections };
 }
 
 impl<
@@ -65,13 +80,60 @@ impl<
     C: Clock + Drop,
     R: Wait,
 > Worker<'a, 'g, B, T, Q, W, X, C, R> {
+    /// A worker that has no connection yet.
+    pub(crate) fn new(
+        rt: &'a R,
+        alloc: Global,
+        hall: &'a Hall<'g, B>,
+        hand: Hand<B>,
+        kit: Kit<'a, T, Q, W, C>,
+        table: ServiceTable<BrokerPlace<B>, T>,
+        roster: &'a Roster<W>,
+        crossing: &'a X,
+    ) -> Worker<'a, 'g, B, T, Q, W, X, C, R>
+        requires known { kit.known.table ≡ hall.now }
+        requires receiver { (kit.receiver.received ≡ 0) × (kit.receiver.ended ≡ 0) }
+        requires table { occupied table ≡ 0 }
+        ensures { result ≡ fresh_connections kit.receiver }
+    {
+        let Hand { key, ports } = hand;
+        let Kit {
+            number,
+            gear: Gear { poller, clock },
+            receiver,
+            outfit: Outfit { ears, hands },
+            known,
+            due,
+            members,
+        } = kit;
+        Worker {
+            number,
+            connections: Connections::new(receiver, table),
+            supply: SharedSupply::new(rt, alloc, hall, key, ports, known),
+            poller,
+            ears,
+            hands,
+            roster,
+            crossing,
+            clock,
+            due,
+            members,
+            swept: 0,
+            closing: false,
+            waits: false,
+        }
+    }
+
     /// Serves connections until the broker has closed and the last of them has ended.
-    pub(crate) fn run(&mut self, rt: &R) {
+    pub(crate) fn run(&mut self, rt: &R)
+        ensures same { StaysOf self.old self.new }
+        ensures done { IsDone self.new }
+    {
         let mut buffer = [0; READ_SIZE];
         let mut pause = 0;
         'turns: for _ in rt.forever() {
             pause = self.turn(rt, pause, &mut buffer);
-            if self.at_end && self.table.is_empty() {
+            if self.connections.is_done() {
                 return;
             }
         }
@@ -80,13 +142,15 @@ impl<
 
     /// A turn: waits for so many milliseconds at most, and goes on with the connections for which there is something to do. For how long the next turn
     /// may wait.
-    fn turn(&mut self, rt: &R, pause: u64, buffer: &mut [u8; READ_SIZE]) -> u64 {
+    fn turn(&mut self, rt: &R, pause: u64, buffer: &mut [u8; READ_SIZE]) -> u64
+        ensures { StaysOf self.old self.new }
+    {
         let called = self.poller.wait(rt, pause);
         let now = self.clock.now();
         if called {
             self.answer(rt, now);
         }
-        if self.closing && !self.at_end {
+        if self.closing {
             self.receive_all(rt, now);
         }
         self.mark_ready();
@@ -100,9 +164,11 @@ impl<
     }
 
     /// Answers the call of others: takes the connections that were sent for it.
-    fn answer(&mut self, rt: &R, now: u64) {
+    fn answer(&mut self, rt: &R, now: u64)
+        ensures { StaysOf self.old self.new }
+    {
         let calls = self.roster.take_calls(self.number);
-        for _ in 0..calls.invited {
+        'invited: for _ in 0..calls.invited {
             self.receive(rt, now);
         }
         if calls.closing {
@@ -114,64 +180,33 @@ impl<
     }
 
     /// Receives until the end mark comes, or nothing does.
-    fn receive_all(&mut self, rt: &R, now: u64) {
-        for _ in 0..CAPACITY {
-            if self.at_end || !self.receive(rt, now) {
+    fn receive_all(&mut self, rt: &R, now: u64)
+        ensures { StaysOf self.old self.new }
+    {
+        'received: for _ in 0..CAPACITY {
+            if !self.receive(rt, now) {
                 return;
             }
         }
     }
 
-    /// Receives what comes through the channel. Whether something did.
-    fn receive(&mut self, rt: &R, now: u64) -> bool {
-        if self.at_end {
-            return false;
+    /// Receives what comes through the channel. Whether a connection did.
+    fn receive(&mut self, rt: &R, now: u64) -> bool
+        ensures { StaysOf self.old self.new }
+    {
+        match self.connections.receive(rt, &mut self.poller, now) {
+            Came::Opened(cell) => self.due.mark(cell),
+            Came::Refused => self.roster.leave(self.number),
+            Came::EndMark | Came::Nothing => return false,
         }
-        match self.receiver.receive(rt) {
-            Received::Connection(arrived) => {
-                self.admit(arrived, now);
-                true
-            }
-            Received::EndMark => {
-                self.at_end = true;
-                true
-            }
-            Received::Nothing => false,
-        }
-    }
-
-    /// Opens a connection that came; where there is no memory for it, or the system does not watch it, it has ended at once.
-    fn admit(&mut self, arrived: Arrived<T>, now: u64) {
-        let Arrived { mut transport } = arrived;
-        match self.poller.register(&mut transport) {
-            None => self.refuse(transport),
-            Some(cell) if cell < self.table.len() => {
-                match self.table.open(cell, now, transport) {
-                    Ok(()) => self.due.mark(cell),
-                    Err(transport) => self.dismiss(cell, transport),
-                }
-            }
-            Some(cell) => self.dismiss(cell, transport),
-        }
-    }
-
-    /// A connection that was watched is not opened.
-    fn dismiss(&mut self, cell: usize, transport: T) {
-        let mut transport = transport;
-        self.poller.let_go(cell, &mut transport);
-        self.refuse(transport);
-    }
-
-    /// A connection is not opened.
-    fn refuse(&mut self, transport: T) {
-        drop(transport);
-        self.served.count(Served::Memory);
-        self.roster.leave(self.number);
+        true
     }
 
     /// Those that may be read or written are due.
-    fn mark_ready(&mut self) {
-        for _ in 0..self.table.len() {
+    fn mark_ready(&mut self)
+        ensures { self.new ≡ self.old }
+    {
+        for _ in 0..self.connections.len() {
             match self.poller.take_ready() {
                 Some(cell) => self.due.mark(cell),
                 None => return,
@@ -180,7 +215,9 @@ impl<
     }
 
     /// All are due where the time has come.
-    fn mark_late(&mut self, now: u64) {
+    fn mark_late(&mut self, now: u64)
+        ensures { self.new ≡ self.old }
+    {
         if now.saturating_sub(self.swept) >= SWEEP_PERIOD {
             self.swept = now;
             self.due.mark_all();
@@ -188,16 +225,20 @@ impl<
     }
 
     /// Hears which bells rang.
-    fn hear(&mut self) {
+    fn hear(&mut self)
+        ensures { self.new ≡ self.old }
+    {
         for ear in &mut self.ears {
             ear.hear();
         }
     }
 
     /// Goes on with each connection that is due, once.
-    fn serve_due(&mut self, now: u64, buffer: &mut [u8; READ_SIZE]) {
+    fn serve_due(&mut self, now: u64, buffer: &mut [u8; READ_SIZE])
+        ensures { StaysOf self.old self.new }
+    {
         self.due.begin();
-        for cell in 0..self.table.len() {
+        'cells: for cell in 0..self.connections.len() {
             if self.due.take(cell) {
                 let _round = self.round(cell, now, buffer);
             }
@@ -205,53 +246,50 @@ impl<
     }
 
     /// Goes on with the connection in a cell by a round. What it waits for; `None` where there is none, or it has ended.
-    fn round(&mut self, cell: usize, now: u64, buffer: &mut [u8; READ_SIZE]) -> Option<Round> {
-        if cell >= self.table.len() {
-            return None;
-        }
+    fn round(&mut self, cell: usize, now: u64, buffer: &mut [u8; READ_SIZE]) -> Option<Round>
+        ensures { StaysOf self.old self.new }
+    {
         let worker = u32::try_from(self.number).unwrap_or(u32::MAX);
-        match self
-            .table
-            .round(cell, &mut self.supply, self.crossing, worker, now, buffer)
-        {
-            Turned::Vacant => None,
-            Turned::Goes(round) => {
-                if round == Round::More {
-                    self.due.mark(cell);
-                }
-                self.note(cell);
+        match self.connections.round(
+            cell,
+            &mut self.supply,
+            self.crossing,
+            &mut self.poller,
+            worker,
+            now,
+            buffer,
+        ) {
+            Went::Nowhere => None,
+            Went::On(round) => {
+                self.go_on(cell, round);
                 Some(round)
             }
-            Turned::Ended(served, transport) => {
-                self.let_go(cell, served, transport);
+            Went::ToItsEnd => {
+                self.members.note(cell, Wish::NONE);
+                self.roster.leave(self.number);
                 None
             }
         }
     }
 
-    /// Notes what the connection in a cell would do if others did something.
-    fn note(&mut self, cell: usize) {
-        if cell < self.table.len() {
-            let wish = Wish {
-                takes: self.table.takes_from(cell),
-                waits: self.table.is_waiting(cell),
-            };
-            self.members.note(cell, wish);
+    /// A connection goes on: it is due where its round left something to do. Notes what it would do if others did something.
+    fn go_on(&mut self, cell: usize, round: Round)
+        ensures { self.new ≡ self.old }
+    {
+        if round == Round::More {
+            self.due.mark(cell);
         }
-    }
-
-    /// A connection has ended.
-    fn let_go(&mut self, cell: usize, served: Served, transport: T) {
-        let mut transport = transport;
-        self.poller.let_go(cell, &mut transport);
-        drop(transport);
-        self.members.note(cell, Wish::NONE);
-        self.served.count(served);
-        self.roster.leave(self.number);
+        let wish = Wish {
+            takes: self.connections.takes_from(cell),
+            waits: self.connections.is_waiting(cell),
+        };
+        self.members.note(cell, wish);
     }
 
     /// Tells the others what its connections did that they may wait for.
-    fn tell(&mut self) {
+    fn tell(&mut self)
+        ensures { self.new ≡ self.old }
+    {
         self.tell_whether_waiting();
         let wakes = self.supply.take_wakes();
         for slot in 0..SLOTS {
@@ -273,7 +311,9 @@ impl<
     }
 
     /// Tells the others whether a connection of it waits for a session, where that has changed.
-    fn tell_whether_waiting(&mut self) {
+    fn tell_whether_waiting(&mut self)
+        ensures { self.new ≡ self.old }
+    {
         let waits = self.members.has_waiting();
         if waits != self.waits {
             self.waits = waits;
@@ -282,7 +322,9 @@ impl<
     }
 
     /// Rings for so many workers that have members of a group, and notes that there is something for its own.
-    fn ring(&mut self, slot: usize, count: usize) {
+    fn ring(&mut self, slot: usize, count: usize)
+        ensures { self.new ≡ self.old }
+    {
         if let Some(ear) = self.ears.get_mut(slot) {
             ear.note();
         }
@@ -290,7 +332,9 @@ impl<
     }
 
     /// Rings for so many workers that have members of a group.
-    fn ring_others(&mut self, slot: usize, count: usize) {
+    fn ring_others(&mut self, slot: usize, count: usize)
+        ensures { self.new ≡ self.old }
+    {
         let mut left = count;
         for hand in &mut self.hands {
             if hand.slot() == slot && left > 0 {
@@ -301,8 +345,10 @@ impl<
 
     /// Goes on with members of the groups for which it rang. Where this worker was called, and has none any more that would be handed a job, it rings for
     /// another one.
-    fn hand_out(&mut self, now: u64, buffer: &mut [u8; READ_SIZE]) {
-        for slot in 0..SLOTS {
+    fn hand_out(&mut self, now: u64, buffer: &mut [u8; READ_SIZE])
+        ensures { StaysOf self.old self.new }
+    {
+        'slots: for slot in 0..SLOTS {
             let (rung, called) = match self.ears.get_mut(slot) {
                 Some(ear) => (ear.take_rung(), ear.take_called()),
                 None => (false, false),
@@ -317,10 +363,12 @@ impl<
     }
 
     /// Goes on with members of a group, one after the other, until one has room for more than there is.
-    fn hand_out_of(&mut self, slot: usize, now: u64, buffer: &mut [u8; READ_SIZE]) {
-        let count = self.table.len();
+    fn hand_out_of(&mut self, slot: usize, now: u64, buffer: &mut [u8; READ_SIZE])
+        ensures { StaysOf self.old self.new }
+    {
+        let count = self.connections.len();
         let first = self.members.next();
-        for step in 0..count {
+        'members: for step in 0..count {
             if !self.members.has_taker(slot) {
                 return;
             }
@@ -336,7 +384,9 @@ impl<
     }
 
     /// For how many milliseconds the next turn may wait. The worker is idle at the bells of the groups of which it has members that would be handed a job.
-    fn outlook(&mut self, now: u64) -> u64 {
+    fn outlook(&mut self, now: u64) -> u64
+        ensures { self.new ≡ self.old }
+    {
         let mut may_wait = !self.due.any();
         for slot in 0..SLOTS {
             if self.members.has_taker(slot) {
@@ -348,20 +398,22 @@ impl<
         if !may_wait {
             return 0;
         }
-        if self.closing && !self.at_end {
+        if self.closing && !self.connections.at_end() {
             return END_PAUSE;
         }
         SWEEP_PERIOD.saturating_sub(now.saturating_sub(self.swept))
     }
 
-    /// What it had of the broker, and how its connections ended.
-    pub(crate) fn into_parts(self) -> (Hand<B>, Receiver<Arrived<T>>, ServedCounts) {
+    /// What it had of the broker, its end of the channel, and how its connections ended.
+    pub(crate) fn into_parts(self) -> (Hand<B>, Receiver<Arrived<T>>, ServedCounts)
+        ensures receiver { result.1 ≡ self.entry.receiver }
+        ensures served { total result.2 ≡ self.entry.ended }
+    {
         let Worker {
             number: _,
-            table,
+            connections,
             mut supply,
             poller: _,
-            receiver,
             ears: _,
             hands: _,
             roster: _,
@@ -369,13 +421,11 @@ impl<
             clock: _,
             due: _,
             members: _,
-            served,
             swept: _,
             closing: _,
-            at_end: _,
             waits: _,
         } = self;
-        table.abandon(&mut supply, 0);
+        let (receiver, served) = connections.into_parts(&mut supply);
         let (key, ports) = supply.into_parts();
         (Hand { key, ports }, receiver, served)
     }
