@@ -1,2 +1,5 @@
 mod Sums
+mod Interleavings
+mod Views
 mod Steps
+mod Settled

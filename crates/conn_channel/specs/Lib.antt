@@ -1,2 +1,3 @@
+pub mod Interleavings
 pub mod Rule
 pub mod Ends

@@ -1,9 +1,9 @@
 //! The ends of the channel.
-ghost use Rattle.std.specs.Prelude.{◌≡◌, ◌≤◌, ◌+◌, ◌-◌, [], if◌then◌else◌, length, vec_capacity, IfOk, MatchResult};
+ghost use Rattle.std.specs.Prelude.{◌≡◌, ◌≤◌, ◌+◌, ◌-◌, ◌++◌, [], ◌∷◌, if◌then◌else◌, length, vec_capacity, IfOk, MatchResult};
 ghost use Rattle.crossbeam_channel.specs.Claims.{view, IsSeatAt};
 ghost use Rattle.crossbeam_channel.specs.Ends.{sends_on, receives_on};
 ghost use Rattle.conn_channel.specs.Rule.{first_hand, hand, joined};
-ghost use Rattle.conn_channel.specs.Ends.{AreOf, AreReceivers, IsSettled, Receives, channel_of, ended_in, received_in};
+ghost use Rattle.conn_channel.specs.Ends.{AreOf, AreReceivers, IsBalanced, IsSettled, Receives, channel_of, end_marks_received_by, lists_of, new_receiver};
 
 use crate::queue;
 use crate::queue::{ChannelPass, Receiving, Sending};
@@ -14,7 +14,7 @@ use std::sync::Wait;
 
 /// The end that sends connections. It may go to another thread.
 ///
-/// Contracts see it as a `SenderState`: which channel it is, how many ends receive, and how many connections and end marks were sent.
+/// Contracts see it as a `SenderState`: which channel it is, how many ends receive, the connections that were sent, in order, and how many end marks.
 #[derive(Drop)]
 pub struct Sender<T: Drop> {
     ends: Sending<T>,
@@ -23,7 +23,7 @@ pub struct Sender<T: Drop> {
 }
 
 impl<T: Drop> Model for Sender<T> {
-    ghost use Rattle.std.specs.Prelude.{◌≡◌, ◌≤◌, ◌-◌};
+    ghost use Rattle.std.specs.Prelude.{◌≡◌, ◌≤◌, ◌-◌, []};
     ghost use Rattle.crossbeam_channel.specs.Claims.{view as known, IsSeatAt};
     ghost use Rattle.crossbeam_channel.specs.Ends.{sends_on};
     ghost use Rattle.conn_channel.specs.Rule.{hand};
@@ -31,33 +31,36 @@ impl<T: Drop> Model for Sender<T> {
 
     ghost Value = { SenderState T };
 
-    ghost view = { λ s. record { channel = channel_of s.pass; receivers = s.receivers; sent = (known s.pass).sent; marked = (known s.pass).marked } };
+    ghost view = { λ s. record { channel = channel_of s.pass; receivers = s.receivers; sent = (known s.pass).sent; end_marks_sent = (known s.pass).end_marks_sent } };
 
     ghost invariant = { λ s. IsSeatAt (sends_on s.ends) s.pass × (s.receivers ≤ 64)
-        × (known s.pass ≡ hand (128 - s.receivers) 1 (known s.pass).sent (known s.pass).marked 0 0) };
+        × (known s.pass ≡ hand (128 - s.receivers) 1 (known s.pass).sent (known s.pass).end_marks_sent [] 0) };
 }
 
 /// An end that receives. It may go to another thread.
 ///
-/// Contracts see it as a `ReceiverState`: which channel it is, and how many connections and end marks were received by it.
+/// Contracts see it as a `ReceiverState`: which channel it is, the connections that were received by it, in order, and how many end marks, at most one.
 #[derive(Drop)]
 pub struct Receiver<T: Drop> {
     ends: Receiving<T>,
     pass: ChannelPass<T>,
+    is_ended: bool,
 }
 
 impl<T: Drop> Model for Receiver<T> {
-    ghost use Rattle.std.specs.Prelude.{◌≡◌};
+    ghost use Rattle.std.specs.Prelude.{◌≡◌, if◌then◌else◌};
     ghost use Rattle.crossbeam_channel.specs.Claims.{view as known, IsSeatAt};
     ghost use Rattle.crossbeam_channel.specs.Ends.{receives_on};
-    ghost use Rattle.conn_channel.specs.Rule.{hand};
-    ghost use Rattle.conn_channel.specs.Ends.{ReceiverState, channel_of};
+    ghost use Rattle.conn_channel.specs.Rule.{receiving_hand};
+    ghost use Rattle.conn_channel.specs.Ends.{ReceiverState, channel_of, one_list};
 
     ghost Value = { ReceiverState T };
 
-    ghost view = { λ r. record { channel = channel_of r.pass; received = (known r.pass).received; ended = (known r.pass).ended } };
+    ghost view = { λ r. record { channel = channel_of r.pass; received = one_list (known r.pass).received; end_marks_received = (known r.pass).end_marks_received } };
 
-    ghost invariant = { λ r. IsSeatAt (receives_on r.ends) r.pass × (known r.pass ≡ hand 1 0 0 0 (known r.pass).received (known r.pass).ended) };
+    ghost invariant = { λ r. IsSeatAt (receives_on r.ends) r.pass
+        × (known r.pass ≡ receiving_hand (one_list (known r.pass).received) (known r.pass).end_marks_received)
+        × ((known r.pass).end_marks_received ≡ (if r.is_ended then 1 else 0)) };
 }
 
 /// An empty channel, for [`CAPACITY`](crate::CAPACITY) connections: the end that sends, and so many that receive, at most 64. Takes all the memory
@@ -71,7 +74,7 @@ pub fn open<T: Drop>(
     receivers: usize,
 ) -> Result<(Sender<T>, Vec<Receiver<T>>), AllocError>
     requires { receivers ≤ 64 }
-    ensures sender { IfOk result (λ made. (made.0.receivers ≡ receivers) × (made.0.sent ≡ 0) × (made.0.marked ≡ 0)) }
+    ensures sender { IfOk result (λ made. (made.0.receivers ≡ receivers) × (made.0.sent ≡ []) × (made.0.end_marks_sent ≡ 0)) }
     ensures receivers { IfOk result (λ made. AreReceivers made.0.channel receivers made.1.items) }
 {
     let row = Vec::with_capacity(alloc, receivers)?;
@@ -96,7 +99,7 @@ fn seat_receivers<T: Drop>(
     requires one { receives_on receiving.now ≡ sends_on sending.now }
     requires pass { IsSeatAt (sends_on sending.now) pass.old × (view pass.old ≡ first_hand) }
     requires row { (row.items ≡ []) × (count ≤ vec_capacity row) × (count ≤ 64) }
-    ensures pass { IfOk result (λ _. IsSeatAt (sends_on sending.now) pass.new × (view pass.new ≡ hand (128 - count) 1 0 0 0 0)) }
+    ensures pass { IfOk result (λ _. IsSeatAt (sends_on sending.now) pass.new × (view pass.new ≡ hand (128 - count) 1 [] 0 [] 0)) }
     ensures channel { IfOk result (λ _. channel_of pass.new ≡ channel_of pass.old) }
     ensures receivers { IfOk result (λ seated. AreReceivers (channel_of pass.old) count seated.items) }
 {
@@ -117,11 +120,15 @@ fn receiver_of<T: Drop>(
     requires pass { IsSeatAt (sends_on sending.now) pass.old × (2 ≤ (view pass.old).parts) }
     ensures pass { IfOk result (λ _. IsSeatAt (sends_on sending.now) pass.new × (view pass.new ≡ record (view pass.old) { parts = (view pass.old).parts - 1 })) }
     ensures channel { channel_of pass.new ≡ channel_of pass.old }
-    ensures receiver { IfOk result (λ receiver. receiver ≡ record { channel = channel_of pass.old; received = 0; ended = 0 }) }
+    ensures receiver { IfOk result (λ receiver. receiver ≡ new_receiver (channel_of pass.old)) }
 {
     let ends = receiving.try_clone()?;
     let pass = queue::cut(sending, pass);
-    Ok(Receiver { ends, pass })
+    Ok(Receiver {
+        ends,
+        pass,
+        is_ended: false,
+    })
 }
 
 impl<T: Drop> Sender<T> {
@@ -131,8 +138,8 @@ impl<T: Drop> Sender<T> {
     ///
     /// The connection, where no end that receives is left. Nothing has changed then.
     pub fn send<R: Wait>(&mut self, rt: &R, connection: T) -> Result<(), T>
-        requires { self.old.marked ≡ 0 }
-        ensures { MatchResult result (λ _. self.new ≡ record self.old { sent = self.old.sent + 1 }) (λ back. (back ≡ connection) × (self.new ≡ self.old)) }
+        requires { self.old.end_marks_sent ≡ 0 }
+        ensures { MatchResult result (λ _. self.new ≡ record self.old { sent = self.old.sent ++ connection ∷ [] }) (λ back. (back ≡ connection) × (self.new ≡ self.old)) }
     {
         match queue::send(rt, &self.ends, &mut self.pass, Sent::Connection(connection)) {
             Ok(()) => Ok(()),
@@ -144,16 +151,18 @@ impl<T: Drop> Sender<T> {
     /// Sends an end mark, behind which no connection is sent. Waits while the channel is full. Whether it was sent: it was not where no end that receives
     /// is left.
     pub fn end<R: Wait>(&mut self, rt: &R) -> bool
-        ensures { self.new ≡ (if result then record self.old { marked = self.old.marked + 1 } else self.old) }
+        ensures { self.new ≡ (if result then record self.old { end_marks_sent = self.old.end_marks_sent + 1 } else self.old) }
     {
         queue::send(rt, &self.ends, &mut self.pass, Sent::EndMark).is_ok()
     }
 
-    /// Takes back all ends that receive: what was sent was received by one of them, or is left; and nothing is left where one received an end mark.
+    /// Takes back all ends that receive. What was sent, in order, is what was received, and behind it what is left; what was received is an interleaving of
+    /// what each of them received; and nothing is left where one received an end mark.
     pub fn settle(self, receivers: Vec<Receiver<T>>)
         requires of { AreOf self.channel receivers.items }
         requires all { length receivers.items ≡ self.receivers }
-        ensures { IsSettled self.sent receivers.items }
+        ensures settled { IsSettled self receivers.items }
+        ensures balance { IsBalanced (length self.sent) receivers.items }
     {
         let Sender {
             ends,
@@ -170,13 +179,14 @@ fn join_all<T: Drop>(ends: &Sending<T>, pass: &mut ChannelPass<T>, receivers: Ve
     requires pass { IsSeatAt (sends_on ends.now) pass.old × (1 ≤ (view pass.old).parts) }
     requires of { AreOf (channel_of pass.old) receivers.items }
     ensures pass { IsSeatAt (sends_on ends.now) pass.new }
-    ensures all { view pass.new ≡ joined (view pass.old) (hand (length receivers.items) 0 0 0 (received_in receivers.items) (ended_in receivers.items)) }
+    ensures all { view pass.new ≡ joined (view pass.old) (hand (length receivers.items) 0 [] 0 (lists_of receivers.items) (end_marks_received_by receivers.items)) }
 {
     let mut receivers = receivers;
     if let Some(receiver) = receivers.pop() {
         let Receiver {
             ends: _,
             pass: other,
+            is_ended: _,
         } = receiver;
         queue::join(ends, pass, other);
         join_all(ends, pass, receivers);
@@ -184,13 +194,24 @@ fn join_all<T: Drop>(ends: &Sending<T>, pass: &mut ChannelPass<T>, receivers: Ve
 }
 
 impl<T: Drop> Receiver<T> {
+    /// Whether it received its end mark, behind which it receives nothing more.
+    pub fn is_ended(&self) -> bool
+        ensures { self.now.end_marks_received ≡ (if result then 1 else 0) }
+    {
+        self.is_ended
+    }
+
     /// Receives what is in front of the channel.
     pub fn receive<R: Wait>(&mut self, rt: &R) -> Received<T>
+        requires { self.old.end_marks_received ≡ 0 }
         ensures { Receives self.old result self.new }
     {
         match queue::receive(rt, &self.ends, &mut self.pass) {
             Some(Sent::Connection(connection)) => Received::Connection(connection),
-            Some(Sent::EndMark) => Received::EndMark,
+            Some(Sent::EndMark) => {
+                self.is_ended = true;
+                Received::EndMark
+            }
             None => Received::Nothing,
         }
     }

@@ -1,9 +1,10 @@
-//! The channel: one of `crossbeam_channel`, under the rule that what was sent was received or is in it, and that no connection is behind an end mark.
-ghost use Rattle.std.specs.Prelude.{◌≡◌, ◌≤◌, ◌-◌, List, IfOk, MatchOption, MatchResult};
+//! The channel: one of `crossbeam_channel`, under the rule that what was sent, in order, is what was received and behind it what is in the channel, and that
+//! no connection is behind an end mark.
+ghost use Rattle.std.specs.Prelude.{◌≡◌, ◌≤◌, ◌-◌, List, [], IfOk, MatchOption, MatchResult};
 ghost use Rattle.crossbeam_channel.specs.Claims.{view, IsSeatAt};
 ghost use Rattle.crossbeam_channel.specs.Ends.{sends_on, receives_on};
 ghost use Rattle.crossbeam_channel.specs.Err.{send_message};
-ghost use Rattle.conn_channel.specs.Rule.{first_hand, hand, joined, sending, receiving, KnowsAll, MaySend};
+ghost use Rattle.conn_channel.specs.Rule.{first_hand, receiving_hand, joined, sending, receiving, KnowsAll, MaySend, MayReceive};
 ghost use Rattle.conn_channel.specs.declared.sent.Sent.{Sent as Item};
 
 use crate::sent::Sent;
@@ -16,10 +17,10 @@ use std::sync::Wait;
 /// How many connections may wait in the channel.
 pub const CAPACITY: usize = 64;
 
-/// What was sent was received or is in the channel, and no connection is behind an end mark.
+/// What was sent, in order, is what was received and behind it what is in the channel, and no connection is behind an end mark.
 pub struct Conserving;
 
-impl<T> Protocol<Sent<T>, Hand> for Conserving {
+impl<T> Protocol<Sent<T>, Hand<T>> for Conserving {
     ghost use Rattle.conn_channel.specs.Rule.{Conserves, first_hand};
 
     ghost holds = { Conserves };
@@ -27,23 +28,23 @@ impl<T> Protocol<Sent<T>, Hand> for Conserving {
     ghost first = { first_hand };
 }
 
-pub(crate) type Sending<T> = RuledSender<Sent<T>, Hand, Conserving>;
+pub(crate) type Sending<T> = RuledSender<Sent<T>, Hand<T>, Conserving>;
 
-pub(crate) type Receiving<T> = RuledReceiver<Sent<T>, Hand, Conserving>;
+pub(crate) type Receiving<T> = RuledReceiver<Sent<T>, Hand<T>, Conserving>;
 
-pub(crate) type ChannelPass<T> = Pass<Sent<T>, Hand>;
+pub(crate) type ChannelPass<T> = Pass<Sent<T>, Hand<T>>;
 
 /// Something is sent.
 pub(crate) struct Putting;
 
-impl<T> Outcome<Sent<T>, Hand> for Putting {
+impl<T> Outcome<Sent<T>, Hand<T>> for Putting {
     ghost use Rattle.std.specs.Prelude.{◌≡◌};
     ghost use Rattle.conn_channel.specs.Rule.{sending};
 
     ghost then = { λ v x w. w ≡ sending v x };
 }
 
-impl<T> Lesson<Sent<T>, Hand> for Putting {
+impl<T> Lesson<Sent<T>, Hand<T>> for Putting {
     ghost use Rattle.std.specs.Prelude.{⊤};
 
     ghost fact = { λ _ _. ⊤ };
@@ -52,14 +53,14 @@ impl<T> Lesson<Sent<T>, Hand> for Putting {
 /// Something is received.
 pub(crate) struct Getting;
 
-impl<T> Outcome<Sent<T>, Hand> for Getting {
+impl<T> Outcome<Sent<T>, Hand<T>> for Getting {
     ghost use Rattle.std.specs.Prelude.{◌≡◌};
     ghost use Rattle.conn_channel.specs.Rule.{receiving};
 
     ghost then = { λ v x w. w ≡ receiving v x };
 }
 
-impl<T> Lesson<Sent<T>, Hand> for Getting {
+impl<T> Lesson<Sent<T>, Hand<T>> for Getting {
     ghost use Rattle.std.specs.Prelude.{⊤};
 
     ghost fact = { λ _ _. ⊤ };
@@ -68,33 +69,33 @@ impl<T> Lesson<Sent<T>, Hand> for Getting {
 /// Who has every part knows of all.
 pub(crate) struct Totals;
 
-impl<T> Lesson<Sent<T>, Hand> for Totals {
+impl<T> Lesson<Sent<T>, Hand<T>> for Totals {
     ghost use Rattle.conn_channel.specs.Rule.{KnowsAll};
 
     ghost fact = { KnowsAll };
 }
 
-/// Gives one part away, and not the right to send.
+/// Gives one part away, to an end that receives.
 pub(crate) struct CutPart;
 
-impl Split<Hand> for CutPart {
-    ghost use Rattle.std.specs.Prelude.{◌-◌};
-    ghost use Rattle.conn_channel.specs.Rule.{hand};
+impl<T> Split<Hand<T>> for CutPart {
+    ghost use Rattle.std.specs.Prelude.{◌-◌, []};
+    ghost use Rattle.conn_channel.specs.Rule.{receiving_hand};
 
     ghost left = { λ v. record v { parts = v.parts - 1 } };
 
-    ghost right = { λ v. hand 1 0 0 0 0 0 };
+    ghost right = { λ v. receiving_hand [] 0 };
 }
 
 /// Takes in another pass.
 pub(crate) struct TakeParts;
 
-impl Join<Hand> for TakeParts {
-    ghost use Rattle.conn_channel.specs.Rule.{hand, joined};
+impl<T> Join<Hand<T>> for TakeParts {
+    ghost use Rattle.conn_channel.specs.Rule.{joined, no_hand};
 
     ghost both = { joined };
 
-    ghost spent = { hand 0 0 0 0 0 0 };
+    ghost spent = { no_hand };
 }
 
 /// The two ends of an empty channel, with the pass of who opened it.
@@ -106,13 +107,13 @@ pub(crate) fn open<T: Drop>(
     bounded_with(alloc, CAPACITY)
 }
 
-/// Gives one part away.
+/// Gives one part away, to an end that receives.
 pub(crate) fn cut<T: Drop>(ends: &Sending<T>, pass: &mut ChannelPass<T>) -> ChannelPass<T>
     requires channel { IsSeatAt (sends_on ends.now) pass.old }
     requires parts { 2 ≤ (view pass.old).parts }
     ensures channel { IsSeatAt (sends_on ends.now) pass.new × IsSeatAt (sends_on ends.now) result }
     ensures left { view pass.new ≡ record (view pass.old) { parts = (view pass.old).parts - 1 } }
-    ensures right { view result ≡ hand 1 0 0 0 0 0 }
+    ensures right { view result ≡ receiving_hand [] 0 }
 {
     ends.another::<CutPart>(pass)
 }
@@ -155,6 +156,7 @@ pub(crate) fn receive<T: Drop, R: Wait>(
 ) -> Option<Sent<T>>
     requires channel { IsSeatAt (receives_on ends.now) pass.old }
     requires parts { 1 ≤ (view pass.old).parts }
+    requires may { MayReceive (view pass.old) }
     ensures channel { IsSeatAt (receives_on ends.now) pass.new }
     ensures received { MatchOption result (view pass.new ≡ view pass.old) (λ item. view pass.new ≡ receiving (view pass.old) item) }
 {
@@ -165,10 +167,11 @@ pub(crate) fn receive<T: Drop, R: Wait>(
     }
 }
 
-/// Takes in another pass, with its parts and what it knows.
+/// Takes in another pass, with its parts and what it received.
 pub(crate) fn join<T: Drop>(ends: &Sending<T>, pass: &mut ChannelPass<T>, other: ChannelPass<T>)
     requires channel { IsSeatAt (sends_on ends.now) pass.old × IsSeatAt (sends_on ends.now) other }
     requires parts { 1 ≤ (view pass.old).parts }
+    requires no_right { (view other).sends ≡ 0 }
     ensures channel { IsSeatAt (sends_on ends.now) pass.new }
     ensures all { view pass.new ≡ joined (view pass.old) (view other) }
 {
@@ -179,6 +182,7 @@ pub(crate) fn join<T: Drop>(ends: &Sending<T>, pass: &mut ChannelPass<T>, other:
 pub(crate) fn learn<T: Drop>(ends: &Sending<T>, pass: &mut ChannelPass<T>)
     requires channel { IsSeatAt (sends_on ends.now) pass.old }
     requires parts { (view pass.old).parts ≡ 128 }
+    requires right { (view pass.old).sends ≡ 1 }
     ensures channel { IsSeatAt (sends_on ends.now) pass.new }
     ensures same { view pass.new ≡ view pass.old }
     ensures learnt { (items : List (Item T)) × KnowsAll (view pass.old) items }

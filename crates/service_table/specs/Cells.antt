@@ -1,7 +1,9 @@
 -- The connections of a worker, each in the cell of its number: what happens to one of them.
-use Rattle.std.specs.Prelude.{◌≡◌, ℕ, ◌+◌, Bool, List, Option, Some, None, slice_get, slice_set, sum_by}
+use Rattle.std.specs.Prelude.{◌≡◌, ℕ, Bool, cond, List, Option, Some, None, is_some, slice_get, slice_set, count_by, MatchOption}
 use Rattle.transport.specs.declared.counts.Counts.{Counts}
 use Rattle.conn_engine.specs.Facts.{Fact}
+use Rattle.conn_engine.specs.Looking.{TakesAt}
+use Rattle.conn_engine.specs.Standings.{IsWaiting}
 use Rattle.conn_service.specs.declared.served.Round.TheVariants as rounds
 use Rattle.conn_service.specs.Services.{ServiceState, opened, IsTold}
 use Rattle.conn_service.specs.Lives.{Leads}
@@ -16,6 +18,19 @@ pub record InCell {P T : Type 0} (old : List (Option (ServiceState P T))) (cell 
   pub has : slice_get old cell ≡ Some before
   pub becomes : Becomes before after
   pub is : new ≡ slice_set old cell after
+
+-- how many connections a cell has, none or one; and how many these cells have
+abbrev pub taken : {A : Type 0} → Option A → ℕ
+taken cell = cond (is_some cell) 1 0
+
+abbrev pub occupied : {A : Type 0} → List (Option A) → ℕ
+occupied cells = count_by is_some cells
+
+-- how many connections a round ended, none or one
+abbrev pub ended_by : {T : Type 0} → Turned T → ℕ
+ended_by Vacant = 0
+ended_by (Goes round) = 0
+ended_by (Ended served transport) = 1
 
 -- a connection of some number was opened at this moment
 abbrev pub IsOpened : {P T : Type 0} → ℕ → T → Option (ServiceState P T) → Type 0
@@ -43,17 +58,3 @@ module _ {S P T : Type 0} (call : S → Fact P → S → Type 0) (turn : S → S
   Turns now None supply turned after supply' = (turned ≡ Vacant) × (after ≡ None) × (supply' ≡ supply)
   Turns now (Some service) supply turned after supply' =
       (behind : ServiceState P T) × Leads call turn visiting slot_of counts given accepted service supply behind supply' × Tells turned behind now after
-
--- how many cells have a connection
-abbrev pub in_one : {P T : Type 0} → Option (ServiceState P T) → ℕ
-in_one None = 0
-in_one (Some service) = 1
-
-abbrev pub occupied : {P T : Type 0} → List (Option (ServiceState P T)) → ℕ
-occupied cells = sum_by in_one cells
-
--- a cell is free behind a round that ended its connection, and only then
-abbrev pub Frees : {T : Type 0} → Turned T → ℕ → ℕ → Type 0
-Frees Vacant before after = after ≡ before
-Frees (Goes round) before after = after ≡ before
-Frees (Ended served transport) before after = before ≡ after + 1

@@ -1,7 +1,7 @@
 //! A cell, in which a connection may be.
-ghost use Rattle.std.specs.Prelude.{◌≡◌, ◌<◌, None, Some, length, MatchResult};
+ghost use Rattle.std.specs.Prelude.{◌≡◌, ◌+◌, ◌<◌, None, Some, length, MatchResult};
 ghost use Rattle.transport.specs.Counting.{no_counts};
-ghost use Rattle.service_table.specs.Cells.{Opens, Refuses};
+ghost use Rattle.service_table.specs.Cells.{Opens, Refuses, ended_by, taken};
 
 use crate::turned::Turned;
 use conn_engine::{HoldingPlace, Supply};
@@ -100,6 +100,7 @@ pub(crate) fn round<P: HoldingPlace, T: Transport, S: Supply<P>, X: Crossing>(
     buffer: &mut [u8],
 ) -> Turned<T>
     requires room { 0 < length buffer.old }
+    ensures count { taken cell.old ≡ taken cell.new + ended_by result }
 {
     let Some(seat) = cell.take() else {
         return Turned::Vacant;

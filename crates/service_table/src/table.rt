@@ -1,7 +1,7 @@
 //! The connections of a worker, by the cells of their numbers.
-ghost use Rattle.std.specs.Prelude.{◌≡◌, ◌+◌, ◌<◌, true, length, IfOk, MatchResult};
+ghost use Rattle.std.specs.Prelude.{◌≡◌, ◌+◌, ◌<◌, ◌≤◌, ◌↔◌, None, true, length, replicate, vec_capacity, All, IfOk, IsTrue, MatchResult};
 ghost use Rattle.transport.specs.Counting.{no_counts};
-ghost use Rattle.service_table.specs.Cells.{Frees, InCell, Opens, Refuses, occupied};
+ghost use Rattle.service_table.specs.Cells.{InCell, Opens, Refuses, ended_by, occupied};
 
 use crate::cell;
 use crate::cell::Seat;
@@ -36,7 +36,8 @@ impl<P: HoldingPlace, T: Transport> ServiceTable<P, T> {
     ///
     /// [`NoMemory`].
     pub fn new(alloc: Global, first: u16, count: u16) -> Result<ServiceTable<P, T>, NoMemory>
-        ensures { IfOk result (λ table. occupied table ≡ 0) }
+        ensures free { IfOk result (λ table. table ≡ replicate count None) }
+        ensures count { IfOk result (λ table. occupied table ≡ 0) }
     {
         let cells = free_cells(alloc, usize::from(count))?;
         Ok(ServiceTable {
@@ -61,8 +62,9 @@ impl<P: HoldingPlace, T: Transport> ServiceTable<P, T> {
     pub fn open(&mut self, cell: usize, now: u64, transport: T) -> Result<(), T>
         requires cell { cell < length self.old }
         requires new { T.counts transport ≡ no_counts }
-        ensures count { MatchResult result (λ _. occupied self.new ≡ occupied self.old + 1) (λ _. occupied self.new ≡ occupied self.old) }
         ensures cell { InCell self.old cell (λ before after. MatchResult result (λ _. Opens now transport before after) (Refuses transport before after)) self.new }
+        ensures len { length self.new ≡ length self.old }
+        ensures count { MatchResult result (λ _. occupied self.new ≡ occupied self.old + 1) (λ _. self.new ≡ self.old) }
     {
         let number = usize::from(self.first).saturating_add(cell);
         cell::open(&mut self.cells[cell], self.alloc, number, now, transport)
@@ -81,8 +83,8 @@ impl<P: HoldingPlace, T: Transport> ServiceTable<P, T> {
     ) -> Turned<T>
         requires cell { cell < length self.old }
         requires room { 0 < length buffer.old }
-        ensures cells { length self.new ≡ length self.old }
-        ensures count { Frees result (occupied self.old) (occupied self.new) }
+        ensures len { length self.new ≡ length self.old }
+        ensures count { occupied self.old ≡ occupied self.new + ended_by result }
     {
         cell::round(&mut self.cells[cell], supply, crossing, worker, now, buffer)
     }
@@ -110,7 +112,8 @@ impl<P: HoldingPlace, T: Transport> ServiceTable<P, T> {
 
     /// Whether all cells are free.
     pub fn is_empty(&self) -> bool
-        ensures { result ≡ true → occupied self.now ≡ 0 }
+        ensures free { IsTrue result ↔ All (λ cell. cell ≡ None) self.now }
+        ensures count { result ≡ true → occupied self.now ≡ 0 }
     {
         self.cells.iter().all(|cell| cell.is_none())
     }
@@ -133,12 +136,12 @@ impl<P: HoldingPlace, T: Transport> ServiceTable<P, T> {
 fn free_cells<P: HoldingPlace, T: Transport>(
     alloc: Global,
     count: usize,
-) -> Result<Vec<Option<Seat<P, T>>>, AllocError> {
+) -> Result<Vec<Option<Seat<P, T>>>, AllocError>
+    ensures { IfOk result (λ cells. cells.items ≡ replicate count None) }
+{
     let mut cells = Vec::with_capacity(alloc, count)?;
     for _ in 0..count {
-        if cells.len() < cells.capacity() {
-            cells.push_reserved(None);
-        }
+        cells.push_reserved(None);
     }
     Ok(cells)
 }

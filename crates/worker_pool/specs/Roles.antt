@@ -20,11 +20,11 @@ pub record HasAccepted {T S : Type 0} (tally : S → Tally) (old new : AcceptorS
   pub channel : new.sender.channel ≡ old.sender.channel
   pub receivers : new.sender.receivers ≡ old.sender.receivers
   pub each : (tally new.source).arrivals + old.came ≡ (tally old.source).arrivals + new.came
-  pub sent : new.came + (old.sender.sent + old.unserved) ≡ old.came + (new.sender.sent + new.unserved)
+  pub sent : new.came + (length old.sender.sent + old.unserved) ≡ old.came + (length new.sender.sent + new.unserved)
 
 -- nothing but end marks was sent
 abbrev pub OnlyMarks : {T : Type 0} → SenderState T → SenderState T → Type 0
-OnlyMarks old new = new ≡ record old { marked = new.marked }
+OnlyMarks old new = new ≡ record old { end_marks_sent = new.end_marks_sent }
 
 module _ {B T S Q W X C R : Type 0} where
   -- a worker of this channel

@@ -1,13 +1,12 @@
 -- The connections of a worker: what it received is open, or has ended and is counted.
-use Rattle.std.specs.Prelude.{◌≡◌, ℕ, ◌+◌, ◌<◌, ◌≤◌, ◌^◌, Bool, true, false, if◌then◌else◌, List, length, sum_by, All}
-use Rattle.conn_channel.specs.Ends.{ChannelId, ReceiverState}
+use Rattle.std.specs.Prelude.{◌≡◌, ℕ, ◌+◌, ◌<◌, ◌≤◌, ◌^◌, List, length, sum_by}
+use Rattle.conn_channel.specs.Ends.{ChannelId, ReceiverState, new_receiver}
 use Rattle.worker_pool.specs.declared.arrived.Arrived.{Arrived}
 use Rattle.worker_pool.specs.declared.served.ServedCounts.{ServedCounts}
 
--- the end of the channel, whether its end mark was received, and how many connections live and have ended
+-- the end of the channel, and how many connections live and have ended
 pub record ConnectionsState (T : Type 0) : Type 0 where
   pub receiver : ReceiverState (Arrived T)
-  pub at_end : Bool
   pub live : ℕ
   pub ended : ℕ
 
@@ -22,14 +21,13 @@ total_in counts = sum_by total counts
 pub record CountsOne (old new : ServedCounts) : Type 0 where
   pub one_more : total old + 1 < 2 ^ 64 → total new ≡ total old + 1
 
--- each that was received is open or has ended, and a worker that received its end mark received one
-pub record AddsUp {T : Type 0} (receiver : ReceiverState (Arrived T)) (at_end : Bool) (live ended : ℕ) : Type 0 where
-  pub received : receiver.received < 2 ^ 64 → receiver.received ≡ live + ended
-  pub mark : receiver.ended ≡ (if at_end then 1 else 0)
+-- each that was received lives or has ended, as long as the counts have room
+abbrev pub AddsUp : {T : Type 0} → ReceiverState (Arrived T) → ℕ → ℕ → Type 0
+AddsUp receiver live ended = length receiver.received < 2 ^ 64 → length receiver.received ≡ live + ended
 
 -- none was received yet
 abbrev pub fresh_connections : {T : Type 0} → ReceiverState (Arrived T) → ConnectionsState T
-fresh_connections receiver = record { receiver = receiver; at_end = false; live = 0; ended = 0 }
+fresh_connections receiver = record { receiver = receiver; live = 0; ended = 0 }
 
 -- they come through the same channel as before
 abbrev pub StaysOf : {T : Type 0} → ConnectionsState T → ConnectionsState T → Type 0
@@ -37,17 +35,13 @@ StaysOf old new = new.receiver.channel ≡ old.receiver.channel
 
 -- the end mark was received, and all that were received have ended
 pub record IsDone {T : Type 0} (connections : ConnectionsState T) : Type 0 where
-  pub mark : connections.receiver.ended ≡ 1
-  pub all : connections.receiver.received < 2 ^ 64 → connections.receiver.received ≡ connections.ended
-
--- an end of this channel by which nothing was received
-abbrev pub IsFresh : {T : Type 0} → ChannelId T → ReceiverState T → Type 0
-IsFresh channel receiver = receiver ≡ record { channel = channel; received = 0; ended = 0 }
+  pub mark : connections.receiver.end_marks_received ≡ 1
+  pub all : length connections.receiver.received < 2 ^ 64 → length connections.receiver.received ≡ connections.ended
 
 -- the kit of a worker that is to receive from this channel, and knows of these routes
 pub record IsKitOf {K T : Type 0} (table : K) (channel : ChannelId (Arrived T)) (known : K) (receiver : ReceiverState (Arrived T)) : Type 0 where
   pub knows : known ≡ table
-  pub fresh : IsFresh channel receiver
+  pub fresh : receiver ≡ new_receiver channel
 
 -- where fewer than 2^64 were received in all, as many more are counted as were received
 abbrev pub GathersCounts : ℕ → ℕ → ℕ → ℕ → Type 0

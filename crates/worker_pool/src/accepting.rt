@@ -1,5 +1,5 @@
 //! How connections are taken from a source and sent to workers.
-ghost use Rattle.std.specs.Prelude.{◌≡◌, ◌+◌};
+ghost use Rattle.std.specs.Prelude.{◌≡◌, ◌+◌, [], length};
 ghost use Rattle.worker_pool.specs.Roles.{HasAccepted, OnlyMarks};
 
 use crate::arrived::Arrived;
@@ -83,14 +83,14 @@ pub(crate) struct Acceptor<'a, T: Transport + Drop, S: Source<T>, W> {
 }
 
 impl<'a, T: Transport + Drop, S: Source<T>, W> Model for Acceptor<'a, T, S, W> {
-    ghost use Rattle.std.specs.Prelude.{◌≡◌, ◌+◌, ◌≤◌, false};
+    ghost use Rattle.std.specs.Prelude.{◌≡◌, ◌+◌, ◌≤◌, false, length};
     ghost use Rattle.worker_pool.specs.Roles.{AcceptorState};
 
     ghost Value = { AcceptorState T S };
 
     ghost view = { λ a. record { source = a.source; sender = a.sender; came = a.came; unserved = a.unserved } };
 
-    ghost invariant = { λ a. (a.is_closed ≡ false → a.sender.marked ≡ 0) × (a.sender.sent + a.unserved ≡ a.came) × (a.came ≤ (S.tally a.source).arrivals) };
+    ghost invariant = { λ a. (a.is_closed ≡ false → a.sender.end_marks_sent ≡ 0) × (length a.sender.sent + a.unserved ≡ a.came) × (a.came ≤ (S.tally a.source).arrivals) };
 }
 
 impl<'a, T: Transport + Drop, S: Source<T>, W> Acceptor<'a, T, S, W> {
@@ -101,7 +101,7 @@ impl<'a, T: Transport + Drop, S: Source<T>, W> Acceptor<'a, T, S, W> {
         roster: &'a Roster<W>,
         closer: Closer<'a>,
     ) -> Acceptor<'a, T, S, W>
-        requires { (sender.sent ≡ 0) × (sender.marked ≡ 0) }
+        requires { (sender.sent ≡ []) × (sender.end_marks_sent ≡ 0) }
         ensures { result ≡ record { source = source; sender = sender; came = 0; unserved = 0 } }
     {
         Acceptor {
@@ -135,7 +135,7 @@ impl<'a, T: Transport + Drop, S: Source<T>, W> Acceptor<'a, T, S, W> {
         ensures sender { result.0 ≡ self.entry.sender }
         ensures source { result.1.source ≡ self.entry.source }
         ensures counts { (result.1.came ≡ self.entry.came) × (result.1.unserved ≡ self.entry.unserved) }
-        ensures all { self.entry.sender.sent + self.entry.unserved ≡ self.entry.came }
+        ensures all { length self.entry.sender.sent + self.entry.unserved ≡ self.entry.came }
     {
         let Acceptor {
             source,

@@ -1,5 +1,5 @@
 //! The connections of a worker: those that it received are open, or have ended and are counted.
-ghost use Rattle.std.specs.Prelude.{◌≡◌, ◌+◌, ◌<◌, true, length, MatchOption};
+ghost use Rattle.std.specs.Prelude.{◌≡◌, ◌+◌, ◌<◌, [], true, length, MatchOption};
 ghost use Rattle.transport.specs.Counting.{no_counts};
 ghost use Rattle.service_table.specs.Cells.{occupied};
 ghost use Rattle.worker_pool.specs.Serving.{IsDone, StaysOf, fresh_connections, total};
@@ -22,8 +22,6 @@ pub(crate) struct Connections<P: HoldingPlace, T: Transport + Drop> {
     receiver: Receiver<Arrived<T>>,
     table: ServiceTable<P, T>,
     served: ServedCounts,
-    // The end mark was received, and nothing more is.
-    at_end: bool,
 }
 
 impl<P: HoldingPlace, T: Transport + Drop> Model for Connections<P, T> {
@@ -32,9 +30,9 @@ impl<P: HoldingPlace, T: Transport + Drop> Model for Connections<P, T> {
 
     ghost Value = { ConnectionsState T };
 
-    ghost view = { λ c. record { receiver = c.receiver; at_end = c.at_end; live = occupied c.table; ended = total c.served } };
+    ghost view = { λ c. record { receiver = c.receiver; live = occupied c.table; ended = total c.served } };
 
-    ghost invariant = { λ c. AddsUp c.receiver c.at_end (occupied c.table) (total c.served) };
+    ghost invariant = { λ c. AddsUp c.receiver (occupied c.table) (total c.served) };
 }
 
 /// What came through the channel.
@@ -65,7 +63,7 @@ impl<P: HoldingPlace, T: Transport + Drop> Connections<P, T> {
         receiver: Receiver<Arrived<T>>,
         table: ServiceTable<P, T>,
     ) -> Connections<P, T>
-        requires receiver { (receiver.received ≡ 0) × (receiver.ended ≡ 0) }
+        requires receiver { receiver.received ≡ [] }
         requires table { occupied table ≡ 0 }
         ensures { result ≡ fresh_connections receiver }
     {
@@ -73,7 +71,6 @@ impl<P: HoldingPlace, T: Transport + Drop> Connections<P, T> {
             receiver,
             table,
             served: ServedCounts::NONE,
-            at_end: false,
         }
     }
 
@@ -82,18 +79,16 @@ impl<P: HoldingPlace, T: Transport + Drop> Connections<P, T> {
         self.table.len()
     }
 
-    /// The end mark was received.
-    pub(crate) fn at_end(&self) -> bool
-        ensures { result ≡ self.now.at_end }
-    {
-        self.at_end
+    /// The end mark was received, and nothing more is.
+    pub(crate) fn is_ended(&self) -> bool {
+        self.receiver.is_ended()
     }
 
     /// Nothing more comes, and all that came have ended.
     pub(crate) fn is_done(&self) -> bool
         ensures { result ≡ true → IsDone self.now }
     {
-        self.at_end && self.table.is_empty()
+        self.receiver.is_ended() && self.table.is_empty()
     }
 
     /// The slot of the group that the client in a cell would be handed a message of.
@@ -120,7 +115,7 @@ impl<P: HoldingPlace, T: Transport + Drop> Connections<P, T> {
     ) -> Came
         ensures { StaysOf self.old self.new }
     {
-        if self.at_end {
+        if self.receiver.is_ended() {
             return Came::Nothing;
         }
         match self.receiver.receive(rt) {
@@ -133,10 +128,7 @@ impl<P: HoldingPlace, T: Transport + Drop> Connections<P, T> {
                     }
                 }
             }
-            Received::EndMark => {
-                self.at_end = true;
-                Came::EndMark
-            }
+            Received::EndMark => Came::EndMark,
             Received::Nothing => Came::Nothing,
         }
     }
@@ -184,7 +176,6 @@ impl<P: HoldingPlace, T: Transport + Drop> Connections<P, T> {
             receiver,
             table,
             served,
-            at_end: _,
         } = self;
         table.abandon(supply, 0);
         (receiver, served)

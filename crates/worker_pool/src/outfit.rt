@@ -1,5 +1,5 @@
 //! What workers have of the bells: an ear at the bell of each group, and hands at all of them.
-ghost use Rattle.std.specs.Prelude.{◌≡◌, ◌≤◌, length};
+ghost use Rattle.std.specs.Prelude.{◌≡◌, ◌≤◌, length, IfOk};
 ghost use Rattle.std.specs.Arc.{arc_value};
 ghost use Rattle.bell.specs.Calls.{AreListenersOf, AreRingersOf};
 
@@ -22,16 +22,18 @@ pub(crate) fn outfits<W: Wake + Drop>(
     wards: &[Arc<Vec<W>, Global>],
     workers: usize,
     slots: usize,
-) -> Result<Vec<Outfit<W>>, NoMemory> {
+) -> Result<Vec<Outfit<W>>, NoMemory>
+    ensures { IfOk result (λ outfits. length outfits.items ≡ workers) }
+{
     let mut all = Vec::with_capacity(alloc, workers)?;
-    for _ in 0..workers {
+    'outfits: for _ in 0..workers {
         all.push(Outfit {
             ears: Vec::new(alloc),
             hands: Vec::new(alloc),
         })?;
     }
-    for slot in 0..slots {
-        fit_slot(alloc, wards, slot, &mut all)?;
+    'slots: for slot in 0..slots {
+        fit_slot(alloc, wards, slot, all.as_mut_slice())?;
     }
     Ok(all)
 }
@@ -41,7 +43,7 @@ fn fit_slot<W: Wake + Drop>(
     alloc: Global,
     wards: &[Arc<Vec<W>, Global>],
     slot: usize,
-    all: &mut Vec<Outfit<W>>,
+    all: &mut [Outfit<W>],
 ) -> Result<(), NoMemory> {
     let mut first = 0usize;
     for ward in wards {
@@ -57,7 +59,7 @@ fn fit_ward<W: Wake + Drop>(
     ward: &Arc<Vec<W>, Global>,
     slot: usize,
     first: usize,
-    all: &mut Vec<Outfit<W>>,
+    all: &mut [Outfit<W>],
 ) -> Result<usize, NoMemory> {
     let count = ward.len();
     if count == 0 || count > MOST_WORKERS {

@@ -1,6 +1,6 @@
 //! A pool of workers, and its run.
 ghost use Rattle.std.specs.Prelude.{◌≡◌, ◌+◌, ◌≤◌, [], All, length, vec_capacity, IfOk, IfErr, MatchResult};
-ghost use Rattle.conn_channel.specs.Ends.{AreOf, ended_in, received_in};
+ghost use Rattle.conn_channel.specs.Ends.{AreOf, end_marks_received_by, received_by};
 ghost use Rattle.service_table.specs.Cells.{occupied};
 ghost use Rattle.worker_pool.specs.Serving.{IsKitOf, GathersCounts, total_in};
 ghost use Rattle.worker_pool.specs.Roles.{AreHired, HasServed, HaveEnded, IsPooled, IsServing, IsSourceOf, IsStaff};
@@ -309,8 +309,8 @@ fn gather<
     ensures hands { length hands.new.items ≡ length hands.old.items + length workers.items }
     ensures receivers { length receivers.new.items ≡ length receivers.old.items + length workers.items }
     ensures of { AreOf sender.now.channel receivers.new.items }
-    ensures marks { ended_in receivers.new.items ≡ ended_in receivers.old.items + length workers.items }
-    ensures counts { GathersCounts (received_in receivers.old.items) (total_in served.old.items) (received_in receivers.new.items) (total_in served.new.items) }
+    ensures marks { end_marks_received_by receivers.new.items ≡ end_marks_received_by receivers.old.items + length workers.items }
+    ensures counts { GathersCounts (received_by receivers.old.items) (total_in served.old.items) (received_by receivers.new.items) (total_in served.new.items) }
 {
     let mut workers = workers;
     match workers.pop() {

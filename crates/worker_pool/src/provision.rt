@@ -40,7 +40,7 @@ pub(crate) fn provide<'a, B: Broker, T: Transport + Drop, Q: Drop, W: Wake + Dro
     alarms: Vec<W>,
 ) -> Result<Provision<'a, T, Q, W, C>, NoMemory>
     requires { length gear.items ≤ 64 }
-    ensures sender { IfOk result (λ made. (made.sender.receivers ≡ length gear.items) × (made.sender.sent ≡ 0) × (made.sender.marked ≡ 0)) }
+    ensures sender { IfOk result (λ made. (made.sender.receivers ≡ length gear.items) × (made.sender.sent ≡ []) × (made.sender.end_marks_sent ≡ 0)) }
     ensures count { IfOk result (λ made. length made.kits.items ≡ length gear.items) }
     ensures kits { IfOk result (λ made. All (λ kit. IsKitOf hall.now made.sender.channel kit.known.table kit.receiver) made.kits.items) }
     ensures receivers { IfOk result (λ made. (made.receivers.items ≡ []) × (length gear.items ≤ vec_capacity made.receivers)) }

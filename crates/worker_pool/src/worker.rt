@@ -1,5 +1,5 @@
 //! A worker: what it has, and its turns.
-ghost use Rattle.std.specs.Prelude.{◌≡◌};
+ghost use Rattle.std.specs.Prelude.{◌≡◌, []};
 ghost use Rattle.service_table.specs.Cells.{occupied};
 ghost use Rattle.worker_pool.specs.Serving.{IsDone, StaysOf, fresh_connections, total};
 
@@ -92,7 +92,7 @@ impl<
         crossing: &'a X,
     ) -> Worker<'a, 'g, B, T, Q, W, X, C, R>
         requires known { kit.known.table ≡ hall.now }
-        requires receiver { (kit.receiver.received ≡ 0) × (kit.receiver.ended ≡ 0) }
+        requires receiver { kit.receiver.received ≡ [] }
         requires table { occupied table ≡ 0 }
         ensures { result ≡ fresh_connections kit.receiver }
     {
@@ -398,7 +398,7 @@ impl<
         if !may_wait {
             return 0;
         }
-        if self.closing && !self.connections.at_end() {
+        if self.closing && !self.connections.is_ended() {
             return END_PAUSE;
         }
         SWEEP_PERIOD.saturating_sub(now.saturating_sub(self.swept))

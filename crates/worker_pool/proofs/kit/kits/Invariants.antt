@@ -1,0 +1,16 @@
+-- The kits so far, and what is left for the others.
+use Rattle.std.proofs.Common.{◌≡◌, ◌+◌, All, length, vec_len}
+use Rattle.conn_channel.specs.Ends.{AreReceivers}
+use Rattle.worker_pool.specs.Serving.{IsKitOf}
+use Rattle.worker_pool.proofs.kit.kits.Given as goal
+
+abbrev pub invariant-kits : goal.invariant-kits
+invariant-kits g l = record {
+  receivers : AreReceivers l.fn.sender.channel (length l.gear.items) l.receivers.items;
+  outfits : length l.outfits.items ≡ length l.gear.items;
+  count : length l.kits.items + length l.gear.items ≡ length l.fn.gear.items;
+  each : All (λ kit. IsKitOf l.fn.hall l.fn.sender.channel kit.known.table kit.receiver) l.kits.items;
+}
+
+abbrev pub decreases-kits : goal.decreases-kits
+decreases-kits g l = vec_len l.gear
