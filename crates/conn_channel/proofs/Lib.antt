@@ -2,4 +2,6 @@ mod Sums
 mod Interleavings
 mod Views
 mod Steps
+mod Witnessed
 mod Settled
+mod Unseen

@@ -10,6 +10,8 @@ use Rattle.conn_channel.specs.declared.sent.Received.{Received}
 use Rattle.conn_channel.specs.declared.sent.Received.TheVariants.{Connection, EndMark, Nothing}
 use Rattle.conn_channel.specs.declared.view.Hand.{Hand}
 use Rattle.conn_channel.specs.Interleavings.{IsInterleaving}
+use Rattle.conn_channel.specs.Rule.{receiving_hand}
+use Rattle.conn_channel.specs.Witnesses.{Saw}
 
 -- which channel it is
 pub record ChannelId (T : Type 0) : Type 0 where
@@ -78,8 +80,8 @@ pub record IsBalanced {T : Type 0} (sent : ℕ) (receivers : List (ReceiverState
   pub balance : sent ≡ received_by receivers + left
   pub last : 0 < end_marks_received_by receivers → left ≡ 0
 
--- what was received is known
-abbrev pub Receives : {T : Type 0} → ReceiverState T → Received T → ReceiverState T → Type 0
-Receives old (Connection connection) new = new ≡ record old { received = old.received ++ connection ∷ [] }
-Receives old EndMark new = new ≡ record old { end_marks_received = old.end_marks_received + 1 }
-Receives old Nothing new = new ≡ old
+-- what was received is known; and where it was nothing, the witness saw the channel empty, when an end knew what this one knows
+abbrev pub Receives : {T : Type 0} → (List (Sent T) → List (Hand T) → Type 0) → ReceiverState T → Received T → ReceiverState T → Type 0
+Receives saw old (Connection connection) new = new ≡ record old { received = old.received ++ connection ∷ [] }
+Receives saw old EndMark new = new ≡ record old { end_marks_received = old.end_marks_received + 1 }
+Receives saw old Nothing new = (new ≡ old) × Saw saw (receiving_hand old.received old.end_marks_received) []

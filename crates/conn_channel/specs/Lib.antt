@@ -1,3 +1,4 @@
 pub mod Interleavings
 pub mod Rule
+pub mod Witnesses
 pub mod Ends

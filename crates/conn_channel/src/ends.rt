@@ -8,6 +8,7 @@ ghost use Rattle.conn_channel.specs.Ends.{AreOf, AreReceivers, IsBalanced, IsSet
 use crate::queue;
 use crate::queue::{ChannelPass, Receiving, Sending};
 use crate::sent::{Received, Sent};
+use crate::witness::{LawfulWitness, Nobody, Witness};
 use std::alloc::{AllocError, Global};
 use std::marker::Model;
 use std::sync::Wait;
@@ -16,13 +17,13 @@ use std::sync::Wait;
 ///
 /// Contracts see it as a `SenderState`: which channel it is, how many ends receive, the connections that were sent, in order, and how many end marks.
 #[derive(Drop)]
-pub struct Sender<T: Drop> {
-    ends: Sending<T>,
+pub struct Sender<T: Drop, W: LawfulWitness<T> = Nobody> {
+    ends: Sending<T, W>,
     pass: ChannelPass<T>,
     receivers: usize,
 }
 
-impl<T: Drop> Model for Sender<T> {
+impl<T: Drop, W: LawfulWitness<T>> Model for Sender<T, W> {
     ghost use Rattle.std.specs.Prelude.{◌≡◌, ◌≤◌, ◌-◌, []};
     ghost use Rattle.crossbeam_channel.specs.Claims.{view as known, IsSeatAt};
     ghost use Rattle.crossbeam_channel.specs.Ends.{sends_on};
@@ -41,18 +42,19 @@ impl<T: Drop> Model for Sender<T> {
 ///
 /// Contracts see it as a `ReceiverState`: which channel it is, the connections that were received by it, in order, and how many end marks, at most one.
 #[derive(Drop)]
-pub struct Receiver<T: Drop> {
-    ends: Receiving<T>,
+pub struct Receiver<T: Drop, W: Witness<T> = Nobody> {
+    ends: Receiving<T, W>,
     pass: ChannelPass<T>,
     is_ended: bool,
 }
 
-impl<T: Drop> Model for Receiver<T> {
+impl<T: Drop, W: Witness<T>> Model for Receiver<T, W> {
     ghost use Rattle.std.specs.Prelude.{◌≡◌, if◌then◌else◌};
     ghost use Rattle.crossbeam_channel.specs.Claims.{view as known, IsSeatAt};
     ghost use Rattle.crossbeam_channel.specs.Ends.{receives_on};
     ghost use Rattle.conn_channel.specs.Rule.{receiving_hand};
     ghost use Rattle.conn_channel.specs.Ends.{ReceiverState, channel_of, one_list};
+    ghost use Rattle.conn_channel.specs.Witnesses.{FollowsReceiver};
 
     ghost Value = { ReceiverState T };
 
@@ -60,7 +62,7 @@ impl<T: Drop> Model for Receiver<T> {
 
     ghost invariant = { λ r. IsSeatAt (receives_on r.ends) r.pass
         × (known r.pass ≡ receiving_hand (one_list (known r.pass).received) (known r.pass).end_marks_received)
-        × ((known r.pass).end_marks_received ≡ (if r.is_ended then 1 else 0)) };
+        × ((known r.pass).end_marks_received ≡ (if r.is_ended then 1 else 0)) × FollowsReceiver W.saw r.pass.id };
 }
 
 /// An empty channel, for [`CAPACITY`](crate::CAPACITY) connections: the end that sends, and so many that receive, at most 64. Takes all the memory
@@ -77,6 +79,22 @@ pub fn open<T: Drop>(
     ensures sender { IfOk result (λ made. (made.0.receivers ≡ receivers) × (made.0.sent ≡ []) × (made.0.end_marks_sent ≡ 0)) }
     ensures receivers { IfOk result (λ made. AreReceivers made.0.channel receivers made.1.items) }
 {
+    open_with_witness(alloc, receivers)
+}
+
+/// The same as [`open`], of a channel with a witness.
+///
+/// # Errors
+///
+/// Want of memory.
+pub fn open_with_witness<T: Drop, W: LawfulWitness<T>>(
+    alloc: Global,
+    receivers: usize,
+) -> Result<(Sender<T, W>, Vec<Receiver<T, W>>), AllocError>
+    requires { receivers ≤ 64 }
+    ensures sender { IfOk result (λ made. (made.0.receivers ≡ receivers) × (made.0.sent ≡ []) × (made.0.end_marks_sent ≡ 0)) }
+    ensures receivers { IfOk result (λ made. AreReceivers made.0.channel receivers made.1.items) }
+{
     let row = Vec::with_capacity(alloc, receivers)?;
     let (sending, receiving, mut pass) = queue::open(alloc)?;
     let row = seat_receivers(&sending, &receiving, &mut pass, row, receivers)?;
@@ -89,13 +107,13 @@ pub fn open<T: Drop>(
 }
 
 /// Puts so many ends that receive into an empty row that has room for them.
-fn seat_receivers<T: Drop>(
-    sending: &Sending<T>,
-    receiving: &Receiving<T>,
+fn seat_receivers<T: Drop, W: LawfulWitness<T>>(
+    sending: &Sending<T, W>,
+    receiving: &Receiving<T, W>,
     pass: &mut ChannelPass<T>,
-    row: Vec<Receiver<T>>,
+    row: Vec<Receiver<T, W>>,
     count: usize,
-) -> Result<Vec<Receiver<T>>, AllocError>
+) -> Result<Vec<Receiver<T, W>>, AllocError>
     requires one { receives_on receiving.now ≡ sends_on sending.now }
     requires pass { IsSeatAt (sends_on sending.now) pass.old × (view pass.old ≡ first_hand) }
     requires row { (row.items ≡ []) × (count ≤ vec_capacity row) × (count ≤ 64) }
@@ -111,11 +129,11 @@ fn seat_receivers<T: Drop>(
 }
 
 /// One more end that receives.
-fn receiver_of<T: Drop>(
-    sending: &Sending<T>,
-    receiving: &Receiving<T>,
+fn receiver_of<T: Drop, W: LawfulWitness<T>>(
+    sending: &Sending<T, W>,
+    receiving: &Receiving<T, W>,
     pass: &mut ChannelPass<T>,
-) -> Result<Receiver<T>, AllocError>
+) -> Result<Receiver<T, W>, AllocError>
     requires one { receives_on receiving.now ≡ sends_on sending.now }
     requires pass { IsSeatAt (sends_on sending.now) pass.old × (2 ≤ (view pass.old).parts) }
     ensures pass { IfOk result (λ _. IsSeatAt (sends_on sending.now) pass.new × (view pass.new ≡ record (view pass.old) { parts = (view pass.old).parts - 1 })) }
@@ -131,7 +149,7 @@ fn receiver_of<T: Drop>(
     })
 }
 
-impl<T: Drop> Sender<T> {
+impl<T: Drop, W: LawfulWitness<T>> Sender<T, W> {
     /// Sends a connection. Waits while the channel is full.
     ///
     /// # Errors
@@ -158,7 +176,7 @@ impl<T: Drop> Sender<T> {
 
     /// Takes back all ends that receive. What was sent, in order, is what was received, and behind it what is left; what was received is an interleaving of
     /// what each of them received; and nothing is left where one received an end mark.
-    pub fn settle(self, receivers: Vec<Receiver<T>>)
+    pub fn settle(self, receivers: Vec<Receiver<T, W>>)
         requires of { AreOf self.channel receivers.items }
         requires all { length receivers.items ≡ self.receivers }
         ensures settled { IsSettled self receivers.items }
@@ -175,7 +193,11 @@ impl<T: Drop> Sender<T> {
 }
 
 /// Takes in the passes of all ends that receive.
-fn join_all<T: Drop>(ends: &Sending<T>, pass: &mut ChannelPass<T>, receivers: Vec<Receiver<T>>)
+fn join_all<T: Drop, W: LawfulWitness<T>>(
+    ends: &Sending<T, W>,
+    pass: &mut ChannelPass<T>,
+    receivers: Vec<Receiver<T, W>>,
+)
     requires pass { IsSeatAt (sends_on ends.now) pass.old × (1 ≤ (view pass.old).parts) }
     requires of { AreOf (channel_of pass.old) receivers.items }
     ensures pass { IsSeatAt (sends_on ends.now) pass.new }
@@ -193,7 +215,7 @@ fn join_all<T: Drop>(ends: &Sending<T>, pass: &mut ChannelPass<T>, receivers: Ve
     }
 }
 
-impl<T: Drop> Receiver<T> {
+impl<T: Drop, W: Witness<T>> Receiver<T, W> {
     /// Whether it received its end mark, behind which it receives nothing more.
     pub fn is_ended(&self) -> bool
         ensures { self.now.end_marks_received ≡ (if result then 1 else 0) }
@@ -201,10 +223,11 @@ impl<T: Drop> Receiver<T> {
         self.is_ended
     }
 
-    /// Receives what is in front of the channel.
+    /// Receives what is in front of the channel. [`Received::Nothing`] only where the [`Witness`] saw the channel empty. It waits for nobody but a thread
+    /// in the middle of its step.
     pub fn receive<R: Wait>(&mut self, rt: &R) -> Received<T>
         requires { self.old.end_marks_received ≡ 0 }
-        ensures { Receives self.old result self.new }
+        ensures { Receives W.saw self.old result self.new }
     {
         match queue::receive(rt, &self.ends, &mut self.pass) {
             Some(Sent::Connection(connection)) => Received::Connection(connection),

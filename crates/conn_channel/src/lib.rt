@@ -20,7 +20,10 @@ mod ends;
 mod queue;
 mod sent;
 mod view;
+mod witness;
 
-pub use ends::{Receiver, Sender, open};
+pub use ends::{Receiver, Sender, open, open_with_witness};
 pub use queue::CAPACITY;
 pub use sent::{Received, Sent};
+pub use view::Hand;
+pub use witness::{LawfulWitness, Nobody, Witness};

@@ -5,32 +5,37 @@ ghost use Rattle.crossbeam_channel.specs.Claims.{view, IsSeatAt};
 ghost use Rattle.crossbeam_channel.specs.Ends.{sends_on, receives_on};
 ghost use Rattle.crossbeam_channel.specs.Err.{send_message};
 ghost use Rattle.conn_channel.specs.Rule.{first_hand, receiving_hand, joined, sending, receiving, KnowsAll, MaySend, MayReceive};
+ghost use Rattle.conn_channel.specs.Witnesses.{FollowsReceiver, Saw};
 ghost use Rattle.conn_channel.specs.declared.sent.Sent.{Sent as Item};
 
 use crate::sent::Sent;
 use crate::view::Hand;
+use crate::witness::{LawfulWitness, Witness};
 use crossbeam_channel::protocol::{Join, Lesson, Outcome, Protocol, Split};
 use crossbeam_channel::{Pass, RuledReceiver, RuledSender, SendError, TryRecvError, bounded_with};
 use std::alloc::{AllocError, Global};
+use std::marker::PhantomData;
 use std::sync::Wait;
 
 /// How many connections may wait in the channel.
 pub const CAPACITY: usize = 64;
 
-/// What was sent, in order, is what was received and behind it what is in the channel, and no connection is behind an end mark.
-pub struct Conserving;
+/// What was sent, in order, is what was received and behind it what is in the channel, and no connection is behind an end mark; and the witness sees it.
+pub struct Conserving<W> {
+    of: PhantomData<W>,
+}
 
-impl<T> Protocol<Sent<T>, Hand<T>> for Conserving {
+impl<T, W: Witness<T>> Protocol<Sent<T>, Hand<T>> for Conserving<W> {
     ghost use Rattle.conn_channel.specs.Rule.{Conserves, first_hand};
 
-    ghost holds = { Conserves };
+    ghost holds = { λ items views. Conserves items views × W.saw items views };
 
     ghost first = { first_hand };
 }
 
-pub(crate) type Sending<T> = RuledSender<Sent<T>, Hand<T>, Conserving>;
+pub(crate) type Sending<T, W> = RuledSender<Sent<T>, Hand<T>, Conserving<W>>;
 
-pub(crate) type Receiving<T> = RuledReceiver<Sent<T>, Hand<T>, Conserving>;
+pub(crate) type Receiving<T, W> = RuledReceiver<Sent<T>, Hand<T>, Conserving<W>>;
 
 pub(crate) type ChannelPass<T> = Pass<Sent<T>, Hand<T>>;
 
@@ -50,20 +55,22 @@ impl<T> Lesson<Sent<T>, Hand<T>> for Putting {
     ghost fact = { λ _ _. ⊤ };
 }
 
-/// Something is received.
-pub(crate) struct Getting;
+/// Something is received, or a look at an empty channel.
+pub(crate) struct Getting<W> {
+    of: PhantomData<W>,
+}
 
-impl<T> Outcome<Sent<T>, Hand<T>> for Getting {
+impl<T, W: Witness<T>> Outcome<Sent<T>, Hand<T>> for Getting<W> {
     ghost use Rattle.std.specs.Prelude.{◌≡◌};
     ghost use Rattle.conn_channel.specs.Rule.{receiving};
 
     ghost then = { λ v x w. w ≡ receiving v x };
 }
 
-impl<T> Lesson<Sent<T>, Hand<T>> for Getting {
-    ghost use Rattle.std.specs.Prelude.{⊤};
+impl<T, W: Witness<T>> Lesson<Sent<T>, Hand<T>> for Getting<W> {
+    ghost use Rattle.conn_channel.specs.Witnesses.{Saw};
 
-    ghost fact = { λ _ _. ⊤ };
+    ghost fact = { Saw W.saw };
 }
 
 /// Who has every part knows of all.
@@ -99,16 +106,19 @@ impl<T> Join<Hand<T>> for TakeParts {
 }
 
 /// The two ends of an empty channel, with the pass of who opened it.
-pub(crate) fn open<T: Drop>(
+pub(crate) fn open<T: Drop, W: LawfulWitness<T>>(
     alloc: Global,
-) -> Result<(Sending<T>, Receiving<T>, ChannelPass<T>), AllocError>
+) -> Result<(Sending<T, W>, Receiving<T, W>, ChannelPass<T>), AllocError>
     ensures { IfOk result (λ made. (receives_on made.1 ≡ sends_on made.0) × IsSeatAt (sends_on made.0) made.2 × (view made.2 ≡ first_hand)) }
 {
     bounded_with(alloc, CAPACITY)
 }
 
 /// Gives one part away, to an end that receives.
-pub(crate) fn cut<T: Drop>(ends: &Sending<T>, pass: &mut ChannelPass<T>) -> ChannelPass<T>
+pub(crate) fn cut<T: Drop, W: LawfulWitness<T>>(
+    ends: &Sending<T, W>,
+    pass: &mut ChannelPass<T>,
+) -> ChannelPass<T>
     requires channel { IsSeatAt (sends_on ends.now) pass.old }
     requires parts { 2 ≤ (view pass.old).parts }
     ensures channel { IsSeatAt (sends_on ends.now) pass.new × IsSeatAt (sends_on ends.now) result }
@@ -119,9 +129,9 @@ pub(crate) fn cut<T: Drop>(ends: &Sending<T>, pass: &mut ChannelPass<T>) -> Chan
 }
 
 /// Sends, and waits while the channel is full. What was to be sent comes back where nobody receives any more.
-pub(crate) fn send<T: Drop, R: Wait>(
+pub(crate) fn send<T: Drop, W: LawfulWitness<T>, R: Wait>(
     rt: &R,
-    ends: &Sending<T>,
+    ends: &Sending<T, W>,
     pass: &mut ChannelPass<T>,
     item: Sent<T>,
 ) -> Result<(), Sent<T>>
@@ -148,19 +158,22 @@ fn back_of<T: Drop>(refused: SendError<Sent<T>>) -> Sent<T>
     }
 }
 
-/// Receives what is in front. `None` where the channel was empty at a moment of the call.
-pub(crate) fn receive<T: Drop, R: Wait>(
+/// Receives what is in front. `None` only where the witness saw the channel empty.
+#[tactic(auto, using(crate::proofs::Witnessed::empty))]
+pub(crate) fn receive<T: Drop, W: Witness<T>, R: Wait>(
     rt: &R,
-    ends: &Receiving<T>,
+    ends: &Receiving<T, W>,
     pass: &mut ChannelPass<T>,
 ) -> Option<Sent<T>>
     requires channel { IsSeatAt (receives_on ends.now) pass.old }
     requires parts { 1 ≤ (view pass.old).parts }
     requires may { MayReceive (view pass.old) }
+    requires follows { FollowsReceiver W.saw pass.old.id }
     ensures channel { IsSeatAt (receives_on ends.now) pass.new }
-    ensures received { MatchOption result (view pass.new ≡ view pass.old) (λ item. view pass.new ≡ receiving (view pass.old) item) }
+    ensures id { pass.new.id ≡ pass.old.id }
+    ensures received { MatchOption result ((view pass.new ≡ view pass.old) × Saw W.saw (view pass.old) []) (λ item. view pass.new ≡ receiving (view pass.old) item) }
 {
-    match ends.try_recv_as::<Getting, R>(rt, pass) {
+    match ends.try_recv_as::<Getting<W>, R>(rt, pass) {
         Ok(item) => Some(item),
         Err(TryRecvError::Empty) => None,
         Err(TryRecvError::Disconnected) => None,
@@ -168,7 +181,11 @@ pub(crate) fn receive<T: Drop, R: Wait>(
 }
 
 /// Takes in another pass, with its parts and what it received.
-pub(crate) fn join<T: Drop>(ends: &Sending<T>, pass: &mut ChannelPass<T>, other: ChannelPass<T>)
+pub(crate) fn join<T: Drop, W: LawfulWitness<T>>(
+    ends: &Sending<T, W>,
+    pass: &mut ChannelPass<T>,
+    other: ChannelPass<T>,
+)
     requires channel { IsSeatAt (sends_on ends.now) pass.old × IsSeatAt (sends_on ends.now) other }
     requires parts { 1 ≤ (view pass.old).parts }
     requires no_right { (view other).sends ≡ 0 }
@@ -179,7 +196,7 @@ pub(crate) fn join<T: Drop>(ends: &Sending<T>, pass: &mut ChannelPass<T>, other:
 }
 
 /// Learns of all, with every part.
-pub(crate) fn learn<T: Drop>(ends: &Sending<T>, pass: &mut ChannelPass<T>)
+pub(crate) fn learn<T: Drop, W: LawfulWitness<T>>(ends: &Sending<T, W>, pass: &mut ChannelPass<T>)
     requires channel { IsSeatAt (sends_on ends.now) pass.old }
     requires parts { (view pass.old).parts ≡ 128 }
     requires right { (view pass.old).sends ≡ 1 }

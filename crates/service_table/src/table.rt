@@ -115,7 +115,7 @@ impl<P: HoldingPlace, T: Transport> ServiceTable<P, T> {
         ensures free { IsTrue result ↔ All (λ cell. cell ≡ None) self.now }
         ensures count { result ≡ true → occupied self.now ≡ 0 }
     {
-        self.cells.iter().all(|cell| cell.is_none())
+        all_free(&self.cells)
     }
 
     /// Lets go of a table with all its connections: they end as where the broker closes, and nothing is written any more.
@@ -133,10 +133,7 @@ impl<P: HoldingPlace, T: Transport> ServiceTable<P, T> {
 }
 
 /// So many free cells.
-fn free_cells<P: HoldingPlace, T: Transport>(
-    alloc: Global,
-    count: usize,
-) -> Result<Vec<Option<Seat<P, T>>>, AllocError>
+fn free_cells<A>(alloc: Global, count: usize) -> Result<Vec<Option<A>>, AllocError>
     ensures { IfOk result (λ cells. cells.items ≡ replicate count None) }
 {
     let mut cells = Vec::with_capacity(alloc, count)?;
@@ -144,6 +141,13 @@ fn free_cells<P: HoldingPlace, T: Transport>(
         cells.push_reserved(None);
     }
     Ok(cells)
+}
+
+/// Whether all of these cells are free.
+fn all_free<A>(cells: &[Option<A>]) -> bool
+    ensures { IsTrue result ↔ All (λ cell. cell ≡ None) cells.now }
+{
+    cells.iter().all(|cell| cell.is_none())
 }
 
 /// Lets go of the connections in these cells, the last one first.

@@ -1,6 +1,9 @@
 //! Serving the connections of a broker that is open.
-ghost use Rattle.std.specs.Prelude.{◌≡◌, ◌≤◌, length};
+ghost use Rattle.std.specs.Prelude.{◌≡◌, ◌+◌, ◌≤◌, ◌⊎◌, length, IfErr, MatchResult};
+ghost use Rattle.std.specs.Io.KnownBytes.{Appends};
 ghost use Rattle.gate_word.specs.Seats.{AreSeatsOf};
+ghost use Rattle.line_io.specs.Passing.{Begins};
+ghost use Rattle.line_io.specs.declared.error.RunError.TheVariants.{WriteFailed, Memory};
 
 use crate::broker::take_seat;
 use crate::crew::{Crew, crew_of};
@@ -42,7 +45,9 @@ pub(crate) fn attend<
 ) -> (Vec<Hand<B>>, Result<Served, RunError>)
     requires seats { AreSeatsOf gate.now seats.items × (2 ≤ length seats.items) }
     requires hands { (1 ≤ length hands.items) × (length hands.items ≤ 64) }
-    ensures { length result.0.items ≡ length hands.items }
+    ensures hands { length result.0.items ≡ length hands.items }
+    ensures output { MatchResult result.1 (λ _. Appends (O.contents output.old) (O.contents output.new) line.now) (λ _. Begins (O.contents output.old) (O.contents output.new) line.now) }
+    ensures cause { IfErr result.1 (λ error. (error ≡ WriteFailed) ⊎ (error ≡ Memory)) }
 {
     let mut seats = seats;
     let closer = closer_of(gate, &mut seats);
@@ -78,7 +83,8 @@ fn serve<B: Broker + Send + Sync, R: Threads + Wait + Net + SystemClock + Sync, 
 ) -> (Vec<Hand<B>>, Result<Served, RunError>)
     requires hands { (1 ≤ length hands.items) × (length hands.items ≤ 64) }
     requires crew { length crew.gear.items ≡ length hands.items }
-    ensures { length result.0.items ≡ length hands.items }
+    ensures hands { length result.0.items ≡ length hands.items }
+    ensures cause { IfErr result.1 (λ error. error ≡ Memory) }
 {
     let ends = AtomicBool::new(false);
     let serving = Serving {

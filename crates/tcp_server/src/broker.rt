@@ -48,11 +48,14 @@ pub(crate) fn open<'g, B: Broker, R: Wait>(
         opened.abandon();
         return Err(RunError::Memory);
     };
-    let Ok(Named {
-        groups,
-        ports,
-        places,
-    }) = opened.name::<B>(alloc, workers) else {
+    let Ok(
+        Named {
+            groups,
+            ports,
+            places,
+        },
+    ) = opened.name::<B>(alloc, workers)
+    else {
         return Err(RunError::Memory);
     };
     let Ok(desk) = SharedDesk::new(alloc) else {

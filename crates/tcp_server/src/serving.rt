@@ -1,5 +1,9 @@
 //! Serving, from the listener to the last line.
-ghost use Rattle.std.specs.Prelude.{◌≡◌, ◌+◌, ◌≤◌, length};
+ghost use Rattle.std.specs.Prelude.{◌≡◌, ◌+◌, ◌≤◌, ◌⊎◌, length, Ok, Err, IfOk, IfErr};
+ghost use Rattle.std.specs.Io.KnownBytes.{Appends};
+ghost use Rattle.line_io.specs.Passing.{Begins};
+ghost use Rattle.line_io.specs.declared.error.RunError.TheVariants.{Memory, Unfinished as NotKnown};
+ghost use Rattle.tcp_server.specs.Reporting.{AreReports, IsOfServing, IsServed, IsServedAt};
 ghost use Rattle.gate_word.specs.Seats.{AreSeatsOf};
 ghost use Rattle.broker_groups.specs.Naming.{IsOfBroker};
 
@@ -53,6 +57,7 @@ pub fn serve_at<R: Threads + Wait + Net + SystemClock + Sync, I: Read, O: Write>
 ) -> Result<(), RunError>
     requires capacity { (1 ≤ capacity) × (capacity ≤ 65536) }
     requires workers { (1 ≤ workers) × (workers ≤ 64) }
+    ensures { IsServedAt port result (O.contents output.old) (O.contents output.new) }
 {
     match TcpSource::open(rt, address, port) {
         Ok(source) => serve_with(rt, alloc, capacity, groups, workers, source, input, output),
@@ -73,6 +78,7 @@ pub fn serve_with<R: Threads + Wait + Net + SystemClock + Sync, I: Read, O: Writ
 ) -> Result<(), RunError>
     requires capacity { (1 ≤ capacity) × (capacity ≤ 65536) }
     requires workers { (1 ≤ workers) × (workers ≤ 64) }
+    ensures { IsServed source.port result (O.contents output.old) (O.contents output.new) }
 {
     let port = source.port();
     let source = Awaited::new(rt, alloc, source).map_err(|_| RunError::Network)?;
@@ -128,6 +134,8 @@ fn live<B: Broker + Send + Sync, R: Threads + Wait + Net + SystemClock + Sync, I
     requires workers { (1 ≤ workers) × (workers ≤ 64) }
     requires seats { AreSeatsOf gate.now seats.items × (length seats.items ≡ workers + 2) }
     requires opened { IsOfBroker B.gate B.group workers opened }
+    ensures told { IfOk result (λ told. AreReports B.group told.0.items × Appends (O.contents output.old) (O.contents output.new) line.now) }
+    ensures failed { IfErr result (λ error. IsOfServing error × Begins (O.contents output.old) (O.contents output.new) line.now) }
 {
     let mut seats = seats;
     let OpenBroker { hall, hands, room } = open::<B, R>(
@@ -146,7 +154,10 @@ fn conclude<B: Broker, R: Wait>(
     hall: Hall<'_, B>,
     ports: Vec<Ports<B>>,
     served: Result<Served, RunError>,
-) -> Result<(Vec<u8>, Served), RunError> {
+) -> Result<(Vec<u8>, Served), RunError>
+    ensures told { IfOk result (λ told. AreReports B.group told.0.items × (served ≡ Ok told.1)) }
+    ensures cause { IfErr result (λ error. (served ≡ Err error) ⊎ (error ≡ Memory) ⊎ (error ≡ NotKnown)) }
+{
     let shares = match bound_shares(alloc, &hall) {
         Ok(shares) => shares,
         Err(error) => {

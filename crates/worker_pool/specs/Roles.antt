@@ -1,39 +1,21 @@
 -- What the threads of a pool do, from the first connection to the last.
-use Rattle.std.specs.Prelude.{◌≡◌, ℕ, ◌+◌, ◌<◌, ⊥, ⊤, List, [], ◌∷◌, length, All}
+use Rattle.std.specs.Prelude.{◌≡◌, ℕ, ◌+◌, ◌<◌, ⊤, List, [], ◌∷◌, length, All}
 use Rattle.transport.specs.declared.counts.Tally.{Tally}
-use Rattle.conn_channel.specs.Ends.{ChannelId, SenderState}
-use Rattle.worker_pool.specs.declared.arrived.Arrived.{Arrived}
+use Rattle.conn_channel.specs.Ends.{ChannelId}
+use Rattle.worker_pool.specs.Accepting.{AcceptorState, HasAccepted}
 use Rattle.worker_pool.specs.declared.accepting.Taken.{Taken}
 use Rattle.worker_pool.specs.declared.role.Role.{Role}
 use Rattle.worker_pool.specs.declared.role.Role.TheVariants.{Serving, Accepting}
 use Rattle.worker_pool.specs.Serving.{ConnectionsState, IsDone, StaysOf}
 
--- who takes connections: their source, the end by which they are sent, and how many came and how many of them were not sent
-pub record AcceptorState (T S : Type 0) : Type 0 where
-  pub source : S
-  pub sender : SenderState (Arrived T)
-  pub came : ℕ
-  pub unserved : ℕ
-
--- each that the source gave is counted, and sent unless it is counted as unserved
-pub record HasAccepted {T S : Type 0} (tally : S → Tally) (old new : AcceptorState T S) : Type 0 where
-  pub channel : new.sender.channel ≡ old.sender.channel
-  pub receivers : new.sender.receivers ≡ old.sender.receivers
-  pub each : (tally new.source).arrivals + old.came ≡ (tally old.source).arrivals + new.came
-  pub sent : new.came + (length old.sender.sent + old.unserved) ≡ old.came + (length new.sender.sent + new.unserved)
-
--- nothing but end marks was sent
-abbrev pub OnlyMarks : {T : Type 0} → SenderState T → SenderState T → Type 0
-OnlyMarks old new = new ≡ record old { end_marks_sent = new.end_marks_sent }
-
 module _ {B T S Q W X C R : Type 0} where
   -- a worker of this channel
-  abbrev pub IsHired : ChannelId (Arrived T) → Role B T S Q W X C R → Type 0
+  abbrev pub IsHired : ChannelId T → Role B T S Q W X C R → Type 0
   IsHired channel (Serving worker) = worker.receiver.channel ≡ channel
   IsHired channel (Accepting acceptor) = ⊥
 
   -- a worker of this channel that has ended
-  abbrev pub HasServed : ChannelId (Arrived T) → Role B T S Q W X C R → Type 0
+  abbrev pub HasServed : ChannelId T → Role B T S Q W X C R → Type 0
   HasServed channel (Serving worker) = (worker.receiver.channel ≡ channel) × IsDone worker
   HasServed channel (Accepting acceptor) = ⊥
 

@@ -1,12 +1,11 @@
 -- The connections of a worker: what it received is open, or has ended and is counted.
 use Rattle.std.specs.Prelude.{◌≡◌, ℕ, ◌+◌, ◌<◌, ◌≤◌, ◌^◌, List, length, sum_by}
-use Rattle.conn_channel.specs.Ends.{ChannelId, ReceiverState, new_receiver}
-use Rattle.worker_pool.specs.declared.arrived.Arrived.{Arrived}
+use Rattle.conn_channel.specs.Ends.{ReceiverState}
 use Rattle.worker_pool.specs.declared.served.ServedCounts.{ServedCounts}
 
 -- the end of the channel, and how many connections live and have ended
 pub record ConnectionsState (T : Type 0) : Type 0 where
-  pub receiver : ReceiverState (Arrived T)
+  pub receiver : ReceiverState T
   pub live : ℕ
   pub ended : ℕ
 
@@ -22,11 +21,11 @@ pub record CountsOne (old new : ServedCounts) : Type 0 where
   pub one_more : total old + 1 < 2 ^ 64 → total new ≡ total old + 1
 
 -- each that was received lives or has ended, as long as the counts have room
-abbrev pub AddsUp : {T : Type 0} → ReceiverState (Arrived T) → ℕ → ℕ → Type 0
+abbrev pub AddsUp : {T : Type 0} → ReceiverState T → ℕ → ℕ → Type 0
 AddsUp receiver live ended = length receiver.received < 2 ^ 64 → length receiver.received ≡ live + ended
 
 -- none was received yet
-abbrev pub fresh_connections : {T : Type 0} → ReceiverState (Arrived T) → ConnectionsState T
+abbrev pub fresh_connections : {T : Type 0} → ReceiverState T → ConnectionsState T
 fresh_connections receiver = record { receiver = receiver; live = 0; ended = 0 }
 
 -- they come through the same channel as before
@@ -37,11 +36,6 @@ StaysOf old new = new.receiver.channel ≡ old.receiver.channel
 pub record IsDone {T : Type 0} (connections : ConnectionsState T) : Type 0 where
   pub mark : connections.receiver.end_marks_received ≡ 1
   pub all : length connections.receiver.received < 2 ^ 64 → length connections.receiver.received ≡ connections.ended
-
--- the kit of a worker that is to receive from this channel, and knows of these routes
-pub record IsKitOf {K T : Type 0} (table : K) (channel : ChannelId (Arrived T)) (known : K) (receiver : ReceiverState (Arrived T)) : Type 0 where
-  pub knows : known ≡ table
-  pub fresh : receiver ≡ new_receiver channel
 
 -- where fewer than 2^64 were received in all, as many more are counted as were received
 abbrev pub GathersCounts : ℕ → ℕ → ℕ → ℕ → Type 0

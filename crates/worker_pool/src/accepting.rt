@@ -1,6 +1,6 @@
 //! How connections are taken from a source and sent to workers.
 ghost use Rattle.std.specs.Prelude.{◌≡◌, ◌+◌, [], length};
-ghost use Rattle.worker_pool.specs.Roles.{HasAccepted, OnlyMarks};
+ghost use Rattle.worker_pool.specs.Accepting.{HasAccepted, OnlyMarks};
 
 use crate::arrived::Arrived;
 use crate::calls::Roster;
@@ -84,7 +84,7 @@ pub(crate) struct Acceptor<'a, T: Transport + Drop, S: Source<T>, W> {
 
 impl<'a, T: Transport + Drop, S: Source<T>, W> Model for Acceptor<'a, T, S, W> {
     ghost use Rattle.std.specs.Prelude.{◌≡◌, ◌+◌, ◌≤◌, false, length};
-    ghost use Rattle.worker_pool.specs.Roles.{AcceptorState};
+    ghost use Rattle.worker_pool.specs.Accepting.{AcceptorState};
 
     ghost Value = { AcceptorState T S };
 
@@ -202,7 +202,7 @@ impl<'a, T: Transport + Drop, S: Source<T>, W: Wake> Acceptor<'a, T, S, W> {
         match self.source.next() {
             Arrival::Came(transport) => {
                 self.came += 1;
-                match self.sender.send(rt, Arrived { transport }) {
+                match self.sender.send(rt, Arrived::new(transport)) {
                     Ok(()) => self.roster.invite(worker),
                     Err(arrived) => {
                         drop(arrived);

@@ -119,8 +119,8 @@ impl<P: HoldingPlace, T: Transport + Drop> Connections<P, T> {
             return Came::Nothing;
         }
         match self.receiver.receive(rt) {
-            Received::Connection(Arrived { transport }) => {
-                match admit(&mut self.table, poller, transport, now) {
+            Received::Connection(arrived) => {
+                match admit(&mut self.table, poller, arrived.into_transport(), now) {
                     Some(cell) => Came::Opened(cell),
                     None => {
                         self.served.count(Served::Memory);
@@ -169,8 +169,8 @@ impl<P: HoldingPlace, T: Transport + Drop> Connections<P, T> {
         self,
         supply: &mut S,
     ) -> (Receiver<Arrived<T>>, ServedCounts)
-        ensures receiver { result.0 ≡ self.entry.receiver }
-        ensures served { total result.1 ≡ self.entry.ended }
+        ensures receiver { result.0 ≡ self.receiver }
+        ensures served { total result.1 ≡ self.ended }
     {
         let Connections {
             receiver,

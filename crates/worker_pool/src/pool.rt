@@ -1,8 +1,8 @@
 //! A pool of workers, and its run.
 ghost use Rattle.std.specs.Prelude.{◌≡◌, ◌+◌, ◌≤◌, [], All, length, vec_capacity, IfOk, IfErr, MatchResult};
-ghost use Rattle.conn_channel.specs.Ends.{AreOf, end_marks_received_by, received_by};
+ghost use Rattle.conn_channel.specs.Ends.{AreOf, new_receiver, end_marks_received_by, received_by};
 ghost use Rattle.service_table.specs.Cells.{occupied};
-ghost use Rattle.worker_pool.specs.Serving.{IsKitOf, GathersCounts, total_in};
+ghost use Rattle.worker_pool.specs.Serving.{GathersCounts, fresh_connections, total_in};
 ghost use Rattle.worker_pool.specs.Roles.{AreHired, HasServed, HaveEnded, IsPooled, IsServing, IsSourceOf, IsStaff};
 
 use crate::accepting::{Acceptor, Closer, Taken};
@@ -94,7 +94,7 @@ pub fn run<
             receivers,
             served,
         },
-    ) = provide(alloc, hall, gear, alarms)
+    ) = provide(alloc, gear, alarms)
     else {
         return Err(Unbegun { hands, source });
     };
@@ -126,17 +126,17 @@ fn hire<
     alloc: Global,
     hall: &'a Hall<'g, B>,
     hands: Vec<Hand<B>>,
-    kits: Vec<Kit<'a, T, Q, W, C>>,
+    kits: Vec<Kit<T, Q, W, C>>,
     roster: &'a Roster<W>,
     crossing: &'a X,
     acceptor: Acceptor<'a, T, S, W>,
 ) -> Result<(Vec<Role<'a, 'g, B, T, S, Q, W, X, C, R>>, Vec<Hand<B>>), Unbegun<B, S>>
     requires count { length hands.items ≤ 64 }
     requires kits { length kits.items ≡ length hands.items }
-    requires each { All (λ kit. IsKitOf hall.now acceptor.sender.channel kit.known.table kit.receiver) kits.items }
-    ensures hired { IfOk result (λ made. AreHired acceptor (length hands.items) made.0.items) }
+    requires each { All (λ kit. kit.receiver ≡ new_receiver acceptor.sender.channel) kits.items }
+    ensures hired { IfOk result (λ made. AreHired acceptor.entry (length hands.items) made.0.items) }
     ensures hands { IfOk result (λ made. (made.1.items ≡ []) × (length hands.items ≤ vec_capacity made.1)) }
-    ensures back { IfErr result (λ unbegun. (length unbegun.hands.items ≡ length hands.items) × (unbegun.source ≡ acceptor.source)) }
+    ensures back { IfErr result (λ unbegun. (length unbegun.hands.items ≡ length hands.items) × (unbegun.source ≡ acceptor.entry.source)) }
 {
     let mut hands = hands;
     let mut kits = kits;
@@ -152,15 +152,49 @@ fn hire<
         let Some(hand) = hands.pop() else {
             unreachable!()
         };
-        let Ok(table) = table_of::<B, T>(alloc, kit.number, share) else {
-            hands.push_reserved(hand);
-            let source = dismiss(roles, &mut hands);
-            return Err(Unbegun { hands, source });
-        };
-        let worker = Worker::new(rt, alloc, hall, hand, kit, table, roster, crossing);
-        roles.push_reserved(Role::Serving(worker));
+        match begin(rt, alloc, hall, hand, kit, share, roster, crossing) {
+            Ok(worker) => roles.push_reserved(Role::Serving(worker)),
+            Err(hand) => {
+                hands.push_reserved(hand);
+                let source = dismiss(roles, &mut hands);
+                return Err(Unbegun { hands, source });
+            }
+        }
     }
     Ok((roles, hands))
+}
+
+/// Makes a worker of a hand and a kit. The hand comes back where memory is wanted.
+fn begin<
+    'a,
+    'g,
+    B: Broker,
+    T: Transport + Drop,
+    Q: Poller<T> + Drop,
+    W: Wake + Drop,
+    X: Crossing,
+    C: Clock + Drop,
+    R: Wait,
+>(
+    rt: &'a R,
+    alloc: Global,
+    hall: &'a Hall<'g, B>,
+    hand: Hand<B>,
+    kit: Kit<T, Q, W, C>,
+    share: u16,
+    roster: &'a Roster<W>,
+    crossing: &'a X,
+) -> Result<Worker<'a, 'g, B, T, Q, W, X, C, R>, Hand<B>>
+    requires { kit.receiver.received ≡ [] }
+    ensures { IfOk result (λ worker. worker ≡ fresh_connections kit.receiver) }
+{
+    let Ok(known) = hall.know_routes(alloc) else {
+        return Err(hand);
+    };
+    match table_of::<B, T>(alloc, kit.number, share) {
+        Ok(table) => Ok(Worker::new(rt, alloc, hall, hand, known, kit, table, roster, crossing)),
+        Err(_) => Err(hand),
+    }
 }
 
 /// The cells of a worker's connections, all free.
@@ -193,8 +227,8 @@ fn dismiss<
 >(roles: Vec<Role<'a, 'g, B, T, S, Q, W, X, C, R>>, hands: &mut Vec<Hand<B>>) -> S
     requires roles { IsStaff roles.items }
     requires room { length hands.old.items + length roles.items ≤ vec_capacity hands.old + 1 }
-    ensures hands { length hands.new.items + 1 ≡ length hands.old.items + length roles.items }
-    ensures source { IsSourceOf result roles.items }
+    ensures hands { length hands.new.items + 1 ≡ length hands.old.items + length roles.entry.items }
+    ensures source { IsSourceOf result roles.entry.items }
 {
     let mut roles = roles;
     let acceptor = match roles.remove(0) {
@@ -220,7 +254,7 @@ fn let_go<
 >(workers: Vec<Role<'a, 'g, B, T, S, Q, W, X, C, R>>, hands: &mut Vec<Hand<B>>)
     requires workers { All IsServing workers.items }
     requires room { length hands.old.items + length workers.items ≤ vec_capacity hands.old }
-    ensures hands { length hands.new.items ≡ length hands.old.items + length workers.items }
+    ensures hands { length hands.new.items ≡ length hands.old.items + length workers.entry.items }
 {
     let mut workers = workers;
     match workers.pop() {
@@ -256,7 +290,7 @@ fn retire<
     requires hands { (hands.items ≡ []) × (length roles.items ≤ vec_capacity hands + 1) }
     requires receivers { (receivers.items ≡ []) × (length roles.items ≤ vec_capacity receivers + 1) }
     requires served { (served.items ≡ []) × (length roles.items ≤ vec_capacity served + 1) }
-    ensures { IsPooled roles.items (length result.hands.items) (total_in result.served.items) result.taken }
+    ensures { IsPooled roles.entry.items (length result.hands.items) (total_in result.served.items) result.taken }
 {
     let mut hands = hands;
     let mut receivers = receivers;
@@ -306,10 +340,10 @@ fn gather<
     requires receivers { length receivers.old.items + length workers.items ≤ vec_capacity receivers.old }
     requires served { length served.old.items + length workers.items ≤ vec_capacity served.old }
     requires of { AreOf sender.now.channel receivers.old.items }
-    ensures hands { length hands.new.items ≡ length hands.old.items + length workers.items }
-    ensures receivers { length receivers.new.items ≡ length receivers.old.items + length workers.items }
+    ensures hands { length hands.new.items ≡ length hands.old.items + length workers.entry.items }
+    ensures receivers { length receivers.new.items ≡ length receivers.old.items + length workers.entry.items }
     ensures of { AreOf sender.now.channel receivers.new.items }
-    ensures marks { end_marks_received_by receivers.new.items ≡ end_marks_received_by receivers.old.items + length workers.items }
+    ensures marks { end_marks_received_by receivers.new.items ≡ end_marks_received_by receivers.old.items + length workers.entry.items }
     ensures counts { GathersCounts (received_by receivers.old.items) (total_in served.old.items) (received_by receivers.new.items) (total_in served.new.items) }
 {
     let mut workers = workers;

@@ -1,6 +1,6 @@
 //! What a pool has before its first worker begins.
 ghost use Rattle.std.specs.Prelude.{◌≡◌, ◌≤◌, All, [], length, vec_capacity, IfOk};
-ghost use Rattle.worker_pool.specs.Serving.{IsKitOf};
+ghost use Rattle.conn_channel.specs.Ends.{new_receiver};
 
 use crate::arrived::Arrived;
 use crate::calls::{Post, Roster};
@@ -8,10 +8,8 @@ use crate::kit::{Gear, Kit, kits};
 use crate::outfit::outfits;
 use crate::served::ServedCounts;
 use bell::{MOST_WORKERS, Wake};
-use broker_groups::Broker;
 use conn_channel::{Receiver, Sender};
 use conn_engine::NoMemory;
-use shared_supply::Hall;
 use std::alloc::Global;
 use std::sync::Arc;
 use transport::Transport;
@@ -24,25 +22,24 @@ const SLOTS: usize = 8;
 
 /// What all workers share, what each has of it, and the room for what they give back.
 #[derive(Drop)]
-pub(crate) struct Provision<'a, T: Transport + Drop, Q, W, C> {
+pub(crate) struct Provision<T: Transport + Drop, Q, W, C> {
     pub(crate) roster: Roster<W>,
     pub(crate) sender: Sender<Arrived<T>>,
-    pub(crate) kits: Vec<Kit<'a, T, Q, W, C>>,
+    pub(crate) kits: Vec<Kit<T, Q, W, C>>,
     pub(crate) receivers: Vec<Receiver<Arrived<T>>>,
     pub(crate) served: Vec<ServedCounts>,
 }
 
 /// Makes it for as many workers as there is gear.
-pub(crate) fn provide<'a, B: Broker, T: Transport + Drop, Q: Drop, W: Wake + Drop, C: Drop>(
+pub(crate) fn provide<T: Transport + Drop, Q: Drop, W: Wake + Drop, C: Drop>(
     alloc: Global,
-    hall: &'a Hall<'_, B>,
     gear: Vec<Gear<Q, C>>,
     alarms: Vec<W>,
-) -> Result<Provision<'a, T, Q, W, C>, NoMemory>
+) -> Result<Provision<T, Q, W, C>, NoMemory>
     requires { length gear.items ≤ 64 }
     ensures sender { IfOk result (λ made. (made.sender.receivers ≡ length gear.items) × (made.sender.sent ≡ []) × (made.sender.end_marks_sent ≡ 0)) }
     ensures count { IfOk result (λ made. length made.kits.items ≡ length gear.items) }
-    ensures kits { IfOk result (λ made. All (λ kit. IsKitOf hall.now made.sender.channel kit.known.table kit.receiver) made.kits.items) }
+    ensures kits { IfOk result (λ made. All (λ kit. kit.receiver ≡ new_receiver made.sender.channel) made.kits.items) }
     ensures receivers { IfOk result (λ made. (made.receivers.items ≡ []) × (length gear.items ≤ vec_capacity made.receivers)) }
     ensures served { IfOk result (λ made. (made.served.items ≡ []) × (length gear.items ≤ vec_capacity made.served)) }
 {
@@ -51,7 +48,7 @@ pub(crate) fn provide<'a, B: Broker, T: Transport + Drop, Q: Drop, W: Wake + Dro
     let roster = roster_of(alloc, count, alarms, share)?;
     let outfits = outfits(alloc, roster.alarms(), count, SLOTS)?;
     let (sender, ends) = conn_channel::open(alloc, count)?;
-    let kits = kits(alloc, hall, gear, &sender, ends, outfits, share)?;
+    let kits = kits(alloc, gear, &sender, ends, outfits, share)?;
     let receivers = Vec::with_capacity(alloc, count)?;
     let served = Vec::with_capacity(alloc, count)?;
     Ok(Provision {

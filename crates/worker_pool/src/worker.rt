@@ -19,6 +19,7 @@ use broker_groups::{Broker, BrokerPlace};
 use conn_channel::{CAPACITY, Receiver};
 use conn_service::Round;
 use service_table::ServiceTable;
+use shared_routes::KnownRoutes;
 use shared_supply::{AskedBack, Hall, SharedSupply};
 use std::alloc::Global;
 use std::marker::Model;
@@ -86,12 +87,13 @@ impl<
         alloc: Global,
         hall: &'a Hall<'g, B>,
         hand: Hand<B>,
-        kit: Kit<'a, T, Q, W, C>,
+        known: KnownRoutes<'a>,
+        kit: Kit<T, Q, W, C>,
         table: ServiceTable<BrokerPlace<B>, T>,
         roster: &'a Roster<W>,
         crossing: &'a X,
     ) -> Worker<'a, 'g, B, T, Q, W, X, C, R>
-        requires known { kit.known.table ≡ hall.now }
+        requires known { known.table ≡ hall.now }
         requires receiver { kit.receiver.received ≡ [] }
         requires table { occupied table ≡ 0 }
         ensures { result ≡ fresh_connections kit.receiver }
@@ -102,7 +104,6 @@ impl<
             gear: Gear { poller, clock },
             receiver,
             outfit: Outfit { ears, hands },
-            known,
             due,
             members,
         } = kit;

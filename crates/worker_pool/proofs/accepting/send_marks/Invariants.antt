@@ -1,5 +1,5 @@
 -- Nothing but end marks was sent so far.
-use Rattle.worker_pool.specs.Roles.{OnlyMarks}
+use Rattle.worker_pool.specs.Accepting.{OnlyMarks}
 use Rattle.worker_pool.proofs.accepting.send_marks.Given as goal
 
 abbrev pub invariant-marks : goal.invariant-marks

@@ -1,5 +1,5 @@
 -- Each that came so far is counted.
-use Rattle.worker_pool.specs.Roles.{HasAccepted}
+use Rattle.worker_pool.specs.Accepting.{HasAccepted}
 use Rattle.worker_pool.proofs.accepting.Acceptor.accept.Given as goal
 
 abbrev pub invariant-arrivals : goal.invariant-arrivals
