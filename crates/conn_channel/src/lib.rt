@@ -1,8 +1,9 @@
 //! The channel by which connections come to workers: one sends, many receive.
 //!
 //! Who takes connections from a source has the [`Sender`]; each worker has a [`Receiver`]. Behind the last connection the sender sends an end mark
-//! for each worker, and a worker that received one receives nothing more. Whatever the threads do, each connection that is sent is received by one worker, once,
-//! or still in the channel; and where a worker received an end mark, no connection is left in it ([`Sender::settle`]).
+//! for each worker, and a worker that received one receives nothing more. Whatever the threads do, what was sent, in order, is an interleaving of what the workers
+//! received, and behind it what is still in the channel: so each connection is received by one worker, once, or still there. Where a worker received an
+//! end mark, no connection is left in the channel ([`Sender::settle`]).
 //!
 //! ```
 //! let (mut sender, mut receivers) = open(alloc, 2)?;
