@@ -1,14 +1,18 @@
 //! Serving the connections of a broker that is open.
-ghost use Rattle.std.specs.Prelude.{◌≡◌};
+ghost use Rattle.std.specs.Prelude.{◌≡◌, ◌+◌, ◌≤◌, ◌⊎◌, length, IfErr, MatchResult};
+ghost use Rattle.std.specs.Io.KnownBytes.{Appends};
 ghost use Rattle.gate_word.specs.Seats.{AreSeatsOf};
+ghost use Rattle.line_io.specs.Passing.{Begins};
+ghost use Rattle.line_io.specs.declared.error.RunError.TheVariants.{WriteFailed, Memory};
 
 use crate::broker::take_seat;
-use crate::crew::{Crew, crew_of, keep, ports_of, ports_of_crew};
+use crate::crew::{Crew, crew_of};
 use crate::listening::Awaited;
 use crate::serving::Served;
 use crate::watching::Watching;
-use broker_groups::{Broker, Ports};
-use gate_word::{Gate, GateSeat};
+use broker_groups::Broker;
+use broker_worker::Hand;
+use gate_word::{Drained, Gate, GateSeat};
 use line_io::{RunError, write_all};
 use shared_supply::Hall;
 use std::alloc::Global;
@@ -21,9 +25,9 @@ use std::thread;
 use std::thread::Threads;
 use tcp_edge::{TcpSource, Until};
 use transport::OpenCrossing;
-use worker_pool::{Closer, Hand, Pooled, SourceEnd, Unbegun, run};
+use worker_pool::{Closer, Pooled, SourceEnd, Unbegun, run};
 
-/// Writes the line, and serves the connections of a source until the input ends. The ports of all workers come back, and how it came to its end.
+/// Writes the line, and serves the connections of a source until the input ends. What all workers had comes back, and how it came to its end.
 pub(crate) fn attend<
     B: Broker + Send + Sync,
     R: Threads + Wait + Net + SystemClock + Sync,
@@ -40,40 +44,31 @@ pub(crate) fn attend<
     line: &[u8],
     input: &mut I,
     output: &mut O,
-) -> (Vec<Ports<B>>, Result<Served, RunError>)
-    requires { AreSeatsOf gate.now seats.items }
+) -> (Vec<Hand<B>>, Result<Served, RunError>)
+    requires seats { AreSeatsOf gate.now seats.items × (2 ≤ length seats.items) }
+    requires hands { (1 ≤ length hands.items) × (length hands.items ≤ 64) }
+    ensures hands { length result.0.items ≡ length hands.items }
+    ensures output { MatchResult result.1 (λ _. Appends (O.contents output.old) (O.contents output.new) line.now) (λ _. Begins (O.contents output.old) (O.contents output.new) line.now) }
+    ensures cause { IfErr result.1 (λ error. (error ≡ WriteFailed) ⊎ (error ≡ Memory)) }
 {
     let mut seats = seats;
     let closer = closer_of(gate, &mut seats);
     let stopper = closer_of(gate, &mut seats);
-    match (closer, stopper, crew_of(rt, alloc, hands)) {
-        (Some(closer), Some(stopper), Ok(crew)) => match write_all(output, line) {
-            Ok(()) => {
-                let ends = AtomicBool::new(false);
-                let mut watching = Watching {
-                    stopper,
-                    ends: &ends,
-                    input,
-                    is_read: false,
-                };
-                serve(rt, alloc, hall, crew, source, closer, &mut watching)
-            }
-            Err(error) => (ports_of_crew(alloc, crew), Err(error)),
-        },
-        (_, _, Ok(crew)) => (ports_of_crew(alloc, crew), Err(RunError::Memory)),
-        (_, _, Err(hands)) => (ports_of(alloc, hands), Err(RunError::Memory)),
+    let Some(crew) = crew_of(rt, alloc, hands.len()) else {
+        return (hands, Err(RunError::Memory));
+    };
+    match write_all(output, line) {
+        Ok(()) => serve(rt, alloc, hall, hands, crew, source, closer, stopper, input),
+        Err(error) => (hands, Err(error)),
     }
 }
 
 /// Who shuts the gate, by the last seat.
-fn closer_of<'a>(gate: &'a Gate, seats: &mut Vec<GateSeat>) -> Option<Closer<'a>>
-    requires { AreSeatsOf gate.now seats.old.items }
-    ensures { AreSeatsOf gate.now seats.new.items }
+fn closer_of<'a>(gate: &'a Gate, seats: &mut Vec<GateSeat>) -> Closer<'a>
+    requires { AreSeatsOf gate.now seats.old.items × (1 ≤ length seats.old.items) }
+    ensures { AreSeatsOf gate.now seats.new.items × (length seats.new.items + 1 ≡ length seats.old.items) }
 {
-    match take_seat(gate, seats) {
-        Some(seat) => Some(Closer::new(gate, seat)),
-        None => None,
-    }
+    Closer::new(gate, take_seat(gate, seats))
 }
 
 /// Serves with a crew, while a thread of its own reads the input to its end.
@@ -81,57 +76,75 @@ fn serve<B: Broker + Send + Sync, R: Threads + Wait + Net + SystemClock + Sync, 
     rt: &R,
     alloc: Global,
     hall: &Hall<'_, B>,
-    crew: Crew<'_, B, R>,
+    hands: Vec<Hand<B>>,
+    crew: Crew<'_, R>,
     source: Awaited<TcpSource>,
     closer: Closer<'_>,
-    watching: &mut Watching<'_, I>,
-) -> (Vec<Ports<B>>, Result<Served, RunError>) {
-    let mut source = Until::new(source, watching.ends);
-    let Crew { recruits, alarms } = crew;
+    stopper: Closer<'_>,
+    input: &mut I,
+) -> (Vec<Hand<B>>, Result<Served, RunError>)
+    requires hands { (1 ≤ length hands.items) × (length hands.items ≤ 64) }
+    requires crew { length crew.gear.items ≡ length hands.items }
+    ensures hands { length result.0.items ≡ length hands.items }
+    ensures cause { IfErr result.1 (λ error. error ≡ Memory) }
+{
+    let ends = AtomicBool::new(false);
+    let mut watching = Watching {
+        stopper,
+        ends: &ends,
+        input,
+        is_read: false,
+    };
+    let source = Until::new(source, &ends);
+    let Crew { gear, alarms } = crew;
     let pooled = run(
         rt,
         alloc,
         hall,
-        recruits,
+        hands,
+        gear,
         alarms,
-        &mut source,
+        source,
         &OpenCrossing,
         closer,
-        watching,
+        &mut watching,
     );
     watching.stopper.shut();
     drain(rt, &mut watching.stopper);
     match pooled {
-        Ok(Pooled { workers, source }) => {
-            let mut ports = Vec::new(alloc);
-            for worker in workers {
-                keep(&mut ports, worker.hand.ports);
-            }
-            (ports, Ok(ending(source, watching.is_read)))
-        }
-        Err(Unbegun { hands }) => (ports_of(alloc, hands), Err(RunError::Memory)),
+        Ok(
+            Pooled {
+                hands,
+                served: _,
+                taken,
+            },
+        ) => (hands, ending(taken.end, watching.is_read)),
+        Err(Unbegun { hands, source: _ }) => (hands, Err(RunError::Memory)),
     }
 }
 
-/// How a broker came to its end.
-fn ending(source: SourceEnd, is_read: bool) -> Served {
+/// How a broker came to its end; no thread for one of its workers is want of memory.
+fn ending(source: SourceEnd, is_read: bool) -> Result<Served, RunError>
+    ensures { IfErr result (λ error. error ≡ Memory) }
+{
     match source {
-        SourceEnd::Failed => Served::NotAccepted,
-        SourceEnd::Ended => {
-            if is_read {
-                Served::Ended
-            } else {
-                Served::InputFailed
-            }
-        }
+        SourceEnd::Untouched => Err(RunError::Memory),
+        SourceEnd::Failed => Ok(Served::NotAccepted),
+        SourceEnd::Ended => Ok(if is_read {
+            Served::Ended
+        } else {
+            Served::InputFailed
+        }),
     }
 }
 
-/// Looks until nobody is inside the gate.
-fn drain<R: Wait>(rt: &R, stopper: &mut Closer<'_>) {
+/// Looks until nobody is inside the gate, and nobody comes in any more.
+fn drain<R: Wait>(rt: &R, stopper: &mut Closer<'_>) -> Drained
+    ensures { result ≡ stopper.old.gate }
+{
     'looks: for _ in rt.forever() {
-        if stopper.is_drained() {
-            return;
+        if let Some(drained) = stopper.drained() {
+            return drained;
         }
         thread::yield_now();
     }

@@ -1,9 +1,10 @@
 //! A broker: how it is opened, and how it ends.
-ghost use Rattle.std.specs.Prelude.{◌≡◌, ◌≤◌, All, IfSome};
+ghost use Rattle.std.specs.Prelude.{◌≡◌, ◌+◌, ◌≤◌, [], All, length, vec_capacity, IfOk};
 ghost use Rattle.gate_word.specs.Seats.{AreSeatsOf};
 ghost use Rattle.broker_groups.specs.Naming.{HasNoneOut, IsOfBroker};
 
 use broker_groups::{Broker, BrokerPlace, Key, Named, Opened, Ports};
+use broker_worker::Hand;
 use bytes::Bytes;
 use gate_word::{Gate, GateSeat};
 use line_io::RunError;
@@ -14,12 +15,12 @@ use shared_routes::{KnownRoutes, SharedRoutes};
 use shared_supply::Hall;
 use std::alloc::Global;
 use std::sync::Wait;
-use worker_pool::Hand;
 
-/// A broker that is open: what its workers share, and what each of them has.
+/// A broker that is open: what its workers share, what each of them has, and room for the ports of all.
 pub(crate) struct OpenBroker<'g, B: Broker> {
     pub(crate) hall: Hall<'g, B>,
     pub(crate) hands: Vec<Hand<B>>,
+    pub(crate) room: Vec<Ports<B>>,
 }
 
 /// Names what was opened, furnishes the desk, and binds the shares that are there from the start.
@@ -33,29 +34,41 @@ pub(crate) fn open<'g, B: Broker, R: Wait>(
     shares: &Routes,
 ) -> Result<OpenBroker<'g, B>, RunError>
     requires gate { gate.now ≡ B.gate }
-    requires seats { AreSeatsOf gate.now seats.old.items }
+    requires seats { AreSeatsOf gate.now seats.old.items × (length seats.old.items ≡ workers + 2) }
     requires opened { IsOfBroker B.gate B.group workers opened }
-    ensures seats { AreSeatsOf gate.now seats.new.items }
+    ensures seats { IfOk result (λ _. AreSeatsOf gate.now seats.new.items × (length seats.new.items ≡ 2)) }
+    ensures hands { IfOk result (λ broker. length broker.hands.items ≡ workers) }
+    ensures room { IfOk result (λ broker. (broker.room.items ≡ []) × (workers ≤ vec_capacity broker.room)) }
 {
-    let Named {
-        groups,
-        ports,
-        places,
-    } = match opened.name::<B>(alloc, workers) {
-        Ok(named) => named,
-        Err(_) => return Err(RunError::Memory),
+    let count = usize::from(workers);
+    let (Ok(hands), Ok(room)) = (
+        Vec::with_capacity(alloc, count),
+        Vec::with_capacity(alloc, count),
+    ) else {
+        opened.abandon();
+        return Err(RunError::Memory);
+    };
+    let Ok(
+        Named {
+            groups,
+            ports,
+            places,
+        },
+    ) = opened.name::<B>(alloc, workers)
+    else {
+        return Err(RunError::Memory);
     };
     let Ok(desk) = SharedDesk::new(alloc) else {
         groups.abandon();
         return Err(RunError::Memory);
     };
     furnish(rt, &desk, places);
-    let hands = deal(alloc, gate, seats, ports);
+    let hands = deal(gate, seats, ports, hands);
     let hall = Hall::new(gate, groups, desk, SharedRoutes::new());
     match bind_all(rt, alloc, &hall, shares) {
-        Ok(()) => Ok(OpenBroker { hall, hands }),
+        Ok(()) => Ok(OpenBroker { hall, hands, room }),
         Err(error) => {
-            give_up(rt, alloc, hall, Vec::new(alloc));
+            give_up(rt, alloc, hall, room);
             Err(error)
         }
     }
@@ -83,34 +96,36 @@ fn give_place<B: Broker, R: Wait>(rt: &R, desk: &SharedDesk<BrokerPlace<B>>, pla
 }
 
 /// The last seat.
-pub(crate) fn take_seat(gate: &Gate, seats: &mut Vec<GateSeat>) -> Option<GateSeat>
-    requires { AreSeatsOf gate.now seats.old.items }
-    ensures seat { IfSome result (λ seat. seat.gate ≡ gate.now) }
-    ensures others { AreSeatsOf gate.now seats.new.items }
+pub(crate) fn take_seat(gate: &Gate, seats: &mut Vec<GateSeat>) -> GateSeat
+    requires { AreSeatsOf gate.now seats.old.items × (1 ≤ length seats.old.items) }
+    ensures seat { result.gate ≡ gate.now }
+    ensures others { AreSeatsOf gate.now seats.new.items × (length seats.new.items + 1 ≡ length seats.old.items) }
 {
     let _ = gate;
-    seats.pop()
+    let Some(seat) = seats.pop() else {
+        unreachable!()
+    };
+    seat
 }
 
-/// What each worker has: a seat and ports.
+/// What each worker has: a seat and ports. There is room for it among the hands, which are empty.
 fn deal<B: Broker>(
-    alloc: Global,
     gate: &Gate,
     seats: &mut Vec<GateSeat>,
     ports: Vec<Ports<B>>,
+    hands: Vec<Hand<B>>,
 ) -> Vec<Hand<B>>
     requires gate { gate.now ≡ B.gate }
-    requires seats { AreSeatsOf gate.now seats.old.items }
-    ensures seats { AreSeatsOf gate.now seats.new.items }
+    requires seats { AreSeatsOf gate.now seats.old.items × (length ports.items ≤ length seats.old.items) }
+    requires room { (hands.items ≡ []) × (length ports.items ≤ vec_capacity hands) }
+    ensures seats { AreSeatsOf gate.now seats.new.items × (length seats.new.items + length ports.items ≡ length seats.old.items) }
+    ensures hands { length result.items ≡ length ports.items }
 {
-    let mut hands = Vec::new(alloc);
+    let mut hands = hands;
     let mut left = ports;
     'hands: while let Some(ports) = left.pop() {
-        if let Some(seat) = take_seat(gate, seats) {
-            if let Err(refused) = hands.push(hand_of(gate, seat, ports)) {
-                drop(refused);
-            }
-        }
+        let seat = take_seat(gate, seats);
+        hands.push_reserved(hand_of(gate, seat, ports));
     }
     hands
 }
@@ -125,6 +140,19 @@ fn hand_of<B: Broker>(gate: &Gate, seat: GateSeat, ports: Ports<B>) -> Hand<B>
         key: Key::of(seat),
         ports,
     }
+}
+
+/// The ports of all workers. There is room for them.
+pub(crate) fn ports_of<B: Broker>(hands: Vec<Hand<B>>, room: Vec<Ports<B>>) -> Vec<Ports<B>>
+    requires { (room.items ≡ []) × (length hands.items ≤ vec_capacity room) }
+    ensures { length result.items ≡ length hands.items }
+{
+    let mut ports = room;
+    let mut left = hands;
+    'ports: while let Some(hand) = left.pop() {
+        ports.push_reserved(hand.ports);
+    }
+    ports
 }
 
 /// Binds the shares that are there from the start, each to the slot of its group.

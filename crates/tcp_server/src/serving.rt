@@ -1,10 +1,14 @@
 //! Serving, from the listener to the last line.
-ghost use Rattle.std.specs.Prelude.{◌≡◌, ◌≤◌};
+ghost use Rattle.std.specs.Prelude.{◌≡◌, ◌+◌, ◌≤◌, ◌⊎◌, length, Ok, Err, IfOk, IfErr};
+ghost use Rattle.std.specs.Io.KnownBytes.{Appends};
+ghost use Rattle.line_io.specs.Passing.{Begins};
+ghost use Rattle.line_io.specs.declared.error.RunError.TheVariants.{Memory, Unfinished as NotKnown};
+ghost use Rattle.tcp_server.specs.Reporting.{AreReports, IsOfServing, IsServed, IsServedAt};
 ghost use Rattle.gate_word.specs.Seats.{AreSeatsOf};
 ghost use Rattle.broker_groups.specs.Naming.{IsOfBroker};
 
 use crate::attending::attend;
-use crate::broker::{OpenBroker, bound_shares, give_up, open};
+use crate::broker::{OpenBroker, bound_shares, give_up, open, ports_of};
 use crate::listening::Awaited;
 use crate::reporting::lines;
 use broker_groups::{Broker, Opened, Ports};
@@ -53,6 +57,7 @@ pub fn serve_at<R: Threads + Wait + Net + SystemClock + Sync, I: Read + Send, O:
 ) -> Result<(), RunError>
     requires capacity { (1 ≤ capacity) × (capacity ≤ 65536) }
     requires workers { (1 ≤ workers) × (workers ≤ 64) }
+    ensures { IsServedAt port result (O.contents output.old) (O.contents output.new) }
 {
     match TcpSource::open(rt, address, port) {
         Ok(source) => serve_with(rt, alloc, capacity, groups, workers, source, input, output),
@@ -73,6 +78,7 @@ pub fn serve_with<R: Threads + Wait + Net + SystemClock + Sync, I: Read + Send, 
 ) -> Result<(), RunError>
     requires capacity { (1 ≤ capacity) × (capacity ≤ 65536) }
     requires workers { (1 ≤ workers) × (workers ≤ 64) }
+    ensures { IsServed source.port result (O.contents output.old) (O.contents output.new) }
 {
     let port = source.port();
     let source = match Awaited::new(rt, alloc, source) {
@@ -134,17 +140,20 @@ fn live<
     output: &mut O,
 ) -> Result<(Vec<u8>, Served), RunError>
     requires gate { gate.now ≡ B.gate }
-    requires seats { AreSeatsOf gate.now seats.items }
+    requires workers { (1 ≤ workers) × (workers ≤ 64) }
+    requires seats { AreSeatsOf gate.now seats.items × (length seats.items ≡ workers + 2) }
     requires opened { IsOfBroker B.gate B.group workers opened }
+    ensures told { IfOk result (λ told. AreReports B.group told.0.items × Appends (O.contents output.old) (O.contents output.new) line.now) }
+    ensures failed { IfErr result (λ error. IsOfServing error × Begins (O.contents output.old) (O.contents output.new) line.now) }
 {
     let mut seats = seats;
-    let OpenBroker { hall, hands } = open::<B, R>(
+    let OpenBroker { hall, hands, room } = open::<B, R>(
         rt, alloc, gate, &mut seats, opened, workers, groups,
     )?;
-    let (ports, served) = attend(
+    let (hands, served) = attend(
         rt, alloc, gate, seats, &hall, hands, source, line, input, output,
     );
-    conclude(rt, alloc, hall, ports, served)
+    conclude(rt, alloc, hall, ports_of(hands, room), served)
 }
 
 /// Ends a broker: the lines of its reports, where it was served.
@@ -154,7 +163,10 @@ fn conclude<B: Broker, R: Wait>(
     hall: Hall<'_, B>,
     ports: Vec<Ports<B>>,
     served: Result<Served, RunError>,
-) -> Result<(Vec<u8>, Served), RunError> {
+) -> Result<(Vec<u8>, Served), RunError>
+    ensures told { IfOk result (λ told. AreReports B.group told.0.items × (served ≡ Ok told.1)) }
+    ensures cause { IfErr result (λ error. (served ≡ Err error) ⊎ (error ≡ Memory) ⊎ (error ≡ NotKnown)) }
+{
     let shares = match bound_shares(alloc, &hall) {
         Ok(shares) => shares,
         Err(error) => {

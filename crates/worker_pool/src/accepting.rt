@@ -1,11 +1,13 @@
 //! How connections are taken from a source and sent to workers.
-ghost use Rattle.std.specs.Prelude.{◌≡◌, false};
+ghost use Rattle.std.specs.Prelude.{◌≡◌, ◌++◌, [], ◌∷◌, length};
+ghost use Rattle.gate_word.specs.Calls.{Looks, Shuts};
+ghost use Rattle.worker_pool.specs.Accepting.{HasAccepted, OnlyMarks};
 
-use crate::arrived::Arrived;
-use crate::calls::Roster;
 use bell::Wake;
+use broker_worker::{Arrived, Roster};
 use conn_channel::Sender;
-use gate_word::{Gate, GateSeat};
+use gate_word::{Drained, Gate, GateSeat};
+use std::marker::Model;
 use std::rt::Clock;
 use std::sync::Wait;
 use std::thread;
@@ -15,6 +17,11 @@ use transport::{Arrival, Source, Transport};
 /// For how many milliseconds nothing is taken where every worker has as many connections as it may have.
 const FULL_PAUSE: u64 = 10;
 
+/// For how many milliseconds it is waited, again and again, for every worker to begin; and how often.
+const BEGIN_PAUSE: u64 = 1;
+
+const MOST_BEGIN_PAUSES: u32 = 10_000;
+
 /// How the source ended.
 #[derive(Clone, Copy, Debug, PartialEq, Eq)]
 pub enum SourceEnd {
@@ -22,57 +29,99 @@ pub enum SourceEnd {
     Ended,
     /// It failed.
     Failed,
+    /// Nothing was taken from it: a worker did not begin within ten seconds, as the system made no thread for it.
+    Untouched,
 }
 
-/// Who shuts a gate.
+/// A source, and how many connections were taken from it.
+#[derive(Drop)]
+pub struct Taken<S> {
+    pub source: S,
+    /// How it ended.
+    pub end: SourceEnd,
+    /// How many connections came.
+    pub came: u64,
+}
+
+/// Who shuts a gate. Contracts see it as its seat.
 #[derive(Drop)]
 pub struct Closer<'a> {
     gate: &'a Gate,
     seat: GateSeat,
-    ghost own: { seat.gate ≡ gate.now },
+}
+
+impl<'a> Model for Closer<'a> {
+    ghost use Rattle.std.specs.Prelude.{◌≡◌};
+    ghost use Rattle.gate_word.specs.Seats.{Seat};
+
+    ghost Value = { Seat };
+
+    ghost view = { λ c. c.seat };
+
+    ghost invariant = { λ c. c.seat.gate ≡ c.gate.now };
 }
 
 impl<'a> Closer<'a> {
     /// Who shuts this gate, by a seat of it.
     pub fn new(gate: &'a Gate, seat: GateSeat) -> Closer<'a>
         requires { seat.gate ≡ gate.now }
+        ensures { result ≡ seat }
     {
         Closer { gate, seat }
     }
 
     /// Shuts it.
-    pub fn shut(&mut self) {
+    pub fn shut(&mut self)
+        ensures { Shuts self.old self.new }
+    {
         self.gate.shut(&mut self.seat);
     }
 
-    /// Whether it is shut, and nobody is inside.
-    pub fn is_drained(&mut self) -> bool {
-        self.gate.drained(&mut self.seat).is_some()
+    /// Looks whether it is shut, and nobody is inside.
+    pub fn drained(&mut self) -> Option<Drained>
+        ensures { Looks self.old result self.new }
+    {
+        self.gate.drained(&mut self.seat)
     }
 }
 
 /// Who takes connections from a source.
+///
+/// Contracts see it as an `AcceptorState`.
 #[derive(Drop)]
-pub(crate) struct Acceptor<'a, T: Transport + Drop, S, W> {
-    source: &'a mut S,
+pub(crate) struct Acceptor<'a, T: Transport + Drop, S: Source<T>, W> {
+    source: S,
     sender: Sender<Arrived<T>>,
     roster: &'a Roster<W>,
     closer: Closer<'a>,
     is_closed: bool,
+    // How many connections came.
+    came: u64,
     // How the source ended, once it has.
     end: SourceEnd,
-    ghost unmarked: { is_closed ≡ false → sender.end_marks_sent ≡ 0 },
 }
 
-impl<'a, T: Transport + Drop, S: Source<T>, W: Wake> Acceptor<'a, T, S, W> {
+impl<'a, T: Transport + Drop, S: Source<T>, W> Model for Acceptor<'a, T, S, W> {
+    ghost use Rattle.std.specs.Prelude.{◌≡◌, ◌≤◌, false, length};
+    ghost use Rattle.worker_pool.specs.Accepting.{AcceptorState};
+
+    ghost Value = { AcceptorState T S };
+
+    ghost view = { λ a. record { source = a.source; sender = a.sender } };
+
+    ghost invariant = { λ a. (a.is_closed ≡ false → a.sender.end_marks_sent ≡ 0) × (a.came ≡ length a.sender.sent) × (a.came ≤ (S.tally a.source).arrivals) };
+}
+
+impl<'a, T: Transport + Drop, S: Source<T>, W> Acceptor<'a, T, S, W> {
     /// Takes from this source, and sends through this end.
     pub(crate) fn new(
-        source: &'a mut S,
+        source: S,
         sender: Sender<Arrived<T>>,
         roster: &'a Roster<W>,
         closer: Closer<'a>,
     ) -> Acceptor<'a, T, S, W>
-        requires { sender.end_marks_sent ≡ 0 }
+        requires { (sender.sent ≡ []) × (sender.end_marks_sent ≡ 0) }
+        ensures { result ≡ record { source = source; sender = sender } }
     {
         Acceptor {
             source,
@@ -80,27 +129,63 @@ impl<'a, T: Transport + Drop, S: Source<T>, W: Wake> Acceptor<'a, T, S, W> {
             roster,
             closer,
             is_closed: false,
-            end: SourceEnd::Ended,
+            came: 0,
+            end: SourceEnd::Untouched,
         }
     }
 
-    /// Takes connections from the source until it has ended or failed, and sends each for the worker that has the fewest. Then the broker closes: where the
-    /// source failed, the gate is shut; every worker is called, and is sent its end mark.
-    pub(crate) fn accept_all<R: Wait + Clock>(&mut self, rt: &R) {
-        self.end = self.accept(rt);
-        if self.end == SourceEnd::Failed {
+    /// The end of the channel.
+    pub(crate) fn sender(&self) -> &Sender<Arrived<T>>
+        ensures { result.now ≡ self.now.sender }
+    {
+        &self.sender
+    }
+
+    /// The source, of which nothing was taken.
+    pub(crate) fn into_source(self) -> S
+        ensures { result ≡ self.entry.source }
+    {
+        self.source
+    }
+
+    /// The end of the channel, and what became of the source.
+    pub(crate) fn into_parts(self) -> (Sender<Arrived<T>>, Taken<S>)
+        ensures sender { result.0 ≡ self.entry.sender }
+        ensures source { result.1.source ≡ self.entry.source }
+        ensures came { result.1.came ≡ length self.entry.sender.sent }
+    {
+        let Acceptor {
+            source,
+            sender,
+            roster: _,
+            closer: _,
+            is_closed: _,
+            came,
+            end,
+        } = self;
+        (sender, Taken { source, end, came })
+    }
+}
+
+impl<'a, T: Transport + Drop, S: Source<T>, W: Wake> Acceptor<'a, T, S, W> {
+    /// Once every worker has begun, takes connections from the source until it has ended or failed, and sends each for the worker that has the fewest. Then the
+    /// broker closes: where the source had not ended, the gate is shut; every worker is called, and is sent its end mark.
+    pub(crate) fn accept_all<R: Wait + Clock>(&mut self, rt: &R)
+        ensures { HasAccepted S.tally self.old self.new }
+    {
+        if all_begin(rt, self.roster) {
+            self.end = self.accept(rt);
+        }
+        if self.end != SourceEnd::Ended {
             self.closer.shut();
         }
         self.close(rt);
     }
 
-    /// How the source ended.
-    pub(crate) fn into_end(self) -> SourceEnd {
-        self.end
-    }
-
     /// Takes connections until the source has ended or failed.
-    fn accept<R: Wait + Clock>(&mut self, rt: &R) -> SourceEnd {
+    fn accept<R: Wait + Clock>(&mut self, rt: &R) -> SourceEnd
+        ensures { HasAccepted S.tally self.old self.new }
+    {
         'arrivals: for _ in rt.forever() {
             match self.roster.least_full() {
                 Some(worker) => {
@@ -115,7 +200,9 @@ impl<'a, T: Transport + Drop, S: Source<T>, W: Wake> Acceptor<'a, T, S, W> {
     }
 
     /// Takes what the source gives next, and sends it for this worker. How the source ended, if it did.
-    fn accept_one<R: Wait>(&mut self, rt: &R, worker: usize) -> Option<SourceEnd> {
+    fn accept_one<R: Wait>(&mut self, rt: &R, worker: usize) -> Option<SourceEnd>
+        ensures { HasAccepted S.tally self.old self.new }
+    {
         if self.is_closed {
             return Some(SourceEnd::Ended);
         }
@@ -124,10 +211,9 @@ impl<'a, T: Transport + Drop, S: Source<T>, W: Wake> Acceptor<'a, T, S, W> {
         }
         match self.source.next() {
             Arrival::Came(transport) => {
-                match self.sender.send(rt, Arrived { transport }) {
-                    Ok(()) => self.roster.invite(worker),
-                    Err(arrived) => drop(arrived),
-                }
+                self.came += 1;
+                deliver(rt, &mut self.sender, Arrived::new(transport));
+                self.roster.invite(worker);
                 None
             }
             Arrival::Idle => None,
@@ -137,16 +223,50 @@ impl<'a, T: Transport + Drop, S: Source<T>, W: Wake> Acceptor<'a, T, S, W> {
     }
 
     /// Tells every worker that the broker closes, and sends each its end mark.
-    fn close<R: Wait>(&mut self, rt: &R) {
+    fn close<R: Wait>(&mut self, rt: &R)
+        ensures { HasAccepted S.tally self.old self.new }
+    {
         self.is_closed = true;
         self.roster.close();
         send_marks(rt, &mut self.sender, self.roster.len());
     }
 }
 
+/// Waits until every worker has begun, but no longer than ten seconds. Whether they have.
+fn all_begin<W: Wake, R: Clock>(rt: &R, roster: &Roster<W>) -> bool {
+    for _ in 0..MOST_BEGIN_PAUSES {
+        if roster.has_begun() {
+            return true;
+        }
+        thread::sleep(rt, Duration::from_millis(BEGIN_PAUSE));
+    }
+    false
+}
+
+/// Sends a connection. As long as there are workers, there is an end that receives it.
+fn deliver<T: Transport + Drop, R: Wait>(
+    rt: &R,
+    sender: &mut Sender<Arrived<T>>,
+    arrived: Arrived<T>,
+)
+    requires { sender.old.end_marks_sent ≡ 0 }
+    ensures { sender.new ≡ record sender.old { sent = sender.old.sent ++ arrived ∷ [] } }
+{
+    let mut arrived = arrived;
+    'tries: for _ in rt.forever() {
+        match sender.send(rt, arrived) {
+            Ok(()) => return,
+            Err(back) => arrived = back,
+        }
+    }
+    unreachable!()
+}
+
 /// Sends so many end marks.
-fn send_marks<T: Transport + Drop, R: Wait>(rt: &R, sender: &mut Sender<Arrived<T>>, count: usize) {
-    for _ in 0..count {
+fn send_marks<T: Transport + Drop, R: Wait>(rt: &R, sender: &mut Sender<Arrived<T>>, count: usize)
+    ensures { OnlyMarks sender.old sender.new }
+{
+    'marks: for _ in 0..count {
         let _sent = sender.end(rt);
     }
 }

@@ -1,26 +1,15 @@
-//! Workers that serve the connections of a broker, each many of them.
+//! A pool of workers that serve the connections of a source, each in a thread of its own.
 //!
-//! Who takes connections from a source sends them through a channel (`conn_channel`) and invites the worker that has the fewest. A [`Worker`] waits at one place, its
-//! [`Poller`], for what may be read or written and for a call of the others; it serves its connections by rounds (`conn_service`), and rings for whoever
-//! waits for what it did: a bell for each group tells members of other workers of jobs that came or came back, and a call tells of a session that was
-//! asked for or is free.
+//! Who takes connections from a source sends them through a channel (`conn_channel`) and invites the worker (`broker_worker`) that has the fewest. Another thread
+//! watches for what is to end the broker. [`run`] makes the workers, lets all of them do what they do, and gives back what they had of the broker.
 #![tactic(auto)]
 
 mod accepting;
-mod arrived;
-mod bells;
-mod calls;
-mod marks;
-mod members;
-mod outfit;
-mod poller;
 mod pool;
-mod served;
+mod provision;
+mod role;
 mod watching;
-mod worker;
 
-pub use accepting::{Closer, SourceEnd};
-pub use poller::Poller;
-pub use pool::{Hand, Pooled, Recruit, Retired, Unbegun, run};
-pub use served::ServedCounts;
+pub use accepting::{Closer, SourceEnd, Taken};
+pub use pool::{Pooled, Unbegun, run};
 pub use watching::Watch;

@@ -1,72 +1,50 @@
 //! A pool of workers, and its run.
-ghost use Rattle.std.specs.Prelude.{◌≡◌, IfOk};
+ghost use Rattle.std.specs.Prelude.{◌≡◌, ◌+◌, ◌≤◌, [], All, length, vec_capacity, IfOk, IfErr, MatchResult};
+ghost use Rattle.conn_channel.specs.Ends.{AreOf, end_marks_received_by, new_receiver};
+ghost use Rattle.std.specs.Prelude.{List};
+ghost use Rattle.worker_pool.specs.Accepting.{AcceptorState};
+ghost use Rattle.worker_pool.specs.declared.role.Role.{Role as AnyRole};
+ghost use Rattle.worker_pool.specs.Pools.{AreAllServed, ServesAll, total_in};
+ghost use Rattle.worker_pool.specs.Roles.{AreHired, AreOfPool, HasServed, HaveAllEnded, HaveEnded, IsServing, IsStaff};
 
-use crate::accepting::{Acceptor, Closer, SourceEnd};
-use crate::arrived::Arrived;
-use crate::calls::{Post, Roster};
-use crate::marks::Marks;
-use crate::members::{Members, Wish};
-use crate::outfit::{Outfit, outfits};
-use crate::poller::Poller;
-use crate::served::ServedCounts;
+use crate::accepting::{Acceptor, Closer, Taken};
+use crate::provision::{Provision, provide};
+use crate::role::{Role, run_all};
 use crate::watching::Watch;
-use crate::worker::Worker;
-use bell::{MOST_WORKERS, Wake};
-use broker_groups::{Broker, BrokerPlace, Key, Ports};
+use bell::Wake;
+use broker_groups::Broker;
+use broker_worker::{Arrived, Gear, Hand, Kit, Poller, Roster, ServedCounts, Worker};
 use conn_channel::{Receiver, Sender};
-use conn_engine::NoMemory;
-use service_table::ServiceTable;
-use shared_supply::{Hall, SharedSupply};
+use shared_supply::Hall;
 use std::alloc::Global;
 use std::rt::Clock as SystemClock;
-use std::sync::{Arc, Wait};
-use std::thread;
+use std::sync::Wait;
 use std::thread::Threads;
 use transport::{Clock, Crossing, Source, Transport};
 
-/// How many connections there are at most.
-const MOST_CONNECTIONS: u16 = 1_024;
-
-/// How many groups there are.
-const SLOTS: usize = 8;
-
-/// What a worker has of a broker.
-#[derive(Drop)]
-pub struct Hand<B: Broker> {
-    pub key: Key<B>,
-    pub ports: Ports<B>,
-}
-
-/// Who is to be a worker.
-#[derive(Drop)]
-pub struct Recruit<B: Broker, Q, C> {
-    pub hand: Hand<B>,
-    pub poller: Q,
-    pub clock: C,
-}
-
-/// What a worker gives back.
-#[derive(Drop)]
-pub struct Retired<B: Broker> {
-    pub hand: Hand<B>,
-    pub served: ServedCounts,
-}
-
 /// What a pool gives back.
 #[derive(Drop)]
-pub struct Pooled<B: Broker> {
-    pub workers: Vec<Retired<B>>,
-    pub source: SourceEnd,
-}
-
-/// A pool that was not begun, for want of memory: no connection was served. All that its workers had comes back.
-pub struct Unbegun<B: Broker> {
+pub struct Pooled<B: Broker, S> {
+    /// What its workers had of the broker.
     pub hands: Vec<Hand<B>>,
+    /// How the connections of each worker ended.
+    pub served: Vec<ServedCounts>,
+    /// Where they came from, and how many.
+    pub taken: Taken<S>,
 }
 
-/// Serves the connections of a source with these recruits, each in a thread of its own, until the source has ended or failed, the broker's gate is shut, and all
-/// connections have ended. A thread of its own takes the connections, and another one watches for the end. Worker `n` is woken by the alarm `n`. Where the
-/// source fails, the gate is shut.
+/// A pool that was not begun, for want of memory: no connection was taken. What its workers were to have comes back.
+pub struct Unbegun<B: Broker, S> {
+    pub hands: Vec<Hand<B>>,
+    pub source: S,
+}
+
+/// Serves the connections of a source with as many workers as there are hands, each in a thread of its own, until the source has ended or failed, the
+/// broker's gate is shut, and all connections have ended. A thread of its own takes the connections, and another one watches for the end. The gear and the
+/// alarms are in the order of workers: a worker waits at its gear's poller, which its alarm wakes. Where the source fails, the gate is shut.
+///
+/// All that workers had of the broker comes back. Each connection that came was served by one worker, once: it lived as a connection is served, from its opening to its
+/// end, and is counted by that.
 ///
 /// # Errors
 ///
@@ -74,7 +52,7 @@ pub struct Unbegun<B: Broker> {
 pub fn run<
     B: Broker + Send + Sync,
     T: Transport + Drop + Send,
-    S: Source<T> + Send,
+    S: Source<T> + Drop + Send,
     Q: Poller<T> + Drop + Send,
     W: Wake + Drop + Send + Sync,
     X: Crossing + Sync,
@@ -85,423 +63,278 @@ pub fn run<
     rt: &R,
     alloc: Global,
     hall: &Hall<'_, B>,
-    recruits: Vec<Recruit<B, Q, C>>,
+    hands: Vec<Hand<B>>,
+    gear: Vec<Gear<Q, C>>,
     alarms: Vec<W>,
-    source: &mut S,
+    source: S,
     crossing: &X,
     closer: Closer<'_>,
     watch: &mut D,
-) -> Result<Pooled<B>, Unbegun<B>> {
-    let count = recruits.len();
-    match provide(alloc, count, alarms) {
-        Ok(
-            Provision {
-                roster,
-                sender,
-                receivers,
-                outfits,
-            },
-        ) => {
-            let acceptor = Acceptor::new(source, sender, &roster, closer);
-            match employ(
-                rt, alloc, hall, recruits, receivers, outfits, &roster, crossing, acceptor, watch,
-            ) {
-                Ok(posts) => Ok(serve(rt, alloc, posts)),
-                Err(unbegun) => Err(unbegun),
-            }
-        }
-        Err(_) => Err(Unbegun {
-            hands: hands_of(alloc, recruits),
-        }),
-    }
-}
-
-/// What all workers share, and what each has of it.
-struct Provision<T: Transport + Drop, W> {
-    roster: Roster<W>,
-    sender: Sender<Arrived<T>>,
-    receivers: Vec<Receiver<Arrived<T>>>,
-    outfits: Vec<Outfit<W>>,
-}
-
-/// Makes what workers share.
-fn provide<T: Transport + Drop, W: Wake + Drop>(
-    alloc: Global,
-    count: usize,
-    alarms: Vec<W>,
-) -> Result<Provision<T, W>, NoMemory>
-    ensures { IfOk result (λ made. made.sender.end_marks_sent ≡ 0) }
+) -> Result<Pooled<B, S>, Unbegun<B, S>>
+    requires workers { (1 ≤ length hands.items) × (length hands.items ≤ 64) }
+    requires gear { length gear.items ≡ length hands.items }
+    ensures hands { MatchResult result (λ pooled. length pooled.hands.items ≡ length hands.items) (λ unbegun. length unbegun.hands.items ≡ length hands.items) }
+    ensures taken { IfOk result (λ pooled. (S.tally pooled.taken.source).arrivals ≡ (S.tally source).arrivals + pooled.taken.came) }
+    ensures served { IfOk result (λ pooled. ServesAll B.group T.counts T.given T.accepted pooled.taken.came pooled.served.items) }
+    ensures counted { IfOk result (λ pooled. pooled.taken.came ≡ total_in pooled.served.items) }
+    ensures untouched { IfErr result (λ unbegun. unbegun.source ≡ source) }
 {
-    if count > 64 {
-        return Err(NoMemory);
-    }
-    let mut posts = Vec::with_capacity(alloc, count)?;
-    for _ in 0..count {
-        posts.push(Post::new())?;
-    }
-    let wards = wards_of(alloc, alarms)?;
-    let outfits = outfits(alloc, &wards, count, SLOTS)?;
-    let (sender, receivers) = conn_channel::open(alloc, count)?;
-    let roster = Roster::new(posts, wards, u64::from(share_of(count)));
-    Ok(Provision {
-        roster,
-        sender,
-        receivers,
-        outfits,
-    })
-}
-
-/// How many connections each of so many workers has at most.
-fn share_of(count: usize) -> u16 {
-    if count == 0 || count > 64 {
-        return 0;
-    }
-    MOST_CONNECTIONS / count as u16
-}
-
-/// The alarms of 32 workers each.
-fn wards_of<W: Drop>(alloc: Global, alarms: Vec<W>) -> Result<Vec<Arc<Vec<W>, Global>>, NoMemory> {
-    let mut wards = Vec::new(alloc);
-    let mut ward = Vec::new(alloc);
-    for alarm in alarms {
-        ward.push(alarm)?;
-        if ward.len() == MOST_WORKERS {
-            wards.push(Arc::new(alloc, ward).map_err(|_| NoMemory)?)?;
-            ward = Vec::new(alloc);
+    let Ok(
+        Provision {
+            roster,
+            sender,
+            kits,
+            receivers,
+            served,
+        },
+    ) = provide(alloc, gear, alarms)
+    else {
+        return Err(Unbegun { hands, source });
+    };
+    let acceptor = Acceptor::new(source, sender, &roster, closer);
+    match hire(
+        rt, alloc, hall, hands, kits, &roster, crossing, acceptor, watch,
+    ) {
+        Ok((roles, hands)) => {
+            let mut roles = roles;
+            run_all(rt, roles.as_mut_slice());
+            Ok(retire(roles, hands, receivers, served))
         }
+        Err(unbegun) => Err(unbegun),
     }
-    if !ward.is_empty() {
-        wards.push(Arc::new(alloc, ward).map_err(|_| NoMemory)?)?;
-    }
-    Ok(wards)
 }
 
-/// Makes the workers, behind who takes connections. Where memory is wanted for one of them, all that they had comes back.
-fn employ<'a, 'g, B, T, S, Q, W, X, C, D, R>(
+/// Hires a worker for each hand, with a kit, behind who takes connections and who watches. Where memory is wanted for one of them, all hands come back.
+fn hire<
+    'a,
+    'g,
+    B: Broker,
+    T: Transport + Drop,
+    S: Source<T> + Drop,
+    Q: Poller<T> + Drop,
+    W: Wake + Drop,
+    X: Crossing,
+    C: Clock + Drop,
+    D: Watch,
+    R: Wait,
+>(
     rt: &'a R,
     alloc: Global,
     hall: &'a Hall<'g, B>,
-    recruits: Vec<Recruit<B, Q, C>>,
-    receivers: Vec<Receiver<Arrived<T>>>,
-    outfits: Vec<Outfit<W>>,
+    hands: Vec<Hand<B>>,
+    kits: Vec<Kit<T, Q, W, C>>,
     roster: &'a Roster<W>,
     crossing: &'a X,
     acceptor: Acceptor<'a, T, S, W>,
     watch: &'a mut D,
-) -> Result<Vec<Role<'a, 'g, B, T, S, Q, W, X, C, D, R>>, Unbegun<B>>
-where
-    B: Broker,
-    T: Transport + Drop,
-    S: Source<T>,
-    Q: Poller<T> + Drop,
-    W: Wake + Drop,
-    X: Crossing,
-    C: Clock + Drop,
-    D: Watch,
-    R: Wait,
+) -> Result<(Vec<Role<'a, 'g, B, T, S, Q, W, X, C, D, R>>, Vec<Hand<B>>), Unbegun<B, S>>
+    requires count { length hands.items ≤ 64 }
+    requires kits { length kits.items ≡ length hands.items }
+    requires each { All (λ kit. kit ≡ new_receiver acceptor.sender.channel) kits.items }
+    ensures hired { IfOk result (λ made. AreHired acceptor.entry (length hands.items) made.0.items) }
+    ensures hands { IfOk result (λ made. (made.1.items ≡ []) × (length hands.items ≤ vec_capacity made.1)) }
+    ensures back { IfErr result (λ unbegun. (length unbegun.hands.items ≡ length hands.items) × (unbegun.source ≡ acceptor.entry.source)) }
 {
-    let share = share_of(recruits.len());
-    let mut posts = Vec::new(alloc);
-    let mut hands = Vec::new(alloc);
-    keep_post(&mut posts, &mut hands, Role::Accepting(acceptor));
-    keep_post(&mut posts, &mut hands, Role::Watching(watch));
-    let mut receivers = receivers.into_iter();
-    let mut outfits = outfits.into_iter();
-    let mut number = 0usize;
-    for recruit in recruits {
-        match make(
-            rt,
-            alloc,
-            hall,
-            number,
-            share,
-            recruit,
-            receivers.next(),
-            outfits.next(),
-            roster,
-            crossing,
-        ) {
-            Ok(worker) => keep_post(&mut posts, &mut hands, Role::Serving(worker)),
-            Err(hand) => keep(&mut hands, hand),
-        }
-        number = number.saturating_add(1);
-    }
-    if hands.is_empty() && posts.len() == number.saturating_add(2) {
-        return Ok(posts);
-    }
-    dismiss(posts, &mut hands);
-    Err(Unbegun { hands })
-}
-
-/// Puts a post to the others; where there is no memory for that, what a worker had comes back.
-fn keep_post<'a, 'g, B, T, S, Q, W, X, C, D, R>(
-    posts: &mut Vec<Role<'a, 'g, B, T, S, Q, W, X, C, D, R>>,
-    hands: &mut Vec<Hand<B>>,
-    post: Role<'a, 'g, B, T, S, Q, W, X, C, D, R>,
-)
-where
-    B: Broker,
-    T: Transport + Drop,
-    S: Source<T>,
-    Q: Poller<T> + Drop,
-    W: Wake + Drop,
-    X: Crossing,
-    C: Clock + Drop,
-    D: Watch,
-    R: Wait,
-{
-    if let Err(refused) = posts.push(post) {
-        leave(hands, refused.value);
-    }
-}
-
-/// What a worker had that does not begin.
-fn leave<'a, 'g, B, T, S, Q, W, X, C, D, R>(
-    hands: &mut Vec<Hand<B>>,
-    post: Role<'a, 'g, B, T, S, Q, W, X, C, D, R>,
-)
-where
-    B: Broker,
-    T: Transport + Drop,
-    S: Source<T>,
-    Q: Poller<T> + Drop,
-    W: Wake + Drop,
-    X: Crossing,
-    C: Clock + Drop,
-    D: Watch,
-    R: Wait,
-{
-    match post {
-        Role::Serving(worker) => {
-            let (hand, _receiver, _served) = worker.into_parts();
-            keep(hands, hand);
-        }
-        Role::Accepting(acceptor) => drop(acceptor),
-        Role::Watching(_watch) => {}
-    }
-}
-
-/// Puts what a worker had to what others had.
-fn keep<B: Broker>(hands: &mut Vec<Hand<B>>, hand: Hand<B>) {
-    if let Err(refused) = hands.push(hand) {
-        drop(refused);
-    }
-}
-
-/// What workers that do not begin had.
-fn dismiss<'a, 'g, B, T, S, Q, W, X, C, D, R>(
-    posts: Vec<Role<'a, 'g, B, T, S, Q, W, X, C, D, R>>,
-    hands: &mut Vec<Hand<B>>,
-)
-where
-    B: Broker,
-    T: Transport + Drop,
-    S: Source<T>,
-    Q: Poller<T> + Drop,
-    W: Wake + Drop,
-    X: Crossing,
-    C: Clock + Drop,
-    D: Watch,
-    R: Wait,
-{
-    let mut posts = posts;
-    'posts: while let Some(post) = posts.pop() {
-        leave(hands, post);
-    }
-    posts.destroy_empty();
-}
-
-/// Makes a worker. What it had comes back where memory is wanted.
-fn make<'a, 'g, B, T, Q, W, X, C, R>(
-    rt: &'a R,
-    alloc: Global,
-    hall: &'a Hall<'g, B>,
-    number: usize,
-    share: u16,
-    recruit: Recruit<B, Q, C>,
-    receiver: Option<Receiver<Arrived<T>>>,
-    outfit: Option<Outfit<W>>,
-    roster: &'a Roster<W>,
-    crossing: &'a X,
-) -> Result<Worker<'a, 'g, B, T, Q, W, X, C, R>, Hand<B>>
-where
-    B: Broker,
-    T: Transport + Drop,
-    Q: Poller<T> + Drop,
-    W: Wake + Drop,
-    X: Crossing,
-    C: Clock + Drop,
-    R: Wait,
-{
-    let Recruit {
-        hand: Hand { key, ports },
-        poller,
-        clock,
-    } = recruit;
-    let Some(receiver) = receiver else {
-        return Err(Hand { key, ports });
+    let mut hands = hands;
+    let mut kits = kits;
+    let Ok(mut roles) = Vec::with_capacity(alloc, hands.len() + 2) else {
+        return Err(Unbegun {
+            hands,
+            source: acceptor.into_source(),
+        });
     };
-    let Some(Outfit { ears, hands }) = outfit else {
-        return Err(Hand { key, ports });
-    };
-    let Ok(known) = hall.know_routes(alloc) else {
-        return Err(Hand { key, ports });
-    };
-    let Ok((table, due, members)) = cells_of::<B, T>(alloc, number, share) else {
-        return Err(Hand { key, ports });
-    };
-    Ok(Worker {
-        number,
-        table,
-        supply: SharedSupply::new(rt, alloc, hall, key, ports, known),
-        poller,
-        receiver,
-        ears,
-        hands,
-        roster,
-        crossing,
-        clock,
-        due,
-        members,
-        served: ServedCounts::NONE,
-        swept: 0,
-        closing: false,
-        waits: false,
-    })
-}
-
-/// The cells of a worker's connections, none of which is taken.
-fn cells_of<B: Broker, T: Transport>(
-    alloc: Global,
-    number: usize,
-    share: u16,
-) -> Result<(ServiceTable<BrokerPlace<B>, T>, Marks, Members), NoMemory> {
-    let count = usize::from(share);
-    let marks = Marks::new(vec![in alloc; false; count]?);
-    let members = Members::new(vec![in alloc; Wish::NONE; count]?);
-    let first = number.saturating_mul(count);
-    if first.saturating_add(count) > usize::from(MOST_CONNECTIONS) {
-        return Err(NoMemory);
-    }
-    let table = ServiceTable::new(alloc, first as u16, share)?;
-    Ok((table, marks, members))
-}
-
-/// What one thread of a pool does: it serves connections, takes them from the source, or watches for the end.
-enum Role<'a, 'g, B: Broker, T: Transport + Drop, S, Q, W, X, C, D, R: Wait> {
-    /// Serves.
-    Serving(Worker<'a, 'g, B, T, Q, W, X, C, R>),
-    /// Takes connections.
-    Accepting(Acceptor<'a, T, S, W>),
-    /// Watches for the end.
-    Watching(&'a mut D),
-}
-
-impl<
-    'a,
-    'g,
-    B: Broker,
-    T: Transport + Drop,
-    S: Source<T>,
-    Q: Poller<T> + Drop,
-    W: Wake + Drop,
-    X: Crossing,
-    C: Clock + Drop,
-    D: Watch,
-    R: Wait + SystemClock,
-> Role<'a, 'g, B, T, S, Q, W, X, C, D, R> {
-    /// Does it to its end.
-    fn run(&mut self, rt: &R) {
-        match self {
-            Role::Serving(worker) => worker.run(rt),
-            Role::Accepting(acceptor) => acceptor.accept_all(rt),
-            Role::Watching(watch) => watch.run(),
-        }
-    }
-}
-
-/// The workers serve while connections are taken, each in a thread.
-fn serve<
-    'a,
-    'g,
-    B: Broker + Send + Sync,
-    T: Transport + Drop + Send,
-    S: Source<T> + Send,
-    Q: Poller<T> + Drop + Send,
-    W: Wake + Drop + Send + Sync,
-    X: Crossing + Sync,
-    C: Clock + Drop + Send,
-    D: Watch + Send,
-    R: Threads + Wait + SystemClock + Sync,
->(rt: &R, alloc: Global, posts: Vec<Role<'a, 'g, B, T, S, Q, W, X, C, D, R>>) -> Pooled<B> {
-    let mut posts = posts;
-    run_all(rt, posts.as_mut_slice());
-    retire(alloc, posts)
-}
-
-/// Each does what it does, in a thread of its own.
-fn run_all<
-    'a,
-    'g,
-    B: Broker + Send + Sync,
-    T: Transport + Drop + Send,
-    S: Source<T> + Send,
-    Q: Poller<T> + Drop + Send,
-    W: Wake + Drop + Send + Sync,
-    X: Crossing + Sync,
-    C: Clock + Drop + Send,
-    D: Watch + Send,
-    R: Threads + Wait + SystemClock + Sync,
->(rt: &R, posts: &mut [Role<'a, 'g, B, T, S, Q, W, X, C, D, R>]) {
-    let count = posts.len();
-    if count > 0 {
-        thread::for_each_mut(rt, posts, count, &|_, post| post.run(rt));
-    }
-}
-
-/// What workers give back, and how the source ended.
-fn retire<'a, 'g, B, T, S, Q, W, X, C, D, R>(
-    alloc: Global,
-    posts: Vec<Role<'a, 'g, B, T, S, Q, W, X, C, D, R>>,
-) -> Pooled<B>
-where
-    B: Broker,
-    T: Transport + Drop,
-    S: Source<T>,
-    Q: Poller<T> + Drop,
-    W: Wake + Drop,
-    X: Crossing,
-    C: Clock + Drop,
-    D: Watch,
-    R: Wait,
-{
-    let mut workers = Vec::new(alloc);
-    let mut source = SourceEnd::Ended;
-    let mut posts = posts;
-    'posts: while let Some(post) = posts.pop() {
-        match post {
-            Role::Serving(worker) => {
-                let (hand, _receiver, served) = worker.into_parts();
-                if let Err(refused) = workers.push(Retired { hand, served }) {
-                    drop(refused);
-                }
+    roles.push_reserved(Role::Accepting(acceptor));
+    roles.push_reserved(Role::Watching(watch));
+    'kits: while let Some(kit) = kits.pop() {
+        let Some(hand) = hands.pop() else {
+            unreachable!()
+        };
+        match Worker::begin(rt, alloc, hall, hand, kit, roster, crossing) {
+            Ok(worker) => roles.push_reserved(Role::Serving(worker)),
+            Err(hand) => {
+                hands.push_reserved(hand);
+                let source = dismiss(roles, &mut hands);
+                return Err(Unbegun { hands, source });
             }
-            Role::Accepting(acceptor) => source = acceptor.into_end(),
-            Role::Watching(_watch) => {}
         }
     }
-    posts.destroy_empty();
-    Pooled { workers, source }
+    Ok((roles, hands))
 }
 
-/// What recruits had.
-fn hands_of<B: Broker, Q: Drop, C: Drop>(
-    alloc: Global,
-    recruits: Vec<Recruit<B, Q, C>>,
-) -> Vec<Hand<B>> {
-    let mut hands = Vec::new(alloc);
-    for recruit in recruits {
-        keep(&mut hands, recruit.hand);
+/// Lets those go that were hired. What they had of the broker is put to the hands, and the source comes back.
+fn dismiss<
+    'a,
+    'g,
+    B: Broker,
+    T: Transport + Drop,
+    S: Source<T> + Drop,
+    Q: Poller<T> + Drop,
+    W: Wake + Drop,
+    X: Crossing,
+    C: Clock + Drop,
+    D: Watch,
+    R: Wait,
+>(roles: Vec<Role<'a, 'g, B, T, S, Q, W, X, C, D, R>>, hands: &mut Vec<Hand<B>>) -> S
+    requires roles { IsStaff roles.items }
+    requires room { length hands.old.items + length roles.items ≤ vec_capacity hands.old + 2 }
+    ensures hands { length hands.new.items + 2 ≡ length hands.old.items + length roles.entry.items }
+    ensures source { (acceptor : AcceptorState T S) (workers : List (AnyRole B T S Q W X C D R)) → AreOfPool roles.entry.items acceptor workers → result ≡ acceptor.source }
+{
+    let (acceptor, workers) = parted(roles);
+    let_go(workers, hands);
+    acceptor.into_source()
+}
+
+/// Who takes connections, and the workers. Who watches is let go.
+fn parted<
+    'a,
+    'g,
+    B: Broker,
+    T: Transport + Drop,
+    S: Source<T> + Drop,
+    Q: Poller<T> + Drop,
+    W: Wake + Drop,
+    X: Crossing,
+    C: Clock + Drop,
+    D: Watch,
+    R: Wait,
+>(
+    roles: Vec<Role<'a, 'g, B, T, S, Q, W, X, C, D, R>>,
+) -> (
+    Acceptor<'a, T, S, W>,
+    Vec<Role<'a, 'g, B, T, S, Q, W, X, C, D, R>>,
+)
+    requires { IsStaff roles.items }
+    ensures { AreOfPool roles.entry.items result.0 result.1.items }
+{
+    let mut roles = roles;
+    let acceptor = match roles.remove(0) {
+        Role::Accepting(acceptor) => acceptor,
+        _ => unreachable!(),
+    };
+    let _watch = roles.remove(0);
+    (acceptor, roles)
+}
+
+/// Lets workers go. What they had of the broker is put to the hands.
+fn let_go<
+    'a,
+    'g,
+    B: Broker,
+    T: Transport + Drop,
+    S: Source<T> + Drop,
+    Q: Poller<T> + Drop,
+    W: Wake + Drop,
+    X: Crossing,
+    C: Clock + Drop,
+    D: Watch,
+    R: Wait,
+>(workers: Vec<Role<'a, 'g, B, T, S, Q, W, X, C, D, R>>, hands: &mut Vec<Hand<B>>)
+    requires workers { All IsServing workers.items }
+    requires room { length hands.old.items + length workers.items ≤ vec_capacity hands.old }
+    ensures hands { length hands.new.items ≡ length hands.old.items + length workers.entry.items }
+{
+    let mut workers = workers;
+    match workers.pop() {
+        None => workers.destroy_empty(),
+        Some(Role::Serving(worker)) => {
+            let (hand, _receiver, _served) = worker.into_parts();
+            hands.push_reserved(hand);
+            let_go(workers, hands)
+        }
+        Some(_) => unreachable!(),
     }
-    hands
+}
+
+/// What workers give back that have ended, and what became of the source. There is room for all of it.
+fn retire<
+    'a,
+    'g,
+    B: Broker,
+    T: Transport + Drop,
+    S: Source<T> + Drop,
+    Q: Poller<T> + Drop,
+    W: Wake + Drop,
+    X: Crossing,
+    C: Clock + Drop,
+    D: Watch,
+    R: Wait,
+>(
+    roles: Vec<Role<'a, 'g, B, T, S, Q, W, X, C, D, R>>,
+    hands: Vec<Hand<B>>,
+    receivers: Vec<Receiver<Arrived<T>>>,
+    served: Vec<ServedCounts>,
+) -> Pooled<B, S>
+    requires roles { HaveAllEnded roles.items }
+    requires hands { (hands.items ≡ []) × (length roles.items ≤ vec_capacity hands + 2) }
+    requires receivers { (receivers.items ≡ []) × (length roles.items ≤ vec_capacity receivers + 2) }
+    requires served { (served.items ≡ []) × (length roles.items ≤ vec_capacity served + 2) }
+    ensures hands { length result.hands.items + 2 ≡ length roles.entry.items }
+    ensures taken { (acceptor : AcceptorState T S) → HaveEnded acceptor roles.entry.items → (result.taken.source ≡ acceptor.source) × (result.taken.came ≡ length acceptor.sender.sent) }
+    ensures served { ServesAll B.group T.counts T.given T.accepted result.taken.came result.served.items }
+{
+    let (acceptor, workers) = parted(roles);
+    let mut hands = hands;
+    let mut receivers = receivers;
+    let mut served = served;
+    gather(
+        workers,
+        acceptor.sender(),
+        &mut hands,
+        &mut receivers,
+        &mut served,
+    );
+    let (sender, taken) = acceptor.into_parts();
+    sender.settle(receivers);
+    Pooled {
+        hands,
+        served,
+        taken,
+    }
+}
+
+/// Gathers what workers give back that have ended, who received from the channel of this sender.
+fn gather<
+    'a,
+    'g,
+    B: Broker,
+    T: Transport + Drop,
+    S: Source<T> + Drop,
+    Q: Poller<T> + Drop,
+    W: Wake + Drop,
+    X: Crossing,
+    C: Clock + Drop,
+    D: Watch,
+    R: Wait,
+>(
+    workers: Vec<Role<'a, 'g, B, T, S, Q, W, X, C, D, R>>,
+    sender: &Sender<Arrived<T>>,
+    hands: &mut Vec<Hand<B>>,
+    receivers: &mut Vec<Receiver<Arrived<T>>>,
+    served: &mut Vec<ServedCounts>,
+)
+    requires workers { All (HasServed sender.now.channel) workers.items }
+    requires hands { length hands.old.items + length workers.items ≤ vec_capacity hands.old }
+    requires receivers { length receivers.old.items + length workers.items ≤ vec_capacity receivers.old }
+    requires served { length served.old.items + length workers.items ≤ vec_capacity served.old }
+    requires of { AreOf sender.now.channel receivers.old.items }
+    requires all { AreAllServed B.group T.counts T.given T.accepted receivers.old.items served.old.items }
+    ensures hands { length hands.new.items ≡ length hands.old.items + length workers.entry.items }
+    ensures receivers { length receivers.new.items ≡ length receivers.old.items + length workers.entry.items }
+    ensures of { AreOf sender.now.channel receivers.new.items }
+    ensures marks { end_marks_received_by receivers.new.items ≡ end_marks_received_by receivers.old.items + length workers.entry.items }
+    ensures all { AreAllServed B.group T.counts T.given T.accepted receivers.new.items served.new.items }
+{
+    let mut workers = workers;
+    match workers.pop() {
+        None => workers.destroy_empty(),
+        Some(Role::Serving(worker)) => {
+            let (hand, receiver, counts) = worker.into_parts();
+            hands.push_reserved(hand);
+            receivers.push_reserved(receiver);
+            served.push_reserved(counts);
+            gather(workers, sender, hands, receivers, served)
+        }
+        Some(_) => unreachable!(),
+    }
 }

@@ -1,13 +1,17 @@
 //! What workers have of the bells: an ear at the bell of each group, and hands at all of them.
-ghost use Rattle.std.specs.Prelude.{◌≡◌, ◌≤◌, length};
+ghost use Rattle.std.specs.Prelude.{◌≡◌, ◌≤◌, length, IfOk};
 ghost use Rattle.std.specs.Arc.{arc_value};
 ghost use Rattle.bell.specs.Calls.{AreListenersOf, AreRingersOf};
 
 use crate::bells::{Listening, Ringing};
+use crate::calls::Roster;
 use bell::{Bell, Listener, MOST_WORKERS, Ringer, Wake};
 use conn_engine::NoMemory;
 use std::alloc::Global;
 use std::sync::Arc;
+
+/// How many groups there are.
+pub(crate) const SLOTS: usize = 8;
 
 /// What one worker has of the bells.
 #[derive(Drop)]
@@ -16,22 +20,23 @@ pub(crate) struct Outfit<W> {
     pub(crate) hands: Vec<Ringing<W>>,
 }
 
-/// What every worker has of the bells of so many groups, in the order of workers. The alarms of each ward wake its workers, in their order.
+/// What each of so many workers of a roster has of the bells, in their order.
 pub(crate) fn outfits<W: Wake + Drop>(
     alloc: Global,
-    wards: &[Arc<Vec<W>, Global>],
+    roster: &Roster<W>,
     workers: usize,
-    slots: usize,
-) -> Result<Vec<Outfit<W>>, NoMemory> {
+) -> Result<Vec<Outfit<W>>, NoMemory>
+    ensures { IfOk result (λ outfits. length outfits.items ≡ workers) }
+{
     let mut all = Vec::with_capacity(alloc, workers)?;
-    for _ in 0..workers {
+    'outfits: for _ in 0..workers {
         all.push(Outfit {
             ears: Vec::new(alloc),
             hands: Vec::new(alloc),
         })?;
     }
-    for slot in 0..slots {
-        fit_slot(alloc, wards, slot, &mut all)?;
+    'slots: for slot in 0..SLOTS {
+        fit_slot(alloc, roster.alarms(), slot, all.as_mut_slice())?;
     }
     Ok(all)
 }
@@ -41,7 +46,7 @@ fn fit_slot<W: Wake + Drop>(
     alloc: Global,
     wards: &[Arc<Vec<W>, Global>],
     slot: usize,
-    all: &mut Vec<Outfit<W>>,
+    all: &mut [Outfit<W>],
 ) -> Result<(), NoMemory> {
     let mut first = 0usize;
     for ward in wards {
@@ -57,7 +62,7 @@ fn fit_ward<W: Wake + Drop>(
     ward: &Arc<Vec<W>, Global>,
     slot: usize,
     first: usize,
-    all: &mut Vec<Outfit<W>>,
+    all: &mut [Outfit<W>],
 ) -> Result<usize, NoMemory> {
     let count = ward.len();
     if count == 0 || count > MOST_WORKERS {

@@ -1,7 +1,10 @@
 //! How the connections of a worker ended.
+ghost use Rattle.std.specs.Prelude.{◌≡◌};
+ghost use Rattle.broker_worker.specs.Counting.{counted};
+
 use conn_service::Served;
 
-/// How many connections ended in each way.
+/// How many connections ended in each way, up to `u64::MAX`.
 #[derive(Clone, Copy, Debug, PartialEq, Eq)]
 pub struct ServedCounts {
     /// 0: a step closed them, and all that they were sent is written.
@@ -30,15 +33,16 @@ impl ServedCounts {
     };
 
     /// Counts one that ended so.
-    pub(crate) fn count(&mut self, served: Served) {
-        let count = match served {
-            Served::Ended => &mut self.ended,
-            Served::Read => &mut self.read,
-            Served::Write => &mut self.write,
-            Served::Memory => &mut self.memory,
-            Served::NoCrossing => &mut self.no_crossing,
-            Served::Stalled => &mut self.stalled,
-        };
-        *count = count.saturating_add(1);
+    pub(crate) fn count(&mut self, served: Served)
+        ensures { self.new ≡ counted served self.old }
+    {
+        match served {
+            Served::Ended => self.ended = self.ended.saturating_add(1),
+            Served::Read => self.read = self.read.saturating_add(1),
+            Served::Write => self.write = self.write.saturating_add(1),
+            Served::Memory => self.memory = self.memory.saturating_add(1),
+            Served::NoCrossing => self.no_crossing = self.no_crossing.saturating_add(1),
+            Served::Stalled => self.stalled = self.stalled.saturating_add(1),
+        }
     }
 }

@@ -1,6 +1,8 @@
 //! What workers call one another for, and how many connections each has.
 
-use bell::Wake;
+use crate::kit::share_of;
+use bell::{MOST_WORKERS, Wake};
+use conn_engine::NoMemory;
 use std::alloc::Global;
 use std::sync::Arc;
 use std::sync::atomic::{AtomicU64, Ordering};
@@ -14,7 +16,7 @@ const INVITED: u64 = 4;
 
 /// What others tell a worker.
 #[derive(Drop)]
-pub struct Post {
+struct Post {
     calls: AtomicU64,
     // How many connections it has, and how many were sent for it.
     open: AtomicU64,
@@ -24,7 +26,7 @@ pub struct Post {
 
 impl Post {
     /// That of a worker that has no connection.
-    pub fn new() -> Post {
+    fn new() -> Post {
         Post {
             calls: AtomicU64::new(0),
             open: AtomicU64::new(0),
@@ -51,19 +53,35 @@ pub struct Roster<W> {
     alarms: Vec<Arc<Vec<W>, Global>>,
     // How many connections a worker has at most.
     share: u64,
+    // How many workers have begun.
+    begun: AtomicU64,
 }
 
-// How many workers one list of alarms has.
-const WARD: usize = 32;
-
 impl<W: Wake> Roster<W> {
-    /// Workers with these posts, of whom each has so many connections at most, and who are woken by these alarms, 32 in each list.
-    pub fn new(posts: Vec<Post>, alarms: Vec<Arc<Vec<W>, Global>>, share: u64) -> Roster<W> {
-        Roster {
-            posts,
-            alarms,
-            share,
+    /// So many workers, of whom none has a connection; these alarms wake them, in their order.
+    ///
+    /// # Errors
+    ///
+    /// Want of memory.
+    pub fn open(alloc: Global, count: usize, alarms: Vec<W>) -> Result<Roster<W>, NoMemory>
+    where
+        W: Drop,
+    {
+        let mut posts = Vec::with_capacity(alloc, count)?;
+        for _ in 0..count {
+            posts.push(Post::new())?;
         }
+        Ok(Roster {
+            posts,
+            alarms: wards_of(alloc, alarms)?,
+            share: u64::from(share_of(count)),
+            begun: AtomicU64::new(0),
+        })
+    }
+
+    /// What wakes them.
+    pub(crate) fn alarms(&self) -> &[Arc<Vec<W>, Global>] {
+        self.alarms.as_slice()
     }
 
     /// How many workers there are.
@@ -71,10 +89,20 @@ impl<W: Wake> Roster<W> {
         self.posts.len()
     }
 
+    /// A worker has begun.
+    pub(crate) fn note_begun(&self) {
+        let _count = self.begun.fetch_add(1, Ordering::SeqCst);
+    }
+
+    /// Whether each of them has begun.
+    pub fn has_begun(&self) -> bool {
+        self.begun.load(Ordering::SeqCst) >= self.posts.len() as u64
+    }
+
     /// Wakes a worker.
     fn wake(&self, worker: usize) {
-        if let Some(ward) = self.alarms.get(worker / WARD) {
-            if let Some(alarm) = ward.get(worker % WARD) {
+        if let Some(ward) = self.alarms.get(worker / MOST_WORKERS) {
+            if let Some(alarm) = ward.get(worker % MOST_WORKERS) {
                 alarm.wake();
             }
         }
@@ -177,4 +205,21 @@ impl<W: Wake> Roster<W> {
         }
         (u64::from(connection) / self.share) as usize
     }
+}
+
+/// The alarms of 32 workers each.
+fn wards_of<W: Drop>(alloc: Global, alarms: Vec<W>) -> Result<Vec<Arc<Vec<W>, Global>>, NoMemory> {
+    let mut wards = Vec::new(alloc);
+    let mut ward = Vec::new(alloc);
+    for alarm in alarms {
+        ward.push(alarm)?;
+        if ward.len() == MOST_WORKERS {
+            wards.push(Arc::new(alloc, ward).map_err(|_| NoMemory)?)?;
+            ward = Vec::new(alloc);
+        }
+    }
+    if !ward.is_empty() {
+        wards.push(Arc::new(alloc, ward).map_err(|_| NoMemory)?)?;
+    }
+    Ok(wards)
 }

@@ -1,0 +1,2 @@
+pub mod Accounting
+pub mod Living

@@ -1,0 +1,84 @@
+-- A connection lives on by its rounds, whatever others do to the supply between them.
+use Rattle.std.proofs.Common.{◌≡◌, ◌⊎◌, ℕ, Bool, List, [], ◌∷◌, ◌++◌, Option, Some, None, refl, sym, subst, inl, inr, ◌∙◌}
+use Rattle.transport.specs.declared.counts.Counts.{Counts}
+use Rattle.transport.specs.Counting.{no_counts}
+use Rattle.conn_engine.specs.Facts.{Fact}
+use Rattle.conn_service.specs.declared.served.Served.{Served}
+use Rattle.conn_service.specs.declared.served.Served.TheVariants.{Memory}
+use Rattle.conn_service.specs.Services.{ServiceState, opened}
+use Rattle.conn_service.specs.Acts.{Act, Others}
+use Rattle.conn_service.specs.Lives.{Does, DoesAll, Leads}
+use Rattle.service_table.specs.Cells.{Opens, Tells, Turns}
+use Rattle.service_table.specs.declared.turned.Turned.{Turned}
+use Rattle.service_table.specs.declared.turned.Turned.TheVariants.{Vacant, Goes, Ended}
+use Rattle.broker_worker.specs.Lives.{HasLived, HasLivedToItsEnd, IfLived, IsLife}
+
+module _ {S P T : Type 0} (call : S → Fact P → S → Type 0) (turn : S → S → Type 0) (visiting : S → Bool) (slot_of : P → ℕ)
+    (counts : T → Counts) (given accepted : T → Option (List ℕ)) where
+  -- acts, what others do, and further acts
+  both : (these those : List Act) (old mid new : ServiceState P T) (supply between again supply' : S)
+      → DoesAll call turn visiting slot_of counts given accepted these old supply mid between
+      → DoesAll call turn visiting slot_of counts given accepted those mid again new supply'
+      → DoesAll call turn visiting slot_of counts given accepted (these ++ (Others ∷ those)) old supply new supply'
+  both [] those old mid new supply between again supply' first then = (mid, again, first.0, then)
+  both (act ∷ these) those old mid new supply between again supply' first then =
+      (first.0, first.1, first.2, both these those first.0 mid new first.1 between again supply' first.3 then)
+
+  pub lives_on : (service behind : ServiceState P T) (supply supply' : S) → HasLived call turn visiting slot_of counts given accepted service
+      → Leads call turn visiting slot_of counts given accepted service supply behind supply' → HasLived call turn visiting slot_of counts given accepted behind
+  lives_on service behind supply supply' lived leads = record {
+    number = lived.number;
+    opening = lived.opening;
+    transport = lived.transport;
+    fresh = lived.fresh;
+    before = lived.before;
+    behind = supply';
+    led = record {
+      acts = lived.led.acts ++ (Others ∷ leads.acts);
+      does = both lived.led.acts leads.acts (opened lived.number lived.opening lived.transport) service behind lived.before lived.behind supply supply' lived.led.does leads.does;
+    };
+  }
+
+  -- one that is opened lives, over any supply
+  pub opens : (now : ℕ) (transport : T) (before after : Option (ServiceState P T)) (supply : S) → counts transport ≡ no_counts → Opens now transport before after
+      → IfLived call turn visiting slot_of counts given accepted after
+  opens now transport before None supply fresh opened_so = tt
+  opens now transport before (Some service) supply fresh opened_so = record {
+    number = service.client.conn.number;
+    opening = now;
+    transport = transport;
+    fresh = fresh;
+    before = supply;
+    behind = supply;
+    led = record { acts = []; does = (opened_so.1, refl) };
+  }
+
+  -- what a round tells of one that lived
+  tells : (turned : Turned T) (service : ServiceState P T) (now : ℕ) (after : Option (ServiceState P T)) → Tells turned service now after
+      → HasLived call turn visiting slot_of counts given accepted service → IfLived call turn visiting slot_of counts given accepted after
+  tells Vacant service now after told lived = absurd told
+  tells (Goes round) service now after told lived =
+      let If : Option (ServiceState P T) → Type 0 = λ cell. IfLived call turn visiting slot_of counts given accepted cell in subst If (sym told.1) lived
+  tells (Ended how transport) service now after told lived =
+      let If : Option (ServiceState P T) → Type 0 = λ cell. IfLived call turn visiting slot_of counts given accepted cell in subst If (sym told.2) tt
+
+  -- a connection that turns lives on
+  pub turns : (now : ℕ) (before : Option (ServiceState P T)) (supply : S) (turned : Turned T) (after : Option (ServiceState P T)) (supply' : S)
+      → Turns call turn visiting slot_of counts given accepted now before supply turned after supply'
+      → IfLived call turn visiting slot_of counts given accepted before → IfLived call turn visiting slot_of counts given accepted after
+  turns now None supply turned after supply' made lived =
+      let If : Option (ServiceState P T) → Type 0 = λ cell. IfLived call turn visiting slot_of counts given accepted cell in subst If (sym made.1) tt
+  turns now (Some service) supply turned after supply' made lived =
+      tells turned made.0 now after made.2 (lives_on service made.0 supply supply' lived made.1)
+
+  -- where it ended, a life did
+  pub ends : (now : ℕ) (before : Option (ServiceState P T)) (supply : S) (how : Served) (transport : T) (after : Option (ServiceState P T)) (supply' : S)
+      → Turns call turn visiting slot_of counts given accepted now before supply (Ended how transport) after supply'
+      → IfLived call turn visiting slot_of counts given accepted before → IsLife call turn visiting slot_of counts given accepted how
+  ends now None supply how transport after supply' made lived = absurd (cc made.0)
+  ends now (Some service) supply how transport after supply' made lived = inl (record {
+    last = made.0;
+    lived = lives_on service made.0 supply supply' lived made.1;
+    ending = made.2.0.0;
+    over = made.2.0.1;
+  })

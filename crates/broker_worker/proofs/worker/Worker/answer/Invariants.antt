@@ -1,0 +1,6 @@
+-- The channel is the same.
+use Rattle.broker_worker.specs.Serving.{StaysOf}
+use Rattle.broker_worker.proofs.worker.Worker.answer.Given as goal
+
+abbrev pub invariant-invited : goal.invariant-invited
+invariant-invited g l = StaysOf l.fn.self l.self

@@ -1,0 +1,30 @@
+-- How connections have ended, counted.
+use Rattle.std.specs.Prelude.{◌≡◌, ℕ, ◌+◌, min, List, [], ◌∷◌}
+use Rattle.conn_service.specs.declared.served.Served.{Served}
+use Rattle.conn_service.specs.declared.served.Served.TheVariants.{Ended, Read, Write, Memory, NoCrossing, Stalled}
+use Rattle.broker_worker.specs.declared.served.ServedCounts.{ServedCounts}
+
+-- one more, up to 2^64 - 1
+abbrev pub raised : ℕ → ℕ
+raised count = min (count + 1) 18446744073709551615
+
+abbrev pub none_served : ServedCounts
+none_served = record { ended = 0; read = 0; write = 0; memory = 0; no_crossing = 0; stalled = 0 }
+
+-- one more that ended so
+abbrev pub counted : Served → ServedCounts → ServedCounts
+counted Ended counts = record counts { ended = raised counts.ended }
+counted Read counts = record counts { read = raised counts.read }
+counted Write counts = record counts { write = raised counts.write }
+counted Memory counts = record counts { memory = raised counts.memory }
+counted NoCrossing counts = record counts { no_crossing = raised counts.no_crossing }
+counted Stalled counts = record counts { stalled = raised counts.stalled }
+
+-- the counts of connections that ended so, the latest first
+abbrev pub counts_of : List Served → ServedCounts
+counts_of [] = none_served
+counts_of (how ∷ rest) = counted how (counts_of rest)
+
+-- how many connections are counted
+abbrev pub total : ServedCounts → ℕ
+total counts = counts.ended + counts.read + counts.write + counts.memory + counts.no_crossing + counts.stalled

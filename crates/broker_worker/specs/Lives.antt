@@ -1,0 +1,38 @@
+-- The life of a connection of a worker, from its opening to its end, whatever others do to the supply.
+use Rattle.std.specs.Prelude.{◌≡◌, ◌⊎◌, ℕ, ⊤, Bool, List, Option, Some, None}
+use Rattle.transport.specs.declared.counts.Counts.{Counts}
+use Rattle.transport.specs.Counting.{no_counts}
+use Rattle.conn_engine.specs.declared.standing.Standing.TheVariants.{Ended}
+use Rattle.conn_engine.specs.Facts.{Fact}
+use Rattle.conn_service.specs.declared.served.Served.{Served}
+use Rattle.conn_service.specs.declared.served.Served.TheVariants.{Memory}
+use Rattle.conn_service.specs.Services.{ServiceState, opened}
+use Rattle.conn_service.specs.Lives.{Leads}
+
+module _ {S P T : Type 0} (call : S → Fact P → S → Type 0) (turn : S → S → Type 0) (visiting : S → Bool) (slot_of : P → ℕ)
+    (counts : T → Counts) (given accepted : T → Option (List ℕ)) where
+  -- acts led a connection here from its opening, over a transport of which nothing was asked before
+  pub record HasLived (service : ServiceState P T) : Type 0 where
+    pub number : ℕ
+    pub opening : ℕ
+    pub transport : T
+    pub fresh : counts transport ≡ no_counts
+    pub before : S
+    pub behind : S
+    pub led : Leads call turn visiting slot_of counts given accepted (opened number opening transport) before service behind
+
+  -- the same of the connection in a cell, where there is one
+  abbrev pub IfLived : Option (ServiceState P T) → Type 0
+  IfLived None = ⊤
+  IfLived (Some service) = HasLived service
+
+  -- acts led a connection from its opening to this end
+  pub record HasLivedToItsEnd (how : Served) : Type 0 where
+    pub last : ServiceState P T
+    pub lived : HasLived last
+    pub ending : last.ending ≡ Some how
+    pub over : last.client.conn.standing ≡ Ended
+
+  -- how the life of a connection ended: behind the last of its acts; or there was no memory to open it, or the system did not watch it, and it was closed at once
+  abbrev pub IsLife : Served → Type 0
+  IsLife how = HasLivedToItsEnd how ⊎ (how ≡ Memory)

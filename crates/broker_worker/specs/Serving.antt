@@ -1,0 +1,65 @@
+-- The connections of a worker of a broker: each that it received is open, and has lived as a connection is served; or it has ended, and is counted by its ending.
+use Rattle.std.specs.Prelude.{◌≡◌, ℕ, ◌+◌, Bool, List, length, Option, Some, None, All}
+use Rattle.std.specs.List.{AllByRecursion}
+use Rattle.transport.specs.declared.counts.Counts.{Counts}
+use Rattle.transport.specs.Counting.{no_counts}
+use Rattle.group_queue.specs.Ports.{GroupId}
+use Rattle.group_queue.specs.Places.{PlaceState}
+use Rattle.conn_channel.specs.Ends.{ReceiverState}
+use Rattle.conn_service.specs.declared.served.Served.{Served}
+use Rattle.conn_service.specs.Services.{ServiceState}
+use Rattle.service_table.specs.Cells.{InCell, Opens, occupied}
+use Rattle.shared_supply.specs.Calls.{Calls}
+use Rattle.shared_supply.specs.Workers.{Turns, is_visiting}
+use Rattle.broker_worker.specs.declared.served.ServedCounts.{ServedCounts}
+use Rattle.broker_worker.specs.Counting.{counts_of, none_served}
+use Rattle.broker_worker.specs.Lives.{IfLived, IsLife}
+
+-- the end of the channel, how many connections are open, and the counts of those that have ended
+pub record ConnectionsState (T : Type 0) : Type 0 where
+  pub receiver : ReceiverState T
+  pub live : ℕ
+  pub served : ServedCounts
+
+-- none was received yet
+abbrev pub fresh_connections : {T : Type 0} → ReceiverState T → ConnectionsState T
+fresh_connections receiver = record { receiver = receiver; live = 0; served = none_served }
+
+-- they come through the same channel as before
+abbrev pub StaysOf : {T : Type 0} → ConnectionsState T → ConnectionsState T → Type 0
+StaysOf old new = new.receiver.channel ≡ old.receiver.channel
+
+-- the end mark was received, and no connection is open
+pub record IsDone {T : Type 0} (connections : ConnectionsState T) : Type 0 where
+  pub mark : connections.receiver.end_marks_received ≡ 1
+  pub none_live : connections.live ≡ 0
+
+-- a connection that came is opened in a cell, or in none
+abbrev pub Admits : {T : Type 0} → (T → Counts) → List (Option (ServiceState PlaceState T)) → Option ℕ → List (Option (ServiceState PlaceState T)) → Type 0
+Admits counts old None new = new ≡ old
+Admits {T} counts old (Some cell) new =
+    (now : ℕ) × (transport : T) × (counts transport ≡ no_counts) × InCell old cell (Opens now transport) new × (occupied new ≡ occupied old + 1)
+
+module _ {T : Type 0} (group : ℕ → GroupId) (counts : T → Counts) (given accepted : T → Option (List ℕ)) where
+  -- in a broker with these groups, the connection in a cell has lived, where there is one
+  abbrev pub IfLives : Option (ServiceState PlaceState T) → Type 0
+  IfLives cell = IfLived (Calls group) Turns is_visiting (λ (p : PlaceState). p.group) counts given accepted cell
+
+  -- a life ended so
+  abbrev pub EndsLife : Served → Type 0
+  EndsLife how = IsLife (Calls group) Turns is_visiting (λ (p : PlaceState). p.group) counts given accepted how
+
+  -- those in the cells live, and those that have ended, the latest first, are counted by their endings; together they are as many as were received
+  pub record IsAccounted (received : ℕ) (cells : List (Option (ServiceState PlaceState T))) (served : ServedCounts) : Type 0 where
+    pub living : All IfLives cells
+    pub endings : List Served
+    pub lived : AllByRecursion EndsLife endings
+    pub counted : served ≡ counts_of endings
+    pub all : received ≡ occupied cells + length endings
+
+  -- each of so many connections has lived to its end, and is counted by it
+  pub record AreServed (received : ℕ) (served : ServedCounts) : Type 0 where
+    pub endings : List Served
+    pub lived : AllByRecursion EndsLife endings
+    pub counted : served ≡ counts_of endings
+    pub all : received ≡ length endings

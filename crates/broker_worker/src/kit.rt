@@ -1,0 +1,106 @@
+//! What each worker has for itself, made before any worker is.
+ghost use Rattle.std.specs.Prelude.{◌≡◌, All, length, IfOk};
+ghost use Rattle.conn_channel.specs.Ends.{AreReceivers, new_receiver};
+
+use crate::arrived::Arrived;
+use crate::calls::Roster;
+use crate::marks::Marks;
+use crate::members::{Members, Wish};
+use crate::outfit::{Outfit, outfits};
+use bell::Wake;
+use conn_channel::{Receiver, Sender};
+use conn_engine::NoMemory;
+use std::alloc::Global;
+use std::marker::Model;
+use transport::Transport;
+
+/// How many connections all workers have together at most.
+pub(crate) const MOST_CONNECTIONS: u16 = 1_024;
+
+/// How many connections each of so many workers has at most.
+pub(crate) fn share_of(count: usize) -> u16 {
+    if count == 0 || count > 64 {
+        return 0;
+    }
+    MOST_CONNECTIONS / count as u16
+}
+
+/// Where a worker waits, and its clock.
+#[derive(Drop)]
+pub struct Gear<Q, C> {
+    pub poller: Q,
+    pub clock: C,
+}
+
+/// What the worker of a number has for itself. Contracts see it as its end of the channel.
+#[derive(Drop)]
+pub struct Kit<T: Transport + Drop, Q, W, C> {
+    pub(crate) number: usize,
+    pub(crate) share: u16,
+    pub(crate) gear: Gear<Q, C>,
+    pub(crate) receiver: Receiver<Arrived<T>>,
+    pub(crate) outfit: Outfit<W>,
+    pub(crate) due: Marks,
+    pub(crate) members: Members,
+}
+
+impl<T: Transport + Drop, Q, W, C> Model for Kit<T, Q, W, C> {
+    ghost use Rattle.conn_channel.specs.Ends.{ReceiverState};
+
+    ghost Value = { ReceiverState T };
+
+    ghost view = { λ k. k.receiver };
+}
+
+/// A kit for each worker of a roster, in the order of gear. They receive from the channel of this sender.
+///
+/// # Errors
+///
+/// Want of memory.
+pub fn kits<T: Transport + Drop, Q: Drop, W: Wake + Drop, C: Drop>(
+    alloc: Global,
+    gear: Vec<Gear<Q, C>>,
+    roster: &Roster<W>,
+    sender: &Sender<Arrived<T>>,
+    receivers: Vec<Receiver<Arrived<T>>>,
+) -> Result<Vec<Kit<T, Q, W, C>>, NoMemory>
+    requires receivers { AreReceivers sender.now.channel (length gear.items) receivers.items }
+    ensures count { IfOk result (λ kits. length kits.items ≡ length gear.items) }
+    ensures each { IfOk result (λ kits. All (λ kit. kit ≡ new_receiver sender.now.channel) kits.items) }
+{
+    let mut gear = gear;
+    let mut receivers = receivers;
+    let share = share_of(gear.len());
+    let mut outfits = outfits(alloc, roster, gear.len())?;
+    let mut kits = Vec::with_capacity(alloc, gear.len())?;
+    'kits: while let Some(own) = gear.pop() {
+        let (Some(receiver), Some(outfit)) = (receivers.pop(), outfits.pop()) else {
+            unreachable!()
+        };
+        kits.push(kit_of(alloc, gear.len(), share, own, receiver, outfit)?)?;
+    }
+    Ok(kits)
+}
+
+/// The kit of the worker of a number.
+fn kit_of<T: Transport + Drop, Q: Drop, W: Drop, C: Drop>(
+    alloc: Global,
+    number: usize,
+    share: u16,
+    gear: Gear<Q, C>,
+    receiver: Receiver<Arrived<T>>,
+    outfit: Outfit<W>,
+) -> Result<Kit<T, Q, W, C>, NoMemory>
+    ensures { IfOk result (λ kit. kit ≡ receiver) }
+{
+    let count = usize::from(share);
+    Ok(Kit {
+        number,
+        share,
+        gear,
+        receiver,
+        outfit,
+        due: Marks::new(vec![in alloc; false; count]?),
+        members: Members::new(vec![in alloc; Wish::NONE; count]?),
+    })
+}

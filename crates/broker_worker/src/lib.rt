@@ -1,0 +1,27 @@
+//! A worker of a broker: it serves many connections, each by rounds, and calls other workers and is called by them.
+//!
+//! A [`Worker`] waits at one place, its [`Poller`], for what may be read or written and for a call of the others. It receives its connections through a channel
+//! (`conn_channel`), serves them by rounds (`conn_service`), and rings for whoever waits for what they did: a bell for each group tells members of other workers
+//! of jobs that came or came back, and a call tells of a session that was asked for or is free. Its [`Roster`] has all workers.
+#![tactic(auto)]
+
+mod arrived;
+mod bells;
+mod calls;
+mod connections;
+mod hand;
+mod kit;
+mod marks;
+mod members;
+mod outfit;
+mod poller;
+mod served;
+mod worker;
+
+pub use arrived::Arrived;
+pub use calls::Roster;
+pub use hand::Hand;
+pub use kit::{Gear, Kit, kits};
+pub use poller::Poller;
+pub use served::ServedCounts;
+pub use worker::Worker;

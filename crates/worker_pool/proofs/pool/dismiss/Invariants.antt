@@ -1,6 +1,0 @@
--- So many are left.
-use Rattle.std.proofs.Common.{vec_len}
-use Rattle.worker_pool.proofs.pool.dismiss.Given as goal
-
-abbrev pub decreases-posts : goal.decreases-posts
-decreases-posts g l = vec_len l.posts
