@@ -212,7 +212,10 @@ fn parted<
         Role::Accepting(acceptor) => acceptor,
         _ => unreachable!(),
     };
-    let _watch = roles.remove(0);
+    match roles.remove(0) {
+        Role::Watching(_watch) => {}
+        _ => unreachable!(),
+    }
     (acceptor, roles)
 }
 
