@@ -14,7 +14,7 @@ use Rattle.group_queue.specs.Ports.{GroupId, PortState}
 use Rattle.group_queue.specs.declared.witness.Nobody.{Nobody}
 use Rattle.group_queue.specs.declared.finish.Unfinished.{Unfinished as GroupLeft}
 use Rattle.tcp_edge.specs.Sources.{IsPortFor}
-use Rattle.shared_supply.specs.Endings.{IsEnded}
+use Rattle.final_report.specs.Brokers.{KeptItsPromises}
 
 -- a report, and no refusal
 abbrev pub IsReport : Result Report (GroupLeft Nobody) → Type 0
@@ -39,7 +39,7 @@ pub record AreReports (group : ℕ → GroupId) (text : List ℕ) : Type 0 where
   pub ports : List (List PortState)
   pub answers : List (Result Report (GroupLeft Nobody))
   pub strangers : List Held
-  pub ended : IsEnded group ports answers strangers
+  pub promises : KeptItsPromises group ports answers strangers
   pub reports : All IsReport answers
   pub shares : List Share
   pub lines : text ≡ lines_of shares answers

@@ -1,130 +1,104 @@
-//! Serving the connections of a broker that is open.
-ghost use Rattle.std.specs.Prelude.{◌≡◌, ◌+◌, ◌≤◌, ◌⊎◌, length, IfErr, MatchResult};
-ghost use Rattle.std.specs.Io.KnownBytes.{Appends};
-ghost use Rattle.gate_word.specs.Seats.{AreSeatsOf};
-ghost use Rattle.line_io.specs.Passing.{Begins};
-ghost use Rattle.line_io.specs.declared.error.RunError.TheVariants.{WriteFailed, Memory};
+//! Serving the connections of a broker that is open, to its reports.
+ghost use Rattle.std.specs.Prelude.{◌≡◌, ◌+◌, ◌≤◌, ◌⊎◌, [], length, vec_capacity, IfOk, IfErr};
+ghost use Rattle.line_io.specs.declared.error.RunError.TheVariants.{Memory, Unfinished as NotKnown};
+ghost use Rattle.tcp_server.specs.Reporting.{AreReports};
 
-use crate::broker::take_seat;
-use crate::crew::{Crew, crew_of};
+use crate::crew::Crew;
 use crate::listening::Awaited;
+use crate::reporting::lines;
 use crate::serving::Served;
 use crate::watching::Watching;
-use broker_groups::Broker;
+use broker_groups::{Broker, Ports};
 use broker_worker::Hand;
-use gate_word::{Drained, Gate, GateSeat};
-use line_io::{RunError, write_all};
+use line_io::RunError;
 use shared_supply::Hall;
 use std::alloc::Global;
-use std::io::{Read, Write};
+use std::io::Read;
 use std::net::Net;
 use std::rt::Clock as SystemClock;
 use std::sync::Wait;
 use std::sync::atomic::AtomicBool;
-use std::thread;
 use std::thread::Threads;
 use tcp_edge::{TcpSource, Until};
+use threaded_broker::{Outcome, serve};
 use transport::OpenCrossing;
-use worker_pool::{Closer, Pooled, SourceEnd, Unbegun, run};
+use worker_pool::{Closer, SourceEnd};
 
-/// Writes the line, and serves the connections of a source until the input ends. What all workers had comes back, and how it came to its end.
+/// Who shuts the gate of a broker: who takes its connections, who watches its input, and who ends it.
+#[derive(Drop)]
+pub(crate) struct Closers<'a, B: Broker> {
+    pub(crate) accepting: Closer<'a, B>,
+    pub(crate) watching: Closer<'a, B>,
+    pub(crate) ending: Closer<'a, B>,
+}
+
+/// Serves the connections of a source until the input ends. The lines of the reports, and how the broker came to its end.
 pub(crate) fn attend<
     B: Broker + Send + Sync,
     R: Threads + Wait + Net + SystemClock + Sync,
     I: Read + Send,
-    O: Write,
 >(
     rt: &R,
     alloc: Global,
-    gate: &Gate,
-    seats: Vec<GateSeat>,
-    hall: &Hall<'_, B>,
+    hall: Hall<'_, B>,
     hands: Vec<Hand<B>>,
-    source: Awaited<TcpSource>,
-    line: &[u8],
-    input: &mut I,
-    output: &mut O,
-) -> (Vec<Hand<B>>, Result<Served, RunError>)
-    requires seats { AreSeatsOf gate.now seats.items × (2 ≤ length seats.items) }
-    requires hands { (1 ≤ length hands.items) × (length hands.items ≤ 64) }
-    ensures hands { length result.0.items ≡ length hands.items }
-    ensures output { MatchResult result.1 (λ _. Appends (O.contents output.old) (O.contents output.new) line.now) (λ _. Begins (O.contents output.old) (O.contents output.new) line.now) }
-    ensures cause { IfErr result.1 (λ error. (error ≡ WriteFailed) ⊎ (error ≡ Memory)) }
-{
-    let mut seats = seats;
-    let closer = closer_of(gate, &mut seats);
-    let stopper = closer_of(gate, &mut seats);
-    let Some(crew) = crew_of(rt, alloc, hands.len()) else {
-        return (hands, Err(RunError::Memory));
-    };
-    match write_all(output, line) {
-        Ok(()) => serve(rt, alloc, hall, hands, crew, source, closer, stopper, input),
-        Err(error) => (hands, Err(error)),
-    }
-}
-
-/// Who shuts the gate, by the last seat.
-fn closer_of<'a>(gate: &'a Gate, seats: &mut Vec<GateSeat>) -> Closer<'a>
-    requires { AreSeatsOf gate.now seats.old.items × (1 ≤ length seats.old.items) }
-    ensures { AreSeatsOf gate.now seats.new.items × (length seats.new.items + 1 ≡ length seats.old.items) }
-{
-    Closer::new(gate, take_seat(gate, seats))
-}
-
-/// Serves with a crew, while a thread of its own reads the input to its end.
-fn serve<B: Broker + Send + Sync, R: Threads + Wait + Net + SystemClock + Sync, I: Read + Send>(
-    rt: &R,
-    alloc: Global,
-    hall: &Hall<'_, B>,
-    hands: Vec<Hand<B>>,
+    room: Vec<Ports<B>>,
     crew: Crew<'_, R>,
     source: Awaited<TcpSource>,
-    closer: Closer<'_>,
-    stopper: Closer<'_>,
+    closers: Closers<'_, B>,
     input: &mut I,
-) -> (Vec<Hand<B>>, Result<Served, RunError>)
+) -> Result<(Vec<u8>, Served), RunError>
     requires hands { (1 ≤ length hands.items) × (length hands.items ≤ 64) }
+    requires room { (room.items ≡ []) × (length hands.items ≤ vec_capacity room) }
     requires crew { length crew.gear.items ≡ length hands.items }
-    ensures hands { length result.0.items ≡ length hands.items }
-    ensures cause { IfErr result.1 (λ error. error ≡ Memory) }
+    ensures told { IfOk result (λ told. AreReports B.group told.0.items) }
+    ensures cause { IfErr result (λ error. (error ≡ Memory) ⊎ (error ≡ NotKnown)) }
 {
     let ends = AtomicBool::new(false);
+    let Closers {
+        accepting,
+        watching,
+        ending,
+    } = closers;
     let mut watching = Watching {
-        stopper,
+        stopper: watching,
         ends: &ends,
         input,
         is_read: false,
     };
     let source = Until::new(source, &ends);
     let Crew { gear, alarms } = crew;
-    let pooled = run(
+    let Ok(
+        Outcome {
+            ended,
+            shares,
+            served: _,
+            taken,
+            drained: _,
+        },
+    ) = serve(
         rt,
         alloc,
         hall,
         hands,
+        room,
         gear,
         alarms,
         source,
         &OpenCrossing,
-        closer,
+        accepting,
+        ending,
         &mut watching,
-    );
-    watching.stopper.shut();
-    drain(rt, &mut watching.stopper);
-    match pooled {
-        Ok(
-            Pooled {
-                hands,
-                served: _,
-                taken,
-            },
-        ) => (hands, ending(taken.end, watching.is_read)),
-        Err(Unbegun { hands, source: _ }) => (hands, Err(RunError::Memory)),
-    }
+    )
+    else {
+        return Err(RunError::Memory);
+    };
+    let text = lines(alloc, ended, &shares)?;
+    Ok((text, end_of(taken.end, watching.is_read)?))
 }
 
 /// How a broker came to its end; no thread for one of its workers is want of memory.
-fn ending(source: SourceEnd, is_read: bool) -> Result<Served, RunError>
+fn end_of(source: SourceEnd, is_read: bool) -> Result<Served, RunError>
     ensures { IfErr result (λ error. error ≡ Memory) }
 {
     match source {
@@ -136,17 +110,4 @@ fn ending(source: SourceEnd, is_read: bool) -> Result<Served, RunError>
             Served::InputFailed
         }),
     }
-}
-
-/// Looks until nobody is inside the gate, and nobody comes in any more.
-fn drain<R: Wait>(rt: &R, stopper: &mut Closer<'_>) -> Drained
-    ensures { result ≡ stopper.old.gate }
-{
-    'looks: for _ in rt.forever() {
-        if let Some(drained) = stopper.drained() {
-            return drained;
-        }
-        thread::yield_now();
-    }
-    unreachable!()
 }

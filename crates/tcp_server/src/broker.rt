@@ -11,10 +11,11 @@ use line_io::RunError;
 use mqtt_topic::{Routes, Share};
 use mqtt_wire::Text;
 use shared_desk::SharedDesk;
-use shared_routes::{KnownRoutes, SharedRoutes};
+use shared_routes::SharedRoutes;
 use shared_supply::Hall;
 use std::alloc::Global;
 use std::sync::Wait;
+use threaded_broker::give_up;
 
 /// A broker that is open: what its workers share, what each of them has, and room for the ports of all.
 pub(crate) struct OpenBroker<'g, B: Broker> {
@@ -34,9 +35,9 @@ pub(crate) fn open<'g, B: Broker, R: Wait>(
     shares: &Routes,
 ) -> Result<OpenBroker<'g, B>, RunError>
     requires gate { gate.now ≡ B.gate }
-    requires seats { AreSeatsOf gate.now seats.old.items × (length seats.old.items ≡ workers + 2) }
+    requires seats { AreSeatsOf gate.now seats.old.items × (length seats.old.items ≡ workers + 3) }
     requires opened { IsOfBroker B.gate B.group workers opened }
-    ensures seats { IfOk result (λ _. AreSeatsOf gate.now seats.new.items × (length seats.new.items ≡ 2)) }
+    ensures seats { IfOk result (λ _. AreSeatsOf gate.now seats.new.items × (length seats.new.items ≡ 3)) }
     ensures hands { IfOk result (λ broker. length broker.hands.items ≡ workers) }
     ensures room { IfOk result (λ broker. (broker.room.items ≡ []) × (workers ≤ vec_capacity broker.room)) }
 {
@@ -68,7 +69,7 @@ pub(crate) fn open<'g, B: Broker, R: Wait>(
     match bind_all(rt, alloc, &hall, shares) {
         Ok(()) => Ok(OpenBroker { hall, hands, room }),
         Err(error) => {
-            give_up(rt, alloc, hall, room);
+            give_up(hall, room);
             Err(error)
         }
     }
@@ -142,19 +143,6 @@ fn hand_of<B: Broker>(gate: &Gate, seat: GateSeat, ports: Ports<B>) -> Hand<B>
     }
 }
 
-/// The ports of all workers. There is room for them.
-pub(crate) fn ports_of<B: Broker>(hands: Vec<Hand<B>>, room: Vec<Ports<B>>) -> Vec<Ports<B>>
-    requires { (room.items ≡ []) × (length hands.items ≤ vec_capacity room) }
-    ensures { length result.items ≡ length hands.items }
-{
-    let mut ports = room;
-    let mut left = hands;
-    'ports: while let Some(hand) = left.pop() {
-        ports.push_reserved(hand.ports);
-    }
-    ports
-}
-
 /// Binds the shares that are there from the start, each to the slot of its group.
 fn bind_all<B: Broker, R: Wait>(
     rt: &R,
@@ -171,46 +159,10 @@ fn bind_all<B: Broker, R: Wait>(
     Ok(())
 }
 
-/// The shares that are bound, in the order of their slots.
-pub(crate) fn bound_shares<B: Broker>(
-    alloc: Global,
-    hall: &Hall<'_, B>,
-) -> Result<Vec<Share>, RunError> {
-    let mut known = hall.know_routes(alloc)?;
-    known.learn();
-    copy_all(alloc, &known)
-}
-
-/// Copies of the shares that are known.
-fn copy_all(alloc: Global, known: &KnownRoutes<'_>) -> Result<Vec<Share>, RunError> {
-    let mut shares = Vec::new(alloc);
-    for slot in 0..8u8 {
-        if let Some(share) = known.share(slot) {
-            if let Some(copy) = copy_of(alloc, share)? {
-                shares.push(copy)?;
-            }
-        }
-    }
-    Ok(shares)
-}
-
 /// A copy of a share.
 fn copy_of(alloc: Global, share: &Share) -> Result<Option<Share>, RunError> {
     match Text::parse(Bytes::copy_from_slice(alloc, share.text())?) {
         Some(text) => Ok(Share::parse(text).ok()),
         None => Ok(None),
-    }
-}
-
-/// Gives a broker up, without a word of what became of its messages.
-pub(crate) fn give_up<B: Broker, R: Wait>(
-    rt: &R,
-    alloc: Global,
-    hall: Hall<'_, B>,
-    ports: Vec<Ports<B>>,
-) {
-    match hall.finish(rt, alloc, ports) {
-        Ok(ended) => crate::reporting::let_go(ended),
-        Err(left) => left.abandon(),
     }
 }

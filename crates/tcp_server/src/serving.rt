@@ -7,15 +7,14 @@ ghost use Rattle.tcp_server.specs.Reporting.{AreReports, IsOfServing, IsServed, 
 ghost use Rattle.gate_word.specs.Seats.{AreSeatsOf};
 ghost use Rattle.broker_groups.specs.Naming.{IsOfBroker};
 
-use crate::attending::attend;
-use crate::broker::{OpenBroker, bound_shares, give_up, open, ports_of};
+use crate::attending::{Closers, attend};
+use crate::broker::{OpenBroker, open, take_seat};
+use crate::crew::crew_of;
 use crate::listening::Awaited;
-use crate::reporting::lines;
-use broker_groups::{Broker, Opened, Ports};
+use broker_groups::{Broker, Opened};
 use gate_word::{Gate, GateSeat};
 use line_io::{RunError, write_all};
 use mqtt_topic::Routes;
-use shared_supply::Hall;
 use std::alloc::Global;
 use std::io::{Read, Write};
 use std::marker::Brand;
@@ -24,6 +23,8 @@ use std::rt::Clock as SystemClock;
 use std::sync::Wait;
 use std::thread::Threads;
 use tcp_edge::{ReactorError, TcpSource};
+use threaded_broker::give_up;
+use worker_pool::Closer;
 
 /// How a broker that was served came to its end.
 #[derive(Clone, Copy, Debug, PartialEq, Eq)]
@@ -86,7 +87,7 @@ pub fn serve_with<R: Threads + Wait + Net + SystemClock + Sync, I: Read + Send, 
         Err(ReactorError::Memory) => return Err(RunError::Memory),
         Err(_) => return Err(RunError::Network),
     };
-    let Ok((gate, seats)) = Gate::open(alloc, usize::from(workers) + 2) else {
+    let Ok((gate, seats)) = Gate::open(alloc, usize::from(workers) + 3) else {
         return Err(RunError::Memory);
     };
     let Ok(opened) = Opened::open(alloc, &gate, capacity, workers) else {
@@ -141,7 +142,7 @@ fn live<
 ) -> Result<(Vec<u8>, Served), RunError>
     requires gate { gate.now ≡ B.gate }
     requires workers { (1 ≤ workers) × (workers ≤ 64) }
-    requires seats { AreSeatsOf gate.now seats.items × (length seats.items ≡ workers + 2) }
+    requires seats { AreSeatsOf gate.now seats.items × (length seats.items ≡ workers + 3) }
     requires opened { IsOfBroker B.gate B.group workers opened }
     ensures told { IfOk result (λ told. AreReports B.group told.0.items × Appends (O.contents output.old) (O.contents output.new) line.now) }
     ensures failed { IfErr result (λ error. IsOfServing error × Begins (O.contents output.old) (O.contents output.new) line.now) }
@@ -150,38 +151,28 @@ fn live<
     let OpenBroker { hall, hands, room } = open::<B, R>(
         rt, alloc, gate, &mut seats, opened, workers, groups,
     )?;
-    let (hands, served) = attend(
-        rt, alloc, gate, seats, &hall, hands, source, line, input, output,
-    );
-    conclude(rt, alloc, hall, ports_of(hands, room), served)
+    let closers = closers_of(gate, &mut seats);
+    let Some(crew) = crew_of(rt, alloc, hands.len()) else {
+        give_up(hall, room);
+        return Err(RunError::Memory);
+    };
+    match write_all(output, line) {
+        Ok(()) => attend(rt, alloc, hall, hands, room, crew, source, closers, input),
+        Err(error) => {
+            give_up(hall, room);
+            Err(error)
+        }
+    }
 }
 
-/// Ends a broker: the lines of its reports, where it was served.
-fn conclude<B: Broker, R: Wait>(
-    rt: &R,
-    alloc: Global,
-    hall: Hall<'_, B>,
-    ports: Vec<Ports<B>>,
-    served: Result<Served, RunError>,
-) -> Result<(Vec<u8>, Served), RunError>
-    ensures told { IfOk result (λ told. AreReports B.group told.0.items × (served ≡ Ok told.1)) }
-    ensures cause { IfErr result (λ error. (served ≡ Err error) ⊎ (error ≡ Memory) ⊎ (error ≡ NotKnown)) }
+/// Who shuts the gate, by the last three seats.
+fn closers_of<'a, B: Broker>(gate: &'a Gate, seats: &mut Vec<GateSeat>) -> Closers<'a, B>
+    requires gate { gate.now ≡ B.gate }
+    requires seats { AreSeatsOf gate.now seats.old.items × (3 ≤ length seats.old.items) }
 {
-    let shares = match bound_shares(alloc, &hall) {
-        Ok(shares) => shares,
-        Err(error) => {
-            give_up(rt, alloc, hall, ports);
-            return Err(error);
-        }
-    };
-    match hall.finish(rt, alloc, ports) {
-        Ok(ended) => {
-            let text = lines(alloc, ended, &shares)?;
-            Ok((text, served?))
-        }
-        Err(left) => {
-            left.abandon();
-            Err(RunError::Memory)
-        }
+    Closers {
+        accepting: Closer::new(gate, take_seat(gate, seats)),
+        watching: Closer::new(gate, take_seat(gate, seats)),
+        ending: Closer::new(gate, take_seat(gate, seats)),
     }
 }

@@ -1,4 +1,5 @@
 //! How a broker is told to end: its input ends.
+use broker_groups::Broker;
 use std::io::{ErrorKind, Read};
 use std::sync::atomic::{AtomicBool, Ordering};
 use worker_pool::{Closer, Watch};
@@ -8,15 +9,15 @@ const INPUT_SIZE: usize = 4_096;
 
 /// Reads the input to its end, and closes the broker then.
 #[derive(Drop)]
-pub(crate) struct Watching<'a, I> {
-    pub(crate) stopper: Closer<'a>,
+pub(crate) struct Watching<'a, B: Broker, I> {
+    pub(crate) stopper: Closer<'a, B>,
     pub(crate) ends: &'a AtomicBool,
     pub(crate) input: &'a mut I,
     /// Whether the input has ended, and did not fail.
     pub(crate) is_read: bool,
 }
 
-impl<'a, I: Read> Watch for Watching<'a, I> {
+impl<'a, B: Broker, I: Read> Watch for Watching<'a, B, I> {
     fn run(&mut self) {
         self.is_read = read_to_end(self.input);
         self.stopper.shut();

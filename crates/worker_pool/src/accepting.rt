@@ -1,13 +1,14 @@
 //! How connections are taken from a source and sent to workers.
-ghost use Rattle.std.specs.Prelude.{◌≡◌, ◌++◌, [], ◌∷◌, length};
+ghost use Rattle.std.specs.Prelude.{◌≡◌, ◌++◌, [], ◌∷◌, length, IfSome};
 ghost use Rattle.gate_word.specs.Calls.{Looks, Shuts};
 ghost use Rattle.worker_pool.specs.Accepting.{HasAccepted, OnlyMarks};
 
 use bell::Wake;
+use broker_groups::Broker;
 use broker_worker::{Arrived, Roster};
 use conn_channel::Sender;
 use gate_word::{Drained, Gate, GateSeat};
-use std::marker::Model;
+use std::marker::{Model, PhantomData};
 use std::rt::Clock;
 use std::sync::Wait;
 use std::thread;
@@ -43,14 +44,15 @@ pub struct Taken<S> {
     pub came: u64,
 }
 
-/// Who shuts a gate. Contracts see it as its seat.
+/// Who shuts the gate of a broker. Contracts see it as its seat.
 #[derive(Drop)]
-pub struct Closer<'a> {
+pub struct Closer<'a, B: Broker> {
     gate: &'a Gate,
     seat: GateSeat,
+    of: PhantomData<B>,
 }
 
-impl<'a> Model for Closer<'a> {
+impl<'a, B: Broker> Model for Closer<'a, B> {
     ghost use Rattle.std.specs.Prelude.{◌≡◌};
     ghost use Rattle.gate_word.specs.Seats.{Seat};
 
@@ -58,16 +60,21 @@ impl<'a> Model for Closer<'a> {
 
     ghost view = { λ c. c.seat };
 
-    ghost invariant = { λ c. c.seat.gate ≡ c.gate.now };
+    ghost invariant = { λ c. (c.seat.gate ≡ B.gate) × (c.gate.now ≡ B.gate) };
 }
 
-impl<'a> Closer<'a> {
+impl<'a, B: Broker> Closer<'a, B> {
     /// Who shuts this gate, by a seat of it.
-    pub fn new(gate: &'a Gate, seat: GateSeat) -> Closer<'a>
-        requires { seat.gate ≡ gate.now }
+    pub fn new(gate: &'a Gate, seat: GateSeat) -> Closer<'a, B>
+        requires seat { seat.gate ≡ gate.now }
+        requires gate { gate.now ≡ B.gate }
         ensures { result ≡ seat }
     {
-        Closer { gate, seat }
+        Closer {
+            gate,
+            seat,
+            of: PhantomData,
+        }
     }
 
     /// Shuts it.
@@ -79,7 +86,8 @@ impl<'a> Closer<'a> {
 
     /// Looks whether it is shut, and nobody is inside.
     pub fn drained(&mut self) -> Option<Drained>
-        ensures { Looks self.old result self.new }
+        ensures looks { Looks self.old result self.new }
+        ensures gate { IfSome result (λ drained. drained ≡ B.gate) }
     {
         self.gate.drained(&mut self.seat)
     }
@@ -89,11 +97,11 @@ impl<'a> Closer<'a> {
 ///
 /// Contracts see it as an `AcceptorState`.
 #[derive(Drop)]
-pub(crate) struct Acceptor<'a, T: Transport + Drop, S: Source<T>, W> {
+pub(crate) struct Acceptor<'a, B: Broker, T: Transport + Drop, S: Source<T>, W> {
     source: S,
     sender: Sender<Arrived<T>>,
     roster: &'a Roster<W>,
-    closer: Closer<'a>,
+    closer: Closer<'a, B>,
     is_closed: bool,
     // How many connections came.
     came: u64,
@@ -101,7 +109,7 @@ pub(crate) struct Acceptor<'a, T: Transport + Drop, S: Source<T>, W> {
     end: SourceEnd,
 }
 
-impl<'a, T: Transport + Drop, S: Source<T>, W> Model for Acceptor<'a, T, S, W> {
+impl<'a, B: Broker, T: Transport + Drop, S: Source<T>, W> Model for Acceptor<'a, B, T, S, W> {
     ghost use Rattle.std.specs.Prelude.{◌≡◌, ◌≤◌, false, length};
     ghost use Rattle.worker_pool.specs.Accepting.{AcceptorState};
 
@@ -112,14 +120,14 @@ impl<'a, T: Transport + Drop, S: Source<T>, W> Model for Acceptor<'a, T, S, W> {
     ghost invariant = { λ a. (a.is_closed ≡ false → a.sender.end_marks_sent ≡ 0) × (a.came ≡ length a.sender.sent) × (a.came ≤ (S.tally a.source).arrivals) };
 }
 
-impl<'a, T: Transport + Drop, S: Source<T>, W> Acceptor<'a, T, S, W> {
+impl<'a, B: Broker, T: Transport + Drop, S: Source<T>, W> Acceptor<'a, B, T, S, W> {
     /// Takes from this source, and sends through this end.
     pub(crate) fn new(
         source: S,
         sender: Sender<Arrived<T>>,
         roster: &'a Roster<W>,
-        closer: Closer<'a>,
-    ) -> Acceptor<'a, T, S, W>
+        closer: Closer<'a, B>,
+    ) -> Acceptor<'a, B, T, S, W>
         requires { (sender.sent ≡ []) × (sender.end_marks_sent ≡ 0) }
         ensures { result ≡ record { source = source; sender = sender } }
     {
@@ -167,7 +175,7 @@ impl<'a, T: Transport + Drop, S: Source<T>, W> Acceptor<'a, T, S, W> {
     }
 }
 
-impl<'a, T: Transport + Drop, S: Source<T>, W: Wake> Acceptor<'a, T, S, W> {
+impl<'a, B: Broker, T: Transport + Drop, S: Source<T>, W: Wake> Acceptor<'a, B, T, S, W> {
     /// Once every worker has begun, takes connections from the source until it has ended or failed, and sends each for the worker that has the fewest. Then the
     /// broker closes: where the source had not ended, the gate is shut; every worker is called, and is sent its end mark.
     pub(crate) fn accept_all<R: Wait + Clock>(&mut self, rt: &R)

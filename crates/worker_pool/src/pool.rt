@@ -68,7 +68,7 @@ pub fn run<
     alarms: Vec<W>,
     source: S,
     crossing: &X,
-    closer: Closer<'_>,
+    closer: Closer<'_, B>,
     watch: &mut D,
 ) -> Result<Pooled<B, S>, Unbegun<B, S>>
     requires workers { (1 ≤ length hands.items) × (length hands.items ≤ 64) }
@@ -125,7 +125,7 @@ fn hire<
     kits: Vec<Kit<T, Q, W, C>>,
     roster: &'a Roster<W>,
     crossing: &'a X,
-    acceptor: Acceptor<'a, T, S, W>,
+    acceptor: Acceptor<'a, B, T, S, W>,
     watch: &'a mut D,
 ) -> Result<(Vec<Role<'a, 'g, B, T, S, Q, W, X, C, D, R>>, Vec<Hand<B>>), Unbegun<B, S>>
     requires count { length hands.items ≤ 64 }
@@ -201,7 +201,7 @@ fn parted<
 >(
     roles: Vec<Role<'a, 'g, B, T, S, Q, W, X, C, D, R>>,
 ) -> (
-    Acceptor<'a, T, S, W>,
+    Acceptor<'a, B, T, S, W>,
     Vec<Role<'a, 'g, B, T, S, Q, W, X, C, D, R>>,
 )
     requires { IsStaff roles.items }

@@ -19,7 +19,7 @@ pub(crate) enum Role<'a, 'g, B: Broker, T: Transport + Drop, S: Source<T>, Q, W,
     /// It serves connections.
     Serving(Worker<'a, 'g, B, T, Q, W, X, C, R>),
     /// It takes them from the source.
-    Accepting(Acceptor<'a, T, S, W>),
+    Accepting(Acceptor<'a, B, T, S, W>),
     /// It watches for the end.
     Watching(&'a mut D),
 }

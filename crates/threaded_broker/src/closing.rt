@@ -1,0 +1,36 @@
+//! How the gate of a broker is closed, and what its workers had comes back.
+ghost use Rattle.std.specs.Prelude.{◌≡◌, ◌≤◌, [], length, vec_capacity};
+
+use broker_groups::{Broker, Ports};
+use broker_worker::Hand;
+use gate_word::Drained;
+use std::sync::Wait;
+use std::thread;
+use worker_pool::Closer;
+
+/// Shuts the gate, and looks until nobody is inside.
+pub(crate) fn close<B: Broker, R: Wait>(rt: &R, closer: &mut Closer<'_, B>) -> Drained
+    ensures { result ≡ B.gate }
+{
+    closer.shut();
+    'looks: for _ in rt.forever() {
+        if let Some(drained) = closer.drained() {
+            return drained;
+        }
+        thread::yield_now();
+    }
+    unreachable!()
+}
+
+/// The ports of all workers. There is room for them.
+pub(crate) fn ports_of<B: Broker>(hands: Vec<Hand<B>>, room: Vec<Ports<B>>) -> Vec<Ports<B>>
+    requires { (room.items ≡ []) × (length hands.items ≤ vec_capacity room) }
+    ensures { length result.items ≡ length hands.items }
+{
+    let mut ports = room;
+    let mut left = hands;
+    'ports: while let Some(hand) = left.pop() {
+        ports.push_reserved(hand.ports);
+    }
+    ports
+}

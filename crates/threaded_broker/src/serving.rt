@@ -1,0 +1,152 @@
+//! A broker that is served to its end.
+ghost use Rattle.std.specs.Prelude.{◌≡◌, ◌+◌, ◌≤◌, [], length, vec_capacity, IfOk};
+ghost use Rattle.final_report.specs.Brokers.{KeptItsPromises};
+ghost use Rattle.threaded_broker.specs.Headline.{KeepsTheHeadline};
+
+use crate::closing::{close, ports_of};
+use crate::shares::bound_shares;
+use bell::Wake;
+use broker_groups::{Broker, BrokerPlace, Ended, Ports};
+use broker_worker::{Gear, Hand, Poller, ServedCounts};
+use conn_engine::NoMemory;
+use conn_service::laws::quota_law;
+use final_report::end_broker;
+use gate_word::Drained;
+use mqtt_topic::Share;
+use shared_supply::{Hall, SharedSupply, StillOpen};
+use std::alloc::Global;
+use std::rt::Clock as SystemClock;
+use std::sync::Wait;
+use std::thread::Threads;
+use transport::{Clock, Crossing, Source, Transport};
+use worker_pool::{Closer, Pooled, Taken, Unbegun, Watch, run};
+
+/// What became of a broker that was served to its end.
+pub struct Outcome<'g, S> {
+    /// The report of each group, in the order of slots, or why there is none.
+    pub ended: Ended<'g>,
+    /// The shares that are bound, in the order of their slots.
+    pub shares: Vec<Share>,
+    /// How the connections of each worker ended.
+    pub served: Vec<ServedCounts>,
+    /// Where the connections came from, and how many.
+    pub taken: Taken<S>,
+    /// Nobody is inside the broker's gate, nor ever will be.
+    pub drained: Drained,
+}
+
+/// Serves the connections of a source with the workers of a broker, each in a thread of its own, until the source has ended or failed, the broker's gate is
+/// shut, and all connections have ended; then ends its groups. Who watches shuts the gate and ends the source, in a thread of its own. There is room for the
+/// ports of all workers.
+///
+/// **What a broker promises**, in every schedule of its threads, whatever its transports do (`headline`). Of each group whose report is given:
+///
+/// - each message that was accepted was first handed to at most one member, once (`first_once`);
+/// - each member's first hand-outs from a publisher keep that publisher's order (`in_order`);
+/// - a refused message went to nobody else (`refused_for_good`);
+/// - the report gives each accepted message exactly one fate, and nothing else any (`one_fate`), and that is the one that it had (`what_happened`).
+///
+/// And of the broker:
+///
+/// - no connection had more unacknowledged PUBLISH packets than its Receive Maximum, at any moment of its life (`within_receive_maximum`);
+/// - nothing was accepted or handed out once the gate was drained (`closed`): the token of that is here, with which there is no turn of the gate.
+///
+/// # Errors
+///
+/// Want of memory. What became of the messages is not known then.
+pub fn serve<
+    'g,
+    B: Broker + Send + Sync,
+    T: Transport + Drop + Send,
+    S: Source<T> + Drop + Send,
+    Q: Poller<T> + Drop + Send,
+    W: Wake + Drop + Send + Sync,
+    X: Crossing + Sync,
+    C: Clock + Drop + Send,
+    D: Watch + Send,
+    R: Threads + Wait + SystemClock + Sync,
+>(
+    rt: &R,
+    alloc: Global,
+    hall: Hall<'g, B>,
+    hands: Vec<Hand<B>>,
+    room: Vec<Ports<B>>,
+    gear: Vec<Gear<Q, C>>,
+    alarms: Vec<W>,
+    source: S,
+    crossing: &X,
+    closer: Closer<'_, B>,
+    stopper: Closer<'_, B>,
+    watch: &mut D,
+) -> Result<Outcome<'g, S>, NoMemory>
+    requires workers { (1 ≤ length hands.items) × (length hands.items ≤ 64) }
+    requires gear { length gear.items ≡ length hands.items }
+    requires room { (room.items ≡ []) × (length hands.items ≤ vec_capacity room) }
+    ensures headline { IfOk result (λ outcome. KeepsTheHeadline B.group T.counts T.given T.accepted outcome.ended.answers.items outcome.ended.strangers.items outcome.taken.came outcome.served.items) }
+    ensures closed { IfOk result (λ outcome. outcome.drained ≡ B.gate) }
+    ensures taken { IfOk result (λ outcome. (S.tally outcome.taken.source).arrivals ≡ (S.tally source).arrivals + outcome.taken.came) }
+{
+    quota_law::<BrokerPlace<B>, T, SharedSupply<'_, '_, B, R>>();
+    let mut stopper = stopper;
+    let pooled = run(
+        rt, alloc, &hall, hands, gear, alarms, source, crossing, closer, watch,
+    );
+    let drained = close(rt, &mut stopper);
+    match pooled {
+        Ok(
+            Pooled {
+                hands,
+                served,
+                taken,
+            },
+        ) => {
+            let (ended, shares) = end(rt, alloc, &drained, hall, ports_of(hands, room))?;
+            Ok(Outcome {
+                ended,
+                shares,
+                served,
+                taken,
+                drained,
+            })
+        }
+        Err(Unbegun { hands, source: _ }) => {
+            give_up(hall, ports_of(hands, room));
+            Err(NoMemory)
+        }
+    }
+}
+
+/// Ends the groups of a broker that is drained, and tells the shares that are bound.
+fn end<'g, B: Broker, R: Wait>(
+    rt: &R,
+    alloc: Global,
+    drained: &Drained,
+    hall: Hall<'g, B>,
+    ports: Vec<Ports<B>>,
+) -> Result<(Ended<'g>, Vec<Share>), NoMemory>
+    requires { drained.now ≡ B.gate }
+    ensures { IfOk result (λ ended. KeptItsPromises B.group ports.items ended.0.answers.items ended.0.strangers.items) }
+{
+    let Ok(shares) = bound_shares(alloc, &hall) else {
+        give_up(hall, ports);
+        return Err(NoMemory);
+    };
+    match end_broker(rt, alloc, drained, hall, ports) {
+        Ok(ended) => Ok((ended, shares)),
+        Err(left) => {
+            left.abandon();
+            Err(NoMemory)
+        }
+    }
+}
+
+/// Gives a broker up, without a word of what became of its messages.
+pub fn give_up<B: Broker>(hall: Hall<'_, B>, ports: Vec<Ports<B>>) {
+    let (groups, desk, _routes) = hall.into_parts();
+    let left = StillOpen::Desk {
+        desk: desk.into_desk(),
+        groups,
+        ports,
+    };
+    left.abandon();
+}
