@@ -25,7 +25,7 @@ at_cell : {X : Type 0} (P : X → Type 0) (xs : List X) (k : ℕ) (x : X) → Al
 at_cell P xs k x all has = subst P (get_or_from_slice_get xs k x x has) (all k x (slice_get_within xs k x has))
 
 module _ {T : Type 0} (group : ℕ → GroupId) (counts : T → Counts) (given accepted : T → Option (List ℕ)) where
-  Table : Type 0
+  abbrev Table : Type 0
   Table = List (Option (ServiceState PlaceState T))
 
   -- no connection was received, and all cells are free

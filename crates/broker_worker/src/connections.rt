@@ -175,8 +175,8 @@ impl<'a, 'g, B: Broker, T: Transport + Drop, R: Wait> Connections<'a, 'g, B, T, 
 
     /// What they had of the broker, the end of the channel, and how they ended. Any that is still open ends as where the broker closes.
     pub(crate) fn into_parts(self) -> (Hand<B>, Receiver<Arrived<T>>, ServedCounts)
-        ensures receiver { result.1 ≡ self.receiver }
-        ensures served { (self.live ≡ 0) → AreServed B.group T.counts T.given T.accepted (length self.receiver.received) result.2 }
+        ensures receiver { result.1 ≡ self.entry.receiver }
+        ensures served { (self.entry.live ≡ 0) → AreServed B.group T.counts T.given T.accepted (length self.entry.receiver.received) result.2 }
     {
         let Connections {
             receiver,

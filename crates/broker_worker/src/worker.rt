@@ -225,7 +225,7 @@ impl<
     fn mark_ready(&mut self)
         ensures { self.new ≡ self.old }
     {
-        for _ in 0..self.connections.len() {
+        'ready: for _ in 0..self.connections.len() {
             match self.poller.take_ready() {
                 Some(cell) => self.due.mark(cell),
                 None => return,
@@ -306,7 +306,7 @@ impl<
     {
         self.tell_whether_waiting();
         let wakes = self.connections.take_wakes();
-        for slot in 0..SLOTS {
+        'slots: for slot in 0..SLOTS {
             let count = wakes.messages[slot];
             if count > 0 {
                 self.ring(slot, count as usize);
@@ -402,7 +402,7 @@ impl<
         ensures { self.new ≡ self.old }
     {
         let mut may_wait = !self.due.any();
-        for slot in 0..SLOTS {
+        'slots: for slot in 0..SLOTS {
             if self.members.has_taker(slot) {
                 if let Some(ear) = self.ears.get_mut(slot) {
                     may_wait = ear.settle() && may_wait;

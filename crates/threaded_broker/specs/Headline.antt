@@ -40,11 +40,12 @@ module _ {T : Type 0} (group : ℕ → GroupId) (counts : T → Counts) (given a
     pub counted : served ≡ map counts_of endings
     pub all : came ≡ sum_by length endings
 
-  -- **The headline**, with the ports through which the workers published: of each group whose report is given, each message that was accepted was first handed to at
+  -- **The headline**, with the ports through which all of its workers published: of each group whose report is given, each message that was accepted was first handed to at
   -- most one member (`first_once`), each member's first hand-outs from a publisher keep that publisher's order (`in_order`), a refused message went to nobody else
   -- (`refused_for_good`), and the report gives each accepted message exactly one fate (`one_fate`), which it had (`what_happened`); and no connection had more unacknowledged
   -- PUBLISH packets than its Receive Maximum. That nothing is handed out after close is said by the token of the drained gate
-  pub record KeepsTheHeadline (answers : List (Result Report (Unfinished Nobody))) (strangers : List Held) (came : ℕ) (served : List ServedCounts) : Type 0 where
+  pub record KeepsTheHeadline (workers : ℕ) (answers : List (Result Report (Unfinished Nobody))) (strangers : List Held) (came : ℕ) (served : List ServedCounts) : Type 0 where
     pub ports : List (List PortState)
+    pub every_worker : length ports ≡ workers
     pub promises : KeptItsPromises group ports answers strangers
     pub within_receive_maximum : AreWithinReceiveMaximum came served

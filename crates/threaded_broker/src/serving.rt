@@ -82,7 +82,7 @@ pub fn serve<
     requires workers { (1 ≤ length hands.items) × (length hands.items ≤ 64) }
     requires gear { length gear.items ≡ length hands.items }
     requires room { (room.items ≡ []) × (length hands.items ≤ vec_capacity room) }
-    ensures headline { IfOk result (λ outcome. KeepsTheHeadline B.group T.counts T.given T.accepted outcome.ended.answers.items outcome.ended.strangers.items outcome.taken.came outcome.served.items) }
+    ensures headline { IfOk result (λ outcome. KeepsTheHeadline B.group T.counts T.given T.accepted (length hands.items) outcome.ended.answers.items outcome.ended.strangers.items outcome.taken.came outcome.served.items) }
     ensures closed { IfOk result (λ outcome. outcome.drained ≡ B.gate) }
     ensures taken { IfOk result (λ outcome. (S.tally outcome.taken.source).arrivals ≡ (S.tally source).arrivals + outcome.taken.came) }
 {

@@ -8,7 +8,7 @@ invariant-kits g l = record {
   receivers : AreReceivers l.fn.sender.channel (length l.gear.items) l.receivers.items;
   outfits : length l.outfits.items ≡ length l.gear.items;
   count : length l.kits.items + length l.gear.items ≡ length l.fn.gear.items;
-  each : All (λ kit. kit.receiver ≡ new_receiver l.fn.sender.channel) l.kits.items;
+  each : All (λ kit. kit ≡ new_receiver l.fn.sender.channel) l.kits.items;
 }
 
 abbrev pub decreases-kits : goal.decreases-kits

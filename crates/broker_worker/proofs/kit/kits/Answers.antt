@@ -1,0 +1,26 @@
+-- One kit more, and one worker less to come.
+use Rattle.std.proofs.Common.{◌≡◌, ◌++◌, [], ◌∷◌, All, Some, length, ◌∙◌, ap, arith}
+use Rattle.std.proofs.Math.ListN.{length-append}
+use Rattle.std.proofs.lemmas.List.Elements.{All-pop, All-push, All-same}
+use Rattle.conn_channel.specs.Ends.{ReceiverState, new_receiver}
+use Rattle.broker_worker.proofs.kit.kits.Goals as goal
+
+pub kits-preserved : goal.kits-preserved
+kits-preserved g c =
+    let IsNew : ReceiverState g.row.T.Denot → Type 0 = λ receiver. receiver ≡ new_receiver c.args.sender.now.channel in
+    let left = All-pop IsNew c.kits.receivers.items c.pop-in-Some.new.self.items (Some c.in-Some-Some.receiver) c.in-Some-Some.ensures.items c.kits.invariant.receivers.each in
+    let gear_left = simp length-append at (ap length c.in-Some.ensures.items) in
+    let receivers_left = simp length-append at (ap length c.in-Some-Some.ensures.items) in
+    let outfits_left = simp length-append at (ap length c.in-Some-Some.ensures'.items) in
+    let pushed = simp length-append at (ap length c.in_ok-push.ensures.items) in
+    record {
+      receivers = record {
+        all = omega (arith, gear_left, receivers_left, c.kits.invariant.receivers.all);
+        each = left.0;
+      };
+      outfits = omega (arith, gear_left, outfits_left, c.kits.invariant.outfits);
+      count = omega (arith, gear_left, pushed, c.kits.invariant.count);
+      each =
+          All-same IsNew c.push.new.self.items (c.kits.kits.items ++ c.in_ok-kit_of.field-0 ∷ []) c.in_ok-push.ensures.items
+          (All-push IsNew c.kits.kits.items c.in_ok-kit_of.field-0 c.kits.invariant.each (c.in_ok-kit_of.ensures ∙ left.1));
+    }
