@@ -1,0 +1,5 @@
+pub mod Lists
+pub mod Sums
+pub mod Fates
+pub mod Orders
+pub mod Brokers

@@ -1,0 +1,28 @@
+-- What a broker promises of the messages of its groups: of each group whose report is given.
+use Rattle.std.specs.Prelude.{◌≡◌, ℕ, List, slice_get, Some, Result, Ok}
+use Rattle.group_jobs.specs.Stamps.{Held}
+use Rattle.group_jobs.specs.declared.report.Report.{Report}
+use Rattle.group_queue.specs.declared.finish.Unfinished.{Unfinished}
+use Rattle.group_queue.specs.declared.witness.Nobody.{Nobody}
+use Rattle.group_queue.specs.Ports.{GroupId, PortState}
+use Rattle.group_queue.specs.Places.{PlaceState}
+use Rattle.broker_groups.specs.Endings.{joined, port_slot, place_slot, held_slot}
+use Rattle.broker_groups.specs.Sorting.{at_slot}
+use Rattle.shared_supply.specs.Endings.{IsEnded}
+use Rattle.final_report.specs.Promises.{IsFirstHandedOnce, KeepsOrder, RefusesForGood, GivesOneFate, TellsWhatHappened, EndsLawfully}
+
+-- so it is of each group whose report is given, with the ports and places that are of its slot, and the messages that are out there
+abbrev pub OfEachReport : (List PortState → List PlaceState → List Held → Report → Type 0)
+    → List (List PortState) → List PlaceState → List Held → List (Result Report (Unfinished Nobody)) → Type 0
+OfEachReport Promised ports places held answers = (slot : ℕ) (report : Report) → slice_get answers slot ≡ Some (Ok report)
+    → Promised (at_slot port_slot slot (joined ports)) (at_slot place_slot slot places) (at_slot held_slot slot held) report
+
+-- a broker kept its promises: with the places, and the messages that sessions held, that a lawful desk had
+pub record KeptItsPromises (group : ℕ → GroupId) (ports : List (List PortState)) (answers : List (Result Report (Unfinished Nobody))) (strangers : List Held) : Type 0 where
+  pub ended : IsEnded group ports answers strangers
+  pub first_once : OfEachReport IsFirstHandedOnce ports ended.places ended.held answers
+  pub in_order : OfEachReport KeepsOrder ports ended.places ended.held answers
+  pub refused_for_good : OfEachReport RefusesForGood ports ended.places ended.held answers
+  pub one_fate : OfEachReport GivesOneFate ports ended.places ended.held answers
+  pub what_happened : OfEachReport TellsWhatHappened ports ended.places ended.held answers
+  pub lawful : OfEachReport EndsLawfully ports ended.places ended.held answers
