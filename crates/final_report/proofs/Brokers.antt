@@ -1,6 +1,6 @@
 -- The promises of each group of a broker whose report is given.
 use Rattle.std.proofs.Common.{◌≡◌, ℕ, List}
-use Rattle.std.specs.Prelude.{map, slice_get, Some, Result, Ok}
+use Rattle.std.specs.Prelude.{map, Result, Ok}
 use Rattle.dispatch_core.specs.declared.event.Job.{Job}
 use Rattle.dispatch_core.specs.GroupState.{GroupState}
 use Rattle.dispatch_core.specs.Lawful.{IsLawful}

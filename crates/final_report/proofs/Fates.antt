@@ -1,6 +1,5 @@
 -- What `finish` of a group says, as promises: how often each message was first handed out, its one fate, and what refusing means.
-use Rattle.std.proofs.Common.{◌≡◌, ◌≢◌, ℕ, ◌+◌, ◌<◌, ◌≤◌, List, [], ◌∷◌, length, Contains, All, refl, sym, ap, ◌∙◌, subst, arith}
-use Rattle.std.specs.Prelude.{map, sum_by}
+use Rattle.std.proofs.Common.{◌≡◌, ◌≢◌, ◌≤◌, List, Contains, sym, arith}
 use Rattle.dispatch_core.specs.declared.event.Job.{Job}
 use Rattle.dispatch_core.specs.JobRuns.{count_of}
 use Rattle.group_jobs.specs.declared.fate.Fate.{Fate}
@@ -12,8 +11,8 @@ use Rattle.group_jobs.specs.Stamps.{Held}
 use Rattle.group_queue.specs.Ports.{GroupId, PortState}
 use Rattle.group_queue.specs.Places.{PlaceState}
 use Rattle.group_queue.specs.Ends.{Reports}
-use Rattle.final_report.specs.Messages.{times_accepted_by, times_first_handed, times_handed_again, times_handed, times_given_back, times_settled_at, times_out_at}
-use Rattle.final_report.specs.Promises.{IsAccepted, IsFirstHandedOnce, WentToNobodyElse, RefusesForGood, GivesOneFate, TellsWhatHappened}
+use Rattle.final_report.specs.Messages.{times_accepted_by, times_settled_at, times_out_at}
+use Rattle.final_report.specs.Promises.{IsFirstHandedOnce, WentToNobodyElse, RefusesForGood, GivesOneFate, TellsWhatHappened}
 use Rattle.final_report.proofs.Lists.{contained, both_contained}
 use Rattle.final_report.proofs.Sums.{times_accepted-once, accepted_by, accepted_counts, accepted_once, first_or_queued, returned_is, settled_is, out_is, balanced}
 

@@ -1,6 +1,6 @@
 -- What `finish` of a group says of the order of first hand-outs, in the words of messages.
-use Rattle.std.proofs.Common.{◌≡◌, ℕ, zero, suc, ◌<◌, ◌≤◌, true, eqb, eqb-true, List, [], ◌∷◌, ◌++◌, length, get_or, drop, Contains, All, refl, sym, ap, ◌∙◌, subst, arith}
-use Rattle.std.specs.Prelude.{map, filter, slice_get, Some}
+use Rattle.std.proofs.Common.{◌≡◌, zero, suc, ◌<◌, List, ◌∷◌, ◌++◌, get_or, drop, Contains, sym, ap, ◌∙◌, arith}
+use Rattle.std.specs.Prelude.{slice_get, Some}
 use Rattle.std.specs.List.{AllPairs}
 use Rattle.std.proofs.lemmas.List.Elements.{Contains-get_or}
 use Rattle.dispatch_core.specs.declared.event.Job.{Job}
@@ -11,7 +11,7 @@ use Rattle.group_jobs.specs.Balance.{Account}
 use Rattle.group_queue.specs.declared.posted.Posted.{Posted}
 use Rattle.group_queue.specs.Ports.{GroupId, PortState}
 use Rattle.group_queue.specs.Places.{PlaceState, account_of, jobs_in}
-use Rattle.group_queue.specs.Ends.{IsSent, Reports}
+use Rattle.group_queue.specs.Ends.{Reports}
 use Rattle.final_report.specs.Promises.{StandsBefore, AreInItsOrder, KeepsOrder}
 use Rattle.final_report.proofs.Lists.{All-mapped, AllPairs-mapped, cut_at}
 

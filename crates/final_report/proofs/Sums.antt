@@ -1,12 +1,12 @@
 -- A report and the accounts of the places, in the words of messages.
-use Rattle.std.proofs.Common.{◌≡◌, ◌≢◌, ℕ, zero, suc, ◌+◌, ◌<◌, ◌≤◌, ◌&&◌, Bool, true, false, cond, eqb, eq-eqb, ltb, List, [], ◌∷◌, length, Contains, All, refl, sym, ap, ◌∙◌, subst, arith}
+use Rattle.std.proofs.Common.{◌≡◌, ℕ, ◌+◌, ◌≤◌, ◌&&◌, Bool, true, false, cond, eqb, eq-eqb, ltb, List, Contains, refl, ap, ◌∙◌, arith}
 use Rattle.std.specs.Prelude.{map, sum_by, slice_index_or}
 use Rattle.dispatch_core.specs.declared.event.Job.{Job}
 use Rattle.dispatch_core.specs.JobRuns.{count_of}
 use Rattle.group_jobs.specs.declared.fate.Fate.{Fate}
 use Rattle.group_jobs.specs.declared.fate.Fate.TheVariants.{Acknowledged, Refused}
 use Rattle.group_jobs.specs.declared.report.Report.{Report}
-use Rattle.group_jobs.specs.Reports.{fates_of, times_accepted}
+use Rattle.group_jobs.specs.Reports.{times_accepted}
 use Rattle.group_jobs.specs.Settled.{settled_as}
 use Rattle.group_jobs.specs.Stamps.{Held}
 use Rattle.group_jobs.specs.Balance.{Account, Balance}

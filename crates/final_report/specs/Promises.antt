@@ -1,5 +1,5 @@
 -- What a group promises of its messages (OASIS MQTT 5.0, 4.6 and 4.8.2), read off its ports, its places and the messages that are out at its end, and its final report.
-use Rattle.std.specs.Prelude.{◌≡◌, ◌≢◌, ℕ, ◌+◌, ◌≤◌, List, [], ◌∷◌, ◌++◌, map, sum_by, All, AllPairs, Contains, slice_get, Some}
+use Rattle.std.specs.Prelude.{◌≡◌, ◌≢◌, ℕ, ◌+◌, ◌≤◌, List, ◌∷◌, ◌++◌, map, sum_by, All, AllPairs, Contains, slice_get, Some}
 use Rattle.dispatch_core.specs.declared.event.Job.{Job}
 use Rattle.dispatch_core.specs.GroupState.{GroupState}
 use Rattle.dispatch_core.specs.JobRuns.{count_of}

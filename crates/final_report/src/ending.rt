@@ -49,7 +49,7 @@ pub fn end_groups<'g, B: Broker, R: Wait>(
     ensures lawful { IfOk result (λ ended. OfEachReport EndsLawfully ports.items places.items held.items ended.answers.items) }
     ensures ended { IfOk result (λ ended. AreEnded B.group ports.items places.items held.items ended.answers.items) }
     ensures strangers { IfOk result (λ ended. ended.strangers.items ≡ at_slot held_slot 8 held.items) }
-    ensures left { IfErr result (λ left. (left.groups ≡ groups) × (left.ports.items ≡ ports.items) × (left.places.items ≡ places.items) × (left.held.items ≡ held.items)) }
+    ensures left { IfErr result (λ left. (left.groups ≡ groups.entry) × (left.ports.items ≡ ports.items) × (left.places.items ≡ places.items) × (left.held.items ≡ held.items)) }
 {
     let _ = drained;
     one_fate_law();

@@ -1,0 +1,5 @@
+//! The tests of `final_report`.
+#![tactic(auto)]
+
+#[cfg(test)]
+mod one_end;
