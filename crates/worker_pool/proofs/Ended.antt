@@ -5,13 +5,7 @@ use Rattle.conn_channel.specs.Ends.{ChannelId}
 use Rattle.worker_pool.specs.Accepting.{AcceptorState, HasAccepted}
 use Rattle.worker_pool.specs.declared.role.Role.{Role}
 use Rattle.worker_pool.specs.declared.role.Role.TheVariants.{Serving, Accepting, Watching}
-use Rattle.worker_pool.specs.Roles.{AreHired, AreOfPool, HasRun, HasServed, HaveEnded, IsHired, IsServing, IsWatching}
-
--- who took connections has become this, and the workers of its channel have ended
-pub record Ends {B T S Q W X C D R : Type 0} (tally : S → Tally) (acceptor : AcceptorState T S) (roles : List (Role B T S Q W X C D R)) : Type 0 where
-  pub after : AcceptorState T S
-  pub accepted : HasAccepted tally acceptor after
-  pub ended : HaveEnded after roles
+use Rattle.worker_pool.specs.Roles.{AreHired, AreOfPool, EndAs, HasRun, HasServed, HaveEnded, IsHired, IsServing, IsStaff, IsWatching}
 
 module _ {B T S Q W X C D R : Type 0} (tally : S → Tally) where
   -- a worker of a channel has ended
@@ -30,10 +24,7 @@ module _ {B T S Q W X C D R : Type 0} (tally : S → Tally) where
   watches (Watching old) (Accepting new) ran watching = absurd ran
   watches (Watching old) (Watching new) ran watching = tt
 
-  -- each has run that stands at a place
-  HaveRun : List (Role B T S Q W X C D R) → List (Role B T S Q W X C D R) → Type 0
-  HaveRun olds news = (i : ℕ) (d : Role B T S Q W X C D R) → i < length olds → HasRun tally (get_or olds i d) (get_or news i d)
-
+  -- each worker that has run has ended
   all_serve : (channel : ChannelId T) (olds news : List (Role B T S Q W X C D R)) → length news ≡ length olds
       → ((i : ℕ) (d : Role B T S Q W X C D R) → i < length olds → HasRun tally (get_or olds i d) (get_or news i d)) → All (IsHired channel) olds → All (HasServed channel) news
   all_serve channel olds news same ran hired k d h =
@@ -43,7 +34,7 @@ module _ {B T S Q W X C D R : Type 0} (tally : S → Tally) where
   ends_behind : (acceptor : AcceptorState T S) (second first' second' : Role B T S Q W X C D R) (workers workers' : List (Role B T S Q W X C D R))
       → IsWatching second → HasRun tally (Accepting acceptor) first' → HasRun tally second second' → length workers' ≡ length workers
       → ((i : ℕ) (d : Role B T S Q W X C D R) → i < length workers → HasRun tally (get_or workers i d) (get_or workers' i d))
-      → length workers ≡ acceptor.sender.receivers → All (IsHired acceptor.sender.channel) workers → Ends tally acceptor (first' ∷ second' ∷ workers')
+      → length workers ≡ acceptor.sender.receivers → All (IsHired acceptor.sender.channel) workers → EndAs tally acceptor (first' ∷ second' ∷ workers')
   ends_behind acceptor second (Serving new) second' workers workers' watching first' then same ran count hired = absurd first'
   ends_behind acceptor second (Watching new) second' workers workers' watching first' then same ran count hired = absurd first'
   ends_behind acceptor second (Accepting after) second' workers workers' watching first' then same ran count hired = record {
@@ -60,9 +51,9 @@ module _ {B T S Q W X C D R : Type 0} (tally : S → Tally) where
   }
 
   ends_of : (acceptor : AcceptorState T S) (second : Role B T S Q W X C D R) (workers news : List (Role B T S Q W X C D R)) → IsWatching second
-      → length news ≡ length (Accepting {B = B} {Q = Q} {W = W} {X = X} {C = C} {D = D} {R = R} acceptor ∷ second ∷ workers)
+      → length news ≡ length (Accepting acceptor ∷ second ∷ workers)
       → ((i : ℕ) (d : Role B T S Q W X C D R) → i < length (Accepting acceptor ∷ second ∷ workers) → HasRun tally (get_or (Accepting acceptor ∷ second ∷ workers) i d) (get_or news i d))
-      → length workers ≡ acceptor.sender.receivers → All (IsHired acceptor.sender.channel) workers → Ends tally acceptor news
+      → length workers ≡ acceptor.sender.receivers → All (IsHired acceptor.sender.channel) workers → EndAs tally acceptor news
   ends_of acceptor second workers [] watching same ran count hired = absurd (omega arith)
   ends_of acceptor second workers (one ∷ []) watching same ran count hired = absurd (omega arith)
   ends_of acceptor second workers (one ∷ two ∷ rest) watching same ran count hired =
@@ -71,7 +62,7 @@ module _ {B T S Q W X C D R : Type 0} (tally : S → Tally) where
 
   pub ends : (acceptor : AcceptorState T S) (count : ℕ) (olds news : List (Role B T S Q W X C D R)) → AreHired acceptor count olds → count ≡ acceptor.sender.receivers
       → length news ≡ length olds
-      → ((i : ℕ) (d : Role B T S Q W X C D R) → i < length olds → HasRun tally (get_or olds i d) (get_or news i d)) → Ends tally acceptor news
+      → ((i : ℕ) (d : Role B T S Q W X C D R) → i < length olds → HasRun tally (get_or olds i d) (get_or news i d)) → EndAs tally acceptor news
   ends acceptor count olds news hired enough same ran =
       let Run : List (Role B T S Q W X C D R) → Type 0 = λ olds. (i : ℕ) (d : Role B T S Q W X C D R) → i < length olds → HasRun tally (get_or olds i d) (get_or news i d) in
       ends_of acceptor hired.of_pool.second hired.workers news hired.of_pool.watching (same ∙ ap length hired.of_pool.are) (subst Run hired.of_pool.are ran)

@@ -1,3 +1,4 @@
 pub mod Counted
 pub mod Ended
-pub mod Pooled
+pub mod Gathered
+pub mod Hired

@@ -1,5 +1,5 @@
 -- What the threads of a pool do, from the first connection to the last.
-use Rattle.std.specs.Prelude.{◌≡◌, ℕ, ⊤, ⊥, List, [], ◌∷◌, length, All}
+use Rattle.std.specs.Prelude.{◌≡◌, ℕ, ⊤, List, [], ◌∷◌, length, All}
 use Rattle.transport.specs.declared.counts.Tally.{Tally}
 use Rattle.conn_channel.specs.Ends.{ChannelId}
 use Rattle.broker_worker.specs.Serving.{IsDone, StaysOf}
@@ -73,3 +73,9 @@ module _ {B T S Q W X C D R : Type 0} where
 
   abbrev pub HaveAllEnded : List (Role B T S Q W X C D R) → Type 0
   HaveAllEnded roles = (acceptor : AcceptorState T S) × HaveEnded acceptor roles
+
+  -- who took connections has become another, and with it all have ended
+  pub record EndAs (tally : S → Tally) (acceptor : AcceptorState T S) (roles : List (Role B T S Q W X C D R)) : Type 0 where
+    pub after : AcceptorState T S
+    pub accepted : HasAccepted tally acceptor after
+    pub ended : HaveEnded after roles

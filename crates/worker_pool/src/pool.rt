@@ -1,9 +1,10 @@
 //! A pool of workers, and its run.
-ghost use Rattle.std.specs.Prelude.{◌≡◌, ◌+◌, ◌≤◌, [], All, length, vec_capacity, IfOk, IfErr, MatchResult};
+ghost use Rattle.std.specs.Prelude.{◌≡◌, ◌+◌, ◌<◌, ◌≤◌, ◌^◌, [], All, length, vec_capacity, IfOk, IfErr, MatchResult};
 ghost use Rattle.conn_channel.specs.Ends.{AreOf, end_marks_received_by, new_receiver};
 ghost use Rattle.std.specs.Prelude.{List};
 ghost use Rattle.worker_pool.specs.Accepting.{AcceptorState};
 ghost use Rattle.worker_pool.specs.declared.role.Role.{Role as AnyRole};
+ghost use Rattle.worker_pool.specs.declared.role.Role.TheVariants.{Serving};
 ghost use Rattle.worker_pool.specs.Pools.{AreAllServed, ServesAll, total_in};
 ghost use Rattle.worker_pool.specs.Roles.{AreHired, AreOfPool, HasServed, HaveAllEnded, HaveEnded, IsServing, IsStaff};
 
@@ -76,7 +77,7 @@ pub fn run<
     ensures hands { MatchResult result (λ pooled. length pooled.hands.items ≡ length hands.items) (λ unbegun. length unbegun.hands.items ≡ length hands.items) }
     ensures taken { IfOk result (λ pooled. (S.tally pooled.taken.source).arrivals ≡ (S.tally source).arrivals + pooled.taken.came) }
     ensures served { IfOk result (λ pooled. ServesAll B.group T.counts T.given T.accepted pooled.taken.came pooled.served.items) }
-    ensures counted { IfOk result (λ pooled. pooled.taken.came ≡ total_in pooled.served.items) }
+    ensures counted { IfOk result (λ pooled. pooled.taken.came < 2 ^ 64 → pooled.taken.came ≡ total_in pooled.served.items) }
     ensures untouched { IfErr result (λ unbegun. unbegun.source ≡ source) }
 {
     let Ok(
@@ -95,11 +96,7 @@ pub fn run<
     match hire(
         rt, alloc, hall, hands, kits, &roster, crossing, acceptor, watch,
     ) {
-        Ok((roles, hands)) => {
-            let mut roles = roles;
-            run_all(rt, roles.as_mut_slice());
-            Ok(retire(roles, hands, receivers, served))
-        }
+        Ok((roles, hands)) => Ok(retire(run_all(rt, roles), hands, receivers, served)),
         Err(unbegun) => Err(unbegun),
     }
 }
@@ -132,7 +129,7 @@ fn hire<
     requires kits { length kits.items ≡ length hands.items }
     requires each { All (λ kit. kit ≡ new_receiver acceptor.sender.channel) kits.items }
     ensures hired { IfOk result (λ made. AreHired acceptor.entry (length hands.items) made.0.items) }
-    ensures hands { IfOk result (λ made. (made.1.items ≡ []) × (length hands.items ≤ vec_capacity made.1)) }
+    ensures hands { IfOk result (λ made. (length made.1.items ≡ 0) × (length hands.items ≤ vec_capacity made.1)) }
     ensures back { IfErr result (λ unbegun. (length unbegun.hands.items ≡ length hands.items) × (unbegun.source ≡ acceptor.entry.source)) }
 {
     let mut hands = hands;
@@ -238,14 +235,33 @@ fn let_go<
     ensures hands { length hands.new.items ≡ length hands.old.items + length workers.entry.items }
 {
     let mut workers = workers;
-    match workers.pop() {
-        None => workers.destroy_empty(),
-        Some(Role::Serving(worker)) => {
-            let (hand, _receiver, _served) = worker.into_parts();
-            hands.push_reserved(hand);
-            let_go(workers, hands)
-        }
-        Some(_) => unreachable!(),
+    'workers: while let Some(role) = workers.pop() {
+        let (hand, _receiver, _served) = worker_of(role).into_parts();
+        hands.push_reserved(hand);
+    }
+    workers.destroy_empty();
+}
+
+/// The worker whose role it is.
+fn worker_of<
+    'a,
+    'g,
+    B: Broker,
+    T: Transport + Drop,
+    S: Source<T> + Drop,
+    Q: Poller<T> + Drop,
+    W: Wake + Drop,
+    X: Crossing,
+    C: Clock + Drop,
+    D: Watch,
+    R: Wait,
+>(role: Role<'a, 'g, B, T, S, Q, W, X, C, D, R>) -> Worker<'a, 'g, B, T, Q, W, X, C, R>
+    requires { IsServing role }
+    ensures { role.entry ≡ Serving result }
+{
+    match role {
+        Role::Serving(worker) => worker,
+        _ => unreachable!(),
     }
 }
 
@@ -269,7 +285,8 @@ fn retire<
     served: Vec<ServedCounts>,
 ) -> Pooled<B, S>
     requires roles { HaveAllEnded roles.items }
-    requires hands { (hands.items ≡ []) × (length roles.items ≤ vec_capacity hands + 2) }
+    requires some { 3 ≤ length roles.items }
+    requires hands { (length hands.items ≡ 0) × (length roles.items ≤ vec_capacity hands + 2) }
     requires receivers { (receivers.items ≡ []) × (length roles.items ≤ vec_capacity receivers + 2) }
     requires served { (served.items ≡ []) × (length roles.items ≤ vec_capacity served + 2) }
     ensures hands { length result.hands.items + 2 ≡ length roles.entry.items }
@@ -329,15 +346,11 @@ fn gather<
     ensures all { AreAllServed B.group T.counts T.given T.accepted receivers.new.items served.new.items }
 {
     let mut workers = workers;
-    match workers.pop() {
-        None => workers.destroy_empty(),
-        Some(Role::Serving(worker)) => {
-            let (hand, receiver, counts) = worker.into_parts();
-            hands.push_reserved(hand);
-            receivers.push_reserved(receiver);
-            served.push_reserved(counts);
-            gather(workers, sender, hands, receivers, served)
-        }
-        Some(_) => unreachable!(),
+    'workers: while let Some(role) = workers.pop() {
+        let (hand, receiver, counts) = worker_of(role).into_parts();
+        hands.push_reserved(hand);
+        receivers.push_reserved(receiver);
+        served.push_reserved(counts);
     }
+    workers.destroy_empty();
 }

@@ -1,6 +1,7 @@
 //! What the threads of a pool do.
-ghost use Rattle.std.specs.Prelude.{◌<◌, ℕ, length, slice_index_or};
-ghost use Rattle.worker_pool.specs.Roles.{HasRun};
+ghost use Rattle.std.specs.Prelude.{◌≡◌, ◌<◌, ℕ, length, slice_index_or};
+ghost use Rattle.worker_pool.specs.Accepting.{AcceptorState};
+ghost use Rattle.worker_pool.specs.Roles.{AreHired, EndAs, HasRun};
 ghost use Rattle.worker_pool.specs.declared.role.Role.{Role as AnyRole};
 
 use crate::accepting::Acceptor;
@@ -51,6 +52,30 @@ impl<
 
 /// Each does what it does, in a thread of its own. Where the system makes no thread for one, it does so behind one that is before it.
 pub(crate) fn run_all<
+    'a,
+    'g,
+    B: Broker + Send + Sync,
+    T: Transport + Drop + Send,
+    S: Source<T> + Send,
+    Q: Poller<T> + Drop + Send,
+    W: Wake + Drop + Send + Sync,
+    X: Crossing + Sync,
+    C: Clock + Drop + Send,
+    D: Watch + Send,
+    R: Threads + Wait + SystemClock + Sync,
+>(
+    rt: &R,
+    roles: Vec<Role<'a, 'g, B, T, S, Q, W, X, C, D, R>>,
+) -> Vec<Role<'a, 'g, B, T, S, Q, W, X, C, D, R>>
+    ensures { (acceptor : AcceptorState T S) (count : ℕ) → AreHired acceptor count roles.entry.items → count ≡ acceptor.sender.receivers → EndAs S.tally acceptor result.items }
+{
+    let mut roles = roles;
+    run_each(rt, roles.as_mut_slice());
+    roles
+}
+
+/// The same of roles in a row.
+fn run_each<
     'a,
     'g,
     B: Broker + Send + Sync,

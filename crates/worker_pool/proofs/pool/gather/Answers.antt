@@ -1,0 +1,46 @@
+-- One worker more has given back what it had.
+use Rattle.std.proofs.Common.{◌≡◌, ◌++◌, List, [], ◌∷◌, Some, length, sym, subst, ◌∙◌, ap, arith}
+use Rattle.std.proofs.Math.ListN.{length-append}
+use Rattle.std.proofs.lemmas.List.Elements.{All-pop, All-push, All-same, All-weaker}
+use Rattle.std.proofs.lemmas.List.Sums.{sum_by_push}
+use Rattle.conn_channel.specs.Ends.{ReceiverState, end_marks_received_by}
+use Rattle.worker_pool.specs.Roles.{HasServed, IsServing}
+use Rattle.worker_pool.specs.declared.role.Role.{Role}
+use Rattle.worker_pool.proofs.Gathered.{gathers}
+use Rattle.worker_pool.proofs.Hired.{serving_of_served}
+use Rattle.worker_pool.proofs.pool.gather.Goals as goal
+
+pub worker_of-requires : goal.worker_of-requires
+worker_of-requires g c =
+    serving_of_served c.args.sender.now.channel c.in-Some.role
+    (All-pop (HasServed c.args.sender.now.channel) c.workers.workers.items c.pop.new.self.items (Some c.in-Some.role) c.in-Some.ensures.items c.workers.invariant.workers).1
+
+pub workers-preserved : goal.workers-preserved
+workers-preserved g c =
+    let split = All-pop (HasServed c.args.sender.now.channel) c.workers.workers.items c.pop.new.self.items (Some c.in-Some.role) c.in-Some.ensures.items c.workers.invariant.workers in
+    let Served : Role g.row.B.Denot g.row.T.Denot g.row.S.Denot g.row.Q.Denot g.row.W.Denot g.row.X.Denot g.row.C.Denot g.row.D.Denot g.row.R.Denot → Type 0 = λ role. HasServed c.args.sender.now.channel role in
+    let done = subst Served c.worker_of.ensures split.1 in
+    let left = simp length-append at (ap length c.in-Some.ensures.items) in
+    let hands = simp length-append at (ap length c.push_reserved.ensures.items) in
+    let receivers = simp length-append at (ap length c.push_reserved-in-Some.ensures.items) in
+    let served = simp length-append at (ap length c.push_reserved-in-Some-2.ensures.items) in
+    let receiver = c.into_parts-hand.result.1 in
+    let is = c.into_parts-hand.ensures.receiver in
+    let Of : ReceiverState g.row.T.Denot → Type 0 = λ r. r.channel ≡ c.args.sender.now.channel in
+    let mark = ap (λ (r : ReceiverState g.row.T.Denot). r.end_marks_received) is in
+    let marks = ap (λ (rs : List (ReceiverState g.row.T.Denot)). end_marks_received_by rs) c.push_reserved-in-Some.ensures.items ∙ sum_by_push (λ (r : ReceiverState g.row.T.Denot). r.end_marks_received) c.workers.receivers.items receiver in
+    record {
+      workers = split.0;
+      hands = omega (arith, left, hands, c.workers.invariant.hands);
+      hands_room = omega (arith, left, hands, c.workers.invariant.hands_room, c.push_reserved.ensures.capacity);
+      receivers = omega (arith, left, receivers, c.workers.invariant.receivers);
+      receivers_room = omega (arith, left, receivers, c.workers.invariant.receivers_room, c.push_reserved-in-Some.ensures.capacity);
+      served_room = omega (arith, left, served, c.workers.invariant.served_room, c.push_reserved-in-Some-2.ensures.capacity);
+      of =
+          All-same Of c.push_reserved-in-Some.new.self.items (c.workers.receivers.items ++ receiver ∷ []) c.push_reserved-in-Some.ensures.items
+          (All-push Of c.workers.receivers.items receiver c.workers.invariant.of (ap (λ (r : ReceiverState g.row.T.Denot). r.channel) is ∙ done.0));
+      marks = omega (arith, left, marks, mark, done.1.mark, c.workers.invariant.marks);
+      all =
+          gathers g.B.Broker.group g.T.Transport.counts g.T.Transport.given g.T.Transport.accepted c.workers.receivers.items c.push_reserved-in-Some.new.self.items c.workers.served.items c.push_reserved-in-Some-2.new.self.items
+          c.worker_of.result receiver c.into_parts-hand.result.2 c.workers.invariant.all c.push_reserved-in-Some.ensures.items c.push_reserved-in-Some-2.ensures.items is c.into_parts-hand.ensures.served done.1.none_live;
+    }

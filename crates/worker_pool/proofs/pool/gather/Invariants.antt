@@ -1,0 +1,22 @@
+-- The workers that are left, and room for what they give back.
+use Rattle.std.proofs.Common.{◌≡◌, ◌+◌, ◌≤◌, All, length, vec_len, vec_capacity}
+use Rattle.conn_channel.specs.Ends.{AreOf, end_marks_received_by}
+use Rattle.worker_pool.specs.Pools.{AreAllServed}
+use Rattle.worker_pool.specs.Roles.{HasServed}
+use Rattle.worker_pool.proofs.pool.gather.Given as goal
+
+abbrev pub invariant-workers : goal.invariant-workers
+invariant-workers g l = record {
+  workers : All (HasServed l.sender.channel) l.workers.items;
+  hands : length l.hands.items + length l.workers.items ≡ length l.fn.hands.items + length l.fn.workers.items;
+  hands_room : length l.hands.items + length l.workers.items ≤ vec_capacity l.hands;
+  receivers : length l.receivers.items + length l.workers.items ≡ length l.fn.receivers.items + length l.fn.workers.items;
+  receivers_room : length l.receivers.items + length l.workers.items ≤ vec_capacity l.receivers;
+  served_room : length l.served.items + length l.workers.items ≤ vec_capacity l.served;
+  of : AreOf l.sender.channel l.receivers.items;
+  marks : end_marks_received_by l.receivers.items + length l.workers.items ≡ end_marks_received_by l.fn.receivers.items + length l.fn.workers.items;
+  all : AreAllServed g.B.Broker.group g.T.Transport.counts g.T.Transport.given g.T.Transport.accepted l.receivers.items l.served.items;
+}
+
+abbrev pub decreases-workers : goal.decreases-workers
+decreases-workers g l = vec_len l.workers
