@@ -1,7 +1,5 @@
 //! Serving the connections of a broker that is open, to its reports.
-ghost use Rattle.std.specs.Prelude.{◌≡◌, ◌+◌, ◌≤◌, ◌⊎◌, [], length, vec_capacity, IfOk, IfErr};
-ghost use Rattle.line_io.specs.declared.error.RunError.TheVariants.{Memory, Unfinished as NotKnown};
-ghost use Rattle.tcp_server.specs.Reporting.{AreReports};
+ghost use Rattle.std.specs.Prelude.{◌≡◌, ◌≤◌, [], length, vec_capacity};
 
 use crate::crew::Crew;
 use crate::listening::Awaited;
@@ -51,8 +49,6 @@ pub(crate) fn attend<
     requires hands { (1 ≤ length hands.items) × (length hands.items ≤ 64) }
     requires room { (room.items ≡ []) × (length hands.items ≤ vec_capacity room) }
     requires crew { length crew.gear.items ≡ length hands.items }
-    ensures told { IfOk result (λ told. AreReports B.group told.0.items) }
-    ensures cause { IfErr result (λ error. (error ≡ Memory) ⊎ (error ≡ NotKnown)) }
 {
     let ends = AtomicBool::new(false);
     let Closers {
@@ -98,9 +94,7 @@ pub(crate) fn attend<
 }
 
 /// How a broker came to its end; no thread for one of its workers is want of memory.
-fn end_of(source: SourceEnd, is_read: bool) -> Result<Served, RunError>
-    ensures { IfErr result (λ error. error ≡ Memory) }
-{
+fn end_of(source: SourceEnd, is_read: bool) -> Result<Served, RunError> {
     match source {
         SourceEnd::Untouched => Err(RunError::Memory),
         SourceEnd::Failed => Ok(Served::NotAccepted),

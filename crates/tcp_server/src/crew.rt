@@ -1,6 +1,4 @@
 //! Where the workers of a broker wait, and by what clock.
-ghost use Rattle.std.specs.Prelude.{◌≡◌, length, IfSome};
-
 use crate::elapsed::Elapsed;
 use crate::socket_poller::SocketPoller;
 use broker_worker::Gear;
@@ -22,13 +20,11 @@ pub(crate) fn crew_of<R: Net + SystemClock>(
     rt: &R,
     alloc: Global,
     count: usize,
-) -> Option<Crew<'_, R>>
-    ensures { IfSome result (λ crew. length crew.gear.items ≡ count) }
-{
+) -> Option<Crew<'_, R>> {
     let start = Instant::now(rt).ok()?;
     let mut gear = Vec::with_capacity(alloc, count).ok()?;
     let mut alarms = Vec::with_capacity(alloc, count).ok()?;
-    'reactors: for _ in 0..count {
+    for _ in 0..count {
         let (reactor, alarm) = Reactor::open(rt, alloc).ok()?;
         let poller = SocketPoller::new(reactor);
         let clock = Elapsed::since(rt, start);

@@ -1,8 +1,4 @@
 //! What is written of a broker that has ended.
-ghost use Rattle.std.specs.Prelude.{◌≡◌, ◌++◌, ◌⊎◌, All, Ok, IfOk, IfErr};
-ghost use Rattle.line_io.specs.declared.error.RunError.TheVariants.{Memory, Unfinished as NotKnown};
-ghost use Rattle.tcp_server.specs.Reporting.{IsReport, line_of, lines_of};
-
 use broker_groups::Ended;
 use group_jobs::{Envelope, Report};
 use group_queue::{FinishError, Unfinished};
@@ -36,9 +32,7 @@ pub(crate) fn let_go(ended: Ended<'_>) {
 }
 
 /// The report of a group, or why there is none.
-fn report_in(answer: Result<Report, Unfinished<'_>>) -> Result<Report, FinishError>
-    ensures { IfOk result (λ report. answer ≡ Ok report) }
-{
+fn report_in(answer: Result<Report, Unfinished<'_>>) -> Result<Report, FinishError> {
     match answer {
         Ok(report) => Ok(report),
         Err(unfinished) => Err(unfinished.abandon()),
@@ -50,28 +44,24 @@ fn report_in(answer: Result<Report, Unfinished<'_>>) -> Result<Report, FinishErr
 /// # Errors
 ///
 /// [`RunError::Unfinished`] where what became of the messages of a group is not known, [`RunError::Memory`].
-pub(crate) fn lines(alloc: Global, ended: Ended<'_>, shares: &[Share]) -> Result<Vec<u8>, RunError>
-    ensures lines { IfOk result (λ text. text.items ≡ lines_of shares.now ended.answers.items) }
-    ensures reports { IfOk result (λ text. All IsReport ended.answers.items) }
-    ensures cause { IfErr result (λ error. (error ≡ Memory) ⊎ (error ≡ NotKnown)) }
-{
+pub(crate) fn lines(
+    alloc: Global,
+    ended: Ended<'_>,
+    shares: &[Share],
+) -> Result<Vec<u8>, RunError> {
     let Ended { answers, strangers } = ended;
     let_go_of_all(strangers);
     let mut text = Vec::new(alloc);
     let mut told = Ok(());
-    let mut left = shares;
-    let mut answers = answers.into_iter();
-    'answers: while let Some(answer) = answers.next() {
-        let (share, others) = match left.split_first() {
-            Some((share, others)) => (Some(share), others),
-            None => (None, left),
-        };
-        if let Err(error) = add_line(alloc, &mut text, answer, share) {
+    let mut slot = 0usize;
+    let mut next = answers.into_iter();
+    'answers: while let Some(answer) = next.next() {
+        if let Err(error) = add_line(alloc, &mut text, answer, shares, slot) {
             told = Err(error);
         }
-        left = others;
+        slot = slot.saturating_add(1);
     }
-    answers.destroy_empty();
+    next.destroy_empty();
     match told {
         Ok(()) => Ok(text),
         Err(error) => Err(error),
@@ -83,18 +73,15 @@ fn add_line(
     alloc: Global,
     text: &mut Vec<u8>,
     answer: Result<Report, Unfinished<'_>>,
-    share: Option<&Share>,
-) -> Result<(), RunError>
-    ensures line { IfOk result (λ _. text.new.items ≡ text.old.items ++ line_of share answer) }
-    ensures report { IfOk result (λ _. IsReport answer) }
-    ensures cause { IfErr result (λ error. (error ≡ Memory) ⊎ (error ≡ NotKnown)) }
-{
+    shares: &[Share],
+    slot: usize,
+) -> Result<(), RunError> {
     let report = match report_in(answer) {
         Ok(report) => report,
         Err(FinishError::Memory) => return Err(RunError::Memory),
         Err(_) => return Err(RunError::Unfinished),
     };
-    if let Some(share) = share {
+    if let Some(share) = shares.get(slot) {
         let line = report.line(alloc, share)?;
         text.extend_from_slice(&line)?;
     }

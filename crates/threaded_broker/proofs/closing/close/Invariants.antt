@@ -1,5 +1,5 @@
 -- Nothing is known but what the type says.
-use Rattle.std.proofs.Common.{⊤}
+use Rattle.std.specs.Prelude.{⊤}
 use Rattle.threaded_broker.proofs.closing.close.Given as goal
 
 abbrev pub invariant-looks : goal.invariant-looks
