@@ -46,7 +46,7 @@ pub(crate) struct Counts {
     pub(crate) acknowledged: u64,
     pub(crate) refused: u64,
     pub(crate) held: u64,
-    pub(crate) hidden: u64,
+    pub(crate) open: u64,
 }
 
 /// What clients do.
@@ -139,28 +139,47 @@ fn numbers_of(alloc: Global, text: &[u8]) -> Option<Vec<u64>> {
     Some(numbers)
 }
 
+/// What a day is to be and was not.
+#[derive(Clone, Copy, Debug, PartialEq, Eq, Drop)]
+pub(crate) enum Wrong {
+    /// A client saw what may not come, or waited for what did not come.
+    Seen,
+    /// Serving failed.
+    Ended,
+    /// There is no report, or it does not add up.
+    Report,
+    /// The report has other counts than clients saw.
+    Counts,
+}
+
 impl Night {
     /// Whether all went well, and the report of `$share/g/job` is that of what the clients saw: each accepted job has one fate, and as many have each as can be.
-    pub(crate) fn is_as_seen(&self, alloc: Global) -> Option<()> {
-        let saw = self.saw?;
+    pub(crate) fn is_as_seen(&self, alloc: Global) -> Result<(), Wrong> {
+        let Some(saw) = self.saw else {
+            return Err(Wrong::Seen);
+        };
         if self.ended.is_err() {
-            return None;
+            return Err(Wrong::Ended);
         }
-        let numbers = numbers_of(alloc, self.output.as_slice())?;
+        let Some(numbers) = numbers_of(alloc, self.output.as_slice()) else {
+            return Err(Wrong::Report);
+        };
         let [_port, accepted, acknowledged, refused, held, queued, returned] = numbers.as_slice() else {
-            return None;
+            return Err(Wrong::Report);
         };
         let fates = acknowledged
             .saturating_add(*refused)
             .saturating_add(*held)
             .saturating_add(*queued)
             .saturating_add(*returned);
-        let is_as_seen = fates == *accepted
-            && *accepted == saw.accepted
+        if fates != *accepted {
+            return Err(Wrong::Report);
+        }
+        let is_as_seen = *accepted == saw.accepted
             && *acknowledged == saw.acknowledged
             && *refused == saw.refused
             && *held >= saw.held
-            && *held <= saw.held.saturating_add(saw.hidden);
-        if is_as_seen { Some(()) } else { None }
+            && *held <= saw.held.saturating_add(saw.open);
+        if is_as_seen { Ok(()) } else { Err(Wrong::Counts) }
     }
 }

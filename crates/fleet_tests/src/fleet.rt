@@ -162,7 +162,7 @@ impl Fleet {
             acknowledged: self.jobs.acknowledged,
             refused: self.jobs.refused,
             held,
-            hidden: self.jobs.hidden,
+            open: self.jobs.hidden.saturating_add(self.jobs.loose),
         }
     }
 }

@@ -34,6 +34,8 @@ pub(crate) struct Jobs {
     pub(crate) turned: u64,
     /// How many deliveries were on their way at most where a connection was dropped.
     pub(crate) hidden: u64,
+    /// How many jobs the sessions had that end with a connection that was dropped: the broker may close before it sees that.
+    pub(crate) loose: u64,
 }
 
 /// Where the job of a payload stands.
@@ -53,6 +55,7 @@ impl Jobs {
             refused: 0,
             turned: 0,
             hidden: 0,
+            loose: 0,
         })
     }
 

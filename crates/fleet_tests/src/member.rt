@@ -241,6 +241,7 @@ impl Member {
         let unseen = u64::from(self.receive_maximum).saturating_sub(sent);
         jobs.hidden = jobs.hidden.saturating_add(unseen);
         if !self.lives {
+            jobs.loose = jobs.loose.saturating_add(self.holds());
             self.end_session(jobs)?;
         }
         Some(())

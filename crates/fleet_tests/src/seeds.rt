@@ -20,7 +20,7 @@ where
             seed: u64::from(seed),
         };
         let night = live(rt, alloc, &run);
-        assert!(rt; night.is_as_seen(alloc).is_some(), "the fleet of seed {seed}");
+        assert_eq!(rt; night.is_as_seen(alloc), Ok(()), "the fleet of seed {seed}");
     }
 }
 
