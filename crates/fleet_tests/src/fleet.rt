@@ -157,13 +157,7 @@ impl Fleet {
         for member in self.members.iter() {
             held = held.saturating_add(member.holds());
         }
-        Counts {
-            accepted: self.jobs.accepted,
-            acknowledged: self.jobs.acknowledged,
-            refused: self.jobs.refused,
-            held,
-            open: self.jobs.hidden.saturating_add(self.jobs.loose),
-        }
+        self.jobs.counts(held)
     }
 }
 

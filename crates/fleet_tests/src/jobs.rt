@@ -1,4 +1,5 @@
 //! The jobs of a run, and what became of each as its clients saw it.
+use crate::broker::Counts;
 use std::alloc::Global;
 
 /// How many publishers there are, and how many jobs each of them publishes at most.
@@ -57,6 +58,22 @@ impl Jobs {
             hidden: 0,
             loose: 0,
         })
+    }
+
+    /// Whether each job that was accepted was settled.
+    pub(crate) fn are_settled(&self) -> bool {
+        self.acknowledged.saturating_add(self.refused) == self.accepted
+    }
+
+    /// What the report has to say where sessions surely have so many jobs.
+    pub(crate) fn counts(&self, held: u64) -> Counts {
+        Counts {
+            accepted: self.accepted,
+            acknowledged: self.acknowledged,
+            refused: self.refused,
+            held,
+            open: self.hidden.saturating_add(self.loose),
+        }
     }
 
     /// A PUBACK came to the publisher; a job may have come to a member before it.

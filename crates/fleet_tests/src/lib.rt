@@ -5,6 +5,8 @@
 #[cfg(test)]
 mod broker;
 #[cfg(test)]
+mod crowd;
+#[cfg(test)]
 mod fleet;
 #[cfg(test)]
 mod jobs;
@@ -12,6 +14,8 @@ mod jobs;
 mod link;
 #[cfg(test)]
 mod member;
+#[cfg(test)]
+mod pacing;
 #[cfg(test)]
 mod publisher;
 #[cfg(test)]

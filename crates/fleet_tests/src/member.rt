@@ -84,7 +84,7 @@ impl Member {
             name: [b'm', b'0'.saturating_add(self.number)],
             clean: rule.is_one_in(3),
             lives: rule.is_one_in(2),
-            receive_maximum: (rule.below(7) as u8).saturating_add(1),
+            receive_maximum: u8::try_from(rule.below(7)).unwrap_or(6).saturating_add(1),
         };
         send(&mut stream, &connect(asks))?;
         if self.is_there() {
@@ -191,6 +191,12 @@ impl Member {
             self.hear(&packet, jobs)?;
         }
         None
+    }
+
+    /// Waits for a packet, and takes it: a job.
+    pub(crate) fn wait(&mut self, alloc: Global, jobs: &mut Jobs) -> Option<()> {
+        let packet = next(self.stream.as_mut()?, alloc)?;
+        self.hear(&packet, jobs)
     }
 
     /// Acknowledges or refuses a job that came on this connection, an old one or a new one, and waits until that was read.
