@@ -1,6 +1,7 @@
 //! A broker that is served while its clients do something.
 ghost use Rattle.std.specs.Prelude.{◌≤◌};
 
+use crate::wrong::Wrong;
 use line_io::RunError;
 use mqtt_topic::Routes;
 use std::alloc::Global;
@@ -54,19 +55,19 @@ pub(crate) trait Day: Sync {
     /// The port that the broker listens at, and how many workers it has.
     fn broker(&self) -> (u16, u8);
 
-    /// Does it; the broker closes once the flag is set, or this returns. What they saw; `None` where something came that may not, or did not come.
+    /// Does it; the broker closes once the flag is set, or this returns. What they saw.
     fn pass<R: Net<Listener = TcpListener, Stream = TcpStream> + Clock>(
         &self,
         rt: &R,
         alloc: Global,
         closes: &AtomicBool,
-    ) -> Option<Counts>;
+    ) -> Result<Counts, Wrong>;
 }
 
 /// What came of a day: what clients saw, how serving ended, and what was written.
 #[derive(Drop)]
 pub(crate) struct Night {
-    saw: Option<Counts>,
+    saw: Result<Counts, Wrong>,
     ended: Result<(), RunError>,
     output: Vec<u8>,
 }
@@ -92,7 +93,7 @@ fn pass<R: Net<Listener = TcpListener, Stream = TcpStream> + Clock, D: Day>(
     alloc: Global,
     day: &D,
     closes: &AtomicBool,
-) -> Option<Counts> {
+) -> Result<Counts, Wrong> {
     let saw = day.pass(rt, alloc, closes);
     closes.store(true, Ordering::SeqCst);
     saw
@@ -124,47 +125,44 @@ fn serve<R: Threads + Wait + Net<Listener = TcpListener, Stream = TcpStream> + C
 }
 
 /// The numbers that stand in a text.
-fn numbers_of(alloc: Global, text: &[u8]) -> Option<Vec<u64>> {
+fn numbers_of(alloc: Global, text: &[u8]) -> Result<Vec<u64>, Wrong> {
     let mut numbers = Vec::new(alloc);
     let mut number = None;
     for byte in text {
         if byte.is_ascii_digit() {
             let digit = u64::from(byte.wrapping_sub(b'0'));
-            number = Some(number.unwrap_or(0u64).saturating_mul(10).saturating_add(digit));
+            number = Some(
+                number
+                    .unwrap_or(0u64)
+                    .saturating_mul(10)
+                    .saturating_add(digit),
+            );
         } else if let Some(whole) = number {
-            numbers.push(whole).ok()?;
+            numbers.push(whole).ok().ok_or(Wrong::Memory)?;
             number = None;
         }
     }
-    Some(numbers)
-}
-
-/// What a day is to be and was not.
-#[derive(Clone, Copy, Debug, PartialEq, Eq, Drop)]
-pub(crate) enum Wrong {
-    /// A client saw what may not come, or waited for what did not come.
-    Seen,
-    /// Serving failed.
-    Ended,
-    /// There is no report, or it does not add up.
-    Report,
-    /// The report has other counts than clients saw.
-    Counts,
+    Ok(numbers)
 }
 
 impl Night {
     /// Whether all went well, and the report of `$share/g/job` is that of what the clients saw: each accepted job has one fate, and as many have each as can be.
     pub(crate) fn is_as_seen(&self, alloc: Global) -> Result<(), Wrong> {
-        let Some(saw) = self.saw else {
-            return Err(Wrong::Seen);
-        };
+        let saw = self.saw?;
         if self.ended.is_err() {
-            return Err(Wrong::Ended);
+            return Err(Wrong::Served);
         }
-        let Some(numbers) = numbers_of(alloc, self.output.as_slice()) else {
-            return Err(Wrong::Report);
-        };
-        let [_port, accepted, acknowledged, refused, held, queued, returned] = numbers.as_slice() else {
+        let numbers = numbers_of(alloc, self.output.as_slice())?;
+        let [
+            _port,
+            accepted,
+            acknowledged,
+            refused,
+            held,
+            queued,
+            returned,
+        ] = numbers.as_slice()
+        else {
             return Err(Wrong::Report);
         };
         let fates = acknowledged
@@ -180,6 +178,10 @@ impl Night {
             && *refused == saw.refused
             && *held >= saw.held
             && *held <= saw.held.saturating_add(saw.open);
-        if is_as_seen { Ok(()) } else { Err(Wrong::Counts) }
+        if is_as_seen {
+            Ok(())
+        } else {
+            Err(Wrong::Counts)
+        }
     }
 }

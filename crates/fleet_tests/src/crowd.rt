@@ -5,6 +5,7 @@ use crate::link::{Asks, connect, open, send, wanted};
 use crate::member::Member;
 use crate::publisher::Publisher;
 use crate::rule::Rule;
+use crate::wrong::Wrong;
 use std::alloc::Global;
 use std::net::{Net, TcpListener, TcpStream};
 use std::rt::Clock;
@@ -41,58 +42,62 @@ fn begin_slowly<R: Net<Listener = TcpListener, Stream = TcpStream> + Clock>(
     rt: &R,
     alloc: Global,
     count: u8,
-) -> Option<Vec<TcpStream>> {
+) -> Result<Vec<TcpStream>, Wrong> {
     let mut streams = Vec::new(alloc);
     for number in 0..count {
         let mut stream = open(rt, PORT)?;
-        send(&mut stream, slow_connect(number).get(..9)?)?;
-        streams.push(stream).ok()?;
+        send(
+            &mut stream,
+            slow_connect(number).get(..9).ok_or(Wrong::Place)?,
+        )?;
+        streams.push(stream).ok().ok_or(Wrong::Memory)?;
     }
-    Some(streams)
+    Ok(streams)
 }
 
 /// Sends the rest of each CONNECT byte by byte; each is answered.
-fn end_slowly(streams: &mut Vec<TcpStream>, alloc: Global) -> Option<()> {
+fn end_slowly(streams: &mut Vec<TcpStream>, alloc: Global) -> Result<(), Wrong> {
     let mut number = 0u8;
     for stream in streams.iter_mut() {
-        for byte in slow_connect(number).get(9..)? {
+        for byte in slow_connect(number).get(9..).ok_or(Wrong::Place)? {
             send(stream, &[*byte])?;
         }
         let body = wanted(stream, alloc, 0x20)?;
         if body.as_slice().get(1).copied() != Some(0) {
-            return None;
+            return Err(Wrong::Connack);
         }
         number = number.saturating_add(1);
     }
-    Some(())
+    Ok(())
 }
 
 /// Connects those that send garbage.
 fn send_garbage<R: Net<Listener = TcpListener, Stream = TcpStream> + Clock>(
     rt: &R,
     alloc: Global,
-) -> Option<Vec<TcpStream>> {
+) -> Result<Vec<TcpStream>, Wrong> {
     let mut streams = Vec::new(alloc);
     for _ in 0..OTHERS {
         let mut stream = open(rt, PORT)?;
         send(&mut stream, b"GET / HTTP/1.1\r\n\r\n")?;
-        streams.push(stream).ok()?;
+        streams.push(stream).ok().ok_or(Wrong::Memory)?;
     }
-    Some(streams)
+    Ok(streams)
 }
 
 /// Connects the publishers.
 fn publishers<R: Net<Listener = TcpListener, Stream = TcpStream> + Clock>(
     rt: &R,
     alloc: Global,
-) -> Option<Vec<Publisher>> {
+) -> Result<Vec<Publisher>, Wrong> {
     let mut publishers = Vec::new(alloc);
     for number in 0..MEMBERS {
         publishers
             .push(Publisher::new(open(rt, PORT)?, alloc, number)?)
-            .ok()?;
+            .ok()
+            .ok_or(Wrong::Memory)?;
     }
-    Some(publishers)
+    Ok(publishers)
 }
 
 /// Connects the members.
@@ -101,27 +106,32 @@ fn members<R: Net<Listener = TcpListener, Stream = TcpStream> + Clock>(
     alloc: Global,
     rule: &mut Rule,
     jobs: &mut Jobs,
-) -> Option<Vec<Member>> {
+) -> Result<Vec<Member>, Wrong> {
     let mut members = Vec::new(alloc);
     for number in 0..MEMBERS {
         let mut member = Member::new(alloc, number)?;
         member.come(open(rt, PORT)?, alloc, rule, jobs)?;
-        members.push(member).ok()?;
+        members.push(member).ok().ok_or(Wrong::Memory)?;
     }
-    Some(members)
+    Ok(members)
 }
 
 /// Has each member settle jobs until all are settled.
-fn settle_all(members: &mut Vec<Member>, alloc: Global, rule: &mut Rule, jobs: &mut Jobs) -> Option<()> {
+fn settle_all(
+    members: &mut Vec<Member>,
+    alloc: Global,
+    rule: &mut Rule,
+    jobs: &mut Jobs,
+) -> Result<(), Wrong> {
     for _ in 0..ROUNDS {
         for member in members.iter_mut() {
             member.settle(alloc, rule, jobs)?;
         }
         if jobs.are_settled() {
-            return Some(());
+            return Ok(());
         }
     }
-    None
+    Err(Wrong::Waits)
 }
 
 impl Day for Crowd {
@@ -134,7 +144,7 @@ impl Day for Crowd {
         rt: &R,
         alloc: Global,
         _closes: &AtomicBool,
-    ) -> Option<Counts> {
+    ) -> Result<Counts, Wrong> {
         let mut rule = Rule::new(64);
         let mut jobs = Jobs::new(alloc)?;
         let mut slow = begin_slowly(rt, alloc, SLOW)?;
@@ -147,7 +157,7 @@ impl Day for Crowd {
         }
         end_slowly(&mut slow, alloc)?;
         settle_all(&mut members, alloc, &mut rule, &mut jobs)?;
-        Some(jobs.counts(0))
+        Ok(jobs.counts(0))
     }
 }
 

@@ -5,6 +5,7 @@ use crate::link::{open, send};
 use crate::member::{Ending, Member};
 use crate::publisher::Publisher;
 use crate::rule::Rule;
+use crate::wrong::Wrong;
 use std::alloc::Global;
 use std::net::{Net, TcpListener, TcpStream};
 use std::rt::Clock;
@@ -38,12 +39,15 @@ struct Fleet {
 
 impl Fleet {
     /// Nobody yet.
-    fn new(alloc: Global, seed: u64) -> Option<Fleet> {
+    fn new(alloc: Global, seed: u64) -> Result<Fleet, Wrong> {
         let mut members = Vec::new(alloc);
         for number in 0..MEMBERS {
-            members.push(Member::new(alloc, number)?).ok()?;
+            members
+                .push(Member::new(alloc, number)?)
+                .ok()
+                .ok_or(Wrong::Memory)?;
         }
-        Some(Fleet {
+        Ok(Fleet {
             rule: Rule::new(seed),
             jobs: Jobs::new(alloc)?,
             publishers: Vec::new(alloc),
@@ -59,7 +63,7 @@ impl Fleet {
         rt: &R,
         alloc: Global,
         port: u16,
-    ) -> Option<()> {
+    ) -> Result<(), Wrong> {
         match self.rule.below(8) {
             0..=1 => self.publish(rt, alloc, port),
             2 => self.strange(rt, port),
@@ -73,21 +77,24 @@ impl Fleet {
         rt: &R,
         alloc: Global,
         port: u16,
-    ) -> Option<()> {
+    ) -> Result<(), Wrong> {
         if self.publishers.len() < AT_ONCE && usize::from(self.came) < PUBLISHERS {
             let publisher = Publisher::new(open(rt, port)?, alloc, self.came)?;
             self.came = self.came.saturating_add(1);
-            self.publishers.push(publisher).ok()?;
+            self.publishers.push(publisher).ok().ok_or(Wrong::Memory)?;
         }
         if self.rule.is_one_in(6) {
-            return self.publishers.pop()?.drop_it(&mut self.rule);
+            return match self.publishers.pop() {
+                Some(publisher) => publisher.drop_it(&mut self.rule),
+                None => Ok(()),
+            };
         }
         let chosen = usize::from(self.rule.below(4)) % AT_ONCE;
         let count = self.rule.below(12);
         let jobs = &mut self.jobs;
         match self.publishers.get_mut(chosen) {
             Some(publisher) => publisher.publish(alloc, jobs, count),
-            None => Some(()),
+            None => Ok(()),
         }
     }
 
@@ -96,7 +103,7 @@ impl Fleet {
         &mut self,
         rt: &R,
         port: u16,
-    ) -> Option<()> {
+    ) -> Result<(), Wrong> {
         let mut stream = open(rt, port)?;
         match self.rule.below(4) {
             0 => send(&mut stream, b"GET / HTTP/1.1\r\n\r\n")?,
@@ -113,7 +120,7 @@ impl Fleet {
         if self.strangers.len() >= 12 {
             self.strangers.clear();
         }
-        self.strangers.push(stream).ok()
+        self.strangers.push(stream).ok().ok_or(Wrong::Memory)
     }
 
     /// A member comes, comes again, settles a job, drops its connection, or leaves.
@@ -122,9 +129,9 @@ impl Fleet {
         rt: &R,
         alloc: Global,
         port: u16,
-    ) -> Option<()> {
+    ) -> Result<(), Wrong> {
         let chosen = usize::from(self.rule.below(u16::from(MEMBERS)));
-        let member = self.members.get_mut(chosen)?;
+        let member = self.members.get_mut(chosen).ok_or(Wrong::Place)?;
         let drawn = self.rule.below(16);
         if !member.is_there() || drawn == 0 {
             let stream = open(rt, port)?;
@@ -139,7 +146,7 @@ impl Fleet {
     }
 
     /// Reads all streams to the end that the close makes.
-    fn close(&mut self, alloc: Global) -> Option<()> {
+    fn close(&mut self, alloc: Global) -> Result<(), Wrong> {
         for member in self.members.iter_mut() {
             if member.is_there() {
                 member.read_to_end(alloc, &mut self.jobs, Ending::Closed)?;
@@ -148,7 +155,7 @@ impl Fleet {
         for publisher in self.publishers.iter_mut() {
             publisher.is_closed(alloc)?;
         }
-        Some(())
+        Ok(())
     }
 
     /// What the report has to say.
@@ -171,7 +178,7 @@ impl Day for Run {
         rt: &R,
         alloc: Global,
         closes: &AtomicBool,
-    ) -> Option<Counts> {
+    ) -> Result<Counts, Wrong> {
         let mut fleet = Fleet::new(alloc, self.seed)?;
         for _ in 0..STEPS {
             fleet.step(rt, alloc, self.port)?;
@@ -179,8 +186,8 @@ impl Day for Run {
         closes.store(true, Ordering::SeqCst);
         fleet.close(alloc)?;
         if fleet.jobs.turned > fleet.jobs.hidden {
-            return None;
+            return Err(Wrong::Order);
         }
-        Some(fleet.counts())
+        Ok(fleet.counts())
     }
 }

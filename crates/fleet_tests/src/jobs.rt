@@ -1,5 +1,6 @@
 //! The jobs of a run, and what became of each as its clients saw it.
 use crate::broker::Counts;
+use crate::wrong::Wrong;
 use std::alloc::Global;
 
 /// How many publishers there are, and how many jobs each of them publishes at most.
@@ -42,14 +43,18 @@ pub(crate) struct Jobs {
 /// Where the job of a payload stands.
 fn place_of(payload: [u8; 2]) -> usize {
     let [publisher, number] = payload;
-    usize::from(publisher).wrapping_mul(JOBS).wrapping_add(usize::from(number))
+    usize::from(publisher)
+        .wrapping_mul(JOBS)
+        .wrapping_add(usize::from(number))
 }
 
 impl Jobs {
     /// None published yet.
-    pub(crate) fn new(alloc: Global) -> Option<Jobs> {
-        let seen = vec![in alloc; Seen::Nothing; PUBLISHERS * JOBS].ok()?;
-        Some(Jobs {
+    pub(crate) fn new(alloc: Global) -> Result<Jobs, Wrong> {
+        let seen = vec![in alloc; Seen::Nothing; PUBLISHERS * JOBS]
+            .ok()
+            .ok_or(Wrong::Memory)?;
+        Ok(Jobs {
             seen,
             accepted: 0,
             acknowledged: 0,
@@ -77,45 +82,44 @@ impl Jobs {
     }
 
     /// A PUBACK came to the publisher; a job may have come to a member before it.
-    pub(crate) fn answered(&mut self, payload: [u8; 2], code: u8) -> Option<()> {
-        let seen = self.seen.get_mut(place_of(payload))?;
+    pub(crate) fn answered(&mut self, payload: [u8; 2], code: u8) -> Result<(), Wrong> {
+        let seen = self.seen.get_mut(place_of(payload)).ok_or(Wrong::Place)?;
         match (*seen, code) {
             (Seen::Nothing, 0) => *seen = Seen::Accepted,
             (Seen::Nothing, 0x97) => *seen = Seen::Full,
-            _ => return None,
+            _ => return Err(Wrong::Puback),
         }
         if code == 0 {
             self.accepted = self.accepted.saturating_add(1);
         }
-        Some(())
+        Ok(())
     }
 
-    /// A job came to a member, again to the session that had it or not. Whether it is the first time that a member saw it; `None` where it may not
-    /// come.
-    pub(crate) fn handed(&mut self, payload: [u8; 2], again: bool) -> Option<bool> {
-        let seen = self.seen.get_mut(place_of(payload))?;
+    /// A job came to a member, again to the session that had it or not. Whether it is the first time that a member saw it.
+    pub(crate) fn handed(&mut self, payload: [u8; 2], again: bool) -> Result<bool, Wrong> {
+        let seen = self.seen.get_mut(place_of(payload)).ok_or(Wrong::Place)?;
         let first = match *seen {
             Seen::Accepted => true,
             Seen::Back => false,
             Seen::Out if again => false,
-            _ => return None,
+            _ => return Err(Wrong::Job),
         };
         *seen = Seen::Out;
-        Some(first)
+        Ok(first)
     }
 
     /// The session that has a job ends.
-    pub(crate) fn given_back(&mut self, payload: [u8; 2]) -> Option<()> {
-        let seen = self.seen.get_mut(place_of(payload))?;
+    pub(crate) fn given_back(&mut self, payload: [u8; 2]) -> Result<(), Wrong> {
+        let seen = self.seen.get_mut(place_of(payload)).ok_or(Wrong::Place)?;
         *seen = Seen::Back;
-        Some(())
+        Ok(())
     }
 
     /// The PUBACK of a member was read.
-    pub(crate) fn settled(&mut self, payload: [u8; 2], refused: bool) -> Option<()> {
-        let seen = self.seen.get_mut(place_of(payload))?;
+    pub(crate) fn settled(&mut self, payload: [u8; 2], refused: bool) -> Result<(), Wrong> {
+        let seen = self.seen.get_mut(place_of(payload)).ok_or(Wrong::Place)?;
         if *seen != Seen::Out {
-            return None;
+            return Err(Wrong::Job);
         }
         *seen = Seen::Settled;
         if refused {
@@ -123,6 +127,6 @@ impl Jobs {
         } else {
             self.acknowledged = self.acknowledged.saturating_add(1);
         }
-        Some(())
+        Ok(())
     }
 }

@@ -22,3 +22,5 @@ mod publisher;
 mod rule;
 #[cfg(test)]
 mod seeds;
+#[cfg(test)]
+mod wrong;

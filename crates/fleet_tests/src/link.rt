@@ -1,4 +1,5 @@
 //! A connection to the broker, packet by packet.
+use crate::wrong::Wrong;
 use std::alloc::Global;
 use std::io::{Read, Write};
 use std::net::{Ipv4Addr, Net, SocketAddr, TcpListener, TcpStream};
@@ -15,22 +16,25 @@ const PAUSE: u64 = 10;
 pub(crate) fn open<R: Net<Listener = TcpListener, Stream = TcpStream> + Clock>(
     rt: &R,
     port: u16,
-) -> Option<TcpStream> {
+) -> Result<TcpStream, Wrong> {
     for _ in 0..TRIES {
         let address = SocketAddr::from((Ipv4Addr::LOCALHOST, port));
         if let Ok(stream) = TcpStream::connect(rt, address) {
-            stream.set_read_timeout(Some(Duration::from_secs(10))).ok()?;
-            stream.set_nodelay(true).ok()?;
-            return Some(stream);
+            stream
+                .set_read_timeout(Some(Duration::from_secs(10)))
+                .ok()
+                .ok_or(Wrong::Connects)?;
+            stream.set_nodelay(true).ok().ok_or(Wrong::Connects)?;
+            return Ok(stream);
         }
         thread::sleep(rt, Duration::from_millis(PAUSE));
     }
-    None
+    Err(Wrong::Connects)
 }
 
 /// Sends bytes.
-pub(crate) fn send(stream: &mut TcpStream, bytes: &[u8]) -> Option<()> {
-    stream.write_all(bytes).ok()
+pub(crate) fn send(stream: &mut TcpStream, bytes: &[u8]) -> Result<(), Wrong> {
+    stream.write_all(bytes).ok().ok_or(Wrong::Sends)
 }
 
 /// A packet of fewer than 128 bytes: its first byte, and what follows its Remaining Length.
@@ -41,42 +45,44 @@ pub(crate) struct Packet {
 }
 
 /// The next packet.
-pub(crate) fn next(stream: &mut TcpStream, alloc: Global) -> Option<Packet> {
+pub(crate) fn next(stream: &mut TcpStream, alloc: Global) -> Result<Packet, Wrong> {
     let mut head = [0; 2];
-    stream.read_exact(&mut head).ok()?;
+    stream.read_exact(&mut head).ok().ok_or(Wrong::Silent)?;
     let [first, length] = head;
-    let mut body = vec![in alloc; 0u8; usize::from(length)].ok()?;
-    stream.read_exact(&mut body).ok()?;
-    Some(Packet { first, body })
+    let mut body = vec![in alloc; 0u8; usize::from(length)]
+        .ok()
+        .ok_or(Wrong::Memory)?;
+    stream.read_exact(&mut body).ok().ok_or(Wrong::Silent)?;
+    Ok(Packet { first, body })
 }
 
 /// The bytes of the next packet behind its length, where it begins with this byte.
-pub(crate) fn wanted(stream: &mut TcpStream, alloc: Global, first: u8) -> Option<Vec<u8>> {
+pub(crate) fn wanted(stream: &mut TcpStream, alloc: Global, first: u8) -> Result<Vec<u8>, Wrong> {
     let packet = next(stream, alloc)?;
     if packet.first == first {
-        Some(packet.body)
+        Ok(packet.body)
     } else {
-        None
+        Err(Wrong::Packet(packet.first))
     }
 }
 
 /// Whether the stream ends next.
-pub(crate) fn ends(stream: &mut TcpStream) -> Option<()> {
+pub(crate) fn ends(stream: &mut TcpStream) -> Result<(), Wrong> {
     let mut one = [0; 1];
     match stream.read(&mut one) {
-        Ok(0) => Some(()),
-        _ => None,
+        Ok(0) => Ok(()),
+        _ => Err(Wrong::Stays),
     }
 }
 
 /// A CONNECT of the client whose identifier is this letter and digit, with a Receive Maximum, for a session that lives for an hour behind its connection, or
 /// ends with it. Whether Clean Start is set, and the Session Present of the CONNACK that is the next packet.
-pub(crate) fn join(stream: &mut TcpStream, alloc: Global, asks: Asks) -> Option<bool> {
+pub(crate) fn join(stream: &mut TcpStream, alloc: Global, asks: Asks) -> Result<bool, Wrong> {
     send(stream, &connect(asks))?;
     let body = wanted(stream, alloc, 0x20)?;
     match body.as_slice() {
-        [present, 0, ..] => Some(*present == 1),
-        _ => None,
+        [present, 0, ..] => Ok(*present == 1),
+        _ => Err(Wrong::Connack),
     }
 }
 
@@ -91,7 +97,8 @@ pub(crate) struct Asks {
 
 /// Its bytes.
 pub(crate) fn connect(asks: Asks) -> [u8; 25] {
-    let mut bytes = *b"\x10\x17\x00\x04MQTT\x05\x00\x00\x3C\x08\x11\x00\x00\x00\x00\x21\x00\x01\x00\x02w1";
+    let mut bytes =
+        *b"\x10\x17\x00\x04MQTT\x05\x00\x00\x3C\x08\x11\x00\x00\x00\x00\x21\x00\x01\x00\x02w1";
     bytes[9] = if asks.clean { 2 } else { 0 };
     if asks.lives {
         bytes[16] = 0x0E;

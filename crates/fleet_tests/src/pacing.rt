@@ -5,6 +5,7 @@ use crate::link::open;
 use crate::member::Member;
 use crate::publisher::Publisher;
 use crate::rule::Rule;
+use crate::wrong::Wrong;
 use std::alloc::Global;
 use std::net::{Net, TcpListener, TcpStream};
 use std::rt::Clock;
@@ -30,7 +31,7 @@ fn one_job(
     alloc: Global,
     rule: &mut Rule,
     jobs: &mut Jobs,
-) -> Option<()> {
+) -> Result<(), Wrong> {
     publisher.publish(alloc, jobs, 1)?;
     member.wait(alloc, jobs)?;
     member.settle(alloc, rule, jobs)
@@ -46,7 +47,7 @@ impl Day for Paced {
         rt: &R,
         alloc: Global,
         _closes: &AtomicBool,
-    ) -> Option<Counts> {
+    ) -> Result<Counts, Wrong> {
         let mut rule = Rule::new(0);
         let mut jobs = Jobs::new(alloc)?;
         let mut member = Member::new(alloc, 0)?;
@@ -55,7 +56,8 @@ impl Day for Paced {
         for number in 0..WORKERS {
             publishers
                 .push(Publisher::new(open(rt, PORT)?, alloc, number)?)
-                .ok()?;
+                .ok()
+                .ok_or(Wrong::Memory)?;
         }
         for _ in 0..ROUNDS {
             for publisher in publishers.iter_mut() {
@@ -65,9 +67,9 @@ impl Day for Paced {
             }
         }
         if jobs.are_settled() {
-            Some(jobs.counts(0))
+            Ok(jobs.counts(0))
         } else {
-            None
+            Err(Wrong::Waits)
         }
     }
 }
