@@ -147,6 +147,7 @@ class Member(Link):
         self.fleet.most = max(self.fleet.most, len(self.window))
         self.fleet.delivered += 1
         job.accepted = True
+        job.seen.add(session)
         if first == 0x3A and not self.resumed:
             raise Fault(f"{where}: sent again on a connection that resumed nothing")
         if self.hasty:

@@ -29,15 +29,18 @@ class Job:
         self.code = None  # the Reason Code of the PUBACK that its holder sent
         self.codes = set()  # the fates of all PUBACK packets that were sent for it
         self.sure = False  # whether that PUBACK was surely read
+        self.seen = set()  # the sessions that it was seen at
         self.vague = False  # whether it was seen at two sessions, and not which of them came later
 
     def fates(self, group):
         """Returns the fates that it may have, where it was accepted."""
         if self.sure:
             return {fate_of(self.code)}
-        if self.vague:
-            return {"held", "returned"} | self.codes
         unseen = {"held", "returned"} if group.hidden else set()
+        if self.vague:
+            held = {"held"} if any(session.ended != "surely" for session in self.seen) else set()
+            back = {"returned"} | unseen if all(session.ended != "not" for session in self.seen) else set()
+            return self.codes | held | back
         if self.holder is None:
             return {"queued"} | unseen
         found = set()
