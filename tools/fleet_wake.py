@@ -218,7 +218,7 @@ def wake(program, jobs):
         print(
             f"{what}: {len(micros)} jobs; microseconds: median {micros[len(micros) // 2]:.0f}, 99th percentile "
             f"{micros[-len(micros) // 100 - 1]:.0f}, longest {micros[-1]:.0f}; later than 50 milliseconds: {len(late)}, "
-            f"of which {len(beside)} not without the time that processors stood still"
+            f"of which {len(beside)} not, without the time for which processors stood still"
         )
     print(f"{len(stood)} times a processor stood still for over 10 milliseconds")
     return 1 if wrong else 0
