@@ -23,13 +23,19 @@ static int is_refused(void) {
     return __atomic_add_fetch(&asked, 1, __ATOMIC_RELAXED) == refused;
 }
 
-void *malloc(size_t size) { return is_refused() ? NULL : __libc_malloc(size); }
+// As the C library does where it has no memory: its own thread calls look at errno.
+static void *refuse(void) {
+    errno = ENOMEM;
+    return NULL;
+}
 
-void *calloc(size_t count, size_t size) { return is_refused() ? NULL : __libc_calloc(count, size); }
+void *malloc(size_t size) { return is_refused() ? refuse() : __libc_malloc(size); }
 
-void *realloc(void *block, size_t size) { return is_refused() ? NULL : __libc_realloc(block, size); }
+void *calloc(size_t count, size_t size) { return is_refused() ? refuse() : __libc_calloc(count, size); }
 
-void *aligned_alloc(size_t alignment, size_t size) { return is_refused() ? NULL : __libc_memalign(alignment, size); }
+void *realloc(void *block, size_t size) { return is_refused() ? refuse() : __libc_realloc(block, size); }
+
+void *aligned_alloc(size_t alignment, size_t size) { return is_refused() ? refuse() : __libc_memalign(alignment, size); }
 
 int posix_memalign(void **block, size_t alignment, size_t size) {
     *block = is_refused() ? NULL : __libc_memalign(alignment, size);

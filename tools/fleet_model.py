@@ -1,0 +1,87 @@
+"""What the clients of `tools/fleet` know of groups, jobs and sessions."""
+import collections
+import time
+
+
+class Fault(Exception):
+    """The broker did what it is not to do."""
+
+
+class Group:
+    """A share, and what was seen of its jobs."""
+
+    def __init__(self, name, topic, calm):
+        self.share, self.topic, self.calm = f"$share/{name}/{topic}", topic, calm
+        self.jobs = {}  # by payload
+        self.hidden = 0  # how many deliveries dropped connections may have hidden
+        self.turned = {}  # jobs whose first delivery came behind a later job of their publisher
+        self.last = {}  # by session and publisher, the number of the latest first delivery
+        self.sessions = 0  # how many sessions were a member of it
+
+
+class Job:
+    """A job in one group, and what was seen of it."""
+
+    def __init__(self, payload, publisher, number, topic):
+        self.payload, self.publisher, self.number, self.topic = payload, publisher, number, topic
+        self.accepted = None  # None while it is open
+        self.holder = None  # the session that it was last seen at
+        self.code = None  # the Reason Code of the PUBACK that its holder sent
+        self.codes = set()  # the fates of all PUBACK packets that were sent for it
+        self.sure = False  # whether that PUBACK was surely read
+        self.seen = set()  # the sessions that it was seen at
+        self.vague = False  # whether it was seen at two sessions, and not which of them came later
+
+    def fates(self, group):
+        """Returns the fates that it may have, where it was accepted."""
+        if self.sure:
+            return {fate_of(self.code)}
+        unseen = {"held", "returned"} if group.hidden else set()
+        if self.vague:
+            held = {"held"} if any(session.ended != "surely" for session in self.seen) else set()
+            back = {"returned"} | unseen if all(session.ended != "not" for session in self.seen) else set()
+            return self.codes | held | back
+        if self.holder is None:
+            return {"queued"} | unseen
+        found = set()
+        if self.holder.ended != "surely":
+            found.add("held")
+        if self.holder.ended != "not":
+            found |= {"returned"} | unseen
+        if self.code is not None:
+            found.add(fate_of(self.code))
+        return found
+
+
+def fate_of(code):
+    return "acknowledged" if code < 0x80 else "refused"
+
+
+class Session:
+    """A session as its client knows it: what it was handed and is not surely acknowledged, by identifier, in order."""
+
+    def __init__(self, name, expiry):
+        self.name = name
+        self.expiry, self.group, self.held, self.ended = expiry, None, {}, "not"
+        self.left = False  # whether it was told that it is no member any more
+        self.in_order = True  # whether the order of what it holds is known
+
+    def may_have_ended(self):
+        if self.ended == "not":
+            self.ended = "maybe"
+
+
+class Identity:
+    """A client identifier, with its session as it is known, its open connections, and all that it ever had. One that is hasty connects again while it
+    waits for a CONNACK; of its sessions nothing is known."""
+
+    def __init__(self, name, hasty=False):
+        self.name, self.hasty, self.session, self.open, self.links = name, hasty, None, [], []
+        self.log = collections.deque(maxlen=200)
+
+    def note(self, link, what):
+        self.log.append(f"{time.monotonic():.4f} connection {self.links.index(link)} {what}")
+
+    def is_ready(self):
+        """Whether it may connect again: not while the system may still turn two CONNECT packets round."""
+        return self.hasty or all(link.joined for link in self.open)

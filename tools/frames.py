@@ -1,0 +1,144 @@
+"""MQTT 5.0 packets byte by byte, and a broker that is started and ended: what `tools/fleet`, `tools/ends` and `tools/refuse-memory` share."""
+import os
+import re
+import select
+import socket
+import subprocess
+import threading
+
+REPORT = re.compile(
+    r"(\$share/\S+) accepted (\d+) acknowledged (\d+) refused (\d+) held (\d+) queued (\d+) returned (\d+)"
+)
+FATES = ("acknowledged", "refused", "held", "queued", "returned")
+
+
+def text(value):
+    value = value.encode() if isinstance(value, str) else value
+    return len(value).to_bytes(2, "big") + value
+
+
+def length(number):
+    """Returns a Variable Byte Integer."""
+    found = b""
+    while True:
+        number, low = divmod(number, 128)
+        found += bytes([low | 0x80 if number else low])
+        if not number:
+            return found
+
+
+def packet(first, body):
+    return bytes([first]) + length(len(body)) + body
+
+
+def connect(name, clean=True, expiry=0, receive_maximum=0, keep_alive=0):
+    properties = b"\x11" + expiry.to_bytes(4, "big") if expiry else b""
+    properties += b"\x21" + receive_maximum.to_bytes(2, "big") if receive_maximum else b""
+    flags = b"\x02" if clean else b"\x00"
+    return packet(
+        0x10,
+        text("MQTT") + b"\x05" + flags + keep_alive.to_bytes(2, "big") + length(len(properties)) + properties + text(name),
+    )
+
+
+def subscribe(share, identifier=1):
+    return packet(0x82, identifier.to_bytes(2, "big") + b"\x00" + text(share) + b"\x01")
+
+
+def unsubscribe(share, identifier=2):
+    return packet(0xA2, identifier.to_bytes(2, "big") + b"\x00" + text(share))
+
+
+def publish(topic, payload, identifier):
+    return packet(0x32, text(topic) + identifier.to_bytes(2, "big") + b"\x00" + payload)
+
+
+def puback(identifier, code=0):
+    body = identifier.to_bytes(2, "big")
+    return packet(0x40, body + bytes([code]) if code else body)
+
+
+def disconnect(expiry=None):
+    """Returns a DISCONNECT, with a Session Expiry Interval where one is given."""
+    return b"\xe0\x00" if expiry is None else b"\xe0\x07\x00\x05\x11" + expiry.to_bytes(4, "big")
+
+
+PINGREQ = b"\xc0\x00"
+
+
+def cut(buffer):
+    """Takes whole packets off the front of a bytearray: pairs of the first byte and the body."""
+    at, found = 0, []
+    while True:
+        size = shift = 0
+        end = at + 1
+        whole = False
+        for place in range(at + 1, min(at + 5, len(buffer))):
+            size |= (buffer[place] & 0x7F) << shift
+            shift += 7
+            end = place + 1
+            if buffer[place] < 0x80:
+                whole = True
+                break
+        if not whole or len(buffer) < end + size:
+            del buffer[:at]
+            return found
+        found.append((buffer[at], bytes(buffer[end : end + size])))
+        at = end + size
+
+
+def job_of(body):
+    """Returns the topic, the identifier and the payload of a PUBLISH packet with QoS 1 and no properties of more than 127 bytes."""
+    end = 2 + int.from_bytes(body[:2], "big")
+    return body[2:end].decode(), int.from_bytes(body[end : end + 2], "big"), body[end + 3 + body[end + 2] :]
+
+
+def free_port():
+    with socket.socket() as listener:
+        listener.bind(("127.0.0.1", 0))
+        return listener.getsockname()[1]
+
+
+class Broker:
+    """`PROGRAM serve` at a port of its own, with what it prints."""
+
+    def __init__(self, program, *words, patience=20, environment=None, output=subprocess.PIPE, before=None):
+        self.port = free_port()
+        self.process = subprocess.Popen(
+            [os.path.realpath(program), "serve", "--port", str(self.port), *words],
+            stdin=subprocess.PIPE, stdout=output, stderr=subprocess.PIPE, env=environment, preexec_fn=before,
+        )
+        self.first = b""
+        self.errors = b""
+        # what it says on standard error is read as it comes, so that it never waits for room there
+        self.reader = threading.Thread(target=self._read_errors, daemon=True)
+        self.reader.start()
+        if output == subprocess.PIPE and select.select([self.process.stdout], [], [], patience)[0]:
+            self.first = self.process.stdout.readline().rstrip(b"\n")
+
+    def _read_errors(self):
+        for line in self.process.stderr:
+            self.errors += line
+
+    def listens(self):
+        return self.first == b"listening %d" % self.port
+
+    def close(self):
+        """Ends the broker's standard input."""
+        try:
+            self.process.stdin.close()
+        except OSError:
+            pass
+
+    def end(self, patience=20):
+        """Waits for its end. Returns its status, or None where it did not end, and the report of each share; the numbers behind `accepted`."""
+        self.close()
+        kill = threading.Timer(patience, self.process.kill)
+        kill.start()
+        printed = self.process.stdout.read().decode() if self.process.stdout else ""
+        status = self.process.wait()
+        late = not kill.is_alive()
+        kill.cancel()
+        self.reader.join(5)
+        reports = {line[1]: tuple(map(int, line.groups()[1:])) for line in REPORT.finditer(printed)}
+        return None if late else status, reports
