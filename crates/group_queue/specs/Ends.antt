@@ -71,8 +71,10 @@ pub record Carries (ports : List PortState) (places : List PlaceState) (report :
   pub returned_are : report.returned.items ≡ jobs_in returned
   pub agains : (worth : Posted → ℕ) → sum_by (λ place. sum_by worth place.agains) places + sum_by worth returned ≡ sum_by (λ place. sum_by worth place.given) places
 
--- what became of the group's messages: the report has what its ports and places did, and what is held is the list of envelopes
+-- what became of the group's messages: all ports and places are there, and just the envelopes that are out; the report has what its ports and places did, and what is held is the
+-- list of envelopes
 pub record Reports (group : GroupId) (ports : List PortState) (places : List PlaceState) (held : List Held) (report : Report) : Type 0 where
+  pub whole : IsWhole group ports places held
   pub accepted : AreCounts group.shape.ports ports report.accepted.items
   pub envelopes : report.held.items ≡ map (λ envelope. job_of envelope.stamp) held
   pub adds : AddsUp (map account_of places) report

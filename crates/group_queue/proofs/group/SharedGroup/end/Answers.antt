@@ -36,6 +36,7 @@ returns g c =
     let queued = c.pop_queued.ensures.0 in
     let stands = subst (λ (v : View). Stands v []) (c.pop_queued.ensures.1 ∙ ap (λ (v : View). popping v queued) c.look.ensures.same) c.pop_queued.ensures.3 in
     record {
+      whole = c.requires.whole;
       accepted = c.requires.ready.counts;
       envelopes = c.requires.ready.envelopes;
       adds = adds_up c.args.self c.args.ports.items c.args.places.items c.args.held.items c.join_all-passes.result c.join_all-passes.new.dockets.items c.args.holder c.join_all-passes.new.holder c.join_all-passes.ensures.joined c.join_all-passes.ensures.given c.requires.whole
