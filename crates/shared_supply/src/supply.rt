@@ -8,7 +8,7 @@ ghost use Rattle.shared_supply.specs.Workers.{Begins, Leaves, standing, is_insid
 use crate::hall::Hall;
 use crate::wakes::Wakes;
 use broker_groups::{Broker, Key, Ports};
-use gate_word::{Turn, Visitor};
+use gate_word::{Drained, Turn, Visitor};
 use shared_routes::KnownRoutes;
 use std::alloc::Global;
 use std::marker::Model;
@@ -78,6 +78,21 @@ impl<'a, 'g, B: Broker, R: Wait> SharedSupply<'a, 'g, B, R> {
         ensures cleared { self.new ≡ record self.old { wakes = no_wakes } }
     {
         mem::replace(&mut self.wakes, Wakes::none())
+    }
+
+    /// **Nothing is accepted or handed out after close.** A message is accepted or handed out only in a visit. Who has the token that
+    /// the broker's gate was drained, and a worker that is visiting, has what is false: so there is no such worker in any run from
+    /// then on.
+    pub fn refute(&mut self, drained: &mut Drained)
+        requires visiting { is_inside self.old.visitor ≡ true }
+        requires drained { drained.old ≡ B.gate }
+        ensures { ⊥ }
+    {
+        let hall = self.hall;
+        let Some(Visitor::Inside(turn)) = &mut self.visitor else {
+            unreachable!()
+        };
+        hall.gate.refute(drained, turn);
     }
 
     /// Its key and its ports. A worker that is inside leaves first.
