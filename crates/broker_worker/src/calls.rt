@@ -55,6 +55,8 @@ pub struct Roster<W> {
     share: u64,
     // How many workers have begun.
     begun: AtomicU64,
+    // How many connections were sent that the worker for which each was sent has not received.
+    underway: AtomicU64,
 }
 
 impl<W: Wake> Roster<W> {
@@ -76,6 +78,7 @@ impl<W: Wake> Roster<W> {
             alarms: wards_of(alloc, alarms)?,
             share: u64::from(share_of(count)),
             begun: AtomicU64::new(0),
+            underway: AtomicU64::new(0),
         })
     }
 
@@ -146,13 +149,24 @@ impl<W: Wake> Roster<W> {
         }
     }
 
-    /// A connection was sent for this worker.
+    /// A connection was sent for this worker, which may receive one more from now on.
     pub fn invite(&self, worker: usize) {
         if let Some(post) = self.posts.get(worker) {
+            let _underway = self.underway.fetch_add(1, Ordering::SeqCst);
             let _count = post.open.fetch_add(1, Ordering::SeqCst);
             let _before = post.calls.fetch_add(INVITED, Ordering::SeqCst);
             self.wake(worker);
         }
+    }
+
+    /// A worker has received a connection for which it was invited.
+    pub(crate) fn note_received(&self) {
+        let _underway = self.underway.fetch_sub(1, Ordering::SeqCst);
+    }
+
+    /// Whether each connection that was sent was received. Where the broker closes, only end marks come from then on.
+    pub(crate) fn is_all_received(&self) -> bool {
+        self.underway.load(Ordering::SeqCst) == 0
     }
 
     /// A connection of this worker has ended.

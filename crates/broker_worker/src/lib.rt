@@ -15,7 +15,9 @@ mod marks;
 mod members;
 mod outfit;
 mod poller;
+mod rounds;
 mod served;
+mod telling;
 mod worker;
 
 pub use arrived::Arrived;

@@ -5,55 +5,54 @@ ghost use Rattle.broker_worker.specs.Serving.{AreServed, IsDone, StaysOf, fresh_
 use crate::arrived::Arrived;
 use crate::bells::{Listening, Ringing};
 use crate::calls::Roster;
-use crate::connections::{Came, Connections, Went};
+use crate::connections::{Came, Connections};
 use crate::hand::Hand;
 use crate::kit::{Gear, Kit, MOST_CONNECTIONS};
 use crate::marks::Marks;
-use crate::members::{Members, Wish};
-use crate::outfit::{Outfit, SLOTS};
+use crate::members::Members;
+use crate::outfit::Outfit;
 use crate::poller::Poller;
 use crate::served::ServedCounts;
 use bell::Wake;
 use broker_groups::{Broker, BrokerPlace};
-use conn_channel::{CAPACITY, Receiver};
+use conn_channel::Receiver;
 use conn_engine::NoMemory;
-use conn_service::Round;
 use service_table::ServiceTable;
-use shared_supply::{AskedBack, Hall, SharedSupply};
+use shared_supply::{Hall, SharedSupply};
 use std::alloc::Global;
 use std::marker::Model;
 use std::sync::Wait;
 use transport::{Clock, Crossing, Transport};
 
 /// How many bytes a round reads at most.
-const READ_SIZE: usize = 4_096;
+pub(crate) const READ_SIZE: usize = 4_096;
 
 /// After so many milliseconds at most each connection goes on, whatever comes.
-const SWEEP_PERIOD: u64 = 100;
+pub(crate) const SWEEP_PERIOD: u64 = 100;
 
 /// For how many milliseconds a worker that is to end waits for its end mark before it looks again.
-const END_PAUSE: u64 = 1;
+pub(crate) const END_PAUSE: u64 = 1;
 
 /// What a worker has: where it waits, its connections, what it asks of the broker, and how it calls others and is called.
 ///
 /// Contracts see it as its connections.
 pub struct Worker<'a, 'g, B: Broker, T: Transport + Drop, Q, W, X, C, R: Wait> {
-    number: usize,
-    connections: Connections<'a, 'g, B, T, R>,
-    poller: Q,
-    ears: Vec<Listening>,
-    hands: Vec<Ringing<W>>,
-    roster: &'a Roster<W>,
-    crossing: &'a X,
-    clock: C,
-    due: Marks,
-    members: Members,
+    pub(crate) number: usize,
+    pub(crate) connections: Connections<'a, 'g, B, T, R>,
+    pub(crate) poller: Q,
+    pub(crate) ears: Vec<Listening>,
+    pub(crate) hands: Vec<Ringing<W>>,
+    pub(crate) roster: &'a Roster<W>,
+    pub(crate) crossing: &'a X,
+    pub(crate) clock: C,
+    pub(crate) due: Marks,
+    pub(crate) members: Members,
     // The moment at which all connections went on last.
-    swept: u64,
+    pub(crate) swept: u64,
     // The broker closes.
-    closing: bool,
+    pub(crate) closing: bool,
     // It is known to others that a connection of it waits for a session.
-    waits: bool,
+    pub(crate) waits: bool,
 }
 
 impl<'a, 'g, B: Broker, T: Transport + Drop, Q, W, X, C, R: Wait> Model
@@ -169,8 +168,8 @@ impl<
         if called {
             self.answer(rt, now);
         }
-        if self.closing {
-            self.receive_all(rt, now);
+        if self.closing && self.roster.is_all_received() {
+            self.receive(rt, now);
         }
         self.mark_ready();
         self.mark_late(now);
@@ -198,224 +197,21 @@ impl<
         }
     }
 
-    /// Receives until the end mark comes, or nothing does.
-    fn receive_all(&mut self, rt: &R, now: u64)
-        ensures { StaysOf self.old self.new }
-    {
-        'received: for _ in 0..CAPACITY {
-            if !self.receive(rt, now) {
-                return;
-            }
-        }
-    }
-
-    /// Receives what comes through the channel. Whether a connection did.
-    fn receive(&mut self, rt: &R, now: u64) -> bool
+    /// Receives what comes through the channel: a connection for which this worker was invited, or its end mark once all connections were received.
+    fn receive(&mut self, rt: &R, now: u64)
         ensures { StaysOf self.old self.new }
     {
         match self.connections.receive(rt, &mut self.poller, now) {
-            Came::Opened(cell) => self.due.mark(cell),
-            Came::Refused => self.roster.leave(self.number),
-            Came::EndMark | Came::Nothing => return false,
-        }
-        true
-    }
-
-    /// Those that may be read or written are due.
-    fn mark_ready(&mut self)
-        ensures { self.new ≡ self.old }
-    {
-        'ready: for _ in 0..self.connections.len() {
-            match self.poller.take_ready() {
-                Some(cell) => self.due.mark(cell),
-                None => return,
+            Came::Opened(cell) => {
+                self.roster.note_received();
+                self.due.mark(cell);
             }
-        }
-    }
-
-    /// All are due where the time has come.
-    fn mark_late(&mut self, now: u64)
-        ensures { self.new ≡ self.old }
-    {
-        if now.saturating_sub(self.swept) >= SWEEP_PERIOD {
-            self.swept = now;
-            self.due.mark_all();
-        }
-    }
-
-    /// Hears which bells rang.
-    fn hear(&mut self)
-        ensures { self.new ≡ self.old }
-    {
-        for ear in &mut self.ears {
-            ear.hear();
-        }
-    }
-
-    /// Goes on with each connection that is due, once.
-    fn serve_due(&mut self, now: u64, buffer: &mut [u8; READ_SIZE])
-        ensures { StaysOf self.old self.new }
-    {
-        self.due.begin();
-        'cells: for cell in 0..self.connections.len() {
-            if self.due.take(cell) {
-                let _round = self.round(cell, now, buffer);
-            }
-        }
-    }
-
-    /// Goes on with the connection in a cell by a round. What it waits for; `None` where there is none, or it has ended.
-    fn round(&mut self, cell: usize, now: u64, buffer: &mut [u8; READ_SIZE]) -> Option<Round>
-        ensures { StaysOf self.old self.new }
-    {
-        let worker = u32::try_from(self.number).unwrap_or(u32::MAX);
-        match self
-            .connections
-            .round(cell, self.crossing, &mut self.poller, worker, now, buffer)
-        {
-            Went::Nowhere => None,
-            Went::On(round) => {
-                self.go_on(cell, round);
-                Some(round)
-            }
-            Went::ToItsEnd => {
-                self.members.note(cell, Wish::NONE);
+            Came::Refused => {
+                self.roster.note_received();
                 self.roster.leave(self.number);
-                None
             }
+            Came::EndMark | Came::Nothing => {}
         }
-    }
-
-    /// A connection goes on: it is due where its round left something to do. Notes what it would do if others did something.
-    fn go_on(&mut self, cell: usize, round: Round)
-        ensures { self.new ≡ self.old }
-    {
-        if round == Round::More {
-            self.due.mark(cell);
-        }
-        let wish = Wish {
-            takes: self.connections.takes_from(cell),
-            waits: self.connections.is_waiting(cell),
-        };
-        self.members.note(cell, wish);
-    }
-
-    /// Tells the others what its connections did that they may wait for.
-    fn tell(&mut self)
-        ensures { self.new ≡ self.old }
-    {
-        self.tell_whether_waiting();
-        let wakes = self.connections.take_wakes();
-        'slots: for slot in 0..SLOTS {
-            let count = wakes.messages[slot];
-            if count > 0 {
-                self.ring(slot, count as usize);
-            }
-        }
-        match wakes.asked_back {
-            AskedBack::Nobody => {}
-            AskedBack::One(connection) => {
-                self.roster.call_all_due(self.roster.worker_of(connection))
-            }
-            AskedBack::Several => self.roster.call_everybody(),
-        }
-        if wakes.has_freed_session {
-            self.roster.call_waiting();
-        }
-    }
-
-    /// Tells the others whether a connection of it waits for a session, where that has changed.
-    fn tell_whether_waiting(&mut self)
-        ensures { self.new ≡ self.old }
-    {
-        let waits = self.members.has_waiting();
-        if waits != self.waits {
-            self.waits = waits;
-            self.roster.note_waiting(self.number, waits);
-        }
-    }
-
-    /// Rings for so many workers that have members of a group, and notes that there is something for its own.
-    fn ring(&mut self, slot: usize, count: usize)
-        ensures { self.new ≡ self.old }
-    {
-        if let Some(ear) = self.ears.get_mut(slot) {
-            ear.note();
-        }
-        self.ring_others(slot, count);
-    }
-
-    /// Rings for so many workers that have members of a group.
-    fn ring_others(&mut self, slot: usize, count: usize)
-        ensures { self.new ≡ self.old }
-    {
-        let mut left = count;
-        for hand in &mut self.hands {
-            if hand.slot() == slot && left > 0 {
-                left = left.saturating_sub(hand.ring(left));
-            }
-        }
-    }
-
-    /// Goes on with members of the groups for which it rang. Where this worker was called, and has none any more that would be handed a job, it rings for
-    /// another one.
-    fn hand_out(&mut self, now: u64, buffer: &mut [u8; READ_SIZE])
-        ensures { StaysOf self.old self.new }
-    {
-        'slots: for slot in 0..SLOTS {
-            let (rung, called) = match self.ears.get_mut(slot) {
-                Some(ear) => (ear.take_rung(), ear.take_called()),
-                None => (false, false),
-            };
-            if called && !self.members.has_taker(slot) {
-                self.ring_others(slot, 1);
-            }
-            if rung {
-                self.hand_out_of(slot, now, buffer);
-            }
-        }
-    }
-
-    /// Goes on with members of a group, one after the other, until one has room for more than there is.
-    fn hand_out_of(&mut self, slot: usize, now: u64, buffer: &mut [u8; READ_SIZE])
-        ensures { StaysOf self.old self.new }
-    {
-        let count = self.connections.len();
-        let first = self.members.next();
-        'members: for step in 0..count {
-            if !self.members.has_taker(slot) {
-                return;
-            }
-            let cell = first.wrapping_add(step) % count;
-            if self.members.takes(cell, slot) {
-                let round = self.round(cell, now, buffer);
-                if round != Some(Round::Writing) && self.members.takes(cell, slot) {
-                    self.members.begin_at(cell);
-                    return;
-                }
-            }
-        }
-    }
-
-    /// For how many milliseconds the next turn may wait. The worker is idle at the bells of the groups of which it has members that would be handed a job.
-    fn outlook(&mut self, now: u64) -> u64
-        ensures { self.new ≡ self.old }
-    {
-        let mut may_wait = !self.due.any();
-        'slots: for slot in 0..SLOTS {
-            if self.members.has_taker(slot) {
-                if let Some(ear) = self.ears.get_mut(slot) {
-                    may_wait = ear.settle() && may_wait;
-                }
-            }
-        }
-        if !may_wait {
-            return 0;
-        }
-        if self.closing && !self.connections.is_ended() {
-            return END_PAUSE;
-        }
-        SWEEP_PERIOD.saturating_sub(now.saturating_sub(self.swept))
     }
 
     /// What it had of the broker, its end of the channel, and how its connections ended. Any that is still open ends as where the broker closes.

@@ -1,0 +1,147 @@
+//! The rounds of a worker's connections: which are to go on in its turn, and who is handed a job.
+ghost use Rattle.std.specs.Prelude.{◌≡◌};
+ghost use Rattle.broker_worker.specs.Serving.{StaysOf};
+
+use crate::connections::Went;
+use crate::members::Wish;
+use crate::outfit::SLOTS;
+use crate::poller::Poller;
+use crate::worker::{READ_SIZE, SWEEP_PERIOD, Worker};
+use bell::Wake;
+use broker_groups::Broker;
+use conn_service::Round;
+use std::sync::Wait;
+use transport::{Clock, Crossing, Transport};
+
+impl<
+    'a,
+    'g,
+    B: Broker,
+    T: Transport + Drop,
+    Q: Poller<T> + Drop,
+    W: Wake + Drop,
+    X: Crossing,
+    C: Clock + Drop,
+    R: Wait,
+> Worker<'a, 'g, B, T, Q, W, X, C, R> {
+    /// Those that may be read or written are due.
+    pub(crate) fn mark_ready(&mut self)
+        ensures { self.new ≡ self.old }
+    {
+        'ready: for _ in 0..self.connections.len() {
+            match self.poller.take_ready() {
+                Some(cell) => self.due.mark(cell),
+                None => return,
+            }
+        }
+    }
+
+    /// All are due where the time has come.
+    pub(crate) fn mark_late(&mut self, now: u64)
+        ensures { self.new ≡ self.old }
+    {
+        if now.saturating_sub(self.swept) >= SWEEP_PERIOD {
+            self.swept = now;
+            self.due.mark_all();
+        }
+    }
+
+    /// Goes on with each connection that is due, once.
+    pub(crate) fn serve_due(&mut self, now: u64, buffer: &mut [u8; READ_SIZE])
+        ensures { StaysOf self.old self.new }
+    {
+        self.due.begin();
+        'cells: for cell in 0..self.connections.len() {
+            if self.due.take(cell) {
+                let _round = self.round(cell, now, buffer);
+            }
+        }
+    }
+
+    /// Goes on with the connection in a cell by a round. What it waits for; `None` where there is none, or it has ended.
+    fn round(&mut self, cell: usize, now: u64, buffer: &mut [u8; READ_SIZE]) -> Option<Round>
+        ensures { StaysOf self.old self.new }
+    {
+        let worker = u32::try_from(self.number).unwrap_or(u32::MAX);
+        match self
+            .connections
+            .round(cell, self.crossing, &mut self.poller, worker, now, buffer)
+        {
+            Went::Nowhere => None,
+            Went::On(round) => {
+                self.go_on(cell, round);
+                Some(round)
+            }
+            Went::ToItsEnd => {
+                self.members.note(cell, Wish::NONE);
+                self.roster.leave(self.number);
+                None
+            }
+        }
+    }
+
+    /// A connection goes on: it is due where its round left something to do. Notes what it would do if others did something.
+    fn go_on(&mut self, cell: usize, round: Round)
+        ensures { self.new ≡ self.old }
+    {
+        if round == Round::More {
+            self.due.mark(cell);
+        }
+        let wish = Wish {
+            takes: self.connections.takes_from(cell),
+            waits: self.connections.is_waiting(cell),
+        };
+        self.members.note(cell, wish);
+    }
+
+    /// Goes on with members of the groups for which it rang. Where this worker was called, and none of them could be handed a job, it rings for another one.
+    pub(crate) fn hand_out(&mut self, now: u64, buffer: &mut [u8; READ_SIZE])
+        ensures { StaysOf self.old self.new }
+    {
+        'slots: for slot in 0..SLOTS {
+            let (rung, called) = match self.ears.get_mut(slot) {
+                Some(ear) => (ear.take_rung(), ear.take_called()),
+                None => (false, false),
+            };
+            let seen = rung && self.hand_out_of(slot, now, buffer);
+            if called && !seen {
+                self.ring_others(slot, 1);
+            }
+        }
+    }
+
+    /// Goes on with members of a group, one after the other, until one has room for more than there is. Whether one of them went on, and did not have to wait
+    /// until its client reads.
+    fn hand_out_of(&mut self, slot: usize, now: u64, buffer: &mut [u8; READ_SIZE]) -> bool
+        ensures { StaysOf self.old self.new }
+    {
+        let count = self.connections.len();
+        let first = self.members.next();
+        let mut seen = false;
+        'members: for step in 0..count {
+            if !self.members.has_taker(slot) {
+                return seen;
+            }
+            let cell = first.wrapping_add(step) % count;
+            if self.members.takes(cell, slot) {
+                let went_on = self.serve_member(cell, now, buffer);
+                seen = seen || went_on;
+                if went_on && self.members.takes(cell, slot) {
+                    self.members.begin_at(cell);
+                    return true;
+                }
+            }
+        }
+        seen
+    }
+
+    /// Goes on with the connection in a cell by a round. Whether it has not ended, and does not wait until its client reads.
+    fn serve_member(&mut self, cell: usize, now: u64, buffer: &mut [u8; READ_SIZE]) -> bool
+        ensures { StaysOf self.old self.new }
+    {
+        match self.round(cell, now, buffer) {
+            Some(Round::Writing) | None => false,
+            Some(_) => true,
+        }
+    }
+}

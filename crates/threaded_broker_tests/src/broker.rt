@@ -1,0 +1,272 @@
+//! A broker that is opened, and served to its end over connections in memory.
+ghost use Rattle.std.specs.Prelude.{◌≡◌, ◌≤◌, All, IfSome};
+ghost use Rattle.gate_word.specs.Seats.{AreSeatsOf};
+ghost use Rattle.broker_groups.specs.Naming.{HasNoneOut, IsOfBroker};
+ghost use Rattle.transport.specs.Arrivals.{ComeNew};
+ghost use Rattle.transport.specs.declared.scripted.Scripted.{Scripted as AnyScripted};
+
+use crate::in_memory::{AlwaysReady, Meeting, NothingToWatch, Silent};
+use broker_groups::{Broker, BrokerPlace, Ended, Key, Named, Opened, Ports};
+use broker_worker::{Gear, Hand};
+use gate_word::{Gate, GateSeat};
+use group_jobs::Envelope;
+use shared_desk::SharedDesk;
+use shared_routes::SharedRoutes;
+use shared_supply::Hall;
+use std::alloc::{AllocError, Global};
+use std::marker::Brand;
+use std::rt::Clock;
+use std::sync::Wait;
+use std::thread::Threads;
+use threaded_broker::{Outcome, give_up, serve};
+use transport::{Scripted, ScriptedSource, SetClock};
+use worker_pool::Closer;
+
+/// How many messages each group has room for.
+const CAPACITY: usize = 8;
+
+/// What came of a broker: how many connections came, how many ended with 0 and how many in any way, and how many groups gave a report.
+#[derive(Clone, Copy, Debug, PartialEq, Eq)]
+pub(crate) struct Told {
+    pub(crate) came: u64,
+    pub(crate) ended: u64,
+    pub(crate) counted: u64,
+    pub(crate) reports: usize,
+}
+
+/// Lets go of a message.
+fn let_go(envelope: Envelope) {
+    let _parts = envelope.open();
+}
+
+/// How many groups gave a report.
+fn count_reports(ended: Ended<'_>) -> usize {
+    let Ended {
+        mut answers,
+        mut strangers,
+    } = ended;
+    let mut reports = 0usize;
+    'answers: while let Some(answer) = answers.pop() {
+        match answer {
+            Ok(_report) => reports = reports.saturating_add(1),
+            Err(unfinished) => {
+                unfinished.abandon();
+            }
+        }
+    }
+    answers.destroy_empty();
+    'strangers: while let Some(envelope) = strangers.pop() {
+        let_go(envelope);
+    }
+    strangers.destroy_empty();
+    reports
+}
+
+/// What came of a broker that was served to its end.
+fn told_of(outcome: Outcome<'_, ScriptedSource<Scripted>>) -> Told {
+    let Outcome {
+        ended,
+        shares: _,
+        served,
+        taken,
+        drained: _,
+    } = outcome;
+    let mut well = 0u64;
+    let mut counted = 0u64;
+    for of_one in served.as_slice() {
+        well = well.saturating_add(of_one.ended);
+        counted = counted
+            .saturating_add(of_one.ended)
+            .saturating_add(of_one.read)
+            .saturating_add(of_one.write)
+            .saturating_add(of_one.memory)
+            .saturating_add(of_one.no_crossing)
+            .saturating_add(of_one.stalled);
+    }
+    Told {
+        came: taken.came,
+        ended: well,
+        counted,
+        reports: count_reports(ended),
+    }
+}
+
+/// Gives the desk all places.
+fn furnish<B: Broker, R: Wait>(
+    rt: &R,
+    desk: &SharedDesk<BrokerPlace<B>>,
+    places: Vec<BrokerPlace<B>>,
+)
+    requires { All HasNoneOut places.items }
+{
+    let mut places = places;
+    'places: while let Some(place) = places.pop() {
+        give_place(rt, desk, place);
+    }
+}
+
+/// Gives the desk a place.
+fn give_place<B: Broker, R: Wait>(rt: &R, desk: &SharedDesk<BrokerPlace<B>>, place: BrokerPlace<B>)
+    requires { HasNoneOut place }
+{
+    let _back = desk.take_place(rt, place);
+}
+
+/// The last seat.
+fn take_seat(gate: &Gate, seats: &mut Vec<GateSeat>) -> Option<GateSeat>
+    requires { AreSeatsOf gate.now seats.old.items }
+    ensures seat { IfSome result (λ seat. seat.gate ≡ gate.now) }
+    ensures others { AreSeatsOf gate.now seats.new.items }
+{
+    let _ = gate;
+    seats.pop()
+}
+
+/// What a worker has, by the last seat.
+fn hand_of<B: Broker>(gate: &Gate, seats: &mut Vec<GateSeat>, ports: Ports<B>) -> Option<Hand<B>>
+    requires gate { gate.now ≡ B.gate }
+    requires seats { AreSeatsOf gate.now seats.old.items }
+    ensures { AreSeatsOf gate.now seats.new.items }
+{
+    let key = Key::of(take_seat(gate, seats)?);
+    Some(Hand { key, ports })
+}
+
+/// What each worker has: a seat and ports. `None` where memory is refused.
+fn deal<B: Broker>(
+    alloc: Global,
+    gate: &Gate,
+    seats: &mut Vec<GateSeat>,
+    ports: Vec<Ports<B>>,
+) -> Option<Vec<Hand<B>>>
+    requires gate { gate.now ≡ B.gate }
+    requires seats { AreSeatsOf gate.now seats.old.items }
+    ensures { AreSeatsOf gate.now seats.new.items }
+{
+    let mut hands = Vec::new(alloc);
+    let mut left = ports;
+    'hands: while let Some(ports) = left.pop() {
+        let hand = hand_of(gate, seats, ports)?;
+        hands.push(hand).ok()?;
+    }
+    Some(hands)
+}
+
+/// Where each of so many workers waits, and its clock.
+fn gear_for(
+    alloc: Global,
+    workers: usize,
+) -> Result<(Vec<Gear<AlwaysReady, SetClock>>, Vec<Silent>), AllocError> {
+    let mut gear = Vec::with_capacity(alloc, workers)?;
+    let mut alarms = Vec::with_capacity(alloc, workers)?;
+    for _ in 0..workers {
+        gear.push(Gear {
+            poller: AlwaysReady::new(alloc)?,
+            clock: SetClock { moment: 0 },
+        })?;
+        alarms.push(Silent)?;
+    }
+    Ok((gear, alarms))
+}
+
+/// Who takes connections, and who ends the broker.
+fn closers<'a, B: Broker>(
+    gate: &'a Gate,
+    seats: &mut Vec<GateSeat>,
+) -> Option<(Closer<'a, B>, Closer<'a, B>)>
+    requires gate { gate.now ≡ B.gate }
+    requires seats { AreSeatsOf gate.now seats.old.items }
+{
+    let accepting = Closer::new(gate, take_seat(gate, seats)?);
+    let ending = Closer::new(gate, take_seat(gate, seats)?);
+    Some((accepting, ending))
+}
+
+/// Serves what comes from a source with all workers of a broker, who meet before each write.
+fn attend<B: Broker + Send + Sync, R: Threads + Wait + Clock + Sync>(
+    rt: &R,
+    alloc: Global,
+    hall: Hall<'_, B>,
+    hands: Vec<Hand<B>>,
+    workers: u8,
+    source: ScriptedSource<Scripted>,
+    accepting: Closer<'_, B>,
+    ending: Closer<'_, B>,
+) -> Option<Told> {
+    let (Ok(room), Ok((gear, alarms))) = (
+        Vec::with_capacity(alloc, hands.len()),
+        gear_for(alloc, hands.len()),
+    ) else {
+        give_up(hall, Vec::new(alloc));
+        return None;
+    };
+    if hands.is_empty() || hands.len() > 64 || gear.len() != hands.len() {
+        give_up(hall, Vec::new(alloc));
+        return None;
+    }
+    let crossing = Meeting::new(rt, workers);
+    let served = serve(
+        rt,
+        alloc,
+        hall,
+        hands,
+        room,
+        gear,
+        alarms,
+        source,
+        &crossing,
+        accepting,
+        ending,
+        &mut NothingToWatch,
+    );
+    Some(told_of(served.ok()?))
+}
+
+/// Names what was opened, and serves.
+fn live<B: Broker + Send + Sync, R: Threads + Wait + Clock + Sync>(
+    rt: &R,
+    alloc: Global,
+    gate: &Gate,
+    seats: &mut Vec<GateSeat>,
+    opened: Opened<'_>,
+    workers: u8,
+    source: ScriptedSource<Scripted>,
+) -> Option<Told>
+    requires gate { gate.now ≡ B.gate }
+    requires seats { AreSeatsOf gate.now seats.old.items }
+    requires opened { IsOfBroker B.gate B.group workers opened }
+{
+    let Named {
+        groups,
+        ports,
+        places,
+    } = opened.name::<B>(alloc, workers).ok()?;
+    let Ok(desk) = SharedDesk::new(alloc) else {
+        groups.abandon();
+        return None;
+    };
+    furnish(rt, &desk, places);
+    let hall = Hall::new(gate, groups, desk, SharedRoutes::new());
+    let (Some(hands), Some((accepting, ending))) = (
+        deal(alloc, gate, seats, ports),
+        closers(gate, seats),
+    ) else {
+        give_up(hall, Vec::new(alloc));
+        return None;
+    };
+    attend(rt, alloc, hall, hands, workers, source, accepting, ending)
+}
+
+/// Opens a broker of so many workers, and serves what comes from a source until that has ended. `None` where memory is refused.
+pub(crate) fn serve_all<R: Threads + Wait + Clock + Sync>(
+    rt: &R,
+    alloc: Global,
+    workers: u8,
+    source: ScriptedSource<Scripted>,
+) -> Option<Told>
+    requires { (1 ≤ workers) × (workers ≤ 64) }
+{
+    let (gate, mut seats) = Gate::open(alloc, usize::from(workers) + 2).ok()?;
+    let opened = Opened::open(alloc, &gate, CAPACITY, workers).ok()?;
+    live::<Brand, R>(rt, alloc, &gate, &mut seats, opened, workers, source)
+}

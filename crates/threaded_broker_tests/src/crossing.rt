@@ -1,0 +1,46 @@
+//! Workers that serve at the same time.
+ghost use Rattle.std.specs.Prelude.{◌≡◌, ◌≤◌, IfOk};
+ghost use Rattle.transport.specs.Counting.{no_counts};
+ghost use Rattle.transport.specs.Arrivals.{ComeNew};
+
+use crate::broker::{Told, serve_all};
+use std::alloc::{AllocError, Global};
+use std::test::Fail;
+use transport::{Arrival, Scripted, ScriptedSource};
+
+/// A connection whose client, with an identifier that ends in this digit, sends a CONNECT and then ends its stream.
+fn client(alloc: Global, digit: u8) -> Result<Scripted, AllocError>
+    ensures { IfOk result (λ scripted. scripted.counts ≡ no_counts) }
+{
+    let mut bytes = *b"\x10\x0F\x00\x04MQTT\x05\x02\x00\x3C\x00\x00\x02w1";
+    bytes[16] = digit;
+    let input = bytes.to_vec(alloc)?;
+    Scripted::new(alloc, input, Vec::new(alloc), Vec::new(alloc), 64)
+}
+
+/// Connections of so many clients, each with an identifier of its own.
+fn clients(alloc: Global, count: u8) -> Result<ScriptedSource<Scripted>, AllocError> {
+    let mut turns = Vec::new(alloc);
+    for number in 0..count {
+        let connection = client(alloc, b'1'.saturating_add(number))?;
+        turns.push(Arrival::Came(connection))?;
+    }
+    Ok(ScriptedSource::new(turns))
+}
+
+// As many connections as workers, each of which may write only once all workers have asked to: they are served at the same time, and all end with 0.
+#[test]
+fn crossing(rt: HostRuntime) -> Result<(), Fail> {
+    for workers in [2u8, 8] {
+        let source = clients(rt.alloc(), workers)?;
+        let told = serve_all(&rt, rt.alloc(), workers, source);
+        let well = Told {
+            came: u64::from(workers),
+            ended: u64::from(workers),
+            counted: u64::from(workers),
+            reports: 8,
+        };
+        assert_eq!(rt; told, Some(well));
+    }
+    Ok(())
+}

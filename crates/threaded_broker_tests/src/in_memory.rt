@@ -1,0 +1,138 @@
+//! Connections in memory: what waits for them, what wakes a worker, and where workers meet.
+ghost use Rattle.std.specs.Prelude.{◌≡◌};
+
+use bell::Wake;
+use broker_worker::Poller;
+use std::alloc::{AllocError, Global};
+use std::rt::Clock;
+use std::sync::Wait;
+use std::sync::atomic::{AtomicU64, Ordering};
+use std::thread;
+use std::time::Duration;
+use transport::{Crossing, Scripted};
+use worker_pool::Watch;
+
+/// How many connections a poller watches at most.
+const MOST: usize = 16;
+
+/// A poller of connections that may be read and written at any time: it never waits, and its worker is always called.
+#[derive(Drop)]
+pub(crate) struct AlwaysReady {
+    watched: Vec<bool>,
+    next: usize,
+}
+
+impl AlwaysReady {
+    /// One that watches nothing yet.
+    pub(crate) fn new(alloc: Global) -> Result<AlwaysReady, AllocError> {
+        Ok(AlwaysReady {
+            watched: vec![in alloc; false; MOST]?,
+            next: 0,
+        })
+    }
+
+    /// The least number that is free.
+    fn least_free(&self) -> Option<usize> {
+        for number in 0..self.watched.len() {
+            if self.watched.get(number) == Some(&false) {
+                return Some(number);
+            }
+        }
+        None
+    }
+
+    /// Notes whether something is watched under this number.
+    fn note(&mut self, number: usize, is_watched: bool) {
+        if let Some(watched) = self.watched.get_mut(number) {
+            *watched = is_watched;
+        }
+    }
+}
+
+impl Poller<Scripted> for AlwaysReady {
+    fn register(&mut self, transport: &mut Scripted) -> Option<usize>
+        ensures { transport.new.counts ≡ transport.old.counts }
+    {
+        let _ = transport;
+        let number = self.least_free()?;
+        self.note(number, true);
+        Some(number)
+    }
+
+    fn let_go(&mut self, number: usize, transport: &mut Scripted) {
+        let _ = transport;
+        self.note(number, false);
+    }
+
+    fn wait<R: Wait>(&mut self, rt: &R, at_most: u64) -> bool {
+        let _ = rt;
+        let _ = at_most;
+        self.next = 0;
+        thread::yield_now();
+        true
+    }
+
+    fn take_ready(&mut self) -> Option<usize> {
+        for number in self.next..self.watched.len() {
+            if self.watched.get(number) == Some(&true) {
+                self.next = number.saturating_add(1);
+                return Some(number);
+            }
+        }
+        None
+    }
+}
+
+/// What wakes nobody, since nobody waits.
+#[derive(Drop)]
+pub(crate) struct Silent;
+
+impl Wake for Silent {
+    fn wake(&self) {}
+}
+
+/// What watches for nothing: the source ends by itself.
+#[derive(Drop)]
+pub(crate) struct NothingToWatch;
+
+impl Watch for NothingToWatch {
+    fn run(&mut self) {}
+}
+
+/// A crossing that workers pass together: it refuses each of them, pausing a millisecond, until all have asked.
+#[derive(Drop)]
+pub(crate) struct Meeting<'a, R> {
+    rt: &'a R,
+    asked: AtomicU64,
+    all: u64,
+}
+
+impl<'a, R: Clock> Meeting<'a, R> {
+    /// One of so many workers, numbered from 0 on.
+    pub(crate) fn new(rt: &'a R, workers: u8) -> Meeting<'a, R> {
+        Meeting {
+            rt,
+            asked: AtomicU64::new(0),
+            all: bit_of(u32::from(workers)).wrapping_sub(1),
+        }
+    }
+}
+
+/// The bit of a worker, of the first 64.
+fn bit_of(worker: u32) -> u64 {
+    1u64.checked_shl(worker).unwrap_or(0)
+}
+
+impl<'a, R: Clock> Crossing for Meeting<'a, R> {
+    ghost refuses = { λ _ _ _. ⊤ };
+
+    fn cross(&self, worker: u32, _turn: u32) -> bool {
+        let own = bit_of(worker);
+        let asked = self.asked.fetch_or(own, Ordering::SeqCst) | own;
+        if asked == self.all {
+            return true;
+        }
+        thread::sleep(self.rt, Duration::from_millis(1));
+        false
+    }
+}
