@@ -1,23 +1,22 @@
 -- The connections of a worker stay accounted for.
-use Rattle.std.proofs.Common.{◌≡◌, ◌<◌, ◌+◌, ℕ, Bool, List, [], ◌∷◌, ◌++◌, length, Option, Some, None, replicate, All, refl, sym, subst, inl, inr, ◌∙◌, ap, arith}
-use Rattle.std.specs.List.{slice_get, slice_set}
+use Rattle.std.proofs.Common.{◌≡◌, ◌+◌, ℕ, List, [], ◌∷◌, Option, Some, None, replicate, All, refl, sym, subst, inr, ◌∙◌, ap, arith}
+use Rattle.std.specs.List.{slice_get}
 use Rattle.std.proofs.lemmas.Option.{get_or_from_slice_get, slice_get_within}
 use Rattle.std.proofs.lemmas.List.Elements.{All-set, All-replicate}
 use Rattle.transport.specs.declared.counts.Counts.{Counts}
-use Rattle.transport.specs.Counting.{no_counts}
 use Rattle.group_queue.specs.Ports.{GroupId}
 use Rattle.group_queue.specs.Places.{PlaceState}
 use Rattle.conn_service.specs.declared.served.Served.{Served}
 use Rattle.conn_service.specs.declared.served.Served.TheVariants.{Memory}
 use Rattle.conn_service.specs.Services.{ServiceState}
-use Rattle.service_table.specs.Cells.{InCell, Opens, Turns, ended_by, occupied}
+use Rattle.service_table.specs.Cells.{InCell, Turns, occupied}
 use Rattle.service_table.specs.declared.turned.Turned.{Turned}
-use Rattle.service_table.specs.declared.turned.Turned.TheVariants.{Vacant, Goes, Ended}
+use Rattle.service_table.specs.declared.turned.Turned.TheVariants.{Ended}
 use Rattle.shared_supply.specs.Calls.{Calls}
 use Rattle.shared_supply.specs.Workers.{Worker, Turns as Visits, is_visiting}
 use Rattle.broker_worker.specs.declared.served.ServedCounts.{ServedCounts}
-use Rattle.broker_worker.specs.Counting.{counted, counts_of, none_served}
-use Rattle.broker_worker.specs.Serving.{Admits, AreServed, EndsLife, IfLives, IsAccounted}
+use Rattle.broker_worker.specs.Counting.{counted, none_served}
+use Rattle.broker_worker.specs.Serving.{Admits, AreServed, IfLives, IsAccounted}
 use Rattle.broker_worker.proofs.Living.{ends, opens, turns}
 
 -- what holds of each cell holds of the one at a place
@@ -79,25 +78,25 @@ module _ {T : Type 0} (group : ℕ → GroupId) (counts : T → Counts) (given a
       }
 
   -- one more was received, and is open
-  pub opened_one : (received received' : ℕ) (cells cells' : Table) (served : ServedCounts) (cell : ℕ) (supply : Worker) → received' ≡ received + 1
-      → IsAccounted group counts given accepted received cells served → Admits counts cells (Some cell) cells' → IsAccounted group counts given accepted received' cells' served
-  opened_one received received' cells cells' served cell supply more old admitted =
+  pub opened_one : (received received' : ℕ) (cells cells' : Table) (served : ServedCounts) (now cell : ℕ) (supply : Worker) → received' ≡ received + 1
+      → IsAccounted group counts given accepted received cells served → Admits counts now cells (Some cell) cells' → IsAccounted group counts given accepted received' cells' served
+  opened_one received received' cells cells' served now cell supply more old admitted =
       let Living : Table → Type 0 = λ cells. All (IfLives group counts given accepted) cells in
-      let made = admitted.3 in
-      let lives = opens (Calls group) Visits is_visiting (λ (p : PlaceState). p.group) counts given accepted admitted.0 admitted.1 made.before made.after supply admitted.2 made.becomes in
+      let made = admitted.2 in
+      let lives = opens (Calls group) Visits is_visiting (λ (p : PlaceState). p.group) counts given accepted now admitted.0 made.before made.after supply admitted.1 made.becomes in
       record {
         living = subst Living (sym made.is) (All-set (IfLives group counts given accepted) cells cell made.after lives old.living);
         endings = old.endings;
         lived = old.lived;
         counted = old.counted;
-        all = omega (arith, more, old.all, admitted.4);
+        all = omega (arith, more, old.all, admitted.3);
       }
 
   -- one more was received, and was not opened
   pub refused_one : (received received' : ℕ) (cells cells' : Table) (served served' : ServedCounts) → received' ≡ received + 1
-      → IsAccounted group counts given accepted received cells served → Admits counts cells None cells' → served' ≡ counted Memory served
+      → IsAccounted group counts given accepted received cells served → (now : ℕ) → Admits counts now cells None cells' → served' ≡ counted Memory served
       → IsAccounted group counts given accepted received' cells' served'
-  refused_one received received' cells cells' served served' more old same counts_it =
+  refused_one received received' cells cells' served served' more old now same counts_it =
       let Living : Table → Type 0 = λ cells. All (IfLives group counts given accepted) cells in
       record {
         living = subst Living (sym same) old.living;

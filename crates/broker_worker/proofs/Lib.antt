@@ -1,2 +1,3 @@
 pub mod Accounting
 pub mod Living
+pub mod Swept

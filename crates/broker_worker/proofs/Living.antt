@@ -1,17 +1,16 @@
 -- A connection lives on by its rounds, whatever others do to the supply between them.
-use Rattle.std.proofs.Common.{◌≡◌, ◌⊎◌, ℕ, Bool, List, [], ◌∷◌, ◌++◌, Option, Some, None, refl, sym, subst, inl, inr, ◌∙◌}
+use Rattle.std.proofs.Common.{◌≡◌, ℕ, Bool, List, [], ◌∷◌, ◌++◌, Option, Some, None, refl, sym, subst, inl}
 use Rattle.transport.specs.declared.counts.Counts.{Counts}
 use Rattle.transport.specs.Counting.{no_counts}
 use Rattle.conn_engine.specs.Facts.{Fact}
 use Rattle.conn_service.specs.declared.served.Served.{Served}
-use Rattle.conn_service.specs.declared.served.Served.TheVariants.{Memory}
 use Rattle.conn_service.specs.Services.{ServiceState, opened}
 use Rattle.conn_service.specs.Acts.{Act, Others}
-use Rattle.conn_service.specs.Lives.{Does, DoesAll, Leads}
+use Rattle.conn_service.specs.Lives.{DoesAll, Leads}
 use Rattle.service_table.specs.Cells.{Opens, Tells, Turns}
 use Rattle.service_table.specs.declared.turned.Turned.{Turned}
 use Rattle.service_table.specs.declared.turned.Turned.TheVariants.{Vacant, Goes, Ended}
-use Rattle.broker_worker.specs.Lives.{HasLived, HasLivedToItsEnd, IfLived, IsLife}
+use Rattle.broker_worker.specs.Lives.{HasLived, IfLived, IsLife}
 
 module _ {S P T : Type 0} (call : S → Fact P → S → Type 0) (turn : S → S → Type 0) (visiting : S → Bool) (slot_of : P → ℕ)
     (counts : T → Counts) (given accepted : T → Option (List ℕ)) where

@@ -1,3 +1,4 @@
 pub mod Counting
 pub mod Lives
 pub mod Serving
+pub mod Sweeping

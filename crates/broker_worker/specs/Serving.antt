@@ -1,5 +1,5 @@
 -- The connections of a worker of a broker: each that it received is open, and has lived as a connection is served; or it has ended, and is counted by its ending.
-use Rattle.std.specs.Prelude.{◌≡◌, ℕ, ◌+◌, Bool, List, length, Option, Some, None, All}
+use Rattle.std.specs.Prelude.{◌≡◌, ℕ, ◌+◌, List, length, Option, Some, None, All}
 use Rattle.std.specs.List.{AllByRecursion}
 use Rattle.transport.specs.declared.counts.Counts.{Counts}
 use Rattle.transport.specs.Counting.{no_counts}
@@ -15,15 +15,16 @@ use Rattle.broker_worker.specs.declared.served.ServedCounts.{ServedCounts}
 use Rattle.broker_worker.specs.Counting.{counts_of, none_served}
 use Rattle.broker_worker.specs.Lives.{IfLived, IsLife}
 
--- the end of the channel, how many connections are open, and the counts of those that have ended
+-- the end of the channel, how many connections are open, the counts of those that have ended, and the moment since which all that are open went on
 pub record ConnectionsState (T : Type 0) : Type 0 where
   pub receiver : ReceiverState T
   pub live : ℕ
   pub served : ServedCounts
+  pub swept : ℕ
 
 -- none was received yet
 abbrev pub fresh_connections : {T : Type 0} → ReceiverState T → ConnectionsState T
-fresh_connections receiver = record { receiver = receiver; live = 0; served = none_served }
+fresh_connections receiver = record { receiver = receiver; live = 0; served = none_served; swept = 0 }
 
 -- they come through the same channel as before
 abbrev pub StaysOf : {T : Type 0} → ConnectionsState T → ConnectionsState T → Type 0
@@ -34,11 +35,11 @@ pub record IsDone {T : Type 0} (connections : ConnectionsState T) : Type 0 where
   pub mark : connections.receiver.end_marks_received ≡ 1
   pub none_live : connections.live ≡ 0
 
--- a connection that came is opened in a cell, or in none
-abbrev pub Admits : {T : Type 0} → (T → Counts) → List (Option (ServiceState PlaceState T)) → Option ℕ → List (Option (ServiceState PlaceState T)) → Type 0
-Admits counts old None new = new ≡ old
-Admits {T} counts old (Some cell) new =
-    (now : ℕ) × (transport : T) × (counts transport ≡ no_counts) × InCell old cell (Opens now transport) new × (occupied new ≡ occupied old + 1)
+-- a connection that came is opened in a cell at this moment, or in none
+abbrev pub Admits : {T : Type 0} → (T → Counts) → ℕ → List (Option (ServiceState PlaceState T)) → Option ℕ → List (Option (ServiceState PlaceState T)) → Type 0
+Admits counts now old None new = new ≡ old
+Admits {T} counts now old (Some cell) new =
+    (transport : T) × (counts transport ≡ no_counts) × InCell old cell (Opens now transport) new × (occupied new ≡ occupied old + 1)
 
 module _ {T : Type 0} (group : ℕ → GroupId) (counts : T → Counts) (given accepted : T → Option (List ℕ)) where
   -- in a broker with these groups, the connection in a cell has lived, where there is one

@@ -9,6 +9,7 @@ use crate::arrived::Arrived;
 use crate::hand::Hand;
 use crate::poller::Poller;
 use crate::served::ServedCounts;
+use crate::sweeps::Sweeps;
 use broker_groups::{Broker, BrokerPlace};
 use conn_channel::{Received, Receiver};
 use conn_service::{Round, Served};
@@ -21,24 +22,26 @@ use transport::{Crossing, Transport};
 /// The connections that a worker received, each in a cell of its table as long as it is open, and what they ask of the broker.
 ///
 /// Contracts see it as a `ConnectionsState`: what was received of the channel, how many connections are open, and how many have ended in which way. Each
-/// of them lived as a connection is served, from its opening on.
+/// of them lived as a connection is served, from its opening on; and since when all that are open went on.
 pub(crate) struct Connections<'a, 'g, B: Broker, T: Transport + Drop, R: Wait> {
     receiver: Receiver<Arrived<T>>,
     table: ServiceTable<BrokerPlace<B>, T>,
     supply: SharedSupply<'a, 'g, B, R>,
     served: ServedCounts,
+    sweeps: Sweeps,
 }
 
 impl<'a, 'g, B: Broker, T: Transport + Drop, R: Wait> Model for Connections<'a, 'g, B, T, R> {
     ghost use Rattle.std.specs.Prelude.{length};
     ghost use Rattle.service_table.specs.Cells.{occupied};
     ghost use Rattle.broker_worker.specs.Serving.{ConnectionsState, IsAccounted};
+    ghost use Rattle.broker_worker.specs.Sweeping.{AreSwept};
 
     ghost Value = { ConnectionsState T };
 
-    ghost view = { λ c. record { receiver = c.receiver; live = occupied c.table; served = c.served } };
+    ghost view = { λ c. record { receiver = c.receiver; live = occupied c.table; served = c.served; swept = c.sweeps.swept } };
 
-    ghost invariant = { λ c. IsAccounted B.group T.counts T.given T.accepted (length c.receiver.received) c.table c.served };
+    ghost invariant = { λ c. IsAccounted B.group T.counts T.given T.accepted (length c.receiver.received) c.table c.served × AreSwept c.sweeps c.table };
 }
 
 /// What came through the channel.
@@ -79,6 +82,7 @@ impl<'a, 'g, B: Broker, T: Transport + Drop, R: Wait> Connections<'a, 'g, B, T, 
             table,
             supply,
             served: ServedCounts::NONE,
+            sweeps: Sweeps::NEW,
         }
     }
 
@@ -97,6 +101,20 @@ impl<'a, 'g, B: Broker, T: Transport + Drop, R: Wait> Connections<'a, 'g, B, T, 
         ensures { result ≡ true → IsDone self.now }
     {
         self.receiver.is_ended() && self.table.is_empty()
+    }
+
+    /// All that are open went on at this moment or later.
+    pub(crate) fn swept(&self) -> u64
+        ensures { result ≡ self.now.swept }
+    {
+        self.sweeps.swept
+    }
+
+    /// From this moment on it counts which of them went on, until all have.
+    pub(crate) fn begin_sweep(&mut self, now: u64)
+        ensures { self.new ≡ self.old }
+    {
+        self.sweeps.begin(now);
     }
 
     /// The slot of the group that the client in a cell would be handed a message of.
@@ -128,6 +146,7 @@ impl<'a, 'g, B: Broker, T: Transport + Drop, R: Wait> Connections<'a, 'g, B, T, 
         if self.receiver.is_ended() {
             return Came::Nothing;
         }
+        let now = self.sweeps.moment(now);
         match self.receiver.receive(rt) {
             Received::Connection(arrived) => {
                 match admit(&mut self.table, poller, arrived.into_transport(), now) {
@@ -159,10 +178,12 @@ impl<'a, 'g, B: Broker, T: Transport + Drop, R: Wait> Connections<'a, 'g, B, T, 
         if cell >= self.table.len() {
             return Went::Nowhere;
         }
-        match self
+        let now = self.sweeps.moment(now);
+        let turned = self
             .table
-            .round(cell, &mut self.supply, crossing, worker, now, buffer)
-        {
+            .round(cell, &mut self.supply, crossing, worker, now, buffer);
+        self.sweeps.note(cell, self.table.len());
+        match turned {
             Turned::Vacant => Went::Nowhere,
             Turned::Goes(round) => Went::On(round),
             Turned::Ended(served, transport) => {
@@ -183,6 +204,7 @@ impl<'a, 'g, B: Broker, T: Transport + Drop, R: Wait> Connections<'a, 'g, B, T, 
             table,
             mut supply,
             served,
+            sweeps: _,
         } = self;
         table.abandon(&mut supply, 0);
         let (key, ports) = supply.into_parts();
@@ -198,7 +220,7 @@ fn admit<B: Broker, T: Transport + Drop, Q: Poller<T>>(
     now: u64,
 ) -> Option<usize>
     requires new { T.counts transport ≡ no_counts }
-    ensures { Admits T.counts table.old result table.new }
+    ensures { Admits T.counts now table.old result table.new }
 {
     let mut transport = transport;
     let cell = poller.register(&mut transport)?;

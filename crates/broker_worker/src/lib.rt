@@ -17,6 +17,7 @@ mod outfit;
 mod poller;
 mod rounds;
 mod served;
+mod sweeps;
 mod telling;
 mod worker;
 

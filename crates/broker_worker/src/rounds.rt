@@ -40,8 +40,8 @@ impl<
     pub(crate) fn mark_late(&mut self, now: u64)
         ensures { self.new ≡ self.old }
     {
-        if now.saturating_sub(self.swept) >= SWEEP_PERIOD {
-            self.swept = now;
+        if now.saturating_sub(self.connections.swept()) >= SWEEP_PERIOD {
+            self.connections.begin_sweep(now);
             self.due.mark_all();
         }
     }

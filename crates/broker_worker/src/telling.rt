@@ -1,5 +1,6 @@
 //! What a worker tells the others, and what it hears of them.
 ghost use Rattle.std.specs.Prelude.{◌≡◌};
+ghost use Rattle.broker_worker.specs.Sweeping.{WaitsInTime};
 
 use crate::outfit::SLOTS;
 use crate::poller::Poller;
@@ -89,7 +90,8 @@ impl<
 
     /// For how many milliseconds the next turn may wait. The worker is idle at the bells of the groups of which it has members that would be handed a job.
     pub(crate) fn outlook(&mut self, now: u64) -> u64
-        ensures { self.new ≡ self.old }
+        ensures same { self.new ≡ self.old }
+        ensures in_time { WaitsInTime result now self.new.swept }
     {
         let mut may_wait = !self.due.any();
         'slots: for slot in 0..SLOTS {
@@ -102,9 +104,10 @@ impl<
         if !may_wait {
             return 0;
         }
+        let left = SWEEP_PERIOD.saturating_sub(now.saturating_sub(self.connections.swept()));
         if self.closing && !self.connections.is_ended() {
-            return END_PAUSE;
+            return left.min(END_PAUSE);
         }
-        SWEEP_PERIOD.saturating_sub(now.saturating_sub(self.swept))
+        left
     }
 }

@@ -47,8 +47,6 @@ pub struct Worker<'a, 'g, B: Broker, T: Transport + Drop, Q, W, X, C, R: Wait> {
     pub(crate) clock: C,
     pub(crate) due: Marks,
     pub(crate) members: Members,
-    // The moment at which all connections went on last.
-    pub(crate) swept: u64,
     // The broker closes.
     pub(crate) closing: bool,
     // It is known to others that a connection of it waits for a session.
@@ -135,7 +133,6 @@ impl<
             clock,
             due,
             members,
-            swept: 0,
             closing: false,
             waits: false,
         }
@@ -159,7 +156,7 @@ impl<
     }
 
     /// A turn: waits for so many milliseconds at most, and goes on with the connections for which there is something to do. For how long the next turn
-    /// may wait.
+    /// may wait: no longer than until 100 milliseconds have gone by since all went on.
     fn turn(&mut self, rt: &R, pause: u64, buffer: &mut [u8; READ_SIZE]) -> u64
         ensures { StaysOf self.old self.new }
     {
@@ -230,7 +227,6 @@ impl<
             clock: _,
             due: _,
             members: _,
-            swept: _,
             closing: _,
             waits: _,
         } = self;

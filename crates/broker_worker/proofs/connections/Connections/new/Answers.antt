@@ -1,14 +1,17 @@
 -- None was received, and all cells are free.
-use Rattle.std.proofs.Common.{◌≡◌, ℕ, length, sym, subst, ap}
+use Rattle.std.proofs.Common.{◌≡◌, ℕ, length, refl, sym, subst, ap}
 use Rattle.service_table.proofs.Occupied.{replicate-occupied}
 use Rattle.broker_worker.specs.Counting.{none_served}
 use Rattle.broker_worker.specs.Serving.{IsAccounted}
 use Rattle.broker_worker.proofs.Accounting.{fresh}
+use Rattle.broker_worker.proofs.Swept.{free}
 use Rattle.broker_worker.proofs.connections.Connections.new.Goals as goal
 
 pub invariant_of-result : goal.invariant_of-result
 invariant_of-result g c =
     let none : length c.args.receiver.received ≡ 0 = ap length c.requires.receiver in
-    let Accounted : ℕ → Type 0 = λ received. IsAccounted g.B.Broker.group g.T.Transport.counts g.T.Transport.given g.T.Transport.accepted received c.args.table none_served in
-    subst Accounted (sym none)
-    (fresh g.B.Broker.group g.T.Transport.counts g.T.Transport.given g.T.Transport.accepted _ c.args.table c.requires.table (replicate-occupied _ c.args.table c.requires.table))
+    let Accounted : ℕ → Type 0 = λ received. IsAccounted g.B.Broker.group g.T.Transport.counts g.T.Transport.given g.T.Transport.accepted received c.args.table none_served in (
+      subst Accounted (sym none)
+          (fresh g.B.Broker.group g.T.Transport.counts g.T.Transport.given g.T.Transport.accepted _ c.args.table c.requires.table (replicate-occupied _ c.args.table c.requires.table)),
+      free _ c.args.table _ c.requires.table refl refl refl,
+    )

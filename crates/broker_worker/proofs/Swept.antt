@@ -1,0 +1,137 @@
+-- Of the connections of a worker it stays known since when each of them went on.
+use Rattle.std.proofs.Common.{◌≡◌, ◌≢◌, ◌<◌, ◌≤◌, ◌+◌, ℕ, Bool, List, length, Option, Some, None, replicate, All, get_or, sym, subst, inl, inr, ⊎_elim, arith}
+use Rattle.std.specs.List.{slice_get, slice_set}
+use Rattle.std.proofs.lemmas.Option.{slice_get_within}
+use Rattle.std.proofs.lemmas.Bool.{cases_eq}
+use Rattle.std.proofs.lemmas.List.Elements.{All-set, All-replicate}
+use Rattle.std.proofs.lemmas.List.{get_or-set_same, get_or-set_other, get_or_default}
+use Rattle.transport.specs.declared.counts.Counts.{Counts}
+use Rattle.conn_engine.specs.Facts.{Fact}
+use Rattle.conn_service.specs.Services.{ServiceState}
+use Rattle.service_table.specs.Cells.{InCell, Opens, Tells, Turns}
+use Rattle.service_table.specs.declared.turned.Turned.{Turned}
+use Rattle.service_table.specs.declared.turned.Turned.TheVariants.{Vacant, Goes, Ended}
+use Rattle.broker_worker.specs.declared.sweeps.Sweeps.{Sweeps}
+use Rattle.broker_worker.specs.Sweeping.{AreSwept, IfFreshSince, Notes}
+
+before_it : (k n : ℕ) → k ≢ n → k < n + 1 → k < n
+before_it k n apart within = omega arith
+
+module _ {P T : Type 0} where
+  -- who went on at some moment or later did so at an earlier one or later
+  earlier : (since before : ℕ) (cell : Option (ServiceState P T)) → before ≤ since → IfFreshSince since cell → IfFreshSince before cell
+  earlier since before None le fresh = tt
+  earlier since before (Some service) le fresh = (fresh.0, omega (arith, le, fresh.1), fresh.2)
+
+  -- one that is opened goes on
+  pub opens : (now : ℕ) (transport : T) (before after : Option (ServiceState P T)) → Opens now transport before after → IfFreshSince now after
+  opens now transport before None opened_so = tt
+  opens now transport before (Some service) opened_so = (now, omega arith, inl (transport, opened_so.1))
+
+  -- all cells are free
+  pub free : (count : ℕ) (cells : List (Option (ServiceState P T))) (sweeps : Sweeps) → cells ≡ replicate count None → sweeps.swept ≡ 0 → sweeps.begun ≡ 0 → sweeps.gone ≡ 0 → AreSwept sweeps cells
+  free count cells sweeps are swept begun gone = record {
+    all = subst (λ (those : List (Option (ServiceState P T))). All (IfFreshSince sweeps.swept) those) (sym are) (All-replicate (IfFreshSince sweeps.swept) count None tt);
+    some = λ cell below. absurd (omega (arith, below, gone));
+    swept = omega (arith, swept);
+    begun = omega (arith, begun);
+  }
+
+  -- the moment is a later one
+  pub later : (cells : List (Option (ServiceState P T))) (old new : Sweeps) → AreSwept old cells → old.latest ≤ new.latest → new ≡ record old { latest = new.latest } → AreSwept new cells
+  later cells old new are le is = subst (λ (it : Sweeps). AreSwept it cells) (sym is) (record {
+    all = are.all;
+    some = are.some;
+    swept = omega (arith, are.swept, le);
+    begun = omega (arith, are.begun, le);
+  })
+
+  -- a sweep begins
+  pub begins : (cells : List (Option (ServiceState P T))) (old new : Sweeps) → AreSwept old cells → old.latest ≤ new.latest → new ≡ record old { begun = new.latest; gone = 0; latest = new.latest } → AreSwept new cells
+  begins cells old new are le is = subst (λ (it : Sweeps). AreSwept it cells) (sym is) (record {
+    all = are.all;
+    some = λ cell below. absurd (omega (arith, below));
+    swept = omega (arith, are.swept, le);
+    begun = omega arith;
+  })
+
+  -- the connection in a cell went on at the latest moment
+  pub touched : (cells cells' : List (Option (ServiceState P T))) (cell : ℕ) (before after : Option (ServiceState P T)) (sweeps : Sweeps) → AreSwept sweeps cells → slice_get cells cell ≡ Some before
+      → cells' ≡ slice_set cells cell after → IfFreshSince sweeps.latest after → AreSwept sweeps cells'
+  touched cells cells' cell before after sweeps are has is fresh =
+      let within = slice_get_within cells cell before has in
+      subst (λ (those : List (Option (ServiceState P T))). AreSwept sweeps those) (sym is) (record {
+        all = All-set (IfFreshSince sweeps.swept) cells cell after (earlier sweeps.latest sweeps.swept after are.swept fresh) are.all;
+        some = λ k below. ⊎_elim
+            (λ (same : k ≡ cell).
+            subst (λ n. IfFreshSince sweeps.begun (get_or (slice_set cells cell after) n None)) (sym same)
+            (subst (IfFreshSince sweeps.begun) (sym (get_or-set_same cells cell after None within)) (earlier sweeps.latest sweeps.begun after are.begun fresh)))
+            (λ (other : k ≢ cell). subst (IfFreshSince sweeps.begun) (sym (get_or-set_other cells cell k after None other)) (are.some k below))
+            (cases_eq k cell);
+        swept = are.swept;
+        begun = are.begun;
+      })
+
+  -- it is in its cell
+  pub here : (cells cells' : List (Option (ServiceState P T))) (cell : ℕ) (before after : Option (ServiceState P T)) (since : ℕ) → slice_get cells cell ≡ Some before
+      → cells' ≡ slice_set cells cell after → IfFreshSince since after → IfFreshSince since (get_or cells' cell None)
+  here cells cells' cell before after since has is fresh =
+      subst (λ (those : List (Option (ServiceState P T))). IfFreshSince since (get_or those cell None)) (sym is)
+      (subst (IfFreshSince since) (sym (get_or-set_same cells cell after None (slice_get_within cells cell before has))) fresh)
+
+  -- behind one that was opened
+  pub opened_one : (cells cells' : List (Option (ServiceState P T))) (now cell : ℕ) (transport : T) (old mid : Sweeps) → AreSwept old cells → InCell cells cell (Opens now transport) cells'
+      → now ≡ mid.latest → old.latest ≤ mid.latest → mid ≡ record old { latest = mid.latest } → AreSwept mid cells'
+  opened_one cells cells' now cell transport old mid are made is le same =
+      touched cells cells' cell made.before made.after mid (later cells old mid are le same) made.has made.is
+      (subst (λ n. IfFreshSince n made.after) is (opens now transport made.before made.after made.becomes))
+
+  -- that it went on is noted
+  pub noted : (cells : List (Option (ServiceState P T))) (cell : ℕ) (old new : Sweeps) → AreSwept old cells → IfFreshSince old.latest (get_or cells cell None)
+      → Notes cell (length cells) old new → AreSwept new cells
+  noted cells cell old new are fresh notes =
+      ⊎_elim
+      (λ (not_next : (cell ≢ old.gone) × (new ≡ old)). subst (λ (it : Sweeps). AreSwept it cells) (sym not_next.1) are)
+      (λ next. ⊎_elim
+      (λ (more : (cell ≡ old.gone) × (cell + 1 < length cells) × (new ≡ record old { gone = cell + 1 })).
+      subst (λ (it : Sweeps). AreSwept it cells) (sym more.2) (record { all = are.all; some = λ k below. up_to more.0 k below; swept = are.swept; begun = are.begun }))
+      (λ (last : (cell ≡ old.gone) × (length cells ≤ cell + 1) × (new ≡ record old { swept = old.begun; gone = 0 })).
+      subst (λ (it : Sweeps). AreSwept it cells) (sym last.2) (record {
+        all = λ k d within. subst (IfFreshSince old.begun) (sym (get_or_default cells k d None within)) (up_to last.0 k (omega (arith, within, last.1)));
+        some = λ k below. absurd (omega (arith, below));
+        swept = are.begun;
+        begun = are.begun;
+      }))
+      next)
+      notes
+    where
+      up_to : cell ≡ old.gone → (k : ℕ) → k < cell + 1 → IfFreshSince old.begun (get_or cells k None)
+      up_to is k below = ⊎_elim
+          (λ (same : k ≡ cell). subst (λ n. IfFreshSince old.begun (get_or cells n None)) (sym same) (earlier old.latest old.begun (get_or cells cell None) are.begun fresh))
+          (λ (other : k ≢ cell). are.some k (omega (arith, before_it k cell other below, is)))
+          (cases_eq k cell)
+
+module _ {S P T : Type 0} (call : S → Fact P → S → Type 0) (turn : S → S → Type 0) (visiting : S → Bool) (slot_of : P → ℕ)
+    (counts : T → Counts) (given accepted : T → Option (List ℕ)) where
+  -- what a round tells
+  tells : (turned : Turned T) (service : ServiceState P T) (now : ℕ) (after : Option (ServiceState P T)) → Tells turned service now after → IfFreshSince now after
+  tells Vacant service now after told = absurd told
+  tells (Goes round) service now after told = subst (IfFreshSince now) (sym told.1) (now, omega arith, inr (round, told.0))
+  tells (Ended how transport) service now after told = subst (IfFreshSince now) (sym told.2) tt
+
+  -- a connection goes on by a round
+  pub turns : (now : ℕ) (before : Option (ServiceState P T)) (supply : S) (turned : Turned T) (after : Option (ServiceState P T)) (supply' : S)
+      → Turns call turn visiting slot_of counts given accepted now before supply turned after supply' → IfFreshSince now after
+  turns now None supply turned after supply' made = subst (IfFreshSince now) (sym made.1) tt
+  turns now (Some service) supply turned after supply' made = tells turned made.0 now after made.2
+
+  -- behind a round that is noted
+  pub rounds : (cells cells' : List (Option (ServiceState P T))) (now cell count : ℕ) (supply supply' : S) (turned : Turned T) (old mid new : Sweeps) → AreSwept old cells
+      → InCell cells cell (λ before after. Turns call turn visiting slot_of counts given accepted now before supply turned after supply') cells'
+      → now ≡ mid.latest → old.latest ≤ mid.latest → mid ≡ record old { latest = mid.latest } → count ≡ length cells' → Notes cell count mid new → AreSwept new cells'
+  rounds cells cells' now cell count supply supply' turned old mid new are made is le same long notes =
+      let fresh = subst (λ n. IfFreshSince n made.after) is (turns now made.before supply turned made.after supply' made.becomes) in
+      noted cells' cell mid new
+      (touched cells cells' cell made.before made.after mid (later cells old mid are le same) made.has made.is fresh)
+      (here cells cells' cell made.before made.after mid.latest made.has made.is fresh)
+      (subst (λ n. Notes cell n mid new) long notes)
