@@ -23,9 +23,13 @@ longer (Some fault) bytes piece = record { bytes = bytes; fault = Some fault }
 abbrev pub fed : {P : Type 0} → ClientState P → List ℕ → ClientState P
 fed client piece = record { conn = client.conn; unread = longer client.unread.fault client.unread.bytes piece }
 
+-- no whole packet and no fault stands in front of a stream
+abbrev pub HasNothingWhole : Unread → Type 0
+HasNothingWhole unread = (unread.fault ≡ None) × IsOpen unread.bytes
+
 -- nothing is to be read: the connection waits for a session, or no whole packet and no fault stands in front
 abbrev pub IsRead : {P : Type 0} → ClientState P → Type 0
-IsRead client = IsWaiting client.conn.standing ⊎ ((client.unread.fault ≡ None) × IsOpen client.unread.bytes)
+IsRead client = IsWaiting client.conn.standing ⊎ HasNothingWhole client.unread
 
 -- the packet, or the fault, that stands in front of a stream
 abbrev pub IsInFront : Unread → Input → Unread → Type 0

@@ -25,20 +25,24 @@ pub struct Client<P: HoldingPlace> {
     number: u16,
     conn: Conn<P>,
     stream: Splitter,
+    // Nothing whole stood in front of the stream when it was last looked at, and no piece came since. So a round that begins where the last one
+    // ended does not look again.
+    is_drained: bool,
     // The packets of a step that is told in a list. Where it writes none, their room serves the next one.
     packets: Vec<Packet>,
     alloc: Global,
 }
 
 impl<P: HoldingPlace> Model for Client<P> {
-    ghost use Rattle.std.specs.Prelude.{◌≡◌};
+    ghost use Rattle.std.specs.Prelude.{◌≡◌, IsTrue};
     ghost use Rattle.client_table.specs.Clients.{ClientState};
+    ghost use Rattle.client_table.specs.Streams.{HasNothingWhole};
 
     ghost Value = { ClientState P };
 
     ghost view = { λ c. record { conn = c.conn; unread = c.stream } };
 
-    ghost invariant = { λ c. c.conn.number ≡ c.number };
+    ghost invariant = { λ c. (c.conn.number ≡ c.number) × (IsTrue c.is_drained → HasNothingWhole c.stream) };
 }
 
 impl<P: HoldingPlace> Client<P> {
@@ -51,6 +55,7 @@ impl<P: HoldingPlace> Client<P> {
             number,
             conn: Conn::open(alloc, number, now),
             stream: Splitter::new(alloc),
+            is_drained: false,
             packets: Vec::new(alloc),
             alloc,
         }
@@ -71,6 +76,7 @@ impl<P: HoldingPlace> Client<P> {
             number: _,
             conn,
             stream: _,
+            is_drained: _,
             packets: _,
             alloc: _,
         } = self;
@@ -88,6 +94,7 @@ impl<P: HoldingPlace> Client<P> {
         ensures taken { OnOk result (self.new ≡ fed self.old piece.now) }
         ensures unchanged { OnErr result (self.new ≡ self.old) }
     {
+        self.is_drained = false;
         match self.stream.feed(piece) {
             Ok(()) => Ok(()),
             Err(Fault::Stream(_)) => Ok(()),
@@ -106,6 +113,7 @@ impl<P: HoldingPlace> Client<P> {
         ensures read { ReadAnswers self.old.unread (R.remaining reader.old) result self.new.unread (R.remaining reader.new) }
         ensures conn { self.new.conn ≡ self.old.conn }
     {
+        self.is_drained = false;
         self.stream.read_from(reader)
     }
 
@@ -134,12 +142,18 @@ impl<P: HoldingPlace> Client<P> {
             (λ _. (packets.new.items ≡ []) × FailsToReadOne S.call P.slot_of supply.old self.old now self.new supply.new) }
         ensures visiting { S.visiting supply.new ≡ S.visiting supply.old }
     {
-        packets.clear();
+        clear(packets);
+        if self.is_drained {
+            return Ok(None);
+        }
         if !self.conn.wants_input() {
             return Ok(None);
         }
         match self.stream.next() {
-            Ok(None) => Ok(None),
+            Ok(None) => {
+                self.is_drained = true;
+                Ok(None)
+            }
             Ok(Some(packet)) => match self.step_into(supply, now, Input::Packet(packet), packets) {
                 Ok(next) => Ok(Some(next)),
                 Err(NoMemory) => Err(NoMemory),
@@ -243,4 +257,14 @@ impl<P: HoldingPlace> Client<P> {
             Err(refused) => refused,
         }
     }
+}
+
+/// Empties the list of packets, which is most often empty: it is looked at first, since to let packets go is a call.
+fn clear(packets: &mut Vec<Packet>)
+    ensures { packets.new.items ≡ [] }
+{
+    if packets.is_empty() {
+        return;
+    }
+    packets.clear();
 }

@@ -57,6 +57,7 @@ impl<P: HoldingPlace> Client<P> {
             ⊎ FailsToRead S.call P.slot_of supply.old (fed self.old piece.now) now more self.new supply.new) }
         ensures visiting { S.visiting supply.new ≡ S.visiting supply.old }
     {
+        self.is_drained = false;
         match self.stream.feed(piece) {
             Ok(()) => self.read(supply, now, said),
             Err(Fault::Stream(_)) => self.read(supply, now, said),
@@ -107,6 +108,9 @@ impl<P: HoldingPlace> Client<P> {
             (λ _. (said.new.items ≡ said.old.items) × FailsToReadOne S.call P.slot_of supply.old self.old now self.new supply.new) }
         ensures visiting { S.visiting supply.new ≡ S.visiting supply.old }
     {
+        if self.is_drained {
+            return Ok(Reading::Nothing);
+        }
         if !self.conn.wants_input() {
             return Ok(Reading::Nothing);
         }
@@ -114,7 +118,10 @@ impl<P: HoldingPlace> Client<P> {
             return Err(self.give_up(supply, now, Input::EndOfInput));
         }
         match self.stream.next() {
-            Ok(None) => Ok(Reading::Nothing),
+            Ok(None) => {
+                self.is_drained = true;
+                Ok(Reading::Nothing)
+            }
             Ok(Some(packet)) => match self.step(supply, now, Input::Packet(packet), said) {
                 Ok(next) => Ok(Reading::behind(next)),
                 Err(NoMemory) => Err(NoMemory),
