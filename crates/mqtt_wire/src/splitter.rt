@@ -109,6 +109,7 @@ impl Splitter {
     /// stream stands for good: every later call answers it again. [`Fault::Memory`] comes only where a whole packet is in
     /// front; nothing has changed then, and the call may be made again.
     #[inline(always)]
+    #[tactic(auto, unfolding(crate::specs::Stream::header_at))]
     pub fn next(&mut self) -> Result<Option<Packet>, Fault>
         ensures { NextAnswers self.old result self.new }
     {
