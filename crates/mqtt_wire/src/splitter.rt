@@ -1,6 +1,6 @@
 //! A stream in pieces, and the packets that it spells (section 2.1).
 
-ghost use Rattle.std.specs.Prelude.{◌≡◌, [], length, None, Some};
+ghost use Rattle.std.specs.Prelude.{◌≡◌, [], length, IsTrue, None, Some};
 ghost use Rattle.mqtt_wire.specs.Stream.{AreBytes, NextAnswers, FeedAnswers, ReadAnswers};
 ghost use Rattle.mqtt_wire.specs.Frame.{IsHeld, ReachesHeader, ReachesPacket, TakesPacket, fault_in};
 
@@ -109,15 +109,27 @@ impl Splitter {
     /// stream stands for good: every later call answers it again. [`Fault::Memory`] comes only where a whole packet is in
     /// front; nothing has changed then, and the call may be made again.
     #[inline(always)]
+    #[tactic(auto, unfolding(crate::specs::Stream::header_at))]
     pub fn next(&mut self) -> Result<Option<Packet>, Fault>
         ensures { NextAnswers self.old result self.new }
     {
         if let Some(fault) = self.fault {
             return Err(Fault::Stream(fault));
         }
+        // Behind the last whole packet nothing is left most often, and then nothing is looked at.
+        if self.is_drained() {
+            return Ok(None);
+        }
         let answer = take_packet(self.alloc, self.block, &mut self.in_hand, &mut self.stream);
         self.fault = stream_fault(&answer);
         answer
+    }
+
+    /// Whether nothing is unread.
+    fn is_drained(&self) -> bool
+        ensures { IsTrue result → self.now.bytes ≡ [] }
+    {
+        matches!(self.in_hand, InHand::Nothing) && self.stream.is_empty()
     }
 }
 
