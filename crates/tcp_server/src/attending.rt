@@ -9,6 +9,7 @@ use crate::watching::Watching;
 use broker_groups::{Broker, Ports};
 use broker_worker::Hand;
 use line_io::RunError;
+use mqtt_topic::Routes;
 use shared_supply::Hall;
 use std::alloc::Global;
 use std::io::Read;
@@ -39,6 +40,7 @@ pub(crate) fn attend<
     rt: &R,
     alloc: Global,
     hall: Hall<'_, B>,
+    groups: &Routes,
     hands: Vec<Hand<B>>,
     room: Vec<Ports<B>>,
     crew: Crew<'_, R>,
@@ -76,6 +78,7 @@ pub(crate) fn attend<
         rt,
         alloc,
         hall,
+        groups.shares(),
         hands,
         room,
         gear,

@@ -5,17 +5,13 @@ ghost use Rattle.broker_groups.specs.Naming.{HasNoneOut, IsOfBroker};
 
 use broker_groups::{Broker, BrokerPlace, Key, Named, Opened, Ports};
 use broker_worker::Hand;
-use bytes::Bytes;
 use gate_word::{Gate, GateSeat};
 use line_io::RunError;
-use mqtt_topic::{Routes, Share};
-use mqtt_wire::Text;
 use shared_desk::SharedDesk;
 use shared_routes::SharedRoutes;
 use shared_supply::Hall;
 use std::alloc::Global;
 use std::sync::Wait;
-use threaded_broker::give_up;
 
 /// A broker that is open: what its workers share, and what each of them has.
 pub(crate) struct OpenBroker<'g, B: Broker> {
@@ -23,7 +19,7 @@ pub(crate) struct OpenBroker<'g, B: Broker> {
     pub(crate) hands: Vec<Hand<B>>,
 }
 
-/// Names what was opened, furnishes the desk, and binds the shares that are there from the start.
+/// Names what was opened, and furnishes the desk.
 pub(crate) fn open<'g, B: Broker, R: Wait>(
     rt: &R,
     alloc: Global,
@@ -31,7 +27,6 @@ pub(crate) fn open<'g, B: Broker, R: Wait>(
     seats: &mut Vec<GateSeat>,
     opened: Opened<'g>,
     workers: u8,
-    shares: &Routes,
 ) -> Result<OpenBroker<'g, B>, RunError>
     requires gate { gate.now ≡ B.gate }
     requires seats { AreSeatsOf gate.now seats.old.items }
@@ -53,13 +48,7 @@ pub(crate) fn open<'g, B: Broker, R: Wait>(
     furnish(rt, &desk, places);
     let hands = deal(alloc, gate, seats, ports);
     let hall = Hall::new(gate, groups, desk, SharedRoutes::new());
-    match bind_all(rt, alloc, &hall, shares) {
-        Ok(()) => Ok(OpenBroker { hall, hands }),
-        Err(error) => {
-            give_up(hall, Vec::new(alloc));
-            Err(error)
-        }
-    }
+    Ok(OpenBroker { hall, hands })
 }
 
 /// Gives the desk all places.
@@ -125,29 +114,5 @@ fn hand_of<B: Broker>(gate: &Gate, seat: GateSeat, ports: Ports<B>) -> Hand<B>
     Hand {
         key: Key::of(seat),
         ports,
-    }
-}
-
-/// Binds the shares that are there from the start, each to the slot of its group.
-fn bind_all<B: Broker, R: Wait>(
-    rt: &R,
-    alloc: Global,
-    hall: &Hall<'_, B>,
-    shares: &Routes,
-) -> Result<(), RunError> {
-    let mut known = hall.know_routes(alloc)?;
-    for share in shares.shares() {
-        if let Some(copy) = copy_of(alloc, share)? {
-            let _slot = known.bind(rt, copy);
-        }
-    }
-    Ok(())
-}
-
-/// A copy of a share.
-fn copy_of(alloc: Global, share: &Share) -> Result<Option<Share>, RunError> {
-    match Text::parse(Bytes::copy_from_slice(alloc, share.text())?) {
-        Some(text) => Ok(Share::parse(text).ok()),
-        None => Ok(None),
     }
 }

@@ -140,9 +140,7 @@ fn live<
     requires opened { IsOfBroker B.gate B.group workers opened }
 {
     let mut seats = seats;
-    let OpenBroker { hall, hands } = open::<B, R>(
-        rt, alloc, gate, &mut seats, opened, workers, groups,
-    )?;
+    let OpenBroker { hall, hands } = open::<B, R>(rt, alloc, gate, &mut seats, opened, workers)?;
     let Ok(room) = Vec::with_capacity(alloc, hands.len()) else {
         give_up(hall, Vec::new(alloc));
         return Err(RunError::Memory);
@@ -160,7 +158,9 @@ fn live<
         return Err(RunError::Memory);
     }
     match write_all(output, line) {
-        Ok(()) => attend(rt, alloc, hall, hands, room, crew, source, closers, input),
+        Ok(()) => attend(
+            rt, alloc, hall, groups, hands, room, crew, source, closers, input,
+        ),
         Err(error) => {
             give_up(hall, room);
             Err(error)

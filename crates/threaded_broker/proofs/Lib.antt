@@ -1,1 +1,2 @@
 pub mod Quotas
+pub mod Bound

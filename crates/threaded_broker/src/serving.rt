@@ -1,10 +1,12 @@
 //! A broker that is served to its end.
-ghost use Rattle.std.specs.Prelude.{◌≡◌, ◌+◌, ◌≤◌, [], length, vec_capacity, IfOk};
+ghost use Rattle.std.specs.Prelude.{◌≡◌, ◌+◌, ◌≤◌, [], All, length, vec_capacity, IfOk, MatchResult};
 ghost use Rattle.final_report.specs.Brokers.{KeptItsPromises};
+ghost use Rattle.worker_pool.specs.Pools.{ServesAll};
 ghost use Rattle.threaded_broker.specs.Headline.{KeepsTheHeadline};
+ghost use Rattle.threaded_broker.specs.Shares.{IsBoundIn};
 
 use crate::closing::{close, ports_of};
-use crate::shares::bound_shares;
+use crate::shares::{bind_all, copy_all};
 use bell::Wake;
 use broker_groups::{Broker, BrokerPlace, Ended, Ports};
 use broker_worker::{Gear, Hand, Poller, ServedCounts};
@@ -37,7 +39,7 @@ pub struct Outcome<'g, S> {
 
 /// Serves the connections of a source with the workers of a broker, each in a thread of its own, until the source has ended or failed, the broker's gate is
 /// shut, and all connections have ended; then ends its groups. Who watches shuts the gate and ends the source, in a thread of its own. There is room for the
-/// ports of all workers.
+/// ports of all workers. The shares that are given are bound before the first connection is served, in their order.
 ///
 /// **What a broker promises**, in every schedule of its threads, whatever its transports do (`headline`). Of each group whose report is given:
 ///
@@ -69,6 +71,7 @@ pub fn serve<
     rt: &R,
     alloc: Global,
     hall: Hall<'g, B>,
+    shares: &[Share],
     hands: Vec<Hand<B>>,
     room: Vec<Ports<B>>,
     gear: Vec<Gear<Q, C>>,
@@ -85,22 +88,22 @@ pub fn serve<
     ensures headline { IfOk result (λ outcome. KeepsTheHeadline B.group T.counts T.given T.accepted (length hands.items) outcome.ended.answers.items outcome.ended.strangers.items outcome.taken.came outcome.served.items) }
     ensures closed { IfOk result (λ outcome. outcome.drained ≡ B.gate) }
     ensures taken { IfOk result (λ outcome. (S.tally outcome.taken.source).arrivals ≡ (S.tally source).arrivals + outcome.taken.came) }
+    ensures shares { IfOk result (λ outcome. All (IsBoundIn outcome.shares.items) shares.now) }
 {
     quota_law::<BrokerPlace<B>, T, SharedSupply<'_, '_, B, R>>();
     let mut stopper = stopper;
-    let pooled = run(
-        rt, alloc, &hall, hands, gear, alarms, source, crossing, closer, watch,
+    let ran = run_bound(
+        rt, alloc, &hall, shares, hands, gear, alarms, source, crossing, closer, watch,
     );
     let drained = close(rt, &mut stopper);
-    match pooled {
-        Ok(
-            Pooled {
+    match ran {
+        Ok(Ran { pooled, shares }) => {
+            let Pooled {
                 hands,
                 served,
                 taken,
-            },
-        ) => {
-            let (ended, shares) = end(rt, alloc, &drained, hall, ports_of(hands, room))?;
+            } = pooled;
+            let ended = end(rt, alloc, &drained, hall, ports_of(hands, room))?;
             Ok(Outcome {
                 ended,
                 shares,
@@ -109,30 +112,83 @@ pub fn serve<
                 drained,
             })
         }
-        Err(Unbegun { hands, source: _ }) => {
+        Err(hands) => {
             give_up(hall, ports_of(hands, room));
             Err(NoMemory)
         }
     }
 }
 
-/// Ends the groups of a broker that is drained, and tells the shares that are bound.
+/// What a pool gives back, and the shares that are bound then, in the order of their slots.
+struct Ran<B: Broker, S> {
+    pooled: Pooled<B, S>,
+    shares: Vec<Share>,
+}
+
+/// Binds the shares, and runs the pool. Where memory is wanted, what its workers had of the broker comes back.
+fn run_bound<
+    B: Broker + Send + Sync,
+    T: Transport + Drop + Send,
+    S: Source<T> + Drop + Send,
+    Q: Poller<T> + Drop + Send,
+    W: Wake + Drop + Send + Sync,
+    X: Crossing + Sync,
+    C: Clock + Drop + Send,
+    D: Watch + Send,
+    R: Threads + Wait + SystemClock + Sync,
+>(
+    rt: &R,
+    alloc: Global,
+    hall: &Hall<'_, B>,
+    shares: &[Share],
+    hands: Vec<Hand<B>>,
+    gear: Vec<Gear<Q, C>>,
+    alarms: Vec<W>,
+    source: S,
+    crossing: &X,
+    closer: Closer<'_, B>,
+    watch: &mut D,
+) -> Result<Ran<B, S>, Vec<Hand<B>>>
+    requires workers { (1 ≤ length hands.items) × (length hands.items ≤ 64) }
+    requires gear { length gear.items ≡ length hands.items }
+    ensures hands { MatchResult result (λ ran. length ran.pooled.hands.items ≡ length hands.items) (λ back. length back.items ≡ length hands.items) }
+    ensures taken { IfOk result (λ ran. (S.tally ran.pooled.taken.source).arrivals ≡ (S.tally source).arrivals + ran.pooled.taken.came) }
+    ensures served { IfOk result (λ ran. ServesAll B.group T.counts T.given T.accepted ran.pooled.taken.came ran.pooled.served.items) }
+    ensures shares { IfOk result (λ ran. All (IsBoundIn ran.shares.items) shares.now) }
+{
+    let Ok(mut known) = hall.know_routes(alloc) else {
+        return Err(hands);
+    };
+    let Ok(()) = bind_all(rt, alloc, &mut known, shares) else {
+        return Err(hands);
+    };
+    match run(
+        rt, alloc, hall, hands, gear, alarms, source, crossing, closer, watch,
+    ) {
+        Ok(pooled) => {
+            known.learn();
+            match copy_all(alloc, &known) {
+                Ok(shares) => Ok(Ran { pooled, shares }),
+                Err(_) => Err(pooled.hands),
+            }
+        }
+        Err(Unbegun { hands, source: _ }) => Err(hands),
+    }
+}
+
+/// Ends the groups of a broker that is drained.
 fn end<'g, B: Broker, R: Wait>(
     rt: &R,
     alloc: Global,
     drained: &Drained,
     hall: Hall<'g, B>,
     ports: Vec<Ports<B>>,
-) -> Result<(Ended<'g>, Vec<Share>), NoMemory>
+) -> Result<Ended<'g>, NoMemory>
     requires { drained.now ≡ B.gate }
-    ensures { IfOk result (λ ended. KeptItsPromises B.group ports.items ended.0.answers.items ended.0.strangers.items) }
+    ensures { IfOk result (λ ended. KeptItsPromises B.group ports.items ended.answers.items ended.strangers.items) }
 {
-    let Ok(shares) = bound_shares(alloc, &hall) else {
-        give_up(hall, ports);
-        return Err(NoMemory);
-    };
     match end_broker(rt, alloc, drained, hall, ports) {
-        Ok(ended) => Ok((ended, shares)),
+        Ok(ended) => Ok(ended),
         Err(left) => {
             left.abandon();
             Err(NoMemory)

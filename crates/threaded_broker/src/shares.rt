@@ -1,40 +1,64 @@
 //! The shares that a broker has bound.
-use broker_groups::Broker;
+ghost use Rattle.std.specs.Prelude.{◌≡◌, All, take, IfOk, OnOk};
+ghost use Rattle.shared_routes.specs.Known.{Grows};
+ghost use Rattle.threaded_broker.specs.Shares.{IsBoundIn};
+
 use bytes::Bytes;
 use conn_engine::NoMemory;
 use mqtt_topic::Share;
 use mqtt_wire::Text;
 use shared_routes::KnownRoutes;
-use shared_supply::Hall;
 use std::alloc::Global;
+use std::sync::Wait;
 
-/// The shares that are bound, in the order of their slots.
-pub(crate) fn bound_shares<B: Broker>(
+/// Binds shares, each to the least slot that is free; where none is, those that are left are not bound.
+pub(crate) fn bind_all<R: Wait>(
+    rt: &R,
     alloc: Global,
-    hall: &Hall<'_, B>,
-) -> Result<Vec<Share>, NoMemory> {
-    let mut known = hall.know_routes(alloc)?;
-    known.learn();
-    copy_all(alloc, &known)
+    known: &mut KnownRoutes<'_>,
+    shares: &[Share],
+) -> Result<(), NoMemory>
+    ensures grows { Grows known.old known.new }
+    ensures bound { OnOk result (All (IsBoundIn known.new.shares) shares.now) }
+{
+    match shares {
+        [] => Ok(()),
+        [share, others @ ..] => {
+            let copy = copy_of(alloc, share)?;
+            bind(rt, known, copy);
+            bind_all(rt, alloc, known, others)
+        }
+    }
 }
 
-/// Copies of the shares that are known.
-fn copy_all(alloc: Global, known: &KnownRoutes<'_>) -> Result<Vec<Share>, NoMemory> {
+/// Binds a share, where a slot is free.
+fn bind<R: Wait>(rt: &R, known: &mut KnownRoutes<'_>, share: Share)
+    ensures grows { Grows known.old known.new }
+    ensures bound { IsBoundIn known.new.shares share }
+{
+    let _slot = known.bind(rt, share);
+}
+
+/// Copies of the shares that are bound, in the order of their slots.
+pub(crate) fn copy_all(alloc: Global, known: &KnownRoutes<'_>) -> Result<Vec<Share>, NoMemory>
+    ensures { IfOk result (λ shares. shares.items ≡ take 8 known.now.shares) }
+{
     let mut shares = Vec::new(alloc);
     for slot in 0..8u8 {
         if let Some(share) = known.share(slot) {
-            if let Some(copy) = copy_of(alloc, share)? {
-                shares.push(copy)?;
-            }
+            shares.push(copy_of(alloc, share)?)?;
         }
     }
     Ok(shares)
 }
 
 /// A copy of a share.
-fn copy_of(alloc: Global, share: &Share) -> Result<Option<Share>, NoMemory> {
-    match Text::parse(Bytes::copy_from_slice(alloc, share.text())?) {
-        Some(text) => Ok(Share::parse(text).ok()),
-        None => Ok(None),
+fn copy_of(alloc: Global, share: &Share) -> Result<Share, NoMemory>
+    ensures { IfOk result (λ copy. copy ≡ share.now) }
+{
+    let text = Bytes::copy_from_slice(alloc, share.text())?;
+    match Text::parse(text) {
+        Some(text) => Share::parse(text).map_err(|_| NoMemory),
+        None => Err(NoMemory),
     }
 }

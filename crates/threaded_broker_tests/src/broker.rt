@@ -209,6 +209,7 @@ fn attend<B: Broker + Send + Sync, R: Threads + Wait + Clock + Sync>(
         rt,
         alloc,
         hall,
+        &[],
         hands,
         room,
         gear,
