@@ -1,12 +1,14 @@
 //! Serving the connections of a broker that is open, to its reports.
-ghost use Rattle.std.specs.Prelude.{◌≡◌, ◌≤◌, [], length, vec_capacity};
+ghost use Rattle.std.specs.Prelude.{◌≡◌, ◌≤◌, ◌⊎◌, true, [], length, vec_capacity, IfOk, IfErr};
+ghost use Rattle.line_io.specs.declared.error.RunError.TheVariants.{Memory, Unfinished as NotKnown};
+ghost use Rattle.tcp_server.specs.Reporting.{AreLines, AreReports};
 
 use crate::crew::Crew;
 use crate::listening::Awaited;
-use crate::reporting::lines;
+use crate::reporting::{let_go_of_all, lines, reports_in};
 use crate::serving::Served;
 use crate::watching::Watching;
-use broker_groups::{Broker, Ports};
+use broker_groups::{Broker, Ended, Ports};
 use broker_worker::Hand;
 use line_io::RunError;
 use mqtt_topic::Routes;
@@ -51,6 +53,8 @@ pub(crate) fn attend<
     requires hands { (1 ≤ length hands.items) × (length hands.items ≤ 64) }
     requires room { (room.items ≡ []) × (length hands.items ≤ vec_capacity room) }
     requires crew { length crew.gear.items ≡ length hands.items }
+    ensures told { IfOk result (λ told. AreReports (length hands.items) groups.now told.0.items) }
+    ensures cause { IfErr result (λ error. (error ≡ Memory) ⊎ (error ≡ NotKnown)) }
 {
     let ends = AtomicBool::new(false);
     let Closers {
@@ -66,15 +70,7 @@ pub(crate) fn attend<
     };
     let source = Until::new(source, &ends);
     let Crew { gear, alarms } = crew;
-    let Ok(
-        Outcome {
-            ended,
-            shares,
-            served: _,
-            taken,
-            drained: _,
-        },
-    ) = serve(
+    let Ok(outcome) = serve(
         rt,
         alloc,
         hall,
@@ -88,16 +84,36 @@ pub(crate) fn attend<
         accepting,
         ending,
         &mut watching,
-    )
-    else {
+    ) else {
         return Err(RunError::Memory);
     };
-    let text = lines(alloc, ended, &shares)?;
-    Ok((text, end_of(taken.end, watching.is_read)?))
+    let (text, end) = tell(alloc, outcome)?;
+    Ok((text, end_of(end, watching.is_read)?))
+}
+
+/// The lines of the reports of a broker that has ended, and how its source did.
+fn tell<S: Drop>(alloc: Global, outcome: Outcome<'_, S>) -> Result<(Vec<u8>, SourceEnd), RunError>
+    ensures lines { IfOk result (λ told. AreLines outcome.entry.ended.answers.items outcome.entry.shares.items told.0.items) }
+    ensures cause { IfErr result (λ error. (error ≡ Memory) ⊎ (error ≡ NotKnown)) }
+{
+    let Outcome {
+        ended: Ended { answers, strangers },
+        shares,
+        served: _,
+        taken,
+        drained: _,
+    } = outcome;
+    let_go_of_all(strangers);
+    let reports = reports_in(alloc, answers)?;
+    let text = lines(alloc, &shares, &reports)?;
+    Ok((text, taken.end))
 }
 
 /// How a broker came to its end; no thread for one of its workers is want of memory.
-fn end_of(source: SourceEnd, is_read: bool) -> Result<Served, RunError> {
+fn end_of(source: SourceEnd, is_read: bool) -> Result<Served, RunError>
+    ensures ended { IfOk result (λ served. served ≡ Served.Ended → is_read ≡ true) }
+    ensures cause { IfErr result (λ error. error ≡ Memory) }
+{
     match source {
         SourceEnd::Untouched => Err(RunError::Memory),
         SourceEnd::Failed => Ok(Served::NotAccepted),

@@ -1,5 +1,6 @@
 //! A broker: how it is opened, and how it ends.
-ghost use Rattle.std.specs.Prelude.{◌≡◌, ◌≤◌, All, IfSome};
+ghost use Rattle.std.specs.Prelude.{◌≡◌, ◌+◌, ◌≤◌, [], All, length, vec_capacity, IfOk, IfErr};
+ghost use Rattle.line_io.specs.declared.error.RunError.TheVariants.{Memory};
 ghost use Rattle.gate_word.specs.Seats.{AreSeatsOf};
 ghost use Rattle.broker_groups.specs.Naming.{HasNoneOut, IsOfBroker};
 
@@ -13,10 +14,11 @@ use shared_supply::Hall;
 use std::alloc::Global;
 use std::sync::Wait;
 
-/// A broker that is open: what its workers share, and what each of them has.
+/// A broker that is open: what its workers share, what each of them has, and room for the ports of all.
 pub(crate) struct OpenBroker<'g, B: Broker> {
     pub(crate) hall: Hall<'g, B>,
     pub(crate) hands: Vec<Hand<B>>,
+    pub(crate) room: Vec<Ports<B>>,
 }
 
 /// Names what was opened, and furnishes the desk.
@@ -29,26 +31,39 @@ pub(crate) fn open<'g, B: Broker, R: Wait>(
     workers: u8,
 ) -> Result<OpenBroker<'g, B>, RunError>
     requires gate { gate.now ≡ B.gate }
-    requires seats { AreSeatsOf gate.now seats.old.items }
+    requires seats { AreSeatsOf gate.now seats.old.items × (length seats.old.items ≡ workers + 3) }
     requires opened { IsOfBroker B.gate B.group workers opened }
-    ensures seats { AreSeatsOf gate.now seats.new.items }
+    ensures seats { IfOk result (λ _. AreSeatsOf gate.now seats.new.items × (length seats.new.items ≡ 3)) }
+    ensures hands { IfOk result (λ broker. length broker.hands.items ≡ workers) }
+    ensures cause { IfErr result (λ error. error ≡ Memory) }
+    ensures room { IfOk result (λ broker. (broker.room.items ≡ []) × (workers ≤ vec_capacity broker.room)) }
 {
-    let Named {
-        groups,
-        ports,
-        places,
-    } = match opened.name::<B>(alloc, workers) {
-        Ok(named) => named,
-        Err(_) => return Err(RunError::Memory),
+    let count = usize::from(workers);
+    let (Ok(hands), Ok(room)) = (
+        Vec::with_capacity(alloc, count),
+        Vec::with_capacity(alloc, count),
+    ) else {
+        opened.abandon();
+        return Err(RunError::Memory);
+    };
+    let Ok(
+        Named {
+            groups,
+            ports,
+            places,
+        },
+    ) = opened.name::<B>(alloc, workers)
+    else {
+        return Err(RunError::Memory);
     };
     let Ok(desk) = SharedDesk::new(alloc) else {
         groups.abandon();
         return Err(RunError::Memory);
     };
     furnish(rt, &desk, places);
-    let hands = deal(alloc, gate, seats, ports);
+    let hands = deal(gate, seats, ports, hands);
     let hall = Hall::new(gate, groups, desk, SharedRoutes::new());
-    Ok(OpenBroker { hall, hands })
+    Ok(OpenBroker { hall, hands, room })
 }
 
 /// Gives the desk all places.
@@ -73,34 +88,36 @@ fn give_place<B: Broker, R: Wait>(rt: &R, desk: &SharedDesk<BrokerPlace<B>>, pla
 }
 
 /// The last seat.
-pub(crate) fn take_seat(gate: &Gate, seats: &mut Vec<GateSeat>) -> Option<GateSeat>
-    requires { AreSeatsOf gate.now seats.old.items }
-    ensures seat { IfSome result (λ seat. seat.gate ≡ gate.now) }
-    ensures others { AreSeatsOf gate.now seats.new.items }
+pub(crate) fn take_seat(gate: &Gate, seats: &mut Vec<GateSeat>) -> GateSeat
+    requires { AreSeatsOf gate.now seats.old.items × (1 ≤ length seats.old.items) }
+    ensures seat { result.gate ≡ gate.now }
+    ensures others { AreSeatsOf gate.now seats.new.items × (length seats.new.items + 1 ≡ length seats.old.items) }
 {
     let _ = gate;
-    seats.pop()
+    let Some(seat) = seats.pop() else {
+        unreachable!()
+    };
+    seat
 }
 
-/// What each worker has: a seat and ports.
+/// What each worker has: a seat and ports. There is room for it among the hands, which are empty.
 fn deal<B: Broker>(
-    alloc: Global,
     gate: &Gate,
     seats: &mut Vec<GateSeat>,
     ports: Vec<Ports<B>>,
+    hands: Vec<Hand<B>>,
 ) -> Vec<Hand<B>>
     requires gate { gate.now ≡ B.gate }
-    requires seats { AreSeatsOf gate.now seats.old.items }
-    ensures seats { AreSeatsOf gate.now seats.new.items }
+    requires seats { AreSeatsOf gate.now seats.old.items × (length ports.items ≤ length seats.old.items) }
+    requires room { (hands.items ≡ []) × (length ports.items ≤ vec_capacity hands) }
+    ensures seats { AreSeatsOf gate.now seats.new.items × (length seats.new.items + length ports.items ≡ length seats.old.items) }
+    ensures hands { length result.items ≡ length ports.items }
 {
-    let mut hands = Vec::new(alloc);
+    let mut hands = hands;
     let mut left = ports;
     'hands: while let Some(ports) = left.pop() {
-        if let Some(seat) = take_seat(gate, seats) {
-            if let Err(refused) = hands.push(hand_of(gate, seat, ports)) {
-                drop(refused);
-            }
-        }
+        let seat = take_seat(gate, seats);
+        hands.push_reserved(hand_of(gate, seat, ports));
     }
     hands
 }

@@ -1,4 +1,6 @@
 //! Where the workers of a broker wait, and by what clock.
+ghost use Rattle.std.specs.Prelude.{◌≡◌, length, IfSome};
+
 use crate::elapsed::Elapsed;
 use crate::socket_poller::SocketPoller;
 use broker_worker::Gear;
@@ -20,11 +22,14 @@ pub(crate) fn crew_of<R: Net + SystemClock>(
     rt: &R,
     alloc: Global,
     count: usize,
-) -> Option<Crew<'_, R>> {
+) -> Option<Crew<'_, R>>
+    ensures { IfSome result (λ crew. length crew.gear.items ≡ count) }
+{
     let start = Instant::now(rt).ok()?;
     let mut gear = Vec::with_capacity(alloc, count).ok()?;
     let mut alarms = Vec::with_capacity(alloc, count).ok()?;
-    for _ in 0..count {
+    'reactors: for worker in 0..count {
+        let _ = worker;
         let (reactor, alarm) = Reactor::open(rt, alloc).ok()?;
         let poller = SocketPoller::new(reactor);
         let clock = Elapsed::since(rt, start);

@@ -1,5 +1,8 @@
 //! Serving, from the listener to the last line.
-ghost use Rattle.std.specs.Prelude.{◌≡◌, ◌≤◌};
+ghost use Rattle.std.specs.Prelude.{◌≡◌, ◌+◌, ◌≤◌, ◌⊎◌, length, IfOk, IfErr};
+ghost use Rattle.std.specs.Io.KnownBytes.{Appends};
+ghost use Rattle.tcp_server.specs.Reporting.{AreReports};
+ghost use Rattle.tcp_server.specs.Serving.{EndsUnreported, IsServed, IsServedAt, listening_line};
 ghost use Rattle.gate_word.specs.Seats.{AreSeatsOf};
 ghost use Rattle.broker_groups.specs.Naming.{IsOfBroker};
 
@@ -54,6 +57,7 @@ pub fn serve_at<R: Threads + Wait + Net + SystemClock + Sync, I: Read + Send, O:
 ) -> Result<(), RunError>
     requires capacity { (1 ≤ capacity) × (capacity ≤ 65536) }
     requires workers { (1 ≤ workers) × (workers ≤ 64) }
+    ensures { IsServedAt port workers groups result (O.contents output.old) (O.contents output.new) }
 {
     match TcpSource::open(rt, address, port) {
         Ok(source) => serve_with(rt, alloc, capacity, groups, workers, source, input, output),
@@ -74,6 +78,7 @@ pub fn serve_with<R: Threads + Wait + Net + SystemClock + Sync, I: Read + Send, 
 ) -> Result<(), RunError>
     requires capacity { (1 ≤ capacity) × (capacity ≤ 65536) }
     requires workers { (1 ≤ workers) × (workers ≤ 64) }
+    ensures { IsServed (listening_line source.port) workers groups result (O.contents output.old) (O.contents output.new) }
 {
     let port = source.port();
     let source = match Awaited::new(rt, alloc, source) {
@@ -107,7 +112,10 @@ pub fn serve_with<R: Threads + Wait + Net + SystemClock + Sync, I: Read + Send, 
             return Err(RunError::Memory);
         }
     };
-    write_all(output, &text)?;
+    match write_all(output, &text) {
+        Ok(()) => {}
+        Err(error) => return Err(error),
+    }
     match ended {
         Served::Ended => Ok(()),
         Served::InputFailed => Err(RunError::ReadFailed),
@@ -136,27 +144,20 @@ fn live<
 ) -> Result<(Vec<u8>, Served), RunError>
     requires gate { gate.now ≡ B.gate }
     requires workers { (1 ≤ workers) × (workers ≤ 64) }
-    requires seats { AreSeatsOf gate.now seats.items }
+    requires seats { AreSeatsOf gate.now seats.items × (length seats.items ≡ workers + 3) }
     requires opened { IsOfBroker B.gate B.group workers opened }
+    ensures told { IfOk result (λ told. AreReports workers groups.now told.0.items × Appends (O.contents output.old) (O.contents output.new) line.now) }
+    ensures failed { IfErr result (λ error. EndsUnreported line.now error (O.contents output.old) (O.contents output.new)) }
 {
     let mut seats = seats;
-    let OpenBroker { hall, hands } = open::<B, R>(rt, alloc, gate, &mut seats, opened, workers)?;
-    let Ok(room) = Vec::with_capacity(alloc, hands.len()) else {
-        give_up(hall, Vec::new(alloc));
-        return Err(RunError::Memory);
-    };
-    let (Some(closers), Some(crew)) = (
-        closers_of(gate, &mut seats),
-        crew_of(rt, alloc, hands.len()),
-    ) else {
+    let OpenBroker { hall, hands, room } = open::<B, R>(
+        rt, alloc, gate, &mut seats, opened, workers,
+    )?;
+    let closers = closers_of(gate, &mut seats);
+    let Some(crew) = crew_of(rt, alloc, hands.len()) else {
         give_up(hall, room);
         return Err(RunError::Memory);
     };
-    // Where memory was refused, there are fewer hands than workers.
-    if hands.len() != usize::from(workers) || crew.gear.len() != hands.len() {
-        give_up(hall, room);
-        return Err(RunError::Memory);
-    }
     match write_all(output, line) {
         Ok(()) => attend(
             rt, alloc, hall, groups, hands, room, crew, source, closers, input,
@@ -169,13 +170,13 @@ fn live<
 }
 
 /// Who shuts the gate, by the last three seats.
-fn closers_of<'a, B: Broker>(gate: &'a Gate, seats: &mut Vec<GateSeat>) -> Option<Closers<'a, B>>
+fn closers_of<'a, B: Broker>(gate: &'a Gate, seats: &mut Vec<GateSeat>) -> Closers<'a, B>
     requires gate { gate.now ≡ B.gate }
-    requires seats { AreSeatsOf gate.now seats.old.items }
+    requires seats { AreSeatsOf gate.now seats.old.items × (3 ≤ length seats.old.items) }
 {
-    Some(Closers {
-        accepting: Closer::new(gate, take_seat(gate, seats)?),
-        watching: Closer::new(gate, take_seat(gate, seats)?),
-        ending: Closer::new(gate, take_seat(gate, seats)?),
-    })
+    Closers {
+        accepting: Closer::new(gate, take_seat(gate, seats)),
+        watching: Closer::new(gate, take_seat(gate, seats)),
+        ending: Closer::new(gate, take_seat(gate, seats)),
+    }
 }

@@ -1,4 +1,7 @@
 //! How a broker is told to end: its input ends.
+ghost use Rattle.std.specs.Prelude.{◌≡◌, true};
+ghost use Rattle.std.specs.Io.KnownBytes.{IsAtEnd};
+
 use broker_groups::Broker;
 use std::io::{ErrorKind, Read};
 use std::sync::atomic::{AtomicBool, Ordering};
@@ -26,7 +29,9 @@ impl<'a, B: Broker, I: Read> Watch for Watching<'a, B, I> {
 }
 
 /// Reads to the end. Whether the reader did not fail.
-fn read_to_end<I: Read>(input: &mut I) -> bool {
+fn read_to_end<I: Read>(input: &mut I) -> bool
+    ensures { result ≡ true → IsAtEnd (I.remaining input.new) }
+{
     let mut buffer = [0; INPUT_SIZE];
     for _ in 0..u64::MAX {
         match input.read(&mut buffer) {

@@ -1,10 +1,16 @@
--- The seats that are left are those of the gate.
-use Rattle.std.proofs.Common.{vec_len}
+-- Each hand has a seat and the ports of one worker, and the seats that are left are those of the gate.
+use Rattle.std.proofs.Common.{◌≡◌, ◌+◌, ◌≤◌, length, vec_len, vec_capacity}
 use Rattle.gate_word.specs.Seats.{AreSeatsOf}
 use Rattle.tcp_server.proofs.broker.deal.Given as goal
 
 abbrev pub invariant-hands : goal.invariant-hands
-invariant-hands g l = AreSeatsOf l.gate l.seats.items
+invariant-hands g l = record {
+  seats : AreSeatsOf l.gate l.seats.items;
+  dealt : length l.hands.items + length l.left.items ≡ length l.fn.ports.items;
+  taken : length l.seats.items + length l.hands.items ≡ length l.fn.seats.items;
+  enough : length l.fn.ports.items ≤ length l.fn.seats.items;
+  room : length l.fn.ports.items ≤ vec_capacity l.hands;
+}
 
 abbrev pub decreases-hands : goal.decreases-hands
 decreases-hands g l = vec_len l.left

@@ -1,6 +1,0 @@
--- So many are left.
-use Rattle.std.proofs.Common.{vec_len}
-use Rattle.tcp_server.proofs.reporting.let_go.Given as goal
-
-abbrev pub decreases-answers : goal.decreases-answers
-decreases-answers l = vec_len l.answers
