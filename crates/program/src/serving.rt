@@ -1,4 +1,9 @@
 //! The program with all its commands: `serve` needs threads, sockets and a clock.
+ghost use Rattle.std.specs.Prelude.{◌≤◌, ◌↔◌, map, string_bytes, IsTrue};
+ghost use Rattle.tcp_server.specs.Serving.{IsServedAt};
+ghost use Rattle.program.specs.Ending.{Streams};
+ghost use Rattle.program.specs.Serving.{AskToServe, EndsAsAsked, EndsServing, IsServe};
+
 use crate::asking::answer;
 use crate::ending::{Exit, conclude, perform, run};
 use arguments::{Service, serve_arguments};
@@ -15,10 +20,11 @@ use tcp_server::serve_at;
 /// The word of the command.
 const SERVE: &str = "serve";
 
-/// The program with all its commands: `serve` serves on TCP until the reader has ended, and all others are [`run`]'s.
+/// The program with all its commands: where the word behind its name is `serve`, it serves on TCP until the reader has ended, and for all other words it is
+/// [`run`].
 ///
 /// Of `serve` the status is 0 where the reader has ended, 2 where its words are wrong, 3 where the reader, the output or the network failed, 4 where memory was
-/// refused or the end of a group is not known. It returns only once all connections have ended.
+/// refused or the end of a group is not known. What then stands in the output is that of [`serve_at`]. It returns only once all connections have ended.
 pub fn run_with<H: Threads + Wait + Net + Clock + Sync, R: Read + Send, W: Write, E: Write>(
     rt: &H,
     alloc: Global,
@@ -26,7 +32,14 @@ pub fn run_with<H: Threads + Wait + Net + Clock + Sync, R: Read + Send, W: Write
     reader: &mut R,
     output: &mut W,
     errors: &mut E,
-) -> Exit {
+) -> Exit
+    ensures serves { AskToServe words (λ given. map string_bytes given.items) → EndsServing
+        (record { input = R.remaining reader.old; output = W.contents output.old; errors = E.contents errors.old })
+        (record { input = R.remaining reader.new; output = W.contents output.new; errors = E.contents errors.new }) result }
+    ensures runs { ¬ AskToServe words (λ given. map string_bytes given.items) → EndsAsAsked words (λ given. map string_bytes given.items)
+        (record { input = R.remaining reader.old; output = W.contents output.old; errors = E.contents errors.old })
+        (record { input = R.remaining reader.new; output = W.contents output.new; errors = E.contents errors.new }) result }
+{
     match words {
         Ok(words) => {
             if asks_to_serve(&words) {
@@ -40,10 +53,12 @@ pub fn run_with<H: Threads + Wait + Net + Clock + Sync, R: Read + Send, W: Write
 }
 
 /// Whether the words, the program's name in front, are those of `serve`.
-fn asks_to_serve(words: &[String]) -> bool {
-    match words.get(1) {
-        Some(word) => word.as_str() == SERVE,
-        None => false,
+fn asks_to_serve(words: &[String]) -> bool
+    ensures { IsTrue result ↔ IsServe (map string_bytes words.now) }
+{
+    match words {
+        [_, word, ..] => word.as_str() == SERVE,
+        _ => false,
     }
 }
 
@@ -55,7 +70,11 @@ fn serve<H: Threads + Wait + Net + Clock + Sync, R: Read + Send, W: Write, E: Wr
     reader: &mut R,
     output: &mut W,
     errors: &mut E,
-) -> Exit {
+) -> Exit
+    ensures { EndsServing
+        (record { input = R.remaining reader.old; output = W.contents output.old; errors = E.contents errors.old })
+        (record { input = R.remaining reader.new; output = W.contents output.new; errors = E.contents errors.new }) result }
+{
     let (_name, words) = words.split_at(1.min(words.len()));
     match serve_arguments(alloc, words) {
         Ok(service) => {
@@ -73,7 +92,9 @@ fn serve_as<H: Threads + Wait + Net + Clock + Sync, R: Read + Send, W: Write>(
     service: Service,
     reader: &mut R,
     output: &mut W,
-) -> Result<(), RunError> {
+) -> Result<(), RunError>
+    ensures { IsServedAt service.port service.workers service.setup.groups result (W.contents output.old) (W.contents output.new) }
+{
     let Service {
         address,
         port,

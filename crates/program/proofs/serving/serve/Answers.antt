@@ -1,0 +1,12 @@
+-- A broker was served.
+use Rattle.std.proofs.Common.{inl}
+use Rattle.program.proofs.serving.serve.Goals as goal
+
+pub returns-in-Ok : goal.returns-in-Ok
+returns-in-Ok g c = inl (record {
+  service = c.in-Ok.service;
+  ended = c.serve_as-ended.result;
+  served = c.serve_as-ended.ensures;
+  told = c.conclude.ensures.told;
+  ends_with = c.conclude.ensures.status;
+})
