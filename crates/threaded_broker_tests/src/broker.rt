@@ -2,8 +2,6 @@
 ghost use Rattle.std.specs.Prelude.{◌≡◌, ◌≤◌, All, IfSome};
 ghost use Rattle.gate_word.specs.Seats.{AreSeatsOf};
 ghost use Rattle.broker_groups.specs.Naming.{HasNoneOut, IsOfBroker};
-ghost use Rattle.transport.specs.Arrivals.{ComeNew};
-ghost use Rattle.transport.specs.declared.scripted.Scripted.{Scripted as AnyScripted};
 
 use crate::in_memory::{AlwaysReady, Meeting, NothingToWatch, Silent};
 use broker_groups::{Broker, BrokerPlace, Ended, Key, Named, Opened, Ports};

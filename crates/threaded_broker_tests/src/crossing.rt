@@ -1,7 +1,6 @@
 //! Workers that serve at the same time.
-ghost use Rattle.std.specs.Prelude.{◌≡◌, ◌≤◌, IfOk};
+ghost use Rattle.std.specs.Prelude.{◌≡◌, IfOk};
 ghost use Rattle.transport.specs.Counting.{no_counts};
-ghost use Rattle.transport.specs.Arrivals.{ComeNew};
 
 use crate::broker::{Told, serve_all};
 use std::alloc::{AllocError, Global};
