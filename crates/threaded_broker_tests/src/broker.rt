@@ -17,7 +17,7 @@ use std::rt::Clock;
 use std::sync::Wait;
 use std::thread::Threads;
 use threaded_broker::{Outcome, give_up, serve};
-use transport::{Scripted, ScriptedSource, SetClock};
+use transport::{Scripted, SetClock, Source};
 use worker_pool::Closer;
 
 /// How many messages each group has room for.
@@ -61,7 +61,7 @@ fn count_reports(ended: Ended<'_>) -> usize {
 }
 
 /// What came of a broker that was served to its end.
-fn told_of(outcome: Outcome<'_, ScriptedSource<Scripted>>) -> Told {
+fn told_of<S: Drop>(outcome: Outcome<'_, S>) -> Told {
     let Outcome {
         ended,
         shares: _,
@@ -181,13 +181,17 @@ fn closers<'a, B: Broker>(
 }
 
 /// Serves what comes from a source with all workers of a broker, who meet before each write.
-fn attend<B: Broker + Send + Sync, R: Threads + Wait + Clock + Sync>(
+fn attend<
+    B: Broker + Send + Sync,
+    S: Source<Scripted> + Drop + Send,
+    R: Threads + Wait + Clock + Sync,
+>(
     rt: &R,
     alloc: Global,
     hall: Hall<'_, B>,
     hands: Vec<Hand<B>>,
     workers: u8,
-    source: ScriptedSource<Scripted>,
+    source: S,
     accepting: Closer<'_, B>,
     ending: Closer<'_, B>,
 ) -> Option<Told> {
@@ -222,14 +226,18 @@ fn attend<B: Broker + Send + Sync, R: Threads + Wait + Clock + Sync>(
 }
 
 /// Names what was opened, and serves.
-fn live<B: Broker + Send + Sync, R: Threads + Wait + Clock + Sync>(
+fn live<
+    B: Broker + Send + Sync,
+    S: Source<Scripted> + Drop + Send,
+    R: Threads + Wait + Clock + Sync,
+>(
     rt: &R,
     alloc: Global,
     gate: &Gate,
     seats: &mut Vec<GateSeat>,
     opened: Opened<'_>,
     workers: u8,
-    source: ScriptedSource<Scripted>,
+    source: S,
 ) -> Option<Told>
     requires gate { gate.now ≡ B.gate }
     requires seats { AreSeatsOf gate.now seats.old.items }
@@ -239,7 +247,10 @@ fn live<B: Broker + Send + Sync, R: Threads + Wait + Clock + Sync>(
         groups,
         ports,
         places,
-    } = opened.name::<B>(alloc, workers).ok()?;
+    } = match opened.name::<B>(alloc, workers) {
+        Ok(named) => named,
+        Err(_) => return None,
+    };
     let Ok(desk) = SharedDesk::new(alloc) else {
         groups.abandon();
         return None;
@@ -257,15 +268,15 @@ fn live<B: Broker + Send + Sync, R: Threads + Wait + Clock + Sync>(
 }
 
 /// Opens a broker of so many workers, and serves what comes from a source until that has ended. `None` where memory is refused.
-pub(crate) fn serve_all<R: Threads + Wait + Clock + Sync>(
+pub(crate) fn serve_all<S: Source<Scripted> + Drop + Send, R: Threads + Wait + Clock + Sync>(
     rt: &R,
     alloc: Global,
     workers: u8,
-    source: ScriptedSource<Scripted>,
+    source: S,
 ) -> Option<Told>
     requires { (1 ≤ workers) × (workers ≤ 64) }
 {
     let (gate, mut seats) = Gate::open(alloc, usize::from(workers) + 2).ok()?;
     let opened = Opened::open(alloc, &gate, CAPACITY, workers).ok()?;
-    live::<Brand, R>(rt, alloc, &gate, &mut seats, opened, workers, source)
+    live::<Brand, S, R>(rt, alloc, &gate, &mut seats, opened, workers, source)
 }

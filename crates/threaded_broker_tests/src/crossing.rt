@@ -5,7 +5,7 @@ ghost use Rattle.transport.specs.Counting.{no_counts};
 use crate::broker::{Told, serve_all};
 use std::alloc::{AllocError, Global};
 use std::test::Fail;
-use transport::{Arrival, Scripted, ScriptedSource};
+use transport::{Arrival, Scripted, Source};
 
 /// A connection whose client, with an identifier that ends in this digit, sends a CONNECT and then ends its stream.
 fn client(alloc: Global, digit: u8) -> Result<Scripted, AllocError>
@@ -17,21 +17,49 @@ fn client(alloc: Global, digit: u8) -> Result<Scripted, AllocError>
     Scripted::new(alloc, input, Vec::new(alloc), Vec::new(alloc), 64)
 }
 
-/// Connections of so many clients, each with an identifier of its own.
-fn clients(alloc: Global, count: u8) -> Result<ScriptedSource<Scripted>, AllocError> {
-    let mut turns = Vec::new(alloc);
-    for number in 0..count {
-        let connection = client(alloc, b'1'.saturating_add(number))?;
-        turns.push(Arrival::Came(connection))?;
+/// Where the connections of clients come from, each with an identifier of its own.
+#[derive(Drop)]
+struct Clients {
+    alloc: Global,
+    left: u8,
+    arrivals: u64,
+}
+
+impl Source<Scripted> for Clients {
+    ghost tally = { λ c. record { failures = 0; arrivals = c.arrivals } };
+
+    fn next(&mut self) -> Arrival<Scripted> {
+        if self.left == 0 {
+            return Arrival::End;
+        }
+        match client(self.alloc, b'0'.saturating_add(self.left)) {
+            Ok(connection) => {
+                self.left -= 1;
+                self.arrivals += 1;
+                Arrival::Came(connection)
+            }
+            Err(_) => Arrival::End,
+        }
     }
-    Ok(ScriptedSource::new(turns))
+
+    fn failures(&self) -> u64 {
+        0
+    }
+
+    fn arrivals(&self) -> u64 {
+        self.arrivals
+    }
 }
 
 // As many connections as workers, each of which may write only once all workers have asked to: they are served at the same time, and all end with 0.
 #[test]
 fn crossing(rt: HostRuntime) -> Result<(), Fail> {
     for workers in [2u8, 8] {
-        let source = clients(rt.alloc(), workers)?;
+        let source = Clients {
+            alloc: rt.alloc(),
+            left: workers,
+            arrivals: 0,
+        };
         let told = serve_all(&rt, rt.alloc(), workers, source);
         let well = Told {
             came: u64::from(workers),

@@ -1,5 +1,5 @@
 //! Connections in memory: what waits for them, what wakes a worker, and where workers meet.
-ghost use Rattle.std.specs.Prelude.{◌≡◌};
+ghost use Rattle.std.specs.Prelude.{◌≡◌, ⊤};
 
 use bell::Wake;
 use broker_worker::Poller;
