@@ -1,5 +1,5 @@
 -- The end of a broker's groups: each is ended with what is its own.
-use Rattle.std.specs.Prelude.{◌≡◌, ℕ, min, List, [], ◌∷◌, ◌++◌, length, slice_get, Some, Result}
+use Rattle.std.specs.Prelude.{◌≡◌, ℕ, ◌<◌, min, List, [], ◌∷◌, ◌++◌, length, slice_get, Some, Result}
 use Rattle.std.specs.Global.{Vec}
 use Rattle.group_jobs.specs.Stamps.{Held}
 use Rattle.group_jobs.specs.declared.report.Report.{Report}
@@ -36,6 +36,8 @@ IsAny slot envelope = Unit {0}
 -- each group was ended with its own ports, places and messages
 pub record AreEnded (group : ℕ → GroupId) (ports : List (List PortState)) (places : List PlaceState) (held : List Held) (answers : List (Result Report (Unfinished Nobody))) : Type 0 where
   pub all : length answers ≡ 8
+  -- the group of a slot has the number of that slot
+  pub slots : (slot : ℕ) → slot < 8 → (group slot).slot ≡ slot
   pub each : (slot : ℕ) (answer : Result Report (Unfinished Nobody)) → slice_get answers slot ≡ Some answer
       → Finishes (group slot) (at_slot port_slot slot (joined ports)) (at_slot place_slot slot places) (at_slot held_slot slot held) answer
 

@@ -20,6 +20,7 @@ use Rattle.final_report.specs.Promises.{IsFirstHandedOnce, KeepsOrder, RefusesFo
 use Rattle.final_report.specs.Brokers.{OfEachReport, KeptItsPromises}
 use Rattle.final_report.proofs.Fates.{first_handed_once, tells, refuses_for_good, gives_one_fate}
 use Rattle.final_report.proofs.Orders.{keeps_order}
+use Rattle.final_report.proofs.Held.{none_lacks}
 
 -- what the laws of `group_jobs` say
 abbrev pub OneFate : Type 0
@@ -75,4 +76,5 @@ kept group ports answers strangers one_fate lawful_end e = record {
   one_fate = ended_one_fate group ports e.places e.held answers e.ended one_fate;
   what_happened = ended_what_happened group ports e.places e.held answers e.ended one_fate;
   lawful = ended_lawful group ports e.places e.held answers e.ended lawful_end;
+  none_lacks = none_lacks group ports answers strangers e;
 }

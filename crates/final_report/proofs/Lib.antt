@@ -2,4 +2,5 @@ pub mod Lists
 pub mod Sums
 pub mod Fates
 pub mod Orders
+pub mod Held
 pub mod Brokers

@@ -1,7 +1,10 @@
 -- What a broker promises of the messages of its groups: of each group whose report is given.
-use Rattle.std.specs.Prelude.{◌≡◌, ℕ, List, slice_get, Some, Result, Ok}
+use Rattle.std.specs.Prelude.{◌≡◌, ℕ, List, slice_get, Some, Result, Ok, Err, ⊤}
 use Rattle.group_jobs.specs.Stamps.{Held}
 use Rattle.group_jobs.specs.declared.report.Report.{Report}
+use Rattle.group_queue.specs.declared.error.Lack.TheVariants.{Port, Place, Envelope}
+use Rattle.group_queue.specs.declared.error.FinishError.{FinishError}
+use Rattle.group_queue.specs.declared.error.FinishError.TheVariants.{Missing, Stranger, Memory}
 use Rattle.group_queue.specs.declared.finish.Unfinished.{Unfinished}
 use Rattle.group_queue.specs.declared.witness.Nobody.{Nobody}
 use Rattle.group_queue.specs.Ports.{GroupId, PortState}
@@ -17,6 +20,18 @@ abbrev pub OfEachReport : (List PortState → List PlaceState → List Held → 
 OfEachReport Promised ports places held answers = (slot : ℕ) (report : Report) → slice_get answers slot ≡ Some (Ok report)
     → Promised (at_slot port_slot slot (joined ports)) (at_slot place_slot slot places) (at_slot held_slot slot held) report
 
+-- it is no message for which a group has no report: a port or a place of it is not there, or memory was wanted
+abbrev pub LacksNoMessage : FinishError → Type 0
+LacksNoMessage (Missing (Port number)) = ⊤
+LacksNoMessage (Missing (Place number)) = ⊤
+LacksNoMessage (Missing (Envelope stamp)) = ⊥
+LacksNoMessage (Stranger stamp) = ⊥
+LacksNoMessage Memory = ⊤
+
+-- so it is of each group that has none
+abbrev pub NoneLacksAMessage : List (Result Report (Unfinished Nobody)) → Type 0
+NoneLacksAMessage answers = (slot : ℕ) (left : Unfinished Nobody) → slice_get answers slot ≡ Some (Err left) → LacksNoMessage left.error
+
 -- a broker kept its promises: with the places, and the messages that sessions held, that a lawful desk had
 pub record KeptItsPromises (group : ℕ → GroupId) (ports : List (List PortState)) (answers : List (Result Report (Unfinished Nobody))) (strangers : List Held) : Type 0 where
   pub ended : IsEnded group ports answers strangers
@@ -26,3 +41,5 @@ pub record KeptItsPromises (group : ℕ → GroupId) (ports : List (List PortSta
   pub one_fate : OfEachReport GivesOneFate ports ended.places ended.held answers
   pub what_happened : OfEachReport TellsWhatHappened ports ended.places ended.held answers
   pub lawful : OfEachReport EndsLawfully ports ended.places ended.held answers
+  -- what was out at a member's place is what a session held that the desk had, whichever worker ended it
+  pub none_lacks : NoneLacksAMessage answers

@@ -58,7 +58,8 @@ pub fn end_groups<'g, B: Broker, R: Wait>(
 }
 
 /// Ends a broker whose gate was drained, with the ports of all its workers: the same, of the places, and the messages that
-/// sessions held, that its desk has.
+/// sessions held, that its desk has. These are just the messages that are out at these places, so no group lacks one at its end
+/// (`none_lacks`): where one has no report, a port or a place of it is not there, or memory was wanted.
 ///
 /// # Errors
 ///

@@ -51,6 +51,7 @@ pub struct Outcome<'g, S> {
 /// And of the broker:
 ///
 /// - no connection had more unacknowledged PUBLISH packets than its Receive Maximum, at any moment of its life (`within_receive_maximum`);
+/// - no group lacks a message at its end, whichever worker ended the session that held it (`none_lacks`);
 /// - nothing was accepted or handed out once the gate was drained (`closed`): the token of that is here, with which there is no turn of the gate.
 ///
 /// # Errors

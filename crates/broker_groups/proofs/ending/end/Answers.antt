@@ -2,7 +2,7 @@
 use Rattle.std.proofs.Common.{◌<◌, List, slice_get, sym, ap, ◌∙◌, subst, arith, append-nil}
 use Rattle.std.proofs.lemmas.Option.{slice_get_within}
 use Rattle.group_jobs.specs.Stamps.{Held}
-use Rattle.group_queue.specs.Ports.{PortState, IsPortOf}
+use Rattle.group_queue.specs.Ports.{GroupId, PortState, IsPortOf}
 use Rattle.group_queue.specs.Places.{PlaceState, IsPlaceOf}
 use Rattle.group_queue.specs.Finishing.{Finishes}
 use Rattle.broker_groups.specs.Sorting.{at_slot}
@@ -20,6 +20,11 @@ finish_each-answers-requires-clause-places g c = λ slot row at. All-at (IsPlace
 pub returns-clause-ended : goal.returns-clause-ended
 returns-clause-ended g c = record {
   all = c.finish_each-answers.ensures.all;
+  slots = λ slot less.
+      let named = c.into_groups-groups.ensures.named in
+      let it = there c.into_groups-groups.result.items slot (omega (arith, less, named.all)) in
+      let is = named.each slot it.0 it.1 in
+      ap (λ (one : GroupId). one.slot) (sym is.0) ∙ is.1;
   each = λ slot answer at.
       let group = g.B.Broker.group slot in
       let less : slot < 8 = (let within = slice_get_within c.finish_each-answers.result.items slot answer at in omega (arith, within, c.finish_each-answers.ensures.all)) in
