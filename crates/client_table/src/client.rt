@@ -244,6 +244,7 @@ impl<P: HoldingPlace> Client<P> {
     }
 
     /// This input ends its connection, since memory was wanted.
+    #[inline(never)]
     #[tactic(auto, using(crate::proofs::Given::unsaid))]
     fn give_up<S: Supply<P>>(&mut self, supply: &mut S, now: u64, input: Input) -> NoMemory
         requires wanted { IsNoPacket input }

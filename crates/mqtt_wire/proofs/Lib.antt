@@ -19,6 +19,7 @@ pub mod BodyLaws
 pub mod NextLaws
 pub mod WritingLaws
 pub mod PropertySizeLaws
+pub mod SmallLaws
 pub mod ShortLaws
 pub mod StreamLaws
 pub mod PieceLaws

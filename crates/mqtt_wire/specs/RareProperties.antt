@@ -1,5 +1,5 @@
 -- The properties of a PUBLISH that has none, and those that stand apart from it.
-use Rattle.std.specs.Prelude.{List, [], Option, Some, None}
+use Rattle.std.specs.Prelude.{[], Option, Some, None}
 use Rattle.mqtt_wire.specs.declared.packet_properties.PublishProperties.{PublishProperties}
 
 abbrev pub no_properties : PublishProperties

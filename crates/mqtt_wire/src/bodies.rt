@@ -182,6 +182,14 @@ fn read_publish_properties(alloc: Global, body: &mut Bytes) -> Result<RareProper
         body.advance(1);
         return Ok(RareProperties::none());
     }
+    read_rare_properties(alloc, body)
+}
+
+/// Takes the properties of a PUBLISH that may have some.
+#[inline(never)]
+fn read_rare_properties(alloc: Global, body: &mut Bytes) -> Result<RareProperties, Fault>
+    ensures { GivesPublish result body.new (properties_at Section.Publish body.old) }
+{
     let properties = read_properties(alloc, Section::Publish, body)?.into_publish();
     Ok(RareProperties::new(alloc, properties)?)
 }

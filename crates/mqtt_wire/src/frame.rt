@@ -6,6 +6,7 @@ ghost use Rattle.mqtt_wire.specs.Bodies.{body_at};
 ghost use Rattle.mqtt_wire.specs.Frame.{TakesHeader, TakesBody};
 
 use crate::bodies::read_body;
+use crate::body_room::BodyRoom;
 use crate::fault::{Fault, StreamFault};
 use crate::header::{FixedHeader, read_header};
 use crate::kind::Kind;
@@ -33,14 +34,10 @@ pub(crate) fn take_header(stream: &mut BytesMut) -> Result<Option<FixedHeader>, 
     Ok(Some(header))
 }
 
-/// Takes the body behind a header off the stream, whose buffer has so many bytes; `None` where it is not whole yet. An `Err`
-/// comes only where it is, and changes nothing.
-///
-/// What is kept of a packet shares the bytes of its body, and may wait long. So a body of which something may be kept gets
-/// bytes of its own where it is less than half of the buffer; any other body shares those of the stream.
+/// Takes the body behind a header off the stream; `None` where it is not whole yet. An `Err` comes only where it is, and changes nothing of the
+/// stream.
 pub(crate) fn take_body(
-    alloc: Global,
-    block: usize,
+    room: &mut BodyRoom,
     header: FixedHeader,
     stream: &mut BytesMut,
 ) -> Result<Option<Frame>, AllocError>
@@ -50,18 +47,8 @@ pub(crate) fn take_body(
     if stream.len() < remaining {
         return Ok(None);
     }
-    if remaining >= block / 2 || !may_be_kept(kind) {
-        let body = stream.freeze_to(remaining)?;
-        return Ok(Some(Frame { kind, body }));
-    }
-    let body = Bytes::copy_from_slice(alloc, &stream.as_slice()[..remaining])?;
-    stream.advance(remaining);
+    let body = room.take(kind, remaining, stream)?;
     Ok(Some(Frame { kind, body }))
-}
-
-/// Whether a text or a payload of such a packet may be kept: an identifier, a filter, a message.
-fn may_be_kept(kind: Kind) -> bool {
-    matches!(kind, Kind::Connect | Kind::Publish(_) | Kind::Subscribe)
 }
 
 /// Reads the packet.

@@ -21,6 +21,7 @@
 
 mod binary;
 mod bodies;
+mod body_room;
 mod body_writing;
 mod boxed;
 mod fault;

@@ -1,7 +1,12 @@
 //! Short packets, read where they stand on the stream.
 
+ghost use Rattle.std.specs.Prelude.{◌≡◌, None};
+ghost use Rattle.mqtt_wire.specs.Stream.{AreBytes};
 ghost use Rattle.mqtt_wire.specs.Frame.{TakesShort};
 
+use crate::bodies::read_body;
+use crate::body_room::BodyRoom;
+use crate::header::read_header;
 use crate::identifier::PacketIdentifier;
 use crate::packet::{Disconnect, Packet, Puback};
 use crate::packet_properties::{DisconnectProperties, PubackProperties};
@@ -9,15 +14,37 @@ use crate::reason_code::ReasonCode;
 use bytes::BytesMut;
 use std::alloc::Global;
 
-/// Takes a PUBACK or a DISCONNECT of Reason Code 00 without properties off the stream, where one stands in front and is
-/// lawful.
-pub(crate) fn take_short(alloc: Global, stream: &mut BytesMut) -> Option<Packet>
-    ensures { TakesShort stream.old.items result stream.new.items }
+/// Takes a PUBACK or a DISCONNECT of Reason Code 00 without properties, or a packet with a small body that is copied, off the stream, where one
+/// stands whole in front and is lawful.
+pub(crate) fn take_short(
+    alloc: Global,
+    room: &mut BodyRoom,
+    stream: &mut BytesMut,
+) -> Option<Packet>
+    ensures taken { AreBytes stream.old.items → TakesShort stream.old.items result stream.new.items }
+    ensures same { result ≡ None → stream.new.items ≡ stream.old.items }
 {
-    match take_short_puback(alloc, stream) {
-        Some(packet) => Some(packet),
-        None => take_short_disconnect(alloc, stream),
+    if let Some(packet) = take_short_puback(alloc, stream) {
+        return Some(packet);
     }
+    if let Some(packet) = take_short_disconnect(alloc, stream) {
+        return Some(packet);
+    }
+    take_small(alloc, room, stream)
+}
+
+/// Takes a packet with a small body that is copied. One comes for each job.
+fn take_small(alloc: Global, room: &mut BodyRoom, stream: &mut BytesMut) -> Option<Packet>
+    ensures taken { AreBytes stream.old.items → TakesShort stream.old.items result stream.new.items }
+    ensures same { result ≡ None → stream.new.items ≡ stream.old.items }
+{
+    let bytes = stream.as_slice();
+    let (header, rest) = read_header(bytes).ok()??;
+    let body = room.copy_small(header, rest)?;
+    let size = bytes.len() - rest.len() + header.remaining;
+    let packet = read_body(alloc, header.kind, body).ok()?;
+    stream.advance(size);
+    Some(packet)
 }
 
 /// Takes a PUBACK of four bytes. One comes for each job.

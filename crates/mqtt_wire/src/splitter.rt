@@ -4,6 +4,7 @@ ghost use Rattle.std.specs.Prelude.{◌≡◌, [], length, IsTrue, None, Some};
 ghost use Rattle.mqtt_wire.specs.Stream.{AreBytes, NextAnswers, FeedAnswers, ReadAnswers};
 ghost use Rattle.mqtt_wire.specs.Frame.{IsHeld, ReachesHeader, ReachesPacket, TakesPacket, fault_in};
 
+use crate::body_room::BodyRoom;
 use crate::fault::{Fault, ReadFault, StreamFault};
 use crate::frame::{Frame, read_frame, take_body, take_header};
 use crate::header::FixedHeader;
@@ -32,15 +33,15 @@ pub(crate) enum InHand {
 ///
 /// A contract sees it as the bytes that it has not read yet and the fault that it met, if it met one. The texts and the
 /// payload of a packet share the bytes of its body. The body of a CONNECT, PUBLISH or SUBSCRIBE that is less than half of the
-/// stream's buffer gets bytes of its own, so that what is kept of it keeps no more than twice its size; any other shares
-/// those of the stream.
+/// stream's buffer is copied: one of at most 128 bytes into a block of 512, which it shares with others, and a longer one into
+/// bytes of its own. Any other shares those of the stream. So what is kept of a packet keeps no more than 512 bytes, or twice the
+/// size of its body.
 #[derive(Drop)]
 pub struct Splitter {
     alloc: Global,
     in_hand: InHand,
     stream: BytesMut,
-    // The most bytes that the stream's buffer had room for.
-    block: usize,
+    room: BodyRoom,
     fault: Option<StreamFault>,
 }
 
@@ -66,7 +67,7 @@ impl Splitter {
             alloc,
             in_hand: InHand::Nothing,
             stream: BytesMut::new(alloc),
-            block: 0,
+            room: BodyRoom::new(alloc),
             fault: None,
         }
     }
@@ -80,7 +81,7 @@ impl Splitter {
             return Err(Fault::Stream(fault));
         }
         make_room(&mut self.stream, piece.len())?;
-        self.block = self.block.max(self.stream.capacity());
+        self.room.note(self.stream.capacity());
         self.stream.extend_from_slice(piece)?;
         Ok(())
     }
@@ -97,7 +98,7 @@ impl Splitter {
             return Err(ReadFault::Refused(Fault::Stream(fault)));
         }
         self.stream.reserve(LEAST_ROOM)?;
-        self.block = self.block.max(self.stream.capacity());
+        self.room.note(self.stream.capacity());
         let before = self.stream.len();
         self.stream.read_from(reader)?;
         Ok(count(&self.stream) - before)
@@ -120,7 +121,12 @@ impl Splitter {
         if self.is_drained() {
             return Ok(None);
         }
-        let answer = take_packet(self.alloc, self.block, &mut self.in_hand, &mut self.stream);
+        let answer = take_packet(
+            self.alloc,
+            &mut self.room,
+            &mut self.in_hand,
+            &mut self.stream,
+        );
         self.fault = stream_fault(&answer);
         answer
     }
@@ -164,30 +170,31 @@ fn stream_fault(answer: &Result<Option<Packet>, Fault>) -> Option<StreamFault>
 /// Takes the next packet, once all of it is there.
 fn take_packet(
     alloc: Global,
-    block: usize,
+    room: &mut BodyRoom,
     in_hand: &mut InHand,
     stream: &mut BytesMut,
 ) -> Result<Option<Packet>, Fault>
     ensures { IsHeld in_hand.old stream.old.items → TakesPacket in_hand.old stream.old.items result in_hand.new stream.new.items }
 {
     if let InHand::Nothing = in_hand {
-        if let Some(packet) = take_short(alloc, stream) {
+        if let Some(packet) = take_short(alloc, room, stream) {
             return Ok(Some(packet));
         }
     }
-    take_framed(alloc, block, in_hand, stream)
+    take_framed(alloc, room, in_hand, stream)
 }
 
 /// Takes the next packet, its header and then its body.
+#[inline(never)]
 fn take_framed(
     alloc: Global,
-    block: usize,
+    room: &mut BodyRoom,
     in_hand: &mut InHand,
     stream: &mut BytesMut,
 ) -> Result<Option<Packet>, Fault>
     ensures { IsHeld in_hand.old stream.old.items → TakesPacket in_hand.old stream.old.items result in_hand.new stream.new.items }
 {
-    reach_packet(alloc, block, in_hand, stream)?;
+    reach_packet(room, in_hand, stream)?;
     let InHand::Whole(frame) = in_hand else {
         return Ok(None);
     };
@@ -198,8 +205,7 @@ fn take_framed(
 
 /// Takes what is there of the packet in front: its header, and then its body.
 fn reach_packet(
-    alloc: Global,
-    block: usize,
+    room: &mut BodyRoom,
     in_hand: &mut InHand,
     stream: &mut BytesMut,
 ) -> Result<(), Fault>
@@ -207,7 +213,7 @@ fn reach_packet(
 {
     reach_header(in_hand, stream)?;
     if let InHand::Headed(header) = in_hand {
-        if let Some(frame) = take_body(alloc, block, *header, stream)? {
+        if let Some(frame) = take_body(room, *header, stream)? {
             *in_hand = InHand::Whole(frame);
         }
     }

@@ -88,5 +88,12 @@ fn is_valid(bytes: &[u8]) -> bool
     if bytes.contains(&0) {
         return false;
     }
-    simdutf8::is_utf8(bytes)
+    is_utf8(bytes)
+}
+
+/// Whether the bytes are well-formed UTF-8. Most texts are ASCII, which takes a short look.
+fn is_utf8(bytes: &[u8]) -> bool
+    ensures { IsTrue result ↔ IsUtf8 bytes.now }
+{
+    bytes.is_ascii() || simdutf8::is_utf8(bytes)
 }
