@@ -1,3 +1,4 @@
 pub mod Accounting
 pub mod Living
 pub mod Swept
+pub mod Ticking

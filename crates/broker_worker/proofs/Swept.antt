@@ -1,5 +1,6 @@
 -- Of the connections of a worker it stays known since when each of them went on.
 use Rattle.std.proofs.Common.{◌≡◌, ◌≢◌, ◌<◌, ◌≤◌, ◌+◌, ℕ, Bool, List, length, Option, Some, None, replicate, All, get_or, sym, subst, inl, inr, ⊎_elim, arith}
+use Rattle.std.proofs.Math.Nat.{le-max_left, le_trans}
 use Rattle.std.specs.List.{slice_get, slice_set}
 use Rattle.std.proofs.lemmas.Option.{slice_get_within}
 use Rattle.std.proofs.lemmas.Bool.{cases_eq}
@@ -12,7 +13,7 @@ use Rattle.service_table.specs.Cells.{InCell, Opens, Tells, Turns}
 use Rattle.service_table.specs.declared.turned.Turned.{Turned}
 use Rattle.service_table.specs.declared.turned.Turned.TheVariants.{Vacant, Goes, Ended}
 use Rattle.broker_worker.specs.declared.sweeps.Sweeps.{Sweeps}
-use Rattle.broker_worker.specs.Sweeping.{AreSwept, IfFreshSince, Notes}
+use Rattle.broker_worker.specs.Sweeping.{AreSwept, Begins, IfFreshSince, Notes, looked}
 
 before_it : (k n : ℕ) → k ≢ n → k < n + 1 → k < n
 before_it k n apart within = omega arith
@@ -37,21 +38,27 @@ module _ {P T : Type 0} where
     begun = omega (arith, begun);
   }
 
-  -- the moment is a later one
-  pub later : (cells : List (Option (ServiceState P T))) (old new : Sweeps) → AreSwept old cells → old.latest ≤ new.latest → new ≡ record old { latest = new.latest } → AreSwept new cells
-  later cells old new are le is = subst (λ (it : Sweeps). AreSwept it cells) (sym is) (record {
+  -- the worker looked at its clock
+  pub looks : (cells : List (Option (ServiceState P T))) (old new : Sweeps) (now : ℕ) → AreSwept old cells → new ≡ looked now old → AreSwept new cells
+  looks cells old new now are is = subst (λ (it : Sweeps). AreSwept it cells) (sym is) (record {
     all = are.all;
     some = are.some;
-    swept = omega (arith, are.swept, le);
-    begun = omega (arith, are.begun, le);
+    swept = are.swept;
+    begun = le_trans are.begun (le-max_left old.latest now);
   })
 
   -- a sweep begins
-  pub begins : (cells : List (Option (ServiceState P T))) (old new : Sweeps) → AreSwept old cells → old.latest ≤ new.latest → new ≡ record old { begun = new.latest; gone = 0; latest = new.latest } → AreSwept new cells
-  begins cells old new are le is = subst (λ (it : Sweeps). AreSwept it cells) (sym is) (record {
+  pub begins : (cells : List (Option (ServiceState P T))) (old new : Sweeps) → AreSwept old cells → Begins (length cells) old new → AreSwept new cells
+  begins cells old new are (inl none) = subst (λ (it : Sweeps). AreSwept it cells) (sym none.1) (record {
+    all = λ k d within. absurd (omega (arith, within, none.0));
+    some = λ cell below. absurd (omega (arith, below));
+    swept = omega arith;
+    begun = omega arith;
+  })
+  begins cells old new are (inr some) = subst (λ (it : Sweeps). AreSwept it cells) (sym some.1) (record {
     all = are.all;
     some = λ cell below. absurd (omega (arith, below));
-    swept = omega (arith, are.swept, le);
+    swept = omega (arith, are.swept, are.begun);
     begun = omega arith;
   })
 
@@ -61,7 +68,7 @@ module _ {P T : Type 0} where
   touched cells cells' cell before after sweeps are has is fresh =
       let within = slice_get_within cells cell before has in
       subst (λ (those : List (Option (ServiceState P T))). AreSwept sweeps those) (sym is) (record {
-        all = All-set (IfFreshSince sweeps.swept) cells cell after (earlier sweeps.latest sweeps.swept after are.swept fresh) are.all;
+        all = All-set (IfFreshSince sweeps.swept) cells cell after (earlier sweeps.latest sweeps.swept after (omega (arith, are.swept, are.begun)) fresh) are.all;
         some = λ k below. ⊎_elim
             (λ (same : k ≡ cell).
             subst (λ n. IfFreshSince sweeps.begun (get_or (slice_set cells cell after) n None)) (sym same)
@@ -80,11 +87,10 @@ module _ {P T : Type 0} where
       (subst (IfFreshSince since) (sym (get_or-set_same cells cell after None (slice_get_within cells cell before has))) fresh)
 
   -- behind one that was opened
-  pub opened_one : (cells cells' : List (Option (ServiceState P T))) (now cell : ℕ) (transport : T) (old mid : Sweeps) → AreSwept old cells → InCell cells cell (Opens now transport) cells'
-      → now ≡ mid.latest → old.latest ≤ mid.latest → mid ≡ record old { latest = mid.latest } → AreSwept mid cells'
-  opened_one cells cells' now cell transport old mid are made is le same =
-      touched cells cells' cell made.before made.after mid (later cells old mid are le same) made.has made.is
-      (subst (λ n. IfFreshSince n made.after) is (opens now transport made.before made.after made.becomes))
+  pub opened_one : (cells cells' : List (Option (ServiceState P T))) (cell : ℕ) (transport : T) (sweeps : Sweeps) → AreSwept sweeps cells → InCell cells cell (Opens sweeps.latest transport) cells'
+      → AreSwept sweeps cells'
+  opened_one cells cells' cell transport sweeps are made =
+      touched cells cells' cell made.before made.after sweeps are made.has made.is (opens sweeps.latest transport made.before made.after made.becomes)
 
   -- that it went on is noted
   pub noted : (cells : List (Option (ServiceState P T))) (cell : ℕ) (old new : Sweeps) → AreSwept old cells → IfFreshSince old.latest (get_or cells cell None)
@@ -99,7 +105,7 @@ module _ {P T : Type 0} where
       subst (λ (it : Sweeps). AreSwept it cells) (sym last.2) (record {
         all = λ k d within. subst (IfFreshSince old.begun) (sym (get_or_default cells k d None within)) (up_to last.0 k (omega (arith, within, last.1)));
         some = λ k below. absurd (omega (arith, below));
-        swept = are.begun;
+        swept = omega arith;
         begun = are.begun;
       }))
       next)
@@ -126,12 +132,12 @@ module _ {S P T : Type 0} (call : S → Fact P → S → Type 0) (turn : S → S
   turns now (Some service) supply turned after supply' made = tells turned made.0 now after made.2
 
   -- behind a round that is noted
-  pub rounds : (cells cells' : List (Option (ServiceState P T))) (now cell count : ℕ) (supply supply' : S) (turned : Turned T) (old mid new : Sweeps) → AreSwept old cells
-      → InCell cells cell (λ before after. Turns call turn visiting slot_of counts given accepted now before supply turned after supply') cells'
-      → now ≡ mid.latest → old.latest ≤ mid.latest → mid ≡ record old { latest = mid.latest } → count ≡ length cells' → Notes cell count mid new → AreSwept new cells'
-  rounds cells cells' now cell count supply supply' turned old mid new are made is le same long notes =
-      let fresh = subst (λ n. IfFreshSince n made.after) is (turns now made.before supply turned made.after supply' made.becomes) in
-      noted cells' cell mid new
-      (touched cells cells' cell made.before made.after mid (later cells old mid are le same) made.has made.is fresh)
-      (here cells cells' cell made.before made.after mid.latest made.has made.is fresh)
-      (subst (λ n. Notes cell n mid new) long notes)
+  pub rounds : (cells cells' : List (Option (ServiceState P T))) (cell count : ℕ) (supply supply' : S) (turned : Turned T) (old new : Sweeps) → AreSwept old cells
+      → InCell cells cell (λ before after. Turns call turn visiting slot_of counts given accepted old.latest before supply turned after supply') cells'
+      → count ≡ length cells' → Notes cell count old new → AreSwept new cells'
+  rounds cells cells' cell count supply supply' turned old new are made long notes =
+      let fresh = turns old.latest made.before supply turned made.after supply' made.becomes in
+      noted cells' cell old new
+      (touched cells cells' cell made.before made.after old are made.has made.is fresh)
+      (here cells cells' cell made.before made.after old.latest made.has made.is fresh)
+      (subst (λ n. Notes cell n old new) long notes)

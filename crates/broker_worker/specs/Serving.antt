@@ -12,28 +12,42 @@ use Rattle.service_table.specs.Cells.{InCell, Opens, occupied}
 use Rattle.shared_supply.specs.Calls.{Calls}
 use Rattle.shared_supply.specs.Workers.{Turns, is_visiting}
 use Rattle.broker_worker.specs.declared.served.ServedCounts.{ServedCounts}
+use Rattle.broker_worker.specs.declared.sweeps.Sweeps.{Sweeps}
 use Rattle.broker_worker.specs.Counting.{counts_of, none_served}
 use Rattle.broker_worker.specs.Lives.{IfLived, IsLife}
+use Rattle.broker_worker.specs.Sweeping.{KeepsMoment}
 
--- the end of the channel, how many connections are open, the counts of those that have ended, and the moment since which all that are open went on
+-- the end of the channel, the cells with the connections that are open, the counts of those that have ended, and when those that are open went on
 pub record ConnectionsState (T : Type 0) : Type 0 where
   pub receiver : ReceiverState T
-  pub live : ℕ
+  pub cells : List (Option (ServiceState PlaceState T))
   pub served : ServedCounts
-  pub swept : ℕ
+  pub sweeps : Sweeps
+
+-- how many connections are open
+abbrev pub live : {T : Type 0} → ConnectionsState T → ℕ
+live connections = occupied connections.cells
 
 -- none was received yet
-abbrev pub fresh_connections : {T : Type 0} → ReceiverState T → ConnectionsState T
-fresh_connections receiver = record { receiver = receiver; live = 0; served = none_served; swept = 0 }
+pub record AreFresh {T : Type 0} (receiver : ReceiverState T) (connections : ConnectionsState T) : Type 0 where
+  pub receiver_is : connections.receiver ≡ receiver
+  pub none_live : live connections ≡ 0
+  pub none_ended : connections.served ≡ none_served
 
 -- they come through the same channel as before
 abbrev pub StaysOf : {T : Type 0} → ConnectionsState T → ConnectionsState T → Type 0
 StaysOf old new = new.receiver.channel ≡ old.receiver.channel
 
+-- behind a round too, which leaves the worker's moment and the number of cells as they are
+pub record Rounds {T : Type 0} (old new : ConnectionsState T) : Type 0 where
+  pub stays : StaysOf old new
+  pub keeps : KeepsMoment old.sweeps new.sweeps
+  pub count : length new.cells ≡ length old.cells
+
 -- the end mark was received, and no connection is open
 pub record IsDone {T : Type 0} (connections : ConnectionsState T) : Type 0 where
   pub mark : connections.receiver.end_marks_received ≡ 1
-  pub none_live : connections.live ≡ 0
+  pub none_live : live connections ≡ 0
 
 -- a connection that came is opened in a cell at this moment, or in none
 abbrev pub Admits : {T : Type 0} → (T → Counts) → ℕ → List (Option (ServiceState PlaceState T)) → Option ℕ → List (Option (ServiceState PlaceState T)) → Type 0

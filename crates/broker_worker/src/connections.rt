@@ -1,9 +1,9 @@
 //! The connections of a worker: those that it received are open, or have ended and are counted.
-ghost use Rattle.std.specs.Prelude.{◌≡◌, ◌<◌, [], None, true, replicate, length};
+ghost use Rattle.std.specs.Prelude.{◌≡◌, ◌<◌, [], None, true, false, replicate, length};
 ghost use Rattle.transport.specs.Counting.{no_counts};
-ghost use Rattle.service_table.specs.Cells.{occupied};
 ghost use Rattle.broker_worker.specs.Counting.{none_served};
-ghost use Rattle.broker_worker.specs.Serving.{Admits, AreServed, IsDone, StaysOf, fresh_connections};
+ghost use Rattle.broker_worker.specs.Serving.{Admits, AreFresh, AreServed, IsDone, Rounds, StaysOf, live};
+ghost use Rattle.broker_worker.specs.Sweeping.{AreTicked, Begins, HasGone, IsInTime, Notes, WaitsInTime, looked};
 
 use crate::arrived::Arrived;
 use crate::hand::Hand;
@@ -21,8 +21,8 @@ use transport::{Crossing, Transport};
 
 /// The connections that a worker received, each in a cell of its table as long as it is open, and what they ask of the broker.
 ///
-/// Contracts see it as a `ConnectionsState`: what was received of the channel, how many connections are open, and how many have ended in which way. Each
-/// of them lived as a connection is served, from its opening on; and since when all that are open went on.
+/// Contracts see it as a `ConnectionsState`: what was received of the channel, which connections are open and when they went on, and how many have ended in
+/// which way. Each of them lived as a connection is served, from its opening on.
 pub(crate) struct Connections<'a, 'g, B: Broker, T: Transport + Drop, R: Wait> {
     receiver: Receiver<Arrived<T>>,
     table: ServiceTable<BrokerPlace<B>, T>,
@@ -33,13 +33,12 @@ pub(crate) struct Connections<'a, 'g, B: Broker, T: Transport + Drop, R: Wait> {
 
 impl<'a, 'g, B: Broker, T: Transport + Drop, R: Wait> Model for Connections<'a, 'g, B, T, R> {
     ghost use Rattle.std.specs.Prelude.{length};
-    ghost use Rattle.service_table.specs.Cells.{occupied};
     ghost use Rattle.broker_worker.specs.Serving.{ConnectionsState, IsAccounted};
     ghost use Rattle.broker_worker.specs.Sweeping.{AreSwept};
 
     ghost Value = { ConnectionsState T };
 
-    ghost view = { λ c. record { receiver = c.receiver; live = occupied c.table; served = c.served; swept = c.sweeps.swept } };
+    ghost view = { λ c. record { receiver = c.receiver; cells = c.table; served = c.served; sweeps = c.sweeps } };
 
     ghost invariant = { λ c. IsAccounted B.group T.counts T.given T.accepted (length c.receiver.received) c.table c.served × AreSwept c.sweeps c.table };
 }
@@ -75,7 +74,7 @@ impl<'a, 'g, B: Broker, T: Transport + Drop, R: Wait> Connections<'a, 'g, B, T, 
     ) -> Connections<'a, 'g, B, T, R>
         requires receiver { receiver.received ≡ [] }
         requires table { table ≡ replicate (length table) None }
-        ensures { result ≡ fresh_connections receiver }
+        ensures { AreFresh receiver result }
     {
         Connections {
             receiver,
@@ -87,7 +86,9 @@ impl<'a, 'g, B: Broker, T: Transport + Drop, R: Wait> Connections<'a, 'g, B, T, 
     }
 
     /// How many cells there are.
-    pub(crate) fn len(&self) -> usize {
+    pub(crate) fn len(&self) -> usize
+        ensures { result ≡ length self.now.cells }
+    {
         self.table.len()
     }
 
@@ -103,18 +104,33 @@ impl<'a, 'g, B: Broker, T: Transport + Drop, R: Wait> Connections<'a, 'g, B, T, 
         self.receiver.is_ended() && self.table.is_empty()
     }
 
-    /// All that are open went on at this moment or later.
-    pub(crate) fn swept(&self) -> u64
-        ensures { result ≡ self.now.swept }
+    /// The worker looked at its clock, which told this moment.
+    pub(crate) fn look(&mut self, now: u64)
+        ensures { self.new ≡ record self.old { sweeps = looked now self.old.sweeps } }
     {
-        self.sweeps.swept
+        self.sweeps.look(now);
     }
 
-    /// From this moment on it counts which of them went on, until all have.
-    pub(crate) fn begin_sweep(&mut self, now: u64)
-        ensures { self.new ≡ self.old }
+    /// Whether each of them is to go on. Then a sweep begins, in which they do so one after the other.
+    pub(crate) fn begin_sweep(&mut self) -> bool
+        ensures same { self.new ≡ record self.old { sweeps = self.new.sweeps } }
+        ensures begins { result ≡ true → Begins (length self.old.cells) self.old.sweeps self.new.sweeps }
+        ensures late { result ≡ true → HasGone 0 (length self.new.cells) self.new.sweeps }
+        ensures in_time { result ≡ false → (self.new.sweeps ≡ self.old.sweeps) × IsInTime self.new.sweeps }
     {
-        self.sweeps.begin(now);
+        if !self.sweeps.is_late() {
+            return false;
+        }
+        self.sweeps.begin(self.table.len());
+        true
+    }
+
+    /// For how many milliseconds at most a worker may wait until its connections are to go on.
+    pub(crate) fn left(&self) -> u64
+        ensures in_time { WaitsInTime result self.now.sweeps.latest self.now.sweeps.swept }
+        ensures ticked { IsInTime self.now.sweeps → AreTicked self.now.sweeps.latest self.now.cells }
+    {
+        self.sweeps.left()
     }
 
     /// The slot of the group that the client in a cell would be handed a message of.
@@ -138,15 +154,15 @@ impl<'a, 'g, B: Broker, T: Transport + Drop, R: Wait> Connections<'a, 'g, B, T, 
         self.supply.take_wakes()
     }
 
-    /// Receives what comes through the channel. A connection is watched by the poller and opened at this moment; where there is no memory for it, or the
+    /// Receives what comes through the channel. A connection is watched by the poller and opened at the worker's moment; where there is no memory for it, or the
     /// system does not watch it, it has ended at once.
-    pub(crate) fn receive<Q: Poller<T>>(&mut self, rt: &R, poller: &mut Q, now: u64) -> Came
+    pub(crate) fn receive<Q: Poller<T>>(&mut self, rt: &R, poller: &mut Q) -> Came
         ensures { StaysOf self.old self.new }
     {
         if self.receiver.is_ended() {
             return Came::Nothing;
         }
-        let now = self.sweeps.moment(now);
+        let now = self.sweeps.latest;
         match self.receiver.receive(rt) {
             Received::Connection(arrived) => {
                 match admit(&mut self.table, poller, arrived.into_transport(), now) {
@@ -162,23 +178,23 @@ impl<'a, 'g, B: Broker, T: Transport + Drop, R: Wait> Connections<'a, 'g, B, T, 
         }
     }
 
-    /// The connection in a cell goes on by a round. Where that ends it, it is not watched any more.
+    /// The connection in a cell goes on by a round, at the worker's moment. Where that ends it, it is not watched any more.
     pub(crate) fn round<X: Crossing, Q: Poller<T>>(
         &mut self,
         cell: usize,
         crossing: &X,
         poller: &mut Q,
         worker: u32,
-        now: u64,
         buffer: &mut [u8],
     ) -> Went
         requires room { 0 < length buffer.old }
-        ensures { StaysOf self.old self.new }
+        ensures goes { Rounds self.old self.new }
+        ensures notes { cell < length self.old.cells → Notes cell (length self.old.cells) self.old.sweeps self.new.sweeps }
     {
         if cell >= self.table.len() {
             return Went::Nowhere;
         }
-        let now = self.sweeps.moment(now);
+        let now = self.sweeps.latest;
         let turned = self
             .table
             .round(cell, &mut self.supply, crossing, worker, now, buffer);
@@ -197,7 +213,7 @@ impl<'a, 'g, B: Broker, T: Transport + Drop, R: Wait> Connections<'a, 'g, B, T, 
     /// What they had of the broker, the end of the channel, and how they ended. Any that is still open ends as where the broker closes.
     pub(crate) fn into_parts(self) -> (Hand<B>, Receiver<Arrived<T>>, ServedCounts)
         ensures receiver { result.1 ≡ self.entry.receiver }
-        ensures served { (self.entry.live ≡ 0) → AreServed B.group T.counts T.given T.accepted (length self.entry.receiver.received) result.2 }
+        ensures served { (live self.entry ≡ 0) → AreServed B.group T.counts T.given T.accepted (length self.entry.receiver.received) result.2 }
     {
         let Connections {
             receiver,

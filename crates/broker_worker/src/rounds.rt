@@ -1,12 +1,13 @@
 //! The rounds of a worker's connections: which are to go on in its turn, and who is handed a job.
-ghost use Rattle.std.specs.Prelude.{◌≡◌};
-ghost use Rattle.broker_worker.specs.Serving.{StaysOf};
+ghost use Rattle.std.specs.Prelude.{◌≡◌, ◌<◌, ◌+◌, true, false, length};
+ghost use Rattle.broker_worker.specs.Serving.{Rounds};
+ghost use Rattle.broker_worker.specs.Sweeping.{HasGone, IsInTime, Notes};
 
 use crate::connections::Went;
 use crate::members::Wish;
 use crate::outfit::SLOTS;
 use crate::poller::Poller;
-use crate::worker::{READ_SIZE, SWEEP_PERIOD, Worker};
+use crate::worker::{READ_SIZE, Worker};
 use bell::Wake;
 use broker_groups::Broker;
 use conn_service::Round;
@@ -36,36 +37,39 @@ impl<
         }
     }
 
-    /// All are due where the time has come.
-    pub(crate) fn mark_late(&mut self, now: u64)
-        ensures { self.new ≡ self.old }
-    {
-        if now.saturating_sub(self.connections.swept()) >= SWEEP_PERIOD {
-            self.connections.begin_sweep(now);
-            self.due.mark_all();
-        }
-    }
-
-    /// Goes on with each connection that is due, once.
-    pub(crate) fn serve_due(&mut self, now: u64, buffer: &mut [u8; READ_SIZE])
-        ensures { StaysOf self.old self.new }
+    /// Goes on with each connection that is due, once; or with all of them, where a sweep has begun.
+    pub(crate) fn serve_due(&mut self, all: bool, buffer: &mut [u8; READ_SIZE])
+        requires late { all ≡ true → HasGone 0 (length self.old.cells) self.old.sweeps }
+        requires in_time { all ≡ false → IsInTime self.old.sweeps }
+        ensures goes { Rounds self.old self.new }
+        ensures in_time { IsInTime self.new.sweeps }
     {
         self.due.begin();
         'cells: for cell in 0..self.connections.len() {
-            if self.due.take(cell) {
-                let _round = self.round(cell, now, buffer);
-            }
+            self.serve_if_due(cell, all, buffer);
+        }
+    }
+
+    /// Goes on with the connection in a cell by a round, where it is due, or all of them are.
+    fn serve_if_due(&mut self, cell: usize, all: bool, buffer: &mut [u8; READ_SIZE])
+        ensures goes { Rounds self.old self.new }
+        ensures late { all ≡ true → cell < length self.old.cells → HasGone cell (length self.old.cells) self.old.sweeps → HasGone (cell + 1) (length self.old.cells) self.new.sweeps }
+    {
+        let due = self.due.take(cell);
+        if due || all {
+            let _round = self.round(cell, buffer);
         }
     }
 
     /// Goes on with the connection in a cell by a round. What it waits for; `None` where there is none, or it has ended.
-    fn round(&mut self, cell: usize, now: u64, buffer: &mut [u8; READ_SIZE]) -> Option<Round>
-        ensures { StaysOf self.old self.new }
+    fn round(&mut self, cell: usize, buffer: &mut [u8; READ_SIZE]) -> Option<Round>
+        ensures goes { Rounds self.old self.new }
+        ensures notes { cell < length self.old.cells → Notes cell (length self.old.cells) self.old.sweeps self.new.sweeps }
     {
         let worker = u32::try_from(self.number).unwrap_or(u32::MAX);
         match self
             .connections
-            .round(cell, self.crossing, &mut self.poller, worker, now, buffer)
+            .round(cell, self.crossing, &mut self.poller, worker, buffer)
         {
             Went::Nowhere => None,
             Went::On(round) => {
@@ -95,15 +99,15 @@ impl<
     }
 
     /// Goes on with members of the groups for which it rang. Where this worker was called, and none of them could be handed a job, it rings for another one.
-    pub(crate) fn hand_out(&mut self, now: u64, buffer: &mut [u8; READ_SIZE])
-        ensures { StaysOf self.old self.new }
+    pub(crate) fn hand_out(&mut self, buffer: &mut [u8; READ_SIZE])
+        ensures { Rounds self.old self.new }
     {
         'slots: for slot in 0..SLOTS {
             let (rung, called) = match self.ears.get_mut(slot) {
                 Some(ear) => (ear.take_rung(), ear.take_called()),
                 None => (false, false),
             };
-            let seen = rung && self.hand_out_of(slot, now, buffer);
+            let seen = rung && self.hand_out_of(slot, buffer);
             if called && !seen {
                 self.ring_others(slot, 1);
             }
@@ -112,8 +116,8 @@ impl<
 
     /// Goes on with members of a group, one after the other, until one has room for more than there is. Whether one of them went on, and did not have to wait
     /// until its client reads.
-    fn hand_out_of(&mut self, slot: usize, now: u64, buffer: &mut [u8; READ_SIZE]) -> bool
-        ensures { StaysOf self.old self.new }
+    fn hand_out_of(&mut self, slot: usize, buffer: &mut [u8; READ_SIZE]) -> bool
+        ensures { Rounds self.old self.new }
     {
         let count = self.connections.len();
         let first = self.members.next();
@@ -124,7 +128,7 @@ impl<
             }
             let cell = first.wrapping_add(step) % count;
             if self.members.takes(cell, slot) {
-                let went_on = self.serve_member(cell, now, buffer);
+                let went_on = self.serve_member(cell, buffer);
                 seen = seen || went_on;
                 if went_on && self.members.takes(cell, slot) {
                     self.members.begin_at(cell);
@@ -136,10 +140,10 @@ impl<
     }
 
     /// Goes on with the connection in a cell by a round. Whether it has not ended, and does not wait until its client reads.
-    fn serve_member(&mut self, cell: usize, now: u64, buffer: &mut [u8; READ_SIZE]) -> bool
-        ensures { StaysOf self.old self.new }
+    fn serve_member(&mut self, cell: usize, buffer: &mut [u8; READ_SIZE]) -> bool
+        ensures { Rounds self.old self.new }
     {
-        match self.round(cell, now, buffer) {
+        match self.round(cell, buffer) {
             Some(Round::Writing) | None => false,
             Some(_) => true,
         }

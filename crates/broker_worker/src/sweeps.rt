@@ -1,6 +1,9 @@
 //! When the connections of a worker went on.
-ghost use Rattle.std.specs.Prelude.{◌≡◌, ◌+◌, ◌≤◌};
-ghost use Rattle.broker_worker.specs.Sweeping.{Notes};
+ghost use Rattle.std.specs.Prelude.{◌≡◌, ◌+◌, ◌≤◌, false};
+ghost use Rattle.broker_worker.specs.Sweeping.{Begins, IsInTime, Notes, WaitsInTime, looked};
+
+/// After so many milliseconds at most each connection goes on, whatever comes.
+const SWEEP_PERIOD: u64 = 50;
 
 /// When the connections of a worker went on, and how far the sweep has come that is under way: it goes over all cells, from the first to the last.
 #[derive(Clone, Copy, Debug, PartialEq, Eq)]
@@ -10,7 +13,7 @@ pub(crate) struct Sweeps {
     /// Those in the first `gone` cells went on at this moment or later.
     pub(crate) begun: u64,
     pub(crate) gone: usize,
-    /// The latest moment at which one of them went on.
+    /// The worker's moment: that of its latest look at its clock, or of an earlier one where the clock was set back.
     pub(crate) latest: u64,
 }
 
@@ -23,25 +26,39 @@ impl Sweeps {
         latest: 0,
     };
 
-    /// The moment, which is never before an earlier one.
-    pub(crate) fn moment(&mut self, now: u64) -> u64
-        ensures moment { (result ≡ self.new.latest) × (self.old.latest ≤ self.new.latest) }
-        ensures same { self.new ≡ record self.old { latest = self.new.latest } }
+    /// The worker looked at its clock, which told this moment.
+    pub(crate) fn look(&mut self, now: u64)
+        ensures { self.new ≡ looked now self.old }
     {
         self.latest = self.latest.max(now);
-        self.latest
     }
 
-    /// A sweep begins at this moment.
-    pub(crate) fn begin(&mut self, now: u64)
-        ensures later { self.old.latest ≤ self.new.latest }
-        ensures begun { self.new ≡ record self.old { begun = self.new.latest; gone = 0; latest = self.new.latest } }
+    /// Whether the connections are to go on.
+    pub(crate) fn is_late(&self) -> bool
+        ensures { result ≡ false → IsInTime self.now }
     {
-        self.begun = self.moment(now);
-        self.gone = 0;
+        self.latest.saturating_sub(self.swept) >= SWEEP_PERIOD
     }
 
-    /// The connection in a cell, of so many, went on at the latest moment, or the cell is free.
+    /// For how many milliseconds at most a worker may wait until its connections are to go on.
+    pub(crate) fn left(&self) -> u64
+        ensures { WaitsInTime result self.now.latest self.now.swept }
+    {
+        SWEEP_PERIOD.saturating_sub(self.latest.saturating_sub(self.swept))
+    }
+
+    /// A sweep of so many cells begins.
+    pub(crate) fn begin(&mut self, count: usize)
+        ensures { Begins count self.old self.new }
+    {
+        self.begun = self.latest;
+        self.gone = 0;
+        if count == 0 {
+            self.swept = self.latest;
+        }
+    }
+
+    /// The connection in a cell, of so many, went on at this moment, or the cell is free.
     pub(crate) fn note(&mut self, cell: usize, count: usize)
         requires { cell + 1 ≤ count }
         ensures { Notes cell count self.old self.new }

@@ -1,10 +1,10 @@
 //! What a worker tells the others, and what it hears of them.
 ghost use Rattle.std.specs.Prelude.{◌≡◌};
-ghost use Rattle.broker_worker.specs.Sweeping.{WaitsInTime};
+ghost use Rattle.broker_worker.specs.Sweeping.{AreTicked, IsInTime, WaitsInTime};
 
 use crate::outfit::SLOTS;
 use crate::poller::Poller;
-use crate::worker::{END_PAUSE, SWEEP_PERIOD, Worker};
+use crate::worker::{END_PAUSE, Worker};
 use bell::Wake;
 use broker_groups::Broker;
 use shared_supply::AskedBack;
@@ -89,9 +89,11 @@ impl<
     }
 
     /// For how many milliseconds the next turn may wait. The worker is idle at the bells of the groups of which it has members that would be handed a job.
-    pub(crate) fn outlook(&mut self, now: u64) -> u64
+    pub(crate) fn outlook(&mut self) -> u64
+        requires in_time { IsInTime self.old.sweeps }
         ensures same { self.new ≡ self.old }
-        ensures in_time { WaitsInTime result now self.new.swept }
+        ensures in_time { WaitsInTime result self.new.sweeps.latest self.new.sweeps.swept }
+        ensures ticked { AreTicked self.new.sweeps.latest self.new.cells }
     {
         let mut may_wait = !self.due.any();
         'slots: for slot in 0..SLOTS {
@@ -101,10 +103,10 @@ impl<
                 }
             }
         }
+        let left = self.connections.left();
         if !may_wait {
             return 0;
         }
-        let left = SWEEP_PERIOD.saturating_sub(now.saturating_sub(self.connections.swept()));
         if self.closing && !self.connections.is_ended() {
             return left.min(END_PAUSE);
         }

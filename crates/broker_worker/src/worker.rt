@@ -1,6 +1,7 @@
 //! A worker: what it has, and its turns.
 ghost use Rattle.std.specs.Prelude.{◌≡◌, [], None, length, replicate, IfOk};
-ghost use Rattle.broker_worker.specs.Serving.{AreServed, IsDone, StaysOf, fresh_connections};
+ghost use Rattle.broker_worker.specs.Serving.{AreFresh, AreServed, IsDone, StaysOf, live};
+ghost use Rattle.broker_worker.specs.Sweeping.{AreTicked, WaitsInTime};
 
 use crate::arrived::Arrived;
 use crate::bells::{Listening, Ringing};
@@ -26,9 +27,6 @@ use transport::{Clock, Crossing, Transport};
 
 /// How many bytes a round reads at most.
 pub(crate) const READ_SIZE: usize = 4_096;
-
-/// After so many milliseconds at most each connection goes on, whatever comes.
-pub(crate) const SWEEP_PERIOD: u64 = 100;
 
 /// For how many milliseconds a worker that is to end waits for its end mark before it looks again.
 pub(crate) const END_PAUSE: u64 = 1;
@@ -88,7 +86,7 @@ impl<
         crossing: &'a X,
     ) -> Result<Worker<'a, 'g, B, T, Q, W, X, C, R>, Hand<B>>
         requires { kit.received ≡ [] }
-        ensures { IfOk result (λ worker. worker ≡ fresh_connections kit) }
+        ensures { IfOk result (λ worker. AreFresh kit worker) }
     {
         let Ok(known) = hall.know_routes(alloc) else {
             return Err(hand);
@@ -111,7 +109,7 @@ impl<
     ) -> Worker<'a, 'g, B, T, Q, W, X, C, R>
         requires receiver { kit.received ≡ [] }
         requires table { table ≡ replicate (length table) None }
-        ensures { result ≡ fresh_connections kit }
+        ensures { AreFresh kit result }
     {
         let Kit {
             number,
@@ -156,35 +154,44 @@ impl<
     }
 
     /// A turn: waits for so many milliseconds at most, and goes on with the connections for which there is something to do. For how long the next turn
-    /// may wait: no longer than until 100 milliseconds have gone by since all went on.
+    /// may wait: no longer than until 50 milliseconds have gone by since all went on.
     fn turn(&mut self, rt: &R, pause: u64, buffer: &mut [u8; READ_SIZE]) -> u64
+        ensures same { StaysOf self.old self.new }
+        ensures in_time { WaitsInTime result self.new.sweeps.latest self.new.sweeps.swept }
+        ensures ticked { AreTicked self.new.sweeps.latest self.new.cells }
+    {
+        self.wait(rt, pause);
+        self.mark_ready();
+        self.hear();
+        let all = self.connections.begin_sweep();
+        self.serve_due(all, buffer);
+        self.tell();
+        self.hand_out(buffer);
+        self.tell();
+        self.outlook()
+    }
+
+    /// Waits for so many milliseconds at most, looks at the clock, and takes the connections that were sent for it.
+    fn wait(&mut self, rt: &R, pause: u64)
         ensures { StaysOf self.old self.new }
     {
         let called = self.poller.wait(rt, pause);
-        let now = self.clock.now();
+        self.connections.look(self.clock.now());
         if called {
-            self.answer(rt, now);
+            self.answer(rt);
         }
         if self.closing && self.roster.is_all_received() {
-            self.receive(rt, now);
+            self.receive(rt);
         }
-        self.mark_ready();
-        self.mark_late(now);
-        self.hear();
-        self.serve_due(now, buffer);
-        self.tell();
-        self.hand_out(now, buffer);
-        self.tell();
-        self.outlook(now)
     }
 
     /// Answers the call of others: takes the connections that were sent for it.
-    fn answer(&mut self, rt: &R, now: u64)
+    fn answer(&mut self, rt: &R)
         ensures { StaysOf self.old self.new }
     {
         let calls = self.roster.take_calls(self.number);
         'invited: for _ in 0..calls.invited {
-            self.receive(rt, now);
+            self.receive(rt);
         }
         if calls.closing {
             self.closing = true;
@@ -195,10 +202,10 @@ impl<
     }
 
     /// Receives what comes through the channel: a connection for which this worker was invited, or its end mark once all connections were received.
-    fn receive(&mut self, rt: &R, now: u64)
+    fn receive(&mut self, rt: &R)
         ensures { StaysOf self.old self.new }
     {
-        match self.connections.receive(rt, &mut self.poller, now) {
+        match self.connections.receive(rt, &mut self.poller) {
             Came::Opened(cell) => {
                 self.roster.note_received();
                 self.due.mark(cell);
@@ -214,7 +221,7 @@ impl<
     /// What it had of the broker, its end of the channel, and how its connections ended. Any that is still open ends as where the broker closes.
     pub fn into_parts(self) -> (Hand<B>, Receiver<Arrived<T>>, ServedCounts)
         ensures receiver { result.1 ≡ self.entry.receiver }
-        ensures served { (self.entry.live ≡ 0) → AreServed B.group T.counts T.given T.accepted (length self.entry.receiver.received) result.2 }
+        ensures served { (live self.entry ≡ 0) → AreServed B.group T.counts T.given T.accepted (length self.entry.receiver.received) result.2 }
     {
         let Worker {
             number: _,

@@ -50,9 +50,9 @@ pub record IsKeptIn (written length capacity : ℕ) : Type 0 where
   pub within : written ≤ length
   pub room : write_room ≤ capacity
 
--- how many milliseconds there are between two Ticks at most
+-- after how many milliseconds without a Tick a round makes one
 abbrev pub tick_period : ℕ
-tick_period = 100
+tick_period = 50
 
 -- for how many milliseconds a transport may take nothing of what waits: 60 seconds, and a second where the connection has ended
 abbrev pub patience : {P : Type 0} → Standing P → ℕ
@@ -109,7 +109,7 @@ pub record KeepsEdgeAt {P T : Type 0} (ticked : ℕ) (old new : ServiceState P T
 abbrev pub KeepsEdge : {P T : Type 0} → ServiceState P T → ServiceState P T → Type 0
 KeepsEdge old new = KeepsEdgeAt old.ticked old new
 
--- time is kept: less than 100 milliseconds have gone by since the latest Tick
+-- time is kept: less than 50 milliseconds have gone by since the latest Tick
 abbrev pub IsOnTime : {P T : Type 0} → ServiceState P T → ℕ → Type 0
 IsOnTime service now = now - service.ticked < tick_period
 
@@ -127,7 +127,7 @@ KeepsIdles counts old new = ((counts new.transport).idles ≡ (counts old.transp
 
 -- what a connection waits for, behind a round at this moment
 abbrev pub IsTold : {P T : Type 0} → Round → ServiceState P T → ℕ → Type 0
-IsTold rounds.More service now = (service.ending ≡ None) × (service.outgoing ≡ [])
+IsTold rounds.More service now = (service.ending ≡ None) × (service.outgoing ≡ []) × IsOnTime service now
 IsTold rounds.Reading service now =
     (service.ending ≡ None) × (service.outgoing ≡ []) × (service.drained ≡ true) × (IsRead service.client × IsOnTime service now)
 IsTold rounds.Writing service now = (service.ending ≡ None) × (service.outgoing ≢ [])

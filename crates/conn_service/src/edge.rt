@@ -123,6 +123,32 @@ impl<P: HoldingPlace, T: Transport> Service<P, T> {
         Ok(())
     }
 
+    /// Writes what waits, where that is wanted.
+    pub(crate) fn send_if<X: Crossing>(
+        &mut self,
+        crossing: &X,
+        worker: u32,
+        now: u64,
+        wanted: bool,
+    ) -> Result<(), Served>
+        requires going { self.old.ending ≡ None }
+        ensures led { LeadsAtEdge T.counts T.given T.accepted self.old self.new }
+        ensures client { self.new.client ≡ self.old.client }
+        ensures ticked { self.new.ticked ≡ self.old.ticked }
+        ensures idles { KeepsIdles T.counts self.old self.new }
+        ensures sent { OnOk result (self.new.ending ≡ None) }
+        ensures advances { OnOk result ((self.new ≡ self.old) ⊎ (AdvancesAtEdge T.counts T.given T.accepted self.old self.new ⊎ (self.new.outgoing ≢ []))) }
+        ensures unasked { wanted ≡ false → self.new ≡ self.old }
+        ensures ended { IfErr result (λ served. self.new.ending ≡ Some served) }
+        ensures crossing { result ≡ Err endings.NoCrossing → RefusesAlways X.refuses crossing.now worker }
+    {
+        if wanted {
+            self.send(crossing, worker, now)
+        } else {
+            Ok(())
+        }
+    }
+
     /// Whether 600 writes in a row gave nothing: where each of them waits, too many.
     pub fn is_refused(&self) -> bool
         ensures { result ≡ true ↔ most_refused ≤ self.now.refused }

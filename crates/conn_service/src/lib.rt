@@ -6,7 +6,7 @@
 //! ```
 //! let mut service = Service::open(alloc, number, clock.now(), transport)?;
 //! match service.round(&mut supply, &crossing, worker, clock.now(), &mut buffer) {
-//!     Round::Reading => {} // nothing more came yet: go on once something can be read, and after 100 milliseconds at most
+//!     Round::Reading => {} // nothing more came yet: go on once something can be read, and after 50 milliseconds at most
 //!     Round::Ended(served) => { let transport = service.end(); }
 //!     ..
 //! }

@@ -17,8 +17,8 @@ use crate::service::Service;
 use conn_engine::{HoldingPlace, Input, Supply};
 use transport::{Crossing, Got, Transport};
 
-/// How many milliseconds there are between two Ticks at most.
-const TICK_PERIOD: u64 = 100;
+/// After how many milliseconds without a Tick a round makes one.
+const TICK_PERIOD: u64 = 50;
 
 impl<P: HoldingPlace, T: Transport> Service<P, T> {
     /// Goes on as far as it can without waiting, at this moment in milliseconds, and tells what it waits for: what waits is written, what came is read,
@@ -52,6 +52,7 @@ impl<P: HoldingPlace, T: Transport> Service<P, T> {
     fn outlook(&self, all: bool, now: u64) -> Round
         requires going { self.now.ending ≡ None }
         requires not_over { self.now.outgoing ≡ [] → self.now.client.conn.standing ≢ Ended }
+        requires timely { self.now.outgoing ≡ [] → IsOnTime self.now now }
         requires all { all ≡ true → IsServed self.now now }
         ensures told { IsTold result self.now now }
         ensures more { result ≡ rounds.More → (self.now.outgoing ≡ []) × (all ≡ true → ¬ HasNoMore self.now) }
@@ -67,7 +68,7 @@ impl<P: HoldingPlace, T: Transport> Service<P, T> {
         }
     }
 
-    /// Writes, steps, and writes again. Whether all that is whole was stepped.
+    /// Writes, steps, and writes what that said; where not all was taken before, the transport is not asked again. Whether all that is whole was stepped.
     fn go_on<S: Supply<P>, X: Crossing>(
         &mut self,
         supply: &mut S,
@@ -82,14 +83,16 @@ impl<P: HoldingPlace, T: Transport> Service<P, T> {
         ensures all { result ≡ Ok true → IsServed self.new now }
         ensures more { IfOk result (λ all. IsDoneOrAdvances S.call S.turn S.visiting P.slot_of T.counts T.given T.accepted all self.old supply.old self.new supply.new) }
         ensures not_over { OnOk result (self.new.outgoing ≡ [] → self.new.client.conn.standing ≢ Ended) }
+        ensures timely { OnOk result (self.new.outgoing ≡ [] → IsOnTime self.new now) }
         ensures going { OnOk result (self.new.ending ≡ None) }
         ensures ended { IfErr result (λ served. self.new.ending ≡ Some served) }
         ensures idles { IdlesTick T.counts now self.old self.new }
         ensures crossing { result ≡ Err endings.NoCrossing → RefusesAlways X.refuses crossing.now worker }
     {
         self.send(crossing, worker, now)?;
+        let taken = self.outgoing.is_empty();
         let all = self.visit(supply, now, buffer)?;
-        self.send(crossing, worker, now)?;
+        self.send_if(crossing, worker, now, taken)?;
         self.conclude(now)?;
         Ok(all)
     }
@@ -106,6 +109,8 @@ impl<P: HoldingPlace, T: Transport> Service<P, T> {
         ensures led { Leads S.call S.turn S.visiting P.slot_of T.counts T.given T.accepted self.old supply.old self.new supply.new }
         ensures all { result ≡ Ok true → IsServed self.new now }
         ensures more { IfOk result (λ all. IsDoneOrAdvances S.call S.turn S.visiting P.slot_of T.counts T.given T.accepted all self.old supply.old self.new supply.new) }
+        ensures timely { result ≡ Ok false → self.old.outgoing ≡ [] → IsOnTime self.new now }
+        ensures waits { OnOk result (self.old.outgoing ≢ [] → self.new.outgoing ≢ []) }
         ensures no_crossing { result ≢ Err endings.NoCrossing }
         ensures going { OnOk result (self.new.ending ≡ None) }
         ensures ended { IfErr result (λ served. self.new.ending ≡ Some served) }
@@ -136,6 +141,8 @@ impl<P: HoldingPlace, T: Transport> Service<P, T> {
         ensures led { Leads S.call S.turn S.visiting P.slot_of T.counts T.given T.accepted self.old supply.old self.new supply.new }
         ensures all { result ≡ Ok true → IsServed self.new now }
         ensures more { IfOk result (λ all. IsDoneOrAdvances S.call S.turn S.visiting P.slot_of T.counts T.given T.accepted all self.old supply.old self.new supply.new) }
+        ensures timely { result ≡ Ok false → self.old.outgoing ≡ [] → IsOnTime self.new now }
+        ensures waits { OnOk result (self.old.outgoing ≢ [] → self.new.outgoing ≢ []) }
         ensures no_crossing { result ≢ Err endings.NoCrossing }
         ensures going { OnOk result (self.new.ending ≡ None) }
         ensures ended { IfErr result (λ served. self.new.ending ≡ Some served) }
@@ -156,6 +163,8 @@ impl<P: HoldingPlace, T: Transport> Service<P, T> {
         ensures led { Leads S.call S.turn S.visiting P.slot_of T.counts T.given T.accepted self.old supply.old self.new supply.new }
         ensures all { result ≡ Ok true → IsServed self.new now }
         ensures more { IfOk result (λ all. IsDoneOrAdvances S.call S.turn S.visiting P.slot_of T.counts T.given T.accepted all self.old supply.old self.new supply.new) }
+        ensures timely { result ≡ Ok false → self.old.outgoing ≡ [] → IsOnTime self.new now }
+        ensures waits { OnOk result (self.old.outgoing ≢ [] → self.new.outgoing ≢ []) }
         ensures no_crossing { result ≢ Err endings.NoCrossing }
         ensures going { OnOk result (self.new.ending ≡ None) }
         ensures ended { IfErr result (λ served. self.new.ending ≡ Some served) }
@@ -180,6 +189,8 @@ impl<P: HoldingPlace, T: Transport> Service<P, T> {
         ensures led { Leads S.call S.turn S.visiting P.slot_of T.counts T.given T.accepted self.old supply.old self.new supply.new }
         ensures all { result ≡ Ok true → IsServed self.new now }
         ensures more { IfOk result (λ all. IsDoneOrAdvances S.call S.turn S.visiting P.slot_of T.counts T.given T.accepted all self.old supply.old self.new supply.new) }
+        ensures timely { result ≡ Ok false → self.old.outgoing ≡ [] → IsOnTime self.new now }
+        ensures waits { OnOk result (self.old.outgoing ≢ [] → self.new.outgoing ≢ []) }
         ensures no_crossing { result ≢ Err endings.NoCrossing }
         ensures going { OnOk result (self.new.ending ≡ None) }
         ensures ended { IfErr result (λ served. self.new.ending ≡ Some served) }
@@ -220,6 +231,7 @@ impl<P: HoldingPlace, T: Transport> Service<P, T> {
         ensures all { result ≡ Ok true → IsServed self.new now }
         ensures more { result ≡ Ok true → self.new.at_end ≡ false → IsDoneOrAdvances S.call S.turn S.visiting P.slot_of T.counts T.given T.accepted true self.old supply.old self.new supply.new }
         ensures full { result ≡ Ok false → self.new.outgoing ≢ [] }
+        ensures timely { OnOk result (IsOnTime self.new now) }
         ensures no_crossing { result ≢ Err endings.NoCrossing }
         ensures going { OnOk result (self.new.ending ≡ None) }
         ensures ended { IfErr result (λ served. self.new.ending ≡ Some served) }

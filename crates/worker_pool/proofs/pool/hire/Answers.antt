@@ -3,7 +3,6 @@ use Rattle.std.proofs.Common.{◌≡◌, ◌+◌, ◌-◌, [], Some, length, ◌
 use Rattle.std.proofs.Math.ListN.{length-append}
 use Rattle.std.proofs.lemmas.List.Elements.{All-pop}
 use Rattle.conn_channel.specs.Ends.{ReceiverState, new_receiver}
-use Rattle.broker_worker.specs.Serving.{ConnectionsState}
 use Rattle.worker_pool.proofs.Hired.{hires, staff_length, staff_of_hired}
 use Rattle.worker_pool.proofs.pool.hire.Goals as goal
 
@@ -13,7 +12,7 @@ kits-preserved g c =
     let split = All-pop IsNew c.kits.kits.items c.pop.new.self.items (Some c.in-Some.kit) c.in-Some.ensures.items c.kits.invariant.each in
     let kits = simp length-append at (ap length c.in-Some.ensures.items) in
     let hands = simp length-append at (ap length c.in-Some-pop.ensures.items) in
-    let worker = ap (λ (w : ConnectionsState g.row.T.Denot). w.receiver.channel) c.in-Ok-begin.ensures ∙ ap (λ (r : ReceiverState g.row.T.Denot). r.channel) split.1 in
+    let worker = ap (λ (r : ReceiverState g.row.T.Denot). r.channel) c.in-Ok-begin.ensures.receiver_is ∙ ap (λ (r : ReceiverState g.row.T.Denot). r.channel) split.1 in
     record {
       kits = omega (arith, kits, hands, c.kits.invariant.kits);
       each = split.0;

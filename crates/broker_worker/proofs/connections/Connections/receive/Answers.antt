@@ -6,7 +6,6 @@ use Rattle.broker_worker.specs.Sweeping.{AreSwept}
 use Rattle.std.proofs.Math.ListN.{length-append}
 use Rattle.conn_channel.specs.Ends.{ReceiverState}
 use Rattle.broker_worker.proofs.Accounting.{opened_one, refused_one}
-use Rattle.broker_worker.proofs.Swept.{later}
 use Rattle.broker_worker.proofs.Swept.{opened_one as goes_on}
 use Rattle.broker_worker.proofs.connections.Connections.receive.Goals as goal
 
@@ -14,10 +13,9 @@ pub invariant_of-self : goal.invariant_of-self
 invariant_of-self g c =
     let is = ap (λ (r : ReceiverState g.row.T.Denot). length r.received) c.in-Connection.ensures in
     let more : length c.receive.new.self.received ≡ length c.self.inside.receiver.received + 1 = omega (arith, is, length-append {A = g.row.T.Denot}) in (
-      opened_one g.B.Broker.group g.T.Transport.counts g.T.Transport.given g.T.Transport.accepted _ _ c.self.inside.table c.admit.new.table c.self.inside.served c.moment-now.result c.in-Some.cell
+      opened_one g.B.Broker.group g.T.Transport.counts g.T.Transport.given g.T.Transport.accepted _ _ c.self.inside.table c.admit.new.table c.self.inside.served c.self.inside.sweeps.latest c.in-Some.cell
           c.self.inside.supply more c.self.invariant.0 c.in-Some.ensures,
-      goes_on c.self.inside.table c.admit.new.table c.moment-now.result c.in-Some.cell c.in-Some.ensures.0 c.self.inside.sweeps c.moment-now.new.self c.self.invariant.1 c.in-Some.ensures.2
-          c.moment-now.ensures.moment.0 c.moment-now.ensures.moment.1 c.moment-now.ensures.same,
+      goes_on c.self.inside.table c.admit.new.table c.in-Some.cell c.in-Some.ensures.0 c.self.inside.sweeps c.self.invariant.1 c.in-Some.ensures.2,
     )
 
 pub invariant_of-self-in-None : goal.invariant_of-self-in-None
@@ -25,7 +23,7 @@ invariant_of-self-in-None g c =
     let is = ap (λ (r : ReceiverState g.row.T.Denot). length r.received) c.in-Connection.ensures in
     let more : length c.receive.new.self.received ≡ length c.self.inside.receiver.received + 1 = omega (arith, is, length-append {A = g.row.T.Denot}) in (
       refused_one g.B.Broker.group g.T.Transport.counts g.T.Transport.given g.T.Transport.accepted _ _ c.self.inside.table c.admit.new.table c.self.inside.served c.count.new.self
-          more c.self.invariant.0 c.moment-now.result c.in-None.ensures c.count.ensures,
-      let Swept : List (Option (ServiceState PlaceState g.row.T.Denot)) → Type 0 = λ cells. AreSwept c.moment-now.new.self cells in
-          subst Swept (sym c.in-None.ensures) (later c.self.inside.table c.self.inside.sweeps c.moment-now.new.self c.self.invariant.1 c.moment-now.ensures.moment.1 c.moment-now.ensures.same),
+          more c.self.invariant.0 c.self.inside.sweeps.latest c.in-None.ensures c.count.ensures,
+      let Swept : List (Option (ServiceState PlaceState g.row.T.Denot)) → Type 0 = λ cells. AreSwept c.self.inside.sweeps cells in
+          subst Swept (sym c.in-None.ensures) c.self.invariant.1,
     )

@@ -9,30 +9,27 @@ use Rattle.broker_worker.proofs.connections.Connections.round.Goals as goal
 
 pub invariant_of-self : goal.invariant_of-self
 invariant_of-self g c = (
-  goes_on g.B.Broker.group g.T.Transport.counts g.T.Transport.given g.T.Transport.accepted _ c.self.inside.table c.round-turned.new.self c.self.inside.served c.moment-now.result c.args.cell
+  goes_on g.B.Broker.group g.T.Transport.counts g.T.Transport.given g.T.Transport.accepted _ c.self.inside.table c.round-turned.new.self c.self.inside.served c.self.inside.sweeps.latest c.args.cell
       c.self.inside.supply c.round-turned.new.supply Vacant c.self.invariant.0 c.in-Vacant.ensures.turns c.in-Vacant.ensures.count,
   rounds (Calls g.B.Broker.group) Turns is_visiting (λ (p : PlaceState). p.group) g.T.Transport.counts g.T.Transport.given g.T.Transport.accepted
-      c.self.inside.table c.round-turned.new.self c.moment-now.result c.args.cell c.len-2.result c.self.inside.supply c.round-turned.new.supply Vacant
-      c.self.inside.sweeps c.moment-now.new.self c.note.new.self c.self.invariant.1 c.in-Vacant.ensures.turns c.moment-now.ensures.moment.0 c.moment-now.ensures.moment.1
-      c.moment-now.ensures.same c.len-2.ensures c.note.ensures,
+      c.self.inside.table c.round-turned.new.self c.args.cell c.len-2.result c.self.inside.supply c.round-turned.new.supply Vacant
+      c.self.inside.sweeps c.note.new.self c.self.invariant.1 c.in-Vacant.ensures.turns c.len-2.ensures c.note.ensures,
 )
 
 pub invariant_of-self-in-Goes : goal.invariant_of-self-in-Goes
 invariant_of-self-in-Goes g c = (
-  goes_on g.B.Broker.group g.T.Transport.counts g.T.Transport.given g.T.Transport.accepted _ c.self.inside.table c.round-turned.new.self c.self.inside.served c.moment-now.result c.args.cell
+  goes_on g.B.Broker.group g.T.Transport.counts g.T.Transport.given g.T.Transport.accepted _ c.self.inside.table c.round-turned.new.self c.self.inside.served c.self.inside.sweeps.latest c.args.cell
       c.self.inside.supply c.round-turned.new.supply (Goes c.in-Goes.round) c.self.invariant.0 c.in-Goes.ensures.turns c.in-Goes.ensures.count,
   rounds (Calls g.B.Broker.group) Turns is_visiting (λ (p : PlaceState). p.group) g.T.Transport.counts g.T.Transport.given g.T.Transport.accepted
-      c.self.inside.table c.round-turned.new.self c.moment-now.result c.args.cell c.len-2.result c.self.inside.supply c.round-turned.new.supply (Goes c.in-Goes.round)
-      c.self.inside.sweeps c.moment-now.new.self c.note.new.self c.self.invariant.1 c.in-Goes.ensures.turns c.moment-now.ensures.moment.0 c.moment-now.ensures.moment.1
-      c.moment-now.ensures.same c.len-2.ensures c.note.ensures,
+      c.self.inside.table c.round-turned.new.self c.args.cell c.len-2.result c.self.inside.supply c.round-turned.new.supply (Goes c.in-Goes.round)
+      c.self.inside.sweeps c.note.new.self c.self.invariant.1 c.in-Goes.ensures.turns c.len-2.ensures c.note.ensures,
 )
 
 pub invariant_of-self-in-Ended : goal.invariant_of-self-in-Ended
 invariant_of-self-in-Ended g c = (
-  ends_one g.B.Broker.group g.T.Transport.counts g.T.Transport.given g.T.Transport.accepted _ c.self.inside.table c.round-turned.new.self c.self.inside.served c.count.new.self c.moment-now.result c.args.cell
+  ends_one g.B.Broker.group g.T.Transport.counts g.T.Transport.given g.T.Transport.accepted _ c.self.inside.table c.round-turned.new.self c.self.inside.served c.count.new.self c.self.inside.sweeps.latest c.args.cell
       c.self.inside.supply c.round-turned.new.supply c.in-Ended.served c.in-Ended.transport c.self.invariant.0 c.in-Ended.ensures.turns c.in-Ended.ensures.count c.count.ensures,
   rounds (Calls g.B.Broker.group) Turns is_visiting (λ (p : PlaceState). p.group) g.T.Transport.counts g.T.Transport.given g.T.Transport.accepted
-      c.self.inside.table c.round-turned.new.self c.moment-now.result c.args.cell c.len-2.result c.self.inside.supply c.round-turned.new.supply (Ended c.in-Ended.served c.in-Ended.transport)
-      c.self.inside.sweeps c.moment-now.new.self c.note.new.self c.self.invariant.1 c.in-Ended.ensures.turns c.moment-now.ensures.moment.0 c.moment-now.ensures.moment.1
-      c.moment-now.ensures.same c.len-2.ensures c.note.ensures,
+      c.self.inside.table c.round-turned.new.self c.args.cell c.len-2.result c.self.inside.supply c.round-turned.new.supply (Ended c.in-Ended.served c.in-Ended.transport)
+      c.self.inside.sweeps c.note.new.self c.self.invariant.1 c.in-Ended.ensures.turns c.len-2.ensures c.note.ensures,
 )

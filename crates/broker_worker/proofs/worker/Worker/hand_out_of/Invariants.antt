@@ -1,6 +1,6 @@
--- The channel is the same.
-use Rattle.broker_worker.specs.Serving.{StaysOf}
+-- Rounds were made.
+use Rattle.broker_worker.specs.Serving.{Rounds}
 use Rattle.broker_worker.proofs.worker.Worker.hand_out_of.Given as goal
 
 abbrev pub invariant-members : goal.invariant-members
-invariant-members g l = StaysOf l.fn.self l.self
+invariant-members g l = Rounds l.fn.self l.self

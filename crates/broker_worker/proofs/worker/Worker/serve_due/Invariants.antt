@@ -1,6 +1,12 @@
--- The channel is the same.
-use Rattle.broker_worker.specs.Serving.{StaysOf}
+-- Rounds were made, with all of the cells so far where a sweep has begun.
+use Rattle.std.proofs.Common.{◌≡◌, true, false, length}
+use Rattle.broker_worker.specs.Serving.{Rounds}
+use Rattle.broker_worker.specs.Sweeping.{HasGone, IsInTime}
 use Rattle.broker_worker.proofs.worker.Worker.serve_due.Given as goal
 
 abbrev pub invariant-cells : goal.invariant-cells
-invariant-cells g l = StaysOf l.fn.self l.self
+invariant-cells g l = record {
+  goes : Rounds l.fn.self l.self;
+  late : l.fn.all ≡ true → HasGone l.cell (length l.fn.self.cells) l.self.sweeps;
+  in_time : l.fn.all ≡ false → IsInTime l.self.sweeps;
+}
