@@ -10,19 +10,23 @@ use Rattle.conn_service.specs.declared.served.Served.{Served}
 use Rattle.conn_service.specs.Services.{ServiceState}
 use Rattle.service_table.specs.Cells.{InCell, Opens, occupied}
 use Rattle.shared_supply.specs.Calls.{Calls}
+use Rattle.shared_supply.specs.Waking.{no_wakes}
 use Rattle.shared_supply.specs.Workers.{Turns, is_visiting}
+use Rattle.shared_supply.specs.declared.wakes.Wakes.{Wakes}
 use Rattle.broker_worker.specs.declared.served.ServedCounts.{ServedCounts}
 use Rattle.broker_worker.specs.declared.sweeps.Sweeps.{Sweeps}
 use Rattle.broker_worker.specs.Counting.{counts_of, none_served}
 use Rattle.broker_worker.specs.Lives.{IfLived, IsLife}
 use Rattle.broker_worker.specs.Sweeping.{KeepsMoment}
 
--- the end of the channel, the cells with the connections that are open, the counts of those that have ended, and when those that are open went on
+-- the end of the channel, the cells with the connections that are open, the counts of those that have ended, when those that are open went on, and what they
+-- did that others may wait for
 pub record ConnectionsState (T : Type 0) : Type 0 where
   pub receiver : ReceiverState T
   pub cells : List (Option (ServiceState PlaceState T))
   pub served : ServedCounts
   pub sweeps : Sweeps
+  pub wakes : Wakes
 
 -- how many connections are open
 abbrev pub live : {T : Type 0} → ConnectionsState T → ℕ
@@ -33,6 +37,7 @@ pub record AreFresh {T : Type 0} (receiver : ReceiverState T) (connections : Con
   pub receiver_is : connections.receiver ≡ receiver
   pub none_live : live connections ≡ 0
   pub none_ended : connections.served ≡ none_served
+  pub none_waits : connections.wakes ≡ no_wakes
 
 -- they come through the same channel as before
 abbrev pub StaysOf : {T : Type 0} → ConnectionsState T → ConnectionsState T → Type 0

@@ -1,12 +1,19 @@
 //! The connections of a worker: those that it received are open, or have ended and are counted.
-ghost use Rattle.std.specs.Prelude.{◌≡◌, ◌<◌, [], None, true, false, replicate, length};
+ghost use Rattle.std.specs.Prelude.{◌≡◌, ◌<◌, ℕ, [], None, true, false, replicate, length, slice_set, slice_index_or};
 ghost use Rattle.transport.specs.Counting.{no_counts};
+ghost use Rattle.group_queue.specs.Places.{PlaceState};
+ghost use Rattle.service_table.specs.Cells.{TakesFrom};
+ghost use Rattle.shared_supply.specs.Waking.{no_wakes};
+ghost use Rattle.broker_worker.specs.declared.members.Wish.{Wish as AnyWish};
 ghost use Rattle.broker_worker.specs.Counting.{none_served};
 ghost use Rattle.broker_worker.specs.Serving.{Admits, AreFresh, AreServed, IsDone, Rounds, StaysOf, live};
+ghost use Rattle.broker_worker.specs.Resting.{HasTaker};
+ghost use Rattle.broker_worker.specs.Wishing.{IsWished};
 ghost use Rattle.broker_worker.specs.Sweeping.{AreTicked, Begins, HasGone, IsInTime, Notes, WaitsInTime, looked};
 
 use crate::arrived::Arrived;
 use crate::hand::Hand;
+use crate::members::{Members, Wish};
 use crate::poller::Poller;
 use crate::served::ServedCounts;
 use crate::sweeps::Sweeps;
@@ -29,18 +36,21 @@ pub(crate) struct Connections<'a, 'g, B: Broker, T: Transport + Drop, R: Wait> {
     supply: SharedSupply<'a, 'g, B, R>,
     served: ServedCounts,
     sweeps: Sweeps,
+    members: Members,
 }
 
 impl<'a, 'g, B: Broker, T: Transport + Drop, R: Wait> Model for Connections<'a, 'g, B, T, R> {
-    ghost use Rattle.std.specs.Prelude.{length};
+    ghost use Rattle.std.specs.Prelude.{◌≡◌, length};
     ghost use Rattle.broker_worker.specs.Serving.{ConnectionsState, IsAccounted};
     ghost use Rattle.broker_worker.specs.Sweeping.{AreSwept};
+    ghost use Rattle.broker_worker.specs.Resting.{AreWished};
 
     ghost Value = { ConnectionsState T };
 
-    ghost view = { λ c. record { receiver = c.receiver; cells = c.table; served = c.served; sweeps = c.sweeps } };
+    ghost view = { λ c. record { receiver = c.receiver; cells = c.table; served = c.served; sweeps = c.sweeps; wakes = c.supply.wakes } };
 
-    ghost invariant = { λ c. IsAccounted B.group T.counts T.given T.accepted (length c.receiver.received) c.table c.served × AreSwept c.sweeps c.table };
+    ghost invariant = { λ c. IsAccounted B.group T.counts T.given T.accepted (length c.receiver.received) c.table c.served × AreSwept c.sweeps c.table
+        × (length c.members ≡ length c.table) × AreWished c.table c.members };
 }
 
 /// What came through the channel.
@@ -66,14 +76,17 @@ pub(crate) enum Went {
 }
 
 impl<'a, 'g, B: Broker, T: Transport + Drop, R: Wait> Connections<'a, 'g, B, T, R> {
-    /// None yet, of those that this end of the channel will receive; this table is for them, and this supply is what they ask.
+    /// None yet, of those that this end of the channel will receive; this table is for them, these are their wishes, and this supply is what they ask.
     pub(crate) fn new(
         receiver: Receiver<Arrived<T>>,
         table: ServiceTable<BrokerPlace<B>, T>,
         supply: SharedSupply<'a, 'g, B, R>,
+        members: Members,
     ) -> Connections<'a, 'g, B, T, R>
         requires receiver { receiver.received ≡ [] }
         requires table { table ≡ replicate (length table) None }
+        requires supply { supply.wakes ≡ no_wakes }
+        requires members { length members ≡ length table }
         ensures { AreFresh receiver result }
     {
         Connections {
@@ -82,6 +95,7 @@ impl<'a, 'g, B: Broker, T: Transport + Drop, R: Wait> Connections<'a, 'g, B, T, 
             supply,
             served: ServedCounts::NONE,
             sweeps: Sweeps::NEW,
+            members,
         }
     }
 
@@ -133,23 +147,24 @@ impl<'a, 'g, B: Broker, T: Transport + Drop, R: Wait> Connections<'a, 'g, B, T, 
         self.sweeps.left()
     }
 
-    /// The slot of the group that the client in a cell would be handed a message of.
-    pub(crate) fn takes_from(&self, cell: usize) -> Option<u8> {
-        if cell < self.table.len() {
-            self.table.takes_from(cell)
-        } else {
-            None
-        }
+    /// Which of them would be handed a job, and which wait for a session.
+    pub(crate) fn members(&self) -> &Members
+        ensures { (slot : ℕ) → slot < 8 → HasTaker slot self.now.cells → IsWished slot result.now }
+    {
+        &self.members
     }
 
-    /// Whether the client in a cell waits for a session that another connection has.
-    pub(crate) fn is_waiting(&self, cell: usize) -> bool {
-        cell < self.table.len() && self.table.is_waiting(cell)
+    /// The next hand-out begins at this cell.
+    pub(crate) fn begin_at(&mut self, cell: usize)
+        ensures { self.new ≡ self.old }
+    {
+        self.members.begin_at(cell);
     }
 
     /// What they did since it was last asked that others may wait for.
     pub(crate) fn take_wakes(&mut self) -> Wakes
-        ensures { self.new ≡ self.old }
+        ensures told { result ≡ self.old.wakes }
+        ensures cleared { self.new ≡ record self.old { wakes = no_wakes } }
     {
         self.supply.take_wakes()
     }
@@ -199,6 +214,7 @@ impl<'a, 'g, B: Broker, T: Transport + Drop, R: Wait> Connections<'a, 'g, B, T, 
             .table
             .round(cell, &mut self.supply, crossing, worker, now, buffer);
         self.sweeps.note(cell, self.table.len());
+        note_wish(&self.table, cell, &mut self.members);
         match turned {
             Turned::Vacant => Went::Nowhere,
             Turned::Goes(round) => Went::On(round),
@@ -221,11 +237,28 @@ impl<'a, 'g, B: Broker, T: Transport + Drop, R: Wait> Connections<'a, 'g, B, T, 
             mut supply,
             served,
             sweeps: _,
+            members: _,
         } = self;
         table.abandon(&mut supply, 0);
         let (key, ports) = supply.into_parts();
         (Hand { key, ports }, receiver, served)
     }
+}
+
+/// Notes what the connection in a cell would do if others did something.
+fn note_wish<B: Broker, T: Transport>(
+    table: &ServiceTable<BrokerPlace<B>, T>,
+    cell: usize,
+    members: &mut Members,
+)
+    requires cell { cell < length table.now }
+    ensures { (wish : AnyWish) × TakesFrom (λ (p : PlaceState). p.group) (slice_index_or table.now cell None) wish.takes × (members.new ≡ slice_set members.old cell wish) }
+{
+    let wish = Wish {
+        takes: table.takes_from(cell),
+        waits: table.is_waiting(cell),
+    };
+    members.note(cell, wish);
 }
 
 /// Opens a connection in the cell of the number under which the poller watches it. That cell; `None` where it was closed.

@@ -45,11 +45,14 @@ pub struct Kit<T: Transport + Drop, Q, W, C> {
 }
 
 impl<T: Transport + Drop, Q, W, C> Model for Kit<T, Q, W, C> {
+    ghost use Rattle.std.specs.Prelude.{◌≡◌, length};
     ghost use Rattle.conn_channel.specs.Ends.{ReceiverState};
 
     ghost Value = { ReceiverState T };
 
     ghost view = { λ k. k.receiver };
+
+    ghost invariant = { λ k. length k.members ≡ k.share };
 }
 
 /// A kit for each worker of a roster, in the order of gear. They receive from the channel of this sender.

@@ -1,8 +1,12 @@
 //! Which of a worker's connections would be handed a job, and which wait for a session.
+ghost use Rattle.std.specs.Prelude.{◌≡◌, ◌<◌, ◌≤◌, ◌+◌, ℕ, false, length, replicate, slice_set, slice_index_or};
+ghost use Rattle.broker_worker.specs.Wishing.{IsWished, no_wish, none_or_one};
+
+use std::marker::Model;
 
 /// What a connection would do if others did something.
 #[derive(Clone, Copy, Debug, PartialEq, Eq)]
-pub(crate) struct Wish {
+pub struct Wish {
     /// The slot of the group that it would be handed a job of.
     pub(crate) takes: Option<u8>,
     /// It waits for a session.
@@ -17,9 +21,9 @@ impl Wish {
     };
 }
 
-/// The wishes of a worker's connections, by their cells.
+/// The wishes of a worker's connections, by their cells. Contracts see them as that list.
 #[derive(Drop)]
-pub(crate) struct Members {
+pub struct Members {
     wishes: Vec<Wish>,
     // How many would be handed a job of each group.
     takers: [u32; 8],
@@ -28,9 +32,25 @@ pub(crate) struct Members {
     next: usize,
 }
 
+impl Model for Members {
+    ghost use Rattle.std.specs.Prelude.{List};
+    ghost use Rattle.broker_worker.specs.declared.members.Wish.{Wish};
+    ghost use Rattle.broker_worker.specs.Wishing.{AreCounted};
+
+    ghost Value = { List Wish };
+
+    ghost view = { λ m. m.wishes.items };
+
+    ghost invariant = { λ m. AreCounted m.takers m.wishes.items };
+}
+
 impl Members {
     /// No connection has a wish.
-    pub(crate) fn new(wishes: Vec<Wish>) -> Members {
+    pub(crate) fn new(wishes: Vec<Wish>) -> Members
+        requires few { length wishes.items ≤ 65535 }
+        requires none { wishes.items ≡ replicate (length wishes.items) no_wish }
+        ensures { result ≡ wishes.items }
+    {
         Members {
             wishes,
             takers: [0; 8],
@@ -40,14 +60,16 @@ impl Members {
     }
 
     /// Notes the wish of the connection in a cell.
-    pub(crate) fn note(&mut self, cell: usize, wish: Wish) {
+    pub(crate) fn note(&mut self, cell: usize, wish: Wish)
+        ensures { self.new ≡ slice_set self.old cell wish }
+    {
         let Some(place) = self.wishes.get_mut(cell) else {
             return;
         };
         let old = *place;
         *place = wish;
-        self.count(old.takes, false);
-        self.count(wish.takes, true);
+        one_less(&mut self.takers, old.takes);
+        one_more(&mut self.takers, wish.takes);
         if old.waits {
             self.waiting = self.waiting.saturating_sub(1);
         }
@@ -56,25 +78,11 @@ impl Members {
         }
     }
 
-    /// One more, or one less, would be handed a job of this group.
-    fn count(&mut self, slot: Option<u8>, more: bool) {
-        let Some(slot) = slot else { return };
-        let Some(takers) = self.takers.get_mut(usize::from(slot)) else {
-            return;
-        };
-        *takers = if more {
-            takers.saturating_add(1)
-        } else {
-            takers.saturating_sub(1)
-        };
-    }
-
     /// Whether some connection would be handed a job of this group.
-    pub(crate) fn has_taker(&self, slot: usize) -> bool {
-        match self.takers.get(slot) {
-            Some(takers) => *takers > 0,
-            None => false,
-        }
+    pub(crate) fn has_taker(&self, slot: usize) -> bool
+        ensures { result ≡ false → slot < 8 → ¬ IsWished slot self.now }
+    {
+        slot < self.takers.len() && self.takers[slot] > 0
     }
 
     /// Whether the connection in this cell would be.
@@ -101,7 +109,35 @@ impl Members {
     }
 
     /// The next hand-out begins at this cell.
-    pub(crate) fn begin_at(&mut self, cell: usize) {
+    pub(crate) fn begin_at(&mut self, cell: usize)
+        ensures { self.new ≡ self.old }
+    {
         self.next = cell;
+    }
+}
+
+/// One less would be handed a job of this group.
+fn one_less(takers: &mut [u32; 8], slot: Option<u8>)
+    requires { (k : ℕ) → k < 8 → none_or_one k slot ≤ slice_index_or takers.old k 0 }
+    ensures { (k : ℕ) → k < 8 → slice_index_or takers.new k 0 + none_or_one k slot ≡ slice_index_or takers.old k 0 }
+{
+    if let Some(slot) = slot {
+        let slot = usize::from(slot);
+        if slot < takers.len() {
+            takers[slot] = takers[slot].saturating_sub(1);
+        }
+    }
+}
+
+/// One more would be handed a job of this group.
+fn one_more(takers: &mut [u32; 8], slot: Option<u8>)
+    requires { (k : ℕ) → k < 8 → slice_index_or takers.old k 0 ≤ 65535 }
+    ensures { (k : ℕ) → k < 8 → slice_index_or takers.new k 0 ≡ slice_index_or takers.old k 0 + none_or_one k slot }
+{
+    if let Some(slot) = slot {
+        let slot = usize::from(slot);
+        if slot < takers.len() {
+            takers[slot] = takers[slot].saturating_add(1);
+        }
     }
 }

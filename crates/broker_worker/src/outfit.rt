@@ -1,23 +1,123 @@
 //! What workers have of the bells: an ear at the bell of each group, and hands at all of them.
-ghost use Rattle.std.specs.Prelude.{◌≡◌, ◌≤◌, length, IfOk};
+ghost use Rattle.std.specs.Prelude.{◌≡◌, ◌≢◌, ◌≤◌, ◌<◌, ℕ, true, length, slice_get, IfOk};
 ghost use Rattle.std.specs.Arc.{arc_value};
 ghost use Rattle.bell.specs.Calls.{AreListenersOf, AreRingersOf};
+ghost use Rattle.broker_worker.specs.Ringing.{AreRung, HasSettledAt, IsIdle, IsRung, RingsAt};
+ghost use Rattle.broker_worker.specs.Wishing.{IsWished};
 
 use crate::bells::{Listening, Ringing};
 use crate::calls::Roster;
+use crate::members::Members;
 use bell::{Bell, Listener, MOST_WORKERS, Ringer, Wake};
 use conn_engine::NoMemory;
 use std::alloc::Global;
+use std::marker::Model;
 use std::sync::Arc;
 
 /// How many groups there are.
 pub(crate) const SLOTS: usize = 8;
 
-/// What one worker has of the bells.
+/// What one worker has of the bells. Contracts see it as an `OutfitState`.
 #[derive(Drop)]
 pub(crate) struct Outfit<W> {
-    pub(crate) ears: Vec<Listening>,
-    pub(crate) hands: Vec<Ringing<W>>,
+    ears: Vec<Listening>,
+    hands: Vec<Ringing<W>>,
+}
+
+impl<W> Model for Outfit<W> {
+    ghost use Rattle.broker_worker.specs.Ringing.{OutfitState};
+
+    ghost Value = { OutfitState };
+
+    ghost view = { λ o. record { ears = o.ears.items; hands = o.hands.items } };
+}
+
+impl<W: Wake> Outfit<W> {
+    /// Whether it rang for the members of a group since they were served, and whether this worker may have been called for it. They are served from now on.
+    pub(crate) fn take(&mut self, slot: usize) -> (bool, bool)
+        ensures { self.new ≡ self.old }
+    {
+        match self.ears.get_mut(slot) {
+            Some(ear) => (ear.take_rung(), ear.take_called()),
+            None => (false, false),
+        }
+    }
+
+    /// Hears which bells rang.
+    pub(crate) fn hear(&mut self) {
+        for ear in &mut self.ears {
+            ear.hear();
+        }
+    }
+
+    /// The worker is idle from now on at the bells of the groups of which it has members that would be handed a job. Whether it may wait.
+    pub(crate) fn settle(&mut self, members: &Members) -> bool
+        ensures { result ≡ true → IsIdle members.now self.new.ears }
+    {
+        let mut may_wait = true;
+        'slots: for slot in 0..SLOTS {
+            let settled = self.settle_at(slot, members);
+            may_wait &= settled;
+        }
+        may_wait
+    }
+
+    /// It is idle from now on at the bell of a group, where it has members that would be handed a job. Whether it may wait.
+    fn settle_at(&mut self, slot: usize, members: &Members) -> bool
+        ensures settled { result ≡ true → slot < 8 → IsWished slot members.now → HasSettledAt self.new.ears slot }
+        ensures others { (k : ℕ) → k ≢ slot → slice_get self.new.ears k ≡ slice_get self.old.ears k }
+        ensures hands { self.new.hands ≡ self.old.hands }
+    {
+        if !members.has_taker(slot) {
+            return true;
+        }
+        match self.ears.get_mut(slot) {
+            Some(ear) => ear.slot() == slot && ear.settle(),
+            None => false,
+        }
+    }
+
+    /// Notes that there is something for the worker's own members of a group, where there are so many messages.
+    fn note_some(&mut self, slot: usize, count: usize)
+        ensures { self.new ≡ self.old }
+    {
+        if count > 0 {
+            if let Some(ear) = self.ears.get_mut(slot) {
+                ear.note();
+            }
+        }
+    }
+
+    /// Rings for so many workers that have members of a group.
+    pub(crate) fn ring(&mut self, slot: usize, wanted: usize)
+        ensures rung { IsRung slot wanted self.old.hands self.new.hands }
+        ensures ears { self.new.ears ≡ self.old.ears }
+    {
+        let mut left = wanted;
+        'hands: for hand in 0..self.hands.len() {
+            left = self.ring_by(hand, slot, left);
+        }
+    }
+
+    /// Rings for so many workers that have members of each group, one group after the other, and notes that there is something for its own members.
+    pub(crate) fn ring_each(&mut self, wanted: &[u32; SLOTS])
+        ensures { AreRung 0 wanted.now self.old.hands self.new.hands }
+    {
+        'slots: for slot in 0..SLOTS {
+            let count = wanted[slot] as usize;
+            self.note_some(slot, count);
+            self.ring(slot, count);
+        }
+    }
+
+    /// Rings by one of its hands, where that is at a bell of this group. How many are still to be woken.
+    fn ring_by(&mut self, hand: usize, slot: usize, left: usize) -> usize
+        requires { hand < length self.old.hands }
+        ensures rung { RingsAt hand slot left result self.old.hands self.new.hands }
+        ensures ears { self.new.ears ≡ self.old.ears }
+    {
+        self.hands[hand].ring(slot, left)
+    }
 }
 
 /// What each of so many workers of a roster has of the bells, in their order.
@@ -97,7 +197,7 @@ fn bell_of<W: Wake + Drop>(
 {
     let (bell, listeners, ringers) = Bell::open(alloc, count, hands).map_err(|_| NoMemory)?;
     let bell = Arc::new(alloc, bell).map_err(|_| NoMemory)?;
-    let ears = seat_ears(alloc, &bell, listeners)?;
+    let ears = seat_ears(alloc, &bell, slot, listeners)?;
     let hands = seat_hands(alloc, &bell, ward, slot, ringers)?;
     Ok((ears, hands))
 }
@@ -106,22 +206,23 @@ fn bell_of<W: Wake + Drop>(
 fn seat_ears(
     alloc: Global,
     bell: &Arc<Bell, Global>,
+    slot: usize,
     listeners: Vec<Listener>,
 ) -> Result<Vec<Listening>, NoMemory>
     requires { AreListenersOf (arc_value bell.now).word listeners.items }
 {
     let mut ears = Vec::new(alloc);
     for listener in listeners {
-        ears.push(ear_at(bell, listener)?)?;
+        ears.push(ear_at(bell, slot, listener)?)?;
     }
     Ok(ears)
 }
 
 /// An ear at a bell.
-fn ear_at(bell: &Arc<Bell, Global>, listener: Listener) -> Result<Listening, NoMemory>
+fn ear_at(bell: &Arc<Bell, Global>, slot: usize, listener: Listener) -> Result<Listening, NoMemory>
     requires { listener.bell ≡ (arc_value bell.now).word }
 {
-    Ok(Listening::new(Arc::try_clone(bell)?, listener))
+    Ok(Listening::new(Arc::try_clone(bell)?, listener, slot))
 }
 
 /// Hands at a bell.

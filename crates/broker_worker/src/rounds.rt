@@ -4,7 +4,6 @@ ghost use Rattle.broker_worker.specs.Serving.{Rounds};
 ghost use Rattle.broker_worker.specs.Sweeping.{HasGone, IsInTime, Notes};
 
 use crate::connections::Went;
-use crate::members::Wish;
 use crate::outfit::SLOTS;
 use crate::poller::Poller;
 use crate::worker::{READ_SIZE, Worker};
@@ -27,7 +26,7 @@ impl<
 > Worker<'a, 'g, B, T, Q, W, X, C, R> {
     /// Those that may be read or written are due.
     pub(crate) fn mark_ready(&mut self)
-        ensures { self.new ≡ self.old }
+        ensures { self.new.connections ≡ self.old.connections }
     {
         'ready: for _ in 0..self.connections.len() {
             match self.poller.take_ready() {
@@ -39,10 +38,10 @@ impl<
 
     /// Goes on with each connection that is due, once; or with all of them, where a sweep has begun.
     pub(crate) fn serve_due(&mut self, all: bool, buffer: &mut [u8; READ_SIZE])
-        requires late { all ≡ true → HasGone 0 (length self.old.cells) self.old.sweeps }
-        requires in_time { all ≡ false → IsInTime self.old.sweeps }
-        ensures goes { Rounds self.old self.new }
-        ensures in_time { IsInTime self.new.sweeps }
+        requires late { all ≡ true → HasGone 0 (length self.old.connections.cells) self.old.connections.sweeps }
+        requires in_time { all ≡ false → IsInTime self.old.connections.sweeps }
+        ensures goes { Rounds self.old.connections self.new.connections }
+        ensures in_time { IsInTime self.new.connections.sweeps }
     {
         self.due.begin();
         'cells: for cell in 0..self.connections.len() {
@@ -52,8 +51,8 @@ impl<
 
     /// Goes on with the connection in a cell by a round, where it is due, or all of them are.
     fn serve_if_due(&mut self, cell: usize, all: bool, buffer: &mut [u8; READ_SIZE])
-        ensures goes { Rounds self.old self.new }
-        ensures late { all ≡ true → cell < length self.old.cells → HasGone cell (length self.old.cells) self.old.sweeps → HasGone (cell + 1) (length self.old.cells) self.new.sweeps }
+        ensures goes { Rounds self.old.connections self.new.connections }
+        ensures late { all ≡ true → cell < length self.old.connections.cells → HasGone cell (length self.old.connections.cells) self.old.connections.sweeps → HasGone (cell + 1) (length self.old.connections.cells) self.new.connections.sweeps }
     {
         let due = self.due.take(cell);
         if due || all {
@@ -63,8 +62,8 @@ impl<
 
     /// Goes on with the connection in a cell by a round. What it waits for; `None` where there is none, or it has ended.
     fn round(&mut self, cell: usize, buffer: &mut [u8; READ_SIZE]) -> Option<Round>
-        ensures goes { Rounds self.old self.new }
-        ensures notes { cell < length self.old.cells → Notes cell (length self.old.cells) self.old.sweeps self.new.sweeps }
+        ensures goes { Rounds self.old.connections self.new.connections }
+        ensures notes { cell < length self.old.connections.cells → Notes cell (length self.old.connections.cells) self.old.connections.sweeps self.new.connections.sweeps }
     {
         let worker = u32::try_from(self.number).unwrap_or(u32::MAX);
         match self
@@ -73,43 +72,27 @@ impl<
         {
             Went::Nowhere => None,
             Went::On(round) => {
-                self.go_on(cell, round);
+                if round == Round::More {
+                    self.due.mark(cell);
+                }
                 Some(round)
             }
             Went::ToItsEnd => {
-                self.members.note(cell, Wish::NONE);
                 self.roster.leave(self.number);
                 None
             }
         }
     }
 
-    /// A connection goes on: it is due where its round left something to do. Notes what it would do if others did something.
-    fn go_on(&mut self, cell: usize, round: Round)
-        ensures { self.new ≡ self.old }
-    {
-        if round == Round::More {
-            self.due.mark(cell);
-        }
-        let wish = Wish {
-            takes: self.connections.takes_from(cell),
-            waits: self.connections.is_waiting(cell),
-        };
-        self.members.note(cell, wish);
-    }
-
     /// Goes on with members of the groups for which it rang. Where this worker was called, and none of them could be handed a job, it rings for another one.
     pub(crate) fn hand_out(&mut self, buffer: &mut [u8; READ_SIZE])
-        ensures { Rounds self.old self.new }
+        ensures { Rounds self.old.connections self.new.connections }
     {
         'slots: for slot in 0..SLOTS {
-            let (rung, called) = match self.ears.get_mut(slot) {
-                Some(ear) => (ear.take_rung(), ear.take_called()),
-                None => (false, false),
-            };
+            let (rung, called) = self.outfit.take(slot);
             let seen = rung && self.hand_out_of(slot, buffer);
             if called && !seen {
-                self.ring_others(slot, 1);
+                self.outfit.ring(slot, 1);
             }
         }
     }
@@ -117,21 +100,21 @@ impl<
     /// Goes on with members of a group, one after the other, until one has room for more than there is. Whether one of them went on, and did not have to wait
     /// until its client reads.
     fn hand_out_of(&mut self, slot: usize, buffer: &mut [u8; READ_SIZE]) -> bool
-        ensures { Rounds self.old self.new }
+        ensures { Rounds self.old.connections self.new.connections }
     {
         let count = self.connections.len();
-        let first = self.members.next();
+        let first = self.connections.members().next();
         let mut seen = false;
         'members: for step in 0..count {
-            if !self.members.has_taker(slot) {
+            if !self.connections.members().has_taker(slot) {
                 return seen;
             }
             let cell = first.wrapping_add(step) % count;
-            if self.members.takes(cell, slot) {
+            if self.connections.members().takes(cell, slot) {
                 let went_on = self.serve_member(cell, buffer);
                 seen = seen || went_on;
-                if went_on && self.members.takes(cell, slot) {
-                    self.members.begin_at(cell);
+                if went_on && self.connections.members().takes(cell, slot) {
+                    self.connections.begin_at(cell);
                     return true;
                 }
             }
@@ -141,7 +124,7 @@ impl<
 
     /// Goes on with the connection in a cell by a round. Whether it has not ended, and does not wait until its client reads.
     fn serve_member(&mut self, cell: usize, buffer: &mut [u8; READ_SIZE]) -> bool
-        ensures { Rounds self.old self.new }
+        ensures { Rounds self.old.connections self.new.connections }
     {
         match self.round(cell, buffer) {
             Some(Round::Writing) | None => false,

@@ -1,8 +1,10 @@
 //! What a worker tells the others, and what it hears of them.
 ghost use Rattle.std.specs.Prelude.{◌≡◌};
+ghost use Rattle.shared_supply.specs.Waking.{no_wakes};
+ghost use Rattle.broker_worker.specs.Resting.{MayWait};
+ghost use Rattle.broker_worker.specs.Ringing.{AreRung};
 ghost use Rattle.broker_worker.specs.Sweeping.{AreTicked, IsInTime, WaitsInTime};
 
-use crate::outfit::SLOTS;
 use crate::poller::Poller;
 use crate::worker::{END_PAUSE, Worker};
 use bell::Wake;
@@ -22,35 +24,28 @@ impl<
     C: Clock + Drop,
     R: Wait,
 > Worker<'a, 'g, B, T, Q, W, X, C, R> {
-    /// Hears which bells rang.
-    pub(crate) fn hear(&mut self)
-        ensures { self.new ≡ self.old }
-    {
-        for ear in &mut self.ears {
-            ear.hear();
-        }
-    }
-
-    /// Tells the others what its connections did that they may wait for.
+    /// Tells the others what its connections did that they may wait for: it rings for as many workers as there are messages for each group, and calls whom a
+    /// session concerns.
     pub(crate) fn tell(&mut self)
-        ensures { self.new ≡ self.old }
+        ensures told { self.new.connections ≡ record self.old.connections { wakes = no_wakes } }
+        ensures rung { AreRung 0 self.old.connections.wakes.messages self.old.bells.hands self.new.bells.hands }
     {
         self.tell_whether_waiting();
         let wakes = self.connections.take_wakes();
-        'slots: for slot in 0..SLOTS {
-            let count = wakes.messages[slot];
-            if count > 0 {
-                self.ring(slot, count as usize);
-            }
-        }
-        match wakes.asked_back {
+        self.outfit.ring_each(&wakes.messages);
+        self.call(wakes.asked_back, wakes.has_freed_session);
+    }
+
+    /// Calls whom it concerns that sessions were asked back, and that one is free.
+    fn call(&self, asked_back: AskedBack, has_freed_session: bool) {
+        match asked_back {
             AskedBack::Nobody => {}
             AskedBack::One(connection) => {
                 self.roster.call_all_due(self.roster.worker_of(connection))
             }
             AskedBack::Several => self.roster.call_everybody(),
         }
-        if wakes.has_freed_session {
+        if has_freed_session {
             self.roster.call_waiting();
         }
     }
@@ -59,54 +54,36 @@ impl<
     fn tell_whether_waiting(&mut self)
         ensures { self.new ≡ self.old }
     {
-        let waits = self.members.has_waiting();
+        let waits = self.connections.members().has_waiting();
         if waits != self.waits {
             self.waits = waits;
             self.roster.note_waiting(self.number, waits);
         }
     }
 
-    /// Rings for so many workers that have members of a group, and notes that there is something for its own.
-    fn ring(&mut self, slot: usize, count: usize)
-        ensures { self.new ≡ self.old }
-    {
-        if let Some(ear) = self.ears.get_mut(slot) {
-            ear.note();
-        }
-        self.ring_others(slot, count);
-    }
-
-    /// Rings for so many workers that have members of a group.
-    pub(crate) fn ring_others(&mut self, slot: usize, count: usize)
-        ensures { self.new ≡ self.old }
-    {
-        let mut left = count;
-        for hand in &mut self.hands {
-            if hand.slot() == slot && left > 0 {
-                left = left.saturating_sub(hand.ring(left));
-            }
-        }
-    }
-
     /// For how many milliseconds the next turn may wait. The worker is idle at the bells of the groups of which it has members that would be handed a job.
     pub(crate) fn outlook(&mut self) -> u64
-        requires in_time { IsInTime self.old.sweeps }
-        ensures same { self.new ≡ self.old }
-        ensures in_time { WaitsInTime result self.new.sweeps.latest self.new.sweeps.swept }
-        ensures ticked { AreTicked self.new.sweeps.latest self.new.cells }
+        requires in_time { IsInTime self.old.connections.sweeps }
+        requires told { self.old.connections.wakes ≡ no_wakes }
+        ensures same { self.new.connections ≡ self.old.connections }
+        ensures rests { MayWait result self.new }
+        ensures ticked { AreTicked self.new.connections.sweeps.latest self.new.connections.cells }
     {
-        let mut may_wait = !self.due.any();
-        'slots: for slot in 0..SLOTS {
-            if self.members.has_taker(slot) {
-                if let Some(ear) = self.ears.get_mut(slot) {
-                    may_wait = ear.settle() && may_wait;
-                }
-            }
-        }
-        let left = self.connections.left();
-        if !may_wait {
+        let settled = self.outfit.settle(self.connections.members());
+        let left = self.left();
+        if !settled || self.due.any() {
             return 0;
         }
+        left
+    }
+
+    /// For how many milliseconds it may wait, where it is at rest.
+    fn left(&self) -> u64
+        requires { IsInTime self.now.connections.sweeps }
+        ensures in_time { WaitsInTime result self.now.connections.sweeps.latest self.now.connections.sweeps.swept }
+        ensures ticked { AreTicked self.now.connections.sweeps.latest self.now.connections.cells }
+    {
+        let left = self.connections.left();
         if self.closing && !self.connections.is_ended() {
             return left.min(END_PAUSE);
         }

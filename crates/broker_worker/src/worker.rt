@@ -1,16 +1,15 @@
 //! A worker: what it has, and its turns.
 ghost use Rattle.std.specs.Prelude.{◌≡◌, [], None, length, replicate, IfOk};
 ghost use Rattle.broker_worker.specs.Serving.{AreFresh, AreServed, IsDone, StaysOf, live};
-ghost use Rattle.broker_worker.specs.Sweeping.{AreTicked, WaitsInTime};
+ghost use Rattle.broker_worker.specs.Resting.{MayWait};
+ghost use Rattle.broker_worker.specs.Sweeping.{AreTicked};
 
 use crate::arrived::Arrived;
-use crate::bells::{Listening, Ringing};
 use crate::calls::Roster;
 use crate::connections::{Came, Connections};
 use crate::hand::Hand;
 use crate::kit::{Gear, Kit, MOST_CONNECTIONS};
 use crate::marks::Marks;
-use crate::members::Members;
 use crate::outfit::Outfit;
 use crate::poller::Poller;
 use crate::served::ServedCounts;
@@ -33,18 +32,16 @@ pub(crate) const END_PAUSE: u64 = 1;
 
 /// What a worker has: where it waits, its connections, what it asks of the broker, and how it calls others and is called.
 ///
-/// Contracts see it as its connections.
+/// Contracts see it as a `WorkerState`: its connections, and what it has of the bells.
 pub struct Worker<'a, 'g, B: Broker, T: Transport + Drop, Q, W, X, C, R: Wait> {
     pub(crate) number: usize,
     pub(crate) connections: Connections<'a, 'g, B, T, R>,
     pub(crate) poller: Q,
-    pub(crate) ears: Vec<Listening>,
-    pub(crate) hands: Vec<Ringing<W>>,
+    pub(crate) outfit: Outfit<W>,
     pub(crate) roster: &'a Roster<W>,
     pub(crate) crossing: &'a X,
     pub(crate) clock: C,
     pub(crate) due: Marks,
-    pub(crate) members: Members,
     // The broker closes.
     pub(crate) closing: bool,
     // It is known to others that a connection of it waits for a session.
@@ -53,11 +50,11 @@ pub struct Worker<'a, 'g, B: Broker, T: Transport + Drop, Q, W, X, C, R: Wait> {
 
 impl<'a, 'g, B: Broker, T: Transport + Drop, Q, W, X, C, R: Wait> Model
     for Worker<'a, 'g, B, T, Q, W, X, C, R> {
-    ghost use Rattle.broker_worker.specs.Serving.{ConnectionsState};
+    ghost use Rattle.broker_worker.specs.Resting.{WorkerState};
 
-    ghost Value = { ConnectionsState T };
+    ghost Value = { WorkerState T };
 
-    ghost view = { λ w. w.connections };
+    ghost view = { λ w. record { connections = w.connections; bells = w.outfit } };
 }
 
 impl<
@@ -86,51 +83,51 @@ impl<
         crossing: &'a X,
     ) -> Result<Worker<'a, 'g, B, T, Q, W, X, C, R>, Hand<B>>
         requires { kit.received ≡ [] }
-        ensures { IfOk result (λ worker. AreFresh kit worker) }
+        ensures { IfOk result (λ worker. AreFresh kit worker.connections) }
     {
         let Ok(known) = hall.know_routes(alloc) else {
             return Err(hand);
         };
-        let Ok(table) = table_of::<B, T>(alloc, kit.number, kit.share) else {
+        let Kit {
+            number,
+            share,
+            gear,
+            receiver,
+            outfit,
+            due,
+            members,
+        } = kit;
+        let Ok(table) = table_of::<B, T>(alloc, number, share) else {
             return Err(hand);
         };
         let Hand { key, ports } = hand;
         let supply = SharedSupply::new(rt, alloc, hall, key, ports, known);
-        Ok(Worker::of(kit, table, supply, roster, crossing))
+        let connections = Connections::new(receiver, table, supply, members);
+        Ok(Worker::of(number, connections, gear, outfit, due, roster, crossing))
     }
 
-    /// A worker of this kit, over a table that is free.
+    /// A worker of a number, which has these connections.
     fn of(
-        kit: Kit<T, Q, W, C>,
-        table: ServiceTable<BrokerPlace<B>, T>,
-        supply: SharedSupply<'a, 'g, B, R>,
+        number: usize,
+        connections: Connections<'a, 'g, B, T, R>,
+        gear: Gear<Q, C>,
+        outfit: Outfit<W>,
+        due: Marks,
         roster: &'a Roster<W>,
         crossing: &'a X,
     ) -> Worker<'a, 'g, B, T, Q, W, X, C, R>
-        requires receiver { kit.received ≡ [] }
-        requires table { table ≡ replicate (length table) None }
-        ensures { AreFresh kit result }
+        ensures { result.connections ≡ connections.entry }
     {
-        let Kit {
-            number,
-            share: _,
-            gear: Gear { poller, clock },
-            receiver,
-            outfit: Outfit { ears, hands },
-            due,
-            members,
-        } = kit;
+        let Gear { poller, clock } = gear;
         Worker {
             number,
-            connections: Connections::new(receiver, table, supply),
+            connections,
             poller,
-            ears,
-            hands,
+            outfit,
             roster,
             crossing,
             clock,
             due,
-            members,
             closing: false,
             waits: false,
         }
@@ -138,8 +135,8 @@ impl<
 
     /// Serves connections until the broker has closed and the last of them has ended.
     pub fn run(&mut self, rt: &R)
-        ensures same { StaysOf self.old self.new }
-        ensures done { IsDone self.new }
+        ensures same { StaysOf self.old.connections self.new.connections }
+        ensures done { IsDone self.new.connections }
     {
         self.roster.note_begun();
         let mut buffer = [0; READ_SIZE];
@@ -154,15 +151,16 @@ impl<
     }
 
     /// A turn: waits for so many milliseconds at most, and goes on with the connections for which there is something to do. For how long the next turn
-    /// may wait: no longer than until 50 milliseconds have gone by since all went on.
+    /// may wait: only where it is at rest, and no longer than until 50 milliseconds have gone by since all went on.
     fn turn(&mut self, rt: &R, pause: u64, buffer: &mut [u8; READ_SIZE]) -> u64
-        ensures same { StaysOf self.old self.new }
-        ensures in_time { WaitsInTime result self.new.sweeps.latest self.new.sweeps.swept }
-        ensures ticked { AreTicked self.new.sweeps.latest self.new.cells }
+        requires rests { MayWait pause self.old }
+        ensures same { StaysOf self.old.connections self.new.connections }
+        ensures rests { MayWait result self.new }
+        ensures ticked { AreTicked self.new.connections.sweeps.latest self.new.connections.cells }
     {
         self.wait(rt, pause);
         self.mark_ready();
-        self.hear();
+        self.outfit.hear();
         let all = self.connections.begin_sweep();
         self.serve_due(all, buffer);
         self.tell();
@@ -173,7 +171,8 @@ impl<
 
     /// Waits for so many milliseconds at most, looks at the clock, and takes the connections that were sent for it.
     fn wait(&mut self, rt: &R, pause: u64)
-        ensures { StaysOf self.old self.new }
+        requires { MayWait pause self.old }
+        ensures { StaysOf self.old.connections self.new.connections }
     {
         let called = self.poller.wait(rt, pause);
         self.connections.look(self.clock.now());
@@ -187,7 +186,7 @@ impl<
 
     /// Answers the call of others: takes the connections that were sent for it.
     fn answer(&mut self, rt: &R)
-        ensures { StaysOf self.old self.new }
+        ensures { StaysOf self.old.connections self.new.connections }
     {
         let calls = self.roster.take_calls(self.number);
         'invited: for _ in 0..calls.invited {
@@ -203,7 +202,7 @@ impl<
 
     /// Receives what comes through the channel: a connection for which this worker was invited, or its end mark once all connections were received.
     fn receive(&mut self, rt: &R)
-        ensures { StaysOf self.old self.new }
+        ensures { StaysOf self.old.connections self.new.connections }
     {
         match self.connections.receive(rt, &mut self.poller) {
             Came::Opened(cell) => {
@@ -220,20 +219,18 @@ impl<
 
     /// What it had of the broker, its end of the channel, and how its connections ended. Any that is still open ends as where the broker closes.
     pub fn into_parts(self) -> (Hand<B>, Receiver<Arrived<T>>, ServedCounts)
-        ensures receiver { result.1 ≡ self.entry.receiver }
-        ensures served { (live self.entry ≡ 0) → AreServed B.group T.counts T.given T.accepted (length self.entry.receiver.received) result.2 }
+        ensures receiver { result.1 ≡ self.entry.connections.receiver }
+        ensures served { (live self.entry.connections ≡ 0) → AreServed B.group T.counts T.given T.accepted (length self.entry.connections.receiver.received) result.2 }
     {
         let Worker {
             number: _,
             connections,
             poller: _,
-            ears: _,
-            hands: _,
+            outfit: _,
             roster: _,
             crossing: _,
             clock: _,
             due: _,
-            members: _,
             closing: _,
             waits: _,
         } = self;
@@ -247,7 +244,8 @@ fn table_of<B: Broker, T: Transport>(
     number: usize,
     share: u16,
 ) -> Result<ServiceTable<BrokerPlace<B>, T>, NoMemory>
-    ensures { IfOk result (λ table. table ≡ replicate (length table) None) }
+    ensures free { IfOk result (λ table. table ≡ replicate (length table) None) }
+    ensures count { IfOk result (λ table. length table ≡ share) }
 {
     let first = number.saturating_mul(usize::from(share));
     if first >= usize::from(MOST_CONNECTIONS) {

@@ -8,7 +8,8 @@ use Rattle.conn_channel.specs.Ends.{ReceiverState, received_by}
 use Rattle.conn_service.specs.declared.served.Served.{Served}
 use Rattle.broker_worker.specs.declared.served.ServedCounts.{ServedCounts}
 use Rattle.broker_worker.specs.Counting.{counts_of}
-use Rattle.broker_worker.specs.Serving.{AreServed, ConnectionsState, live}
+use Rattle.broker_worker.specs.Serving.{AreServed, live}
+use Rattle.broker_worker.specs.Resting.{WorkerState}
 use Rattle.worker_pool.specs.Pools.{AreAllServed, ServesAll, total_in}
 use Rattle.worker_pool.proofs.Counted.{of_all}
 
@@ -36,9 +37,9 @@ module _ {T : Type 0} (group : ℕ → GroupId) (counts : T → Counts) (given a
       }
 
   -- one worker more gives back what it had
-  pub gathers : (receivers receivers' : List (ReceiverState T)) (served served' : List ServedCounts) (worker : ConnectionsState T) (receiver : ReceiverState T) (counted : ServedCounts)
-      → AreAllServed group counts given accepted receivers served → receivers' ≡ receivers ++ receiver ∷ [] → served' ≡ served ++ counted ∷ [] → receiver ≡ worker.receiver
-      → (live worker ≡ 0 → AreServed group counts given accepted (length worker.receiver.received) counted) → live worker ≡ 0 → AreAllServed group counts given accepted receivers' served'
+  pub gathers : (receivers receivers' : List (ReceiverState T)) (served served' : List ServedCounts) (worker : WorkerState T) (receiver : ReceiverState T) (counted : ServedCounts)
+      → AreAllServed group counts given accepted receivers served → receivers' ≡ receivers ++ receiver ∷ [] → served' ≡ served ++ counted ∷ [] → receiver ≡ worker.connections.receiver
+      → (live worker.connections ≡ 0 → AreServed group counts given accepted (length worker.connections.receiver.received) counted) → live worker.connections ≡ 0 → AreAllServed group counts given accepted receivers' served'
   gathers receivers receivers' served served' worker receiver counted all ends counts_are same tells none =
       let Serves : ReceiverState T → ServedCounts → Type 0 = λ r c. AreServed group counts given accepted (length r.received) c in
       let One : ReceiverState T → Type 0 = λ r. Serves r counted in

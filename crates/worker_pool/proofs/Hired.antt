@@ -4,7 +4,7 @@ use Rattle.std.proofs.Math.ListN.{length-append}
 use Rattle.std.proofs.Math.Seq.{take-append_seam}
 use Rattle.std.proofs.lemmas.List.Elements.{All-push, All-weaker}
 use Rattle.conn_channel.specs.Ends.{ChannelId}
-use Rattle.broker_worker.specs.Serving.{ConnectionsState}
+use Rattle.broker_worker.specs.Resting.{WorkerState}
 use Rattle.worker_pool.specs.Accepting.{AcceptorState}
 use Rattle.worker_pool.specs.declared.role.Role.{Role}
 use Rattle.worker_pool.specs.declared.role.Role.TheVariants.{Serving, Accepting, Watching}
@@ -16,8 +16,8 @@ front {A} count xs ys same = let Front : ℕ → Type 0 = λ n. take n (xs ++ ys
 
 module _ {B T S Q W X C D R : Type 0} where
   -- one worker more
-  pub hires : (acceptor : AcceptorState T S) (count count' : ℕ) (roles roles' : List (Role B T S Q W X C D R)) (worker : ConnectionsState T) → AreHired acceptor count roles
-      → roles' ≡ roles ++ Serving worker ∷ [] → worker.receiver.channel ≡ acceptor.sender.channel → count' ≡ count + 1 → AreHired acceptor count' roles'
+  pub hires : (acceptor : AcceptorState T S) (count count' : ℕ) (roles roles' : List (Role B T S Q W X C D R)) (worker : WorkerState T) → AreHired acceptor count roles
+      → roles' ≡ roles ++ Serving worker ∷ [] → worker.connections.receiver.channel ≡ acceptor.sender.channel → count' ≡ count + 1 → AreHired acceptor count' roles'
   hires acceptor count count' roles roles' worker hired pushed channel more = record {
     workers = hired.workers ++ Serving worker ∷ [];
     of_pool = record {

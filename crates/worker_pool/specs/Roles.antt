@@ -16,19 +16,19 @@ module _ {B T S Q W X C D R : Type 0} where
 
   -- a worker of this channel
   abbrev pub IsHired : ChannelId T → Role B T S Q W X C D R → Type 0
-  IsHired channel (Serving worker) = worker.receiver.channel ≡ channel
+  IsHired channel (Serving worker) = worker.connections.receiver.channel ≡ channel
   IsHired channel (Accepting acceptor) = ⊥
   IsHired channel (Watching watch) = ⊥
 
   -- a worker of this channel that has ended
   abbrev pub HasServed : ChannelId T → Role B T S Q W X C D R → Type 0
-  HasServed channel (Serving worker) = (worker.receiver.channel ≡ channel) × IsDone worker
+  HasServed channel (Serving worker) = (worker.connections.receiver.channel ≡ channel) × IsDone worker.connections
   HasServed channel (Accepting acceptor) = ⊥
   HasServed channel (Watching watch) = ⊥
 
   -- it did what it does to its end
   abbrev pub HasRun : (S → Tally) → Role B T S Q W X C D R → Role B T S Q W X C D R → Type 0
-  HasRun tally (Serving old) (Serving new) = StaysOf old new × IsDone new
+  HasRun tally (Serving old) (Serving new) = StaysOf old.connections new.connections × IsDone new.connections
   HasRun tally (Serving old) (Accepting new) = ⊥
   HasRun tally (Serving old) (Watching new) = ⊥
   HasRun tally (Accepting old) (Serving new) = ⊥

@@ -5,6 +5,7 @@ use Rattle.broker_worker.specs.Counting.{none_served}
 use Rattle.broker_worker.specs.Serving.{IsAccounted}
 use Rattle.broker_worker.proofs.Accounting.{fresh}
 use Rattle.broker_worker.proofs.Swept.{free}
+use Rattle.broker_worker.proofs.Wished.{none_wished}
 use Rattle.broker_worker.proofs.connections.Connections.new.Goals as goal
 
 pub invariant_of-result : goal.invariant_of-result
@@ -14,4 +15,6 @@ invariant_of-result g c =
       subst Accounted (sym none)
           (fresh g.B.Broker.group g.T.Transport.counts g.T.Transport.given g.T.Transport.accepted _ c.args.table c.requires.table (replicate-occupied _ c.args.table c.requires.table)),
       free _ c.args.table _ c.requires.table refl refl refl,
+      c.requires.members,
+      none_wished _ c.args.table c.args.members c.requires.table,
     )

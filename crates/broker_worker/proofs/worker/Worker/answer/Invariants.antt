@@ -3,4 +3,4 @@ use Rattle.broker_worker.specs.Serving.{StaysOf}
 use Rattle.broker_worker.proofs.worker.Worker.answer.Given as goal
 
 abbrev pub invariant-invited : goal.invariant-invited
-invariant-invited g l = StaysOf l.fn.self l.self
+invariant-invited g l = StaysOf l.fn.self.connections l.self.connections

@@ -3,4 +3,4 @@ use Rattle.broker_worker.specs.Serving.{Rounds}
 use Rattle.broker_worker.proofs.worker.Worker.hand_out.Given as goal
 
 abbrev pub invariant-slots : goal.invariant-slots
-invariant-slots g l = Rounds l.fn.self l.self
+invariant-slots g l = Rounds l.fn.self.connections l.self.connections

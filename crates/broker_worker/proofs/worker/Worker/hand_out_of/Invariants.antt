@@ -3,4 +3,4 @@ use Rattle.broker_worker.specs.Serving.{Rounds}
 use Rattle.broker_worker.proofs.worker.Worker.hand_out_of.Given as goal
 
 abbrev pub invariant-members : goal.invariant-members
-invariant-members g l = Rounds l.fn.self l.self
+invariant-members g l = Rounds l.fn.self.connections l.self.connections

@@ -6,7 +6,7 @@ use Rattle.broker_worker.proofs.worker.Worker.serve_due.Given as goal
 
 abbrev pub invariant-cells : goal.invariant-cells
 invariant-cells g l = record {
-  goes : Rounds l.fn.self l.self;
-  late : l.fn.all ≡ true → HasGone l.cell (length l.fn.self.cells) l.self.sweeps;
-  in_time : l.fn.all ≡ false → IsInTime l.self.sweeps;
+  goes : Rounds l.fn.self.connections l.self.connections;
+  late : l.fn.all ≡ true → HasGone l.cell (length l.fn.self.connections.cells) l.self.connections.sweeps;
+  in_time : l.fn.all ≡ false → IsInTime l.self.connections.sweeps;
 }

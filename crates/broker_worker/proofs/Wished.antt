@@ -1,0 +1,97 @@
+-- Each client that would be handed a job stands among the wishes.
+use Rattle.std.proofs.Common.{◌≡◌, ◌≢◌, ℕ, List, length, slice_get, get_or, replicate, Option, Some, None, sym, subst, ap, ◌∙◌, refl, ⊎_elim, arith}
+use Rattle.std.specs.List.{slice_set}
+use Rattle.std.proofs.lemmas.Bool.{cases_eq}
+use Rattle.std.proofs.lemmas.List.{get_or-set_same}
+use Rattle.std.proofs.lemmas.List.Elements.{All-replicate}
+use Rattle.std.proofs.lemmas.Option.{slice_get_within, get_or_from_slice_get}
+use Rattle.group_queue.specs.Places.{PlaceState}
+use Rattle.conn_engine.specs.Looking.{TakesAt}
+use Rattle.conn_engine.specs.declared.standing.Standing.{Standing}
+use Rattle.conn_engine.specs.declared.standing.Standing.TheVariants.{Unconnected, Waiting, Connected, Ended}
+use Rattle.conn_service.specs.Services.{ServiceState, opened}
+use Rattle.service_table.specs.Cells.{InCell, Opens, TakesFrom}
+use Rattle.broker_worker.specs.declared.members.Wish.{Wish}
+use Rattle.broker_worker.specs.Resting.{AreWished, HasTaker}
+use Rattle.broker_worker.specs.Wishing.{IsWished}
+use Rattle.broker_worker.proofs.Places.{others_stay, put_there}
+
+-- a client has one place
+takes_same : (standing : Standing PlaceState) (one other : PlaceState) → TakesAt standing one → TakesAt standing other → one ≡ other
+takes_same (Unconnected opened) one other takes takes' = absurd takes
+takes_same (Waiting request ticks) one other takes takes' = absurd takes
+takes_same (Connected link) one other takes takes' = cc (takes.0, takes'.0)
+takes_same Ended one other takes takes' = absurd takes
+
+some_is : {X : Type 0} (x y : X) → Some x ≡ Some y → x ≡ y
+some_is x y same = cc
+
+module _ {T : Type 0} where
+  -- what is noted of a client tells its group
+  wish_tells : (service : ServiceState PlaceState T) (place : PlaceState) (taken : Option ℕ) → TakesFrom (λ (p : PlaceState). p.group) (Some service) taken
+      → TakesAt service.client.conn.standing place → taken ≡ Some place.group
+  wish_tells service place None none takes = absurd (none place takes)
+  wish_tells service place (Some slot) some takes =
+      ap (λ (n : ℕ). Some n) (sym some.2 ∙ ap (λ (p : PlaceState). p.group) (takes_same service.client.conn.standing some.0 place some.1 takes))
+
+  -- no cell has a connection
+  pub none_wished : (count : ℕ) (cells : List (Option (ServiceState PlaceState T))) (wishes : List Wish) → cells ≡ replicate count None → AreWished cells wishes
+  none_wished count cells wishes free cell service place has takes =
+      let IsNone : Option (ServiceState PlaceState T) → Type 0 = λ c. c ≡ None in
+      let all = All-replicate IsNone count None refl in
+      let has' = subst (λ (cs : List (Option (ServiceState PlaceState T))). slice_get cs cell ≡ Some (Some service)) free has in
+      let none = subst IsNone (get_or_from_slice_get (replicate count None) cell (Some service) None has') (all cell None (slice_get_within (replicate count None) cell (Some service) has')) in
+      absurd (cc none)
+
+  opened_takes : (service : ServiceState PlaceState T) (number now : ℕ) (transport : T) (place : PlaceState) → service ≡ opened number now transport → TakesAt service.client.conn.standing place → ⊥
+  opened_takes service number now transport place is takes =
+      subst (λ (s : ServiceState PlaceState T). TakesAt s.client.conn.standing place) is takes
+
+  opened_one : (now : ℕ) (transport : T) (before after : Option (ServiceState PlaceState T)) (service : ServiceState PlaceState T) (place : PlaceState) → Opens now transport before after
+      → after ≡ Some service → TakesAt service.client.conn.standing place → ⊥
+  opened_one now transport before None service place opened_so is takes = absurd opened_so.1
+  opened_one now transport before (Some other) service place opened_so is takes =
+      opened_takes service other.client.conn.number now transport place (sym (some_is other service is) ∙ opened_so.1) takes
+
+  -- one that is opened would not be handed a job
+  pub wished_opened : (cells cells' : List (Option (ServiceState PlaceState T))) (wishes : List Wish) (cell now : ℕ) (transport : T) → AreWished cells wishes
+      → InCell cells cell (Opens now transport) cells' → AreWished cells' wishes
+  wished_opened cells cells' wishes cell now transport are made k service place has takes =
+      let has' = subst (λ (cs : List (Option (ServiceState PlaceState T))). slice_get cs k ≡ Some (Some service)) made.is has in
+      ⊎_elim
+      (λ (is : k ≡ cell).
+      let here = subst (λ n. slice_get (slice_set cells cell made.after) n ≡ Some (Some service)) is has' in
+      let after = some_is made.after (Some service) (sym (put_there cells cell made.after (slice_get_within cells cell made.before made.has)) ∙ here) in
+      absurd (opened_one now transport made.before made.after service place made.becomes after takes))
+      (λ (other : k ≢ cell). are k service place (sym (others_stay cells cell k made.after other) ∙ has') takes)
+      (cases_eq k cell)
+
+  -- behind a round the wish of the connection in its cell is noted
+  pub wished_noted : (cells cells' : List (Option (ServiceState PlaceState T))) (wishes wishes' : List Wish) (cell : ℕ) (before after : Option (ServiceState PlaceState T)) (wish : Wish)
+      → length wishes ≡ length cells → AreWished cells wishes → slice_get cells cell ≡ Some before → cells' ≡ slice_set cells cell after
+      → TakesFrom (λ (p : PlaceState). p.group) (get_or cells' cell None) wish.takes → wishes' ≡ slice_set wishes cell wish → AreWished cells' wishes'
+  wished_noted cells cells' wishes wishes' cell before after wish long are has is tells noted k service place here takes =
+      let within = slice_get_within cells cell before has in
+      let here' = subst (λ (cs : List (Option (ServiceState PlaceState T))). slice_get cs k ≡ Some (Some service)) is here in
+      let Told : List Wish → Type 0 = λ ws. (w : Wish) × (slice_get ws k ≡ Some w) × (w.takes ≡ Some place.group) in
+      subst Told (sym noted) (⊎_elim
+      (λ (same : k ≡ cell).
+      let at_cell = subst (λ n. slice_get (slice_set cells cell after) n ≡ Some (Some service)) same here' in
+      let after_is = some_is after (Some service) (sym (put_there cells cell after within) ∙ at_cell) in
+      let cell_is : get_or cells' cell None ≡ Some service =
+      ap (λ (cs : List (Option (ServiceState PlaceState T))). get_or cs cell None) is ∙ (get_or-set_same cells cell after None within ∙ after_is) in
+      let told = subst (λ (c : Option (ServiceState PlaceState T)). TakesFrom (λ (p : PlaceState). p.group) c wish.takes) cell_is tells in (
+        wish,
+        subst (λ n. slice_get (slice_set wishes cell wish) n ≡ Some wish) (sym same) (put_there wishes cell wish (omega (arith, long, within))),
+        wish_tells service place wish.takes told takes,
+      ))
+      (λ (other : k ≢ cell).
+      let was = are k service place (sym (others_stay cells cell k after other) ∙ here') takes in
+      (was.0, others_stay wishes cell k wish other ∙ was.1, was.2))
+      (cases_eq k cell))
+
+  -- whoever has room stands among the wishes
+  pub has_wish : (cells : List (Option (ServiceState PlaceState T))) (wishes : List Wish) (slot : ℕ) → AreWished cells wishes → HasTaker slot cells → IsWished slot wishes
+  has_wish cells wishes slot are taker =
+      let told = are taker.cell taker.service taker.place taker.here taker.takes in
+      (taker.cell, told.0, told.1, told.2 ∙ ap (λ (n : ℕ). Some n) taker.group)
