@@ -129,8 +129,8 @@ fn offer_in_turn<R: Wait>(
     requires turn { turn.now.gate ≡ group.now.gate }
     ensures { All (IsPortOf group.now) ports.new.items }
 {
-    let message = message(alloc)?;
     let port = ports.get_mut((job % u32::from(PORTS)) as usize)?;
+    let message = message(alloc)?;
     Some(offer(rt, group, port, turn, message).is_ok())
 }
 

@@ -71,7 +71,7 @@ struct Pair {
 }
 
 /// How many messages so many pairs acknowledged that publish and take so many each, at most 2^20; `None` where memory is refused
-/// for the group.
+/// for the group or the pairs.
 pub(crate) fn acknowledged<R: Threads + Wait + Sync>(
     rt: &R,
     alloc: Global,
@@ -81,17 +81,16 @@ pub(crate) fn acknowledged<R: Threads + Wait + Sync>(
     let number = pairs.number();
     let (gate, seats) = Gate::open(alloc, 2 * usize::from(number)).ok()?;
     let opened = SharedGroup::open(alloc, &gate, 0, number, number, CAPACITY).ok()?;
-    visit(rt, alloc, &gate, seats, opened, pairs, jobs)
+    visit(rt, alloc, &gate, seats, opened, jobs)
 }
 
-/// The same at a group, which is given up.
+/// The same at a group, at which as many pairs work as it has ports and places. It is given up.
 fn visit<R: Threads + Wait + Sync>(
     rt: &R,
     alloc: Global,
     gate: &Gate,
     seats: Vec<GateSeat>,
     opened: (SharedGroup<'_>, Vec<Port>, Vec<Place>),
-    pairs: Pairs,
     jobs: u32,
 ) -> Option<u64>
     requires seats { AreSeatsOf gate.now seats.items }
@@ -99,131 +98,40 @@ fn visit<R: Threads + Wait + Sync>(
     requires ports { All (IsPortOf opened.0) opened.1.items }
     requires places { All (IsPlaceOf opened.0) opened.2.items }
 {
-    let (group, mut ports, mut places) = opened;
-    let mut seats = seats;
-    let acknowledged = match pairs {
-        Pairs::One => one(
-            rt,
-            alloc,
-            gate,
-            &mut seats,
-            &group,
-            &mut ports,
-            &mut places,
-            jobs,
-        ),
-        Pairs::Two => two(
-            rt,
-            alloc,
-            gate,
-            &mut seats,
-            &group,
-            &mut ports,
-            &mut places,
-            jobs,
-        ),
-        Pairs::Four => four(
-            rt,
-            alloc,
-            gate,
-            &mut seats,
-            &group,
-            &mut ports,
-            &mut places,
-            jobs,
-        ),
+    let (group, ports, places) = opened;
+    let acknowledged = match seated(alloc, gate, seats, &group, ports, places) {
+        Some(pairs) => run(rt, alloc, &group, gate, pairs, jobs),
+        None => None,
     };
-    drop(ports);
-    drop(places);
     group.abandon();
     acknowledged
 }
 
-/// One pair.
-fn one<R: Threads + Wait + Sync>(
-    rt: &R,
-    alloc: Global,
-    gate: &Gate,
-    seats: &mut Vec<GateSeat>,
-    group: &SharedGroup<'_>,
-    ports: &mut Vec<Port>,
-    places: &mut Vec<Place>,
-    jobs: u32,
-) -> Option<u64>
-    requires seats { AreSeatsOf gate.now seats.old.items }
-    requires gate { group.now.gate ≡ gate.now }
-    requires ports { All (IsPortOf group.now) ports.old.items }
-    requires places { All (IsPlaceOf group.now) places.old.items }
-{
-    let pair = seated(gate, seats, group, ports, places)?;
-    Some(run_one(rt, alloc, group, gate, pair, jobs))
-}
-
-/// Two pairs.
-fn two<R: Threads + Wait + Sync>(
-    rt: &R,
-    alloc: Global,
-    gate: &Gate,
-    seats: &mut Vec<GateSeat>,
-    group: &SharedGroup<'_>,
-    ports: &mut Vec<Port>,
-    places: &mut Vec<Place>,
-    jobs: u32,
-) -> Option<u64>
-    requires seats { AreSeatsOf gate.now seats.old.items }
-    requires gate { group.now.gate ≡ gate.now }
-    requires ports { All (IsPortOf group.now) ports.old.items }
-    requires places { All (IsPlaceOf group.now) places.old.items }
-{
-    let near = seated(gate, seats, group, ports, places)?;
-    let far = seated(gate, seats, group, ports, places)?;
-    Some(run_two(rt, alloc, group, gate, near, far, jobs))
-}
-
-/// Four pairs.
-fn four<R: Threads + Wait + Sync>(
-    rt: &R,
-    alloc: Global,
-    gate: &Gate,
-    seats: &mut Vec<GateSeat>,
-    group: &SharedGroup<'_>,
-    ports: &mut Vec<Port>,
-    places: &mut Vec<Place>,
-    jobs: u32,
-) -> Option<u64>
-    requires seats { AreSeatsOf gate.now seats.old.items }
-    requires gate { group.now.gate ≡ gate.now }
-    requires ports { All (IsPortOf group.now) ports.old.items }
-    requires places { All (IsPlaceOf group.now) places.old.items }
-{
-    let first = seated(gate, seats, group, ports, places)?;
-    let second = seated(gate, seats, group, ports, places)?;
-    let third = seated(gate, seats, group, ports, places)?;
-    let fourth = seated(gate, seats, group, ports, places)?;
-    let near = (first, second);
-    let far = (third, fourth);
-    Some(run_four(rt, alloc, group, gate, near, far, jobs))
-}
-
-/// A pair with the last seats, the last port and the last place.
+/// A pair for each port; `None` where memory is refused.
 fn seated(
+    alloc: Global,
     gate: &Gate,
-    seats: &mut Vec<GateSeat>,
+    seats: Vec<GateSeat>,
     group: &SharedGroup<'_>,
-    ports: &mut Vec<Port>,
-    places: &mut Vec<Place>,
-) -> Option<Pair>
-    requires seats { AreSeatsOf gate.now seats.old.items }
-    requires ports { All (IsPortOf group.now) ports.old.items }
-    requires places { All (IsPlaceOf group.now) places.old.items }
-    ensures pair { IfSome result (WorksAt gate.now group.now) }
-    ensures seats { AreSeatsOf gate.now seats.new.items }
-    ensures ports { All (IsPortOf group.now) ports.new.items }
-    ensures places { All (IsPlaceOf group.now) places.new.items }
+    ports: Vec<Port>,
+    places: Vec<Place>,
+) -> Option<Vec<Pair>>
+    requires seats { AreSeatsOf gate.now seats.items }
+    requires ports { All (IsPortOf group.now) ports.items }
+    requires places { All (IsPlaceOf group.now) places.items }
+    ensures { IfSome result (λ pairs. All (WorksAt gate.now group.now) pairs.items) }
 {
-    let publisher = seated_publisher(gate, seats, group, ports)?;
-    let taker = seated_taker(gate, seats, group, places)?;
-    Some(Pair { publisher, taker })
+    let (mut seats, mut ports, mut places) = (seats, ports, places);
+    let mut pairs = Vec::new(alloc);
+    'pairs: for _ in 0..ports.len() {
+        let publisher = seated_publisher(gate, &mut seats, group, &mut ports)?;
+        let taker = seated_taker(gate, &mut seats, group, &mut places)?;
+        match pairs.push(Pair { publisher, taker }) {
+            Ok(()) => {}
+            Err(_refused) => return None,
+        }
+    }
+    Some(pairs)
 }
 
 /// A publisher with the last seat and the last port.
@@ -239,9 +147,10 @@ fn seated_publisher(
     ensures seats { AreSeatsOf gate.now seats.new.items }
     ensures ports { All (IsPortOf group.now) ports.new.items }
 {
-    let seat = take_seat(gate, seats)?;
-    let port = take_port(group, ports)?;
-    Some(Publisher { seat, port })
+    match (take_seat(gate, seats), take_port(group, ports)) {
+        (Some(seat), Some(port)) => Some(Publisher { seat, port }),
+        _ => None,
+    }
 }
 
 /// A taker with the last seat and the last place.
@@ -257,9 +166,10 @@ fn seated_taker(
     ensures seats { AreSeatsOf gate.now seats.new.items }
     ensures places { All (IsPlaceOf group.now) places.new.items }
 {
-    let seat = take_seat(gate, seats)?;
-    let place = take_place(group, places)?;
-    Some(Taker { seat, place })
+    match (take_seat(gate, seats), take_place(group, places)) {
+        (Some(seat), Some(place)) => Some(Taker { seat, place }),
+        _ => None,
+    }
 }
 
 /// The last of these ports.
@@ -282,7 +192,33 @@ fn take_place(group: &SharedGroup<'_>, places: &mut Vec<Place>) -> Option<Place>
     places.pop()
 }
 
-/// One pair works.
+/// The pairs work, all at once; `None` where memory is refused for their threads.
+fn run<G: Workplace + Sync, R: Threads + Wait + Sync>(
+    rt: &R,
+    alloc: Global,
+    group: &G,
+    gate: &Gate,
+    pairs: Vec<Pair>,
+    jobs: u32,
+) -> Option<u64>
+    requires gate { (G.group group.now).gate ≡ gate.now }
+    requires pairs { All (WorksAt gate.now (G.group group.now)) pairs.items }
+{
+    let counts = thread::map_vec(
+        rt,
+        pairs,
+        &|pair: Pair| -> u32
+            requires { ((G.group group.now).gate ≡ gate.now) × WorksAt gate.now (G.group group.now) pair }
+        { run_one(rt, alloc, group, gate, pair, jobs) },
+    );
+    let mut acknowledged = 0u64;
+    for count in &counts.ok()? {
+        acknowledged = acknowledged.saturating_add(u64::from(*count));
+    }
+    Some(acknowledged)
+}
+
+/// A pair works.
 fn run_one<G: Workplace + Sync, R: Threads + Wait + Sync>(
     rt: &R,
     alloc: Global,
@@ -290,7 +226,7 @@ fn run_one<G: Workplace + Sync, R: Threads + Wait + Sync>(
     gate: &Gate,
     pair: Pair,
     jobs: u32,
-) -> u64
+) -> u32
     requires gate { (G.group group.now).gate ≡ gate.now }
     requires pair { WorksAt gate.now (G.group group.now) pair }
 {
@@ -304,57 +240,5 @@ fn run_one<G: Workplace + Sync, R: Threads + Wait + Sync>(
             requires { ((G.group group.now).gate ≡ gate.now) × TakesAt gate.now (G.group group.now) taker }
         { group.work(rt, alloc, gate, taker, jobs) },
     );
-    u64::from(acknowledged)
-}
-
-/// Two pairs work.
-fn run_two<G: Workplace + Sync, R: Threads + Wait + Sync>(
-    rt: &R,
-    alloc: Global,
-    group: &G,
-    gate: &Gate,
-    near: Pair,
-    far: Pair,
-    jobs: u32,
-) -> u64
-    requires gate { (G.group group.now).gate ≡ gate.now }
-    requires near { WorksAt gate.now (G.group group.now) near }
-    requires far { WorksAt gate.now (G.group group.now) far }
-{
-    let (first, second) = thread::join(
-        rt,
-        || -> u64
-            requires { ((G.group group.now).gate ≡ gate.now) × WorksAt gate.now (G.group group.now) near }
-        { run_one(rt, alloc, group, gate, near, jobs) },
-        || -> u64
-            requires { ((G.group group.now).gate ≡ gate.now) × WorksAt gate.now (G.group group.now) far }
-        { run_one(rt, alloc, group, gate, far, jobs) },
-    );
-    first.saturating_add(second)
-}
-
-/// Four pairs work.
-fn run_four<G: Workplace + Sync, R: Threads + Wait + Sync>(
-    rt: &R,
-    alloc: Global,
-    group: &G,
-    gate: &Gate,
-    near: (Pair, Pair),
-    far: (Pair, Pair),
-    jobs: u32,
-) -> u64
-    requires gate { (G.group group.now).gate ≡ gate.now }
-    requires near { WorksAt gate.now (G.group group.now) near.0 × WorksAt gate.now (G.group group.now) near.1 }
-    requires far { WorksAt gate.now (G.group group.now) far.0 × WorksAt gate.now (G.group group.now) far.1 }
-{
-    let (first, second) = thread::join(
-        rt,
-        || -> u64
-            requires { ((G.group group.now).gate ≡ gate.now) × WorksAt gate.now (G.group group.now) near.0 × WorksAt gate.now (G.group group.now) near.1 }
-        { run_two(rt, alloc, group, gate, near.0, near.1, jobs) },
-        || -> u64
-            requires { ((G.group group.now).gate ≡ gate.now) × WorksAt gate.now (G.group group.now) far.0 × WorksAt gate.now (G.group group.now) far.1 }
-        { run_two(rt, alloc, group, gate, far.0, far.1, jobs) },
-    );
-    first.saturating_add(second)
+    acknowledged
 }
