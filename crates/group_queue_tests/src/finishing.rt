@@ -3,10 +3,11 @@ ghost use Rattle.std.specs.Prelude.{◌≡◌, All, IfSome};
 ghost use Rattle.group_queue.specs.Ports.{IsPortOf};
 ghost use Rattle.group_queue.specs.Places.{IsPlaceOf};
 
-use crate::group_ledger::{acknowledge, return_one, take_seat};
-use crate::row::{end, held_list, offer_four, spend, take_again, take_place};
+use crate::group_ledger::{acknowledge, return_one};
+use crate::reports::Wanted;
+use crate::row::{end, held_list, offer_four, spend, take_again};
 use crate::values::message;
-use dispatch_core::Job;
+use crate::visit::{Visit, take_place, take_seat, visit_once};
 use gate_word::{Gate, GateSeat, Turn};
 use group_jobs::{Envelope, Report, Stamp};
 use group_queue::{FinishError, Lack, Place, Port, SharedGroup, Unfinished};
@@ -15,24 +16,27 @@ use std::sync::Wait;
 use std::test::Fail;
 
 /// Offers four messages. The near place acknowledges one and gives one back, the far one holds one.
-fn work<R: Wait>(
-    rt: &R,
-    alloc: Global,
-    group: &SharedGroup<'_>,
-    ports: &mut Vec<Port>,
-    places: &mut Vec<Place>,
-    turn: &Turn,
-) -> Option<Envelope>
-    requires ports { All (IsPortOf group.now) ports.old.items }
-    requires places { All (IsPlaceOf group.now) places.old.items }
-    requires turn { turn.now.gate ≡ group.now.gate }
-    ensures ports { All (IsPortOf group.now) ports.new.items }
-    ensures places { All (IsPlaceOf group.now) places.new.items }
-{
-    offer_four(rt, alloc, group, ports.first_mut()?, turn);
-    acknowledge(rt, group, places.first_mut()?, turn);
-    return_one(rt, group, places.first_mut()?, turn);
-    take_again(rt, group, places.last_mut()?, turn)
+#[derive(Drop)]
+struct Work;
+
+impl Visit for Work {
+    type Told = Option<Envelope>;
+
+    fn pass<R: Wait>(
+        &self,
+        rt: &R,
+        alloc: Global,
+        group: &SharedGroup<'_>,
+        port: &mut Port,
+        near: &mut Place,
+        far: &mut Place,
+        turn: &Turn,
+    ) -> Option<Envelope> {
+        offer_four(rt, alloc, group, port, turn);
+        acknowledge(rt, group, near, turn);
+        return_one(rt, group, near, turn);
+        take_again(rt, group, far, turn)
+    }
 }
 
 /// What the calls that end a group answered: without a place, with a stranger, and with all that there is.
@@ -155,13 +159,18 @@ fn end_worked<R: Wait>(
     requires places { All (IsPlaceOf opened.0) opened.2.items }
 {
     let (group, mut ports, mut places) = opened;
-    let taken = match gate.enter(seat) {
-        Ok(turn) => {
-            let taken = work(rt, alloc, &group, &mut ports, &mut places, &turn);
-            gate.leave(turn);
-            taken
-        }
-        Err(_refused) => None,
+    let taken = match visit_once(
+        rt,
+        alloc,
+        gate,
+        seat,
+        &group,
+        &mut ports,
+        &mut places,
+        &Work,
+    ) {
+        Some((taken, _seat)) => taken,
+        None => None,
     };
     match take_place(&group, &mut places) {
         Some(far) => end_with(rt, alloc, group, ports, places, taken, far),
@@ -228,15 +237,6 @@ fn a_group_ends_with_a_report(rt: HostRuntime) -> Result<(), Fail> {
     };
     assert_eq!(rt; ends.beside, Some(FinishError::Stranger(stamp)));
     let report = ends.report.ok_or("a report")?;
-    assert_eq!(rt; report.accepted.as_slice(), &[4][..]);
-    assert_eq!(rt; report.settled.acknowledged.len(), 1);
-    assert!(rt; report.settled.refused.is_empty());
-    assert_eq!(rt; report.held.as_slice(), &[Job { port: 0, number: 2 }][..]);
-    assert_eq!(rt; report.queued.as_slice(), &[Job { port: 0, number: 3 }][..]);
-    assert_eq!(rt;
-        report.returned.as_slice(),
-        &[Job { port: 0, number: 1 }][..]
-    );
-    drop(report);
+    Wanted::ONE_OF_EACH.compare(&rt, report);
     Ok(())
 }

@@ -1,10 +1,10 @@
 //! One group on one thread: a port, two places and a gate.
-ghost use Rattle.std.specs.Prelude.{◌≡◌, All, IfSome};
-ghost use Rattle.gate_word.specs.Seats.{AreSeatsOf};
+ghost use Rattle.std.specs.Prelude.{◌≡◌, All};
 ghost use Rattle.group_queue.specs.Ports.{IsPortOf};
 ghost use Rattle.group_queue.specs.Places.{IsPlaceOf};
 
 use crate::values::message;
+use crate::visit::{Visit, take_seat, visit_once};
 use gate_word::{Gate, GateSeat, Turn};
 use group_jobs::Fate;
 use group_queue::{Place, Port, SharedGroup};
@@ -98,40 +98,44 @@ struct Told {
 
 /// Offers three messages to a group with room for two, of which the near place acknowledges one, and gives back one that the
 /// far place then refuses.
-fn tell<R: Wait>(
-    rt: &R,
-    alloc: Global,
-    group: &SharedGroup<'_>,
-    ports: &mut Vec<Port>,
-    places: &mut Vec<Place>,
-    turn: &Turn,
-) -> Option<Told>
-    requires ports { All (IsPortOf group.now) ports.old.items }
-    requires places { All (IsPlaceOf group.now) places.old.items }
-    requires turn { turn.now.gate ≡ group.now.gate }
-{
-    let port = ports.first_mut()?;
-    let first = offer(rt, alloc, group, port, turn);
-    let second = offer(rt, alloc, group, port, turn);
-    let third = offer(rt, alloc, group, port, turn);
-    let acknowledged = acknowledge(rt, group, places.first_mut()?, turn);
-    let is_returned = return_one(rt, group, places.first_mut()?, turn);
-    let refused = refuse(rt, group, places.last_mut()?, turn);
-    let far_is_empty = acknowledge(rt, group, places.last_mut()?, turn).is_none();
-    let near_is_empty = refuse(rt, group, places.first_mut()?, turn).is_none();
-    Some(Told {
-        first,
-        second,
-        third,
-        acknowledged,
-        is_returned,
-        refused,
-        is_empty: far_is_empty && near_is_empty,
-    })
+#[derive(Drop)]
+struct Tell;
+
+impl Visit for Tell {
+    type Told = Told;
+
+    fn pass<R: Wait>(
+        &self,
+        rt: &R,
+        alloc: Global,
+        group: &SharedGroup<'_>,
+        port: &mut Port,
+        near: &mut Place,
+        far: &mut Place,
+        turn: &Turn,
+    ) -> Told {
+        let first = offer(rt, alloc, group, port, turn);
+        let second = offer(rt, alloc, group, port, turn);
+        let third = offer(rt, alloc, group, port, turn);
+        let acknowledged = acknowledge(rt, group, near, turn);
+        let is_returned = return_one(rt, group, near, turn);
+        let refused = refuse(rt, group, far, turn);
+        let far_is_empty = acknowledge(rt, group, far, turn).is_none();
+        let near_is_empty = refuse(rt, group, near, turn).is_none();
+        Told {
+            first,
+            second,
+            third,
+            acknowledged,
+            is_returned,
+            refused,
+            is_empty: far_is_empty && near_is_empty,
+        }
+    }
 }
 
-/// The same behind a gate that it enters and leaves. The group is given up.
-fn visit<R: Wait>(
+/// A visit of a group, which is given up.
+fn tell_once<R: Wait>(
     rt: &R,
     alloc: Global,
     gate: &Gate,
@@ -144,27 +148,23 @@ fn visit<R: Wait>(
     requires places { All (IsPlaceOf opened.0) opened.2.items }
 {
     let (group, mut ports, mut places) = opened;
-    let told = match gate.enter(seat) {
-        Ok(turn) => {
-            let told = tell(rt, alloc, &group, &mut ports, &mut places, &turn);
-            gate.leave(turn);
-            told
-        }
-        Err(_refused) => None,
-    };
+    let told = visit_once(
+        rt,
+        alloc,
+        gate,
+        seat,
+        &group,
+        &mut ports,
+        &mut places,
+        &Tell,
+    );
     drop(ports);
     drop(places);
     group.abandon();
-    told
-}
-
-/// The last of these seats.
-pub fn take_seat(gate: &Gate, seats: &mut Vec<GateSeat>) -> Option<GateSeat>
-    requires { AreSeatsOf gate.now seats.old.items }
-    ensures seat { IfSome result (λ seat. seat.gate ≡ gate.now) }
-    ensures others { AreSeatsOf gate.now seats.new.items }
-{
-    seats.pop()
+    match told {
+        Some((told, _seat)) => Some(told),
+        None => None,
+    }
 }
 
 #[test]
@@ -172,7 +172,7 @@ fn group_ledger(rt: HostRuntime) -> Result<(), Fail> {
     let (gate, mut seats) = Gate::open(rt.alloc(), 1)?;
     let seat = take_seat(&gate, &mut seats).ok_or("a seat")?;
     let opened = SharedGroup::open(rt.alloc(), &gate, 0, 1, 2, 2)?;
-    let told = visit(&rt, rt.alloc(), &gate, seat, opened).ok_or("a visit")?;
+    let told = tell_once(&rt, rt.alloc(), &gate, seat, opened).ok_or("a visit")?;
     assert_eq!(rt;
         told,
         Told {

@@ -8,8 +8,12 @@ mod group_ledger;
 #[cfg(test)]
 mod long_run;
 #[cfg(test)]
+mod reports;
+#[cfg(test)]
 mod row;
 #[cfg(test)]
 mod threads;
 #[cfg(test)]
 mod values;
+#[cfg(test)]
+mod visit;

@@ -3,8 +3,10 @@ ghost use Rattle.std.specs.Prelude.{◌≡◌, All};
 ghost use Rattle.group_queue.specs.Ports.{IsPortOf};
 ghost use Rattle.group_queue.specs.Places.{IsPlaceOf};
 
-use crate::group_ledger::{acknowledge, offer, take_seat};
+use crate::group_ledger::{acknowledge, offer};
+use crate::reports::Wanted;
 use crate::row::end;
+use crate::visit::{put_place, put_port, take_place, take_port, take_seat};
 use gate_word::{Gate, GateSeat, Turn};
 use group_jobs::Report;
 use group_queue::{Place, Port, SharedGroup};
@@ -63,15 +65,19 @@ fn work<R: Wait>(
     ensures ports { All (IsPortOf group.now) ports.new.items }
     ensures places { All (IsPlaceOf group.now) places.new.items }
 {
-    let port = ports.first_mut()?;
-    let place = places.first_mut()?;
-    let last = offer_all(rt, alloc, group, port, place, turn);
-    Some(LongRun {
-        last,
+    let (Some(mut port), Some(mut place)) = (take_port(group, ports), take_place(group, places))
+    else {
+        return None;
+    };
+    let run = LongRun {
+        last: offer_all(rt, alloc, group, &mut port, &mut place, turn),
         accepted: port.accepted(),
         run_count: place.docket().settled().run_count(),
         report: None,
-    })
+    };
+    put_port(group, ports, port);
+    put_place(group, places, place);
+    Some(run)
 }
 
 /// The same behind a gate that it enters and leaves, to the group's report.
@@ -112,9 +118,13 @@ fn seventy_thousand_messages(rt: HostRuntime) -> Result<(), Fail> {
     assert_eq!(rt; run.accepted, 70_000);
     assert_eq!(rt; run.run_count, 1);
     let report = run.report.ok_or("a report")?;
-    assert_eq!(rt; report.accepted.as_slice(), &[70_000][..]);
-    assert_eq!(rt; report.settled.acknowledged.len(), 70_000);
-    assert!(rt; report.held.is_empty() && report.queued.is_empty() && report.returned.is_empty());
-    drop(report);
+    let wanted = Wanted {
+        accepted: &[70_000],
+        acknowledged: 70_000,
+        held: &[],
+        queued: &[],
+        returned: &[],
+    };
+    wanted.compare(&rt, report);
     Ok(())
 }

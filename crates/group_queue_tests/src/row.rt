@@ -2,11 +2,12 @@
 //! fails: four offers; the near place takes two, of which it settles one and gives one back; the far place takes one; the
 //! gate is shut and drained; the group ends.
 ghost use Rattle.std.specs.Prelude.{◌≡◌, All, IfSome};
-ghost use Rattle.gate_word.specs.Seats.{AreSeatsOf};
 ghost use Rattle.group_queue.specs.Ports.{IsPortOf};
 ghost use Rattle.group_queue.specs.Places.{IsPlaceOf, Holds};
 
-use crate::group_ledger::{offer, take_seat};
+use crate::group_ledger::offer;
+use crate::reports::Wanted;
+use crate::visit::{Visit, take_seat, visit_once};
 use dispatch_core::Job;
 use gate_word::{Gate, GateSeat, Turn};
 use group_jobs::{Envelope, Fate, Report};
@@ -131,26 +132,6 @@ pub fn held_list(alloc: Global, taken: Option<Envelope>) -> Vec<Envelope> {
     held
 }
 
-/// The last of these ports.
-pub fn take_port(group: &SharedGroup<'_>, ports: &mut Vec<Port>) -> Option<Port>
-    requires { All (IsPortOf group.now) ports.old.items }
-    ensures last { IfSome result (IsPortOf group.now) }
-    ensures others { All (IsPortOf group.now) ports.new.items }
-{
-    let _ = group;
-    ports.pop()
-}
-
-/// The last of these places.
-pub fn take_place(group: &SharedGroup<'_>, places: &mut Vec<Place>) -> Option<Place>
-    requires { All (IsPlaceOf group.now) places.old.items }
-    ensures last { IfSome result (IsPlaceOf group.now) }
-    ensures others { All (IsPlaceOf group.now) places.new.items }
-{
-    let _ = group;
-    places.pop()
-}
-
 /// Offers four messages.
 pub fn offer_four<R: Wait>(
     rt: &R,
@@ -168,28 +149,40 @@ pub fn offer_four<R: Wait>(
     }
 }
 
-/// The calls of the row with a turn. What the far place holds then.
-fn play<R: Wait>(
-    rt: &R,
-    alloc: Global,
-    group: &SharedGroup<'_>,
-    ports: &mut Vec<Port>,
-    places: &mut Vec<Place>,
-    turn: &Turn,
-) -> Option<Envelope>
-    requires ports { All (IsPortOf group.now) ports.old.items }
-    requires places { All (IsPlaceOf group.now) places.old.items }
-    requires turn { turn.now.gate ≡ group.now.gate }
-    ensures ports { All (IsPortOf group.now) ports.new.items }
-    ensures places { All (IsPlaceOf group.now) places.new.items }
-{
-    offer_four(rt, alloc, group, ports.first_mut()?, turn);
-    near_works(rt, alloc, group, places.first_mut()?, turn);
-    take_again(rt, group, places.last_mut()?, turn)
+/// The calls of the row with a turn. They tell what the far place holds then.
+#[derive(Drop)]
+struct Row;
+
+impl Visit for Row {
+    type Told = Option<Envelope>;
+
+    fn pass<R: Wait>(
+        &self,
+        rt: &R,
+        alloc: Global,
+        group: &SharedGroup<'_>,
+        port: &mut Port,
+        near: &mut Place,
+        far: &mut Place,
+        turn: &Turn,
+    ) -> Option<Envelope> {
+        offer_four(rt, alloc, group, port, turn);
+        near_works(rt, alloc, group, near, turn);
+        take_again(rt, group, far, turn)
+    }
 }
 
-/// The row.
-fn row<R: Wait>(
+/// Shuts a gate, and looks whether it is drained.
+fn shut(gate: &Gate, seat: GateSeat)
+    requires { seat.gate ≡ gate.now }
+{
+    let mut seat = seat;
+    gate.shut(&mut seat);
+    let _drained = gate.drained(&mut seat);
+}
+
+/// The report of the row.
+fn report_of<R: Wait>(
     rt: &R,
     alloc: Global,
     gate: &Gate,
@@ -202,15 +195,12 @@ fn row<R: Wait>(
     requires places { All (IsPlaceOf opened.0) opened.2.items }
 {
     let (group, mut ports, mut places) = opened;
-    let taken = match gate.enter(seat) {
-        Ok(turn) => {
-            let taken = play(rt, alloc, &group, &mut ports, &mut places, &turn);
-            let mut seat = gate.leave(turn);
-            gate.shut(&mut seat);
-            let _drained = gate.drained(&mut seat);
+    let taken = match visit_once(rt, alloc, gate, seat, &group, &mut ports, &mut places, &Row) {
+        Some((taken, seat)) => {
+            shut(gate, seat);
             taken
         }
-        Err(_refused) => None,
+        None => None,
     };
     end(rt, alloc, group, ports, places, held_list(alloc, taken))
 }
@@ -243,22 +233,9 @@ fn open_group<'a>(alloc: Global, gate: &'a Gate) -> Option<(SharedGroup<'a>, Vec
 fn refused_calls_made_again(rt: HostRuntime) -> Result<(), Fail> {
     let (gate, seat) = open_gate(rt.alloc()).ok_or("a gate")?;
     let opened = open_group(rt.alloc(), &gate).ok_or("a group")?;
-    let report = row(&rt, rt.alloc(), &gate, seat, opened).ok_or("a report")?;
-    assert_eq!(rt; report.accepted.as_slice(), &[4][..]);
-    assert_eq!(rt; report.settled.acknowledged.len(), 1);
-    assert!(rt;
-        report
-            .settled
-            .acknowledged
-            .contains(Job { port: 0, number: 0 })
-    );
-    assert!(rt; report.settled.refused.is_empty());
-    assert_eq!(rt; report.held.as_slice(), &[Job { port: 0, number: 2 }][..]);
-    assert_eq!(rt; report.queued.as_slice(), &[Job { port: 0, number: 3 }][..]);
-    assert_eq!(rt;
-        report.returned.as_slice(),
-        &[Job { port: 0, number: 1 }][..]
-    );
-    drop(report);
+    let report = report_of(&rt, rt.alloc(), &gate, seat, opened).ok_or("a report")?;
+    let first = Job { port: 0, number: 0 };
+    assert!(rt; report.settled.acknowledged.contains(first));
+    Wanted::ONE_OF_EACH.compare(&rt, report);
     Ok(())
 }

@@ -5,8 +5,10 @@ ghost use Rattle.gate_word.specs.Seats.{AreSeatsOf};
 ghost use Rattle.group_queue.specs.Ports.{GroupId, IsPortOf};
 ghost use Rattle.group_queue.specs.Places.{IsPlaceOf};
 
-use crate::group_ledger::{acknowledge, offer, take_seat};
-use crate::row::{end, take_place, take_port};
+use crate::group_ledger::{acknowledge, offer};
+use crate::reports::Wanted;
+use crate::row::end;
+use crate::visit::{put_place, put_port, take_place, take_port, take_seat};
 use gate_word::{Gate, GateSeat, Turn};
 use group_jobs::Report;
 use group_queue::{Place, Port, SharedGroup};
@@ -264,30 +266,26 @@ fn seated_taker(
     Some(Taker { seat, place })
 }
 
-/// Puts a port back to the others.
-fn put_port(group: &SharedGroup<'_>, ports: &mut Vec<Port>, port: Option<Port>)
+/// Puts a port and a place to the others.
+fn put_back(
+    group: &SharedGroup<'_>,
+    ports: &mut Vec<Port>,
+    places: &mut Vec<Place>,
+    back: (Option<Port>, Option<Place>),
+)
     requires ports { All (IsPortOf group.now) ports.old.items }
-    requires port { IfSome port (IsPortOf group.now) }
-    ensures { All (IsPortOf group.now) ports.new.items }
-{
-    let _ = group;
-    if let Some(port) = port {
-        let _pushed = ports.push(port);
-    }
-}
-
-/// Puts a place back to the others.
-fn put_place(group: &SharedGroup<'_>, places: &mut Vec<Place>, place: Option<Place>)
     requires places { All (IsPlaceOf group.now) places.old.items }
-    requires place { IfSome place (IsPlaceOf group.now) }
-    ensures { All (IsPlaceOf group.now) places.new.items }
+    requires port { IfSome back.0 (IsPortOf group.now) }
+    requires place { IfSome back.1 (IsPlaceOf group.now) }
+    ensures ports { All (IsPortOf group.now) ports.new.items }
+    ensures places { All (IsPlaceOf group.now) places.new.items }
 {
-    let _ = group;
+    let (port, place) = back;
+    if let Some(port) = port {
+        put_port(group, ports, port);
+    }
     if let Some(place) = place {
-        match places.push(place) {
-            Ok(()) => {}
-            Err(refused) => drop(refused),
-        }
+        put_place(group, places, place);
     }
 }
 
@@ -314,10 +312,8 @@ fn all_at_once<R: Threads + Wait + Sync>(
     let near = seated_taker(gate, seats, group, places);
     let far = seated_taker(gate, seats, group, places);
     let (sent, worked) = run(rt, alloc, group, gate, (first, second), (near, far));
-    put_port(group, ports, sent.0);
-    put_port(group, ports, sent.1);
-    put_place(group, places, worked.0);
-    put_place(group, places, worked.1);
+    put_back(group, ports, places, (sent.0, worked.0));
+    put_back(group, ports, places, (sent.1, worked.1));
 }
 
 /// One place alone, which comes back.
@@ -335,8 +331,9 @@ fn take_left<R: Wait>(
     ensures { All (IsPlaceOf group.now) places.new.items }
 {
     let last = seated_taker(gate, seats, group, places);
-    let last = group.work(rt, alloc, gate, last);
-    put_place(group, places, last);
+    if let Some(place) = group.work(rt, alloc, gate, last) {
+        put_place(group, places, place);
+    }
 }
 
 /// Four threads at once, then one place alone that takes what is left, and the group's report.
@@ -364,10 +361,13 @@ fn four_threads_at_once(rt: HostRuntime) -> Result<(), Fail> {
     let (gate, seats) = Gate::open(rt.alloc(), 5)?;
     let opened = SharedGroup::open(rt.alloc(), &gate, 0, 2, 2, 2_048)?;
     let report = whole_run(&rt, rt.alloc(), &gate, seats, opened).ok_or("a report")?;
-    assert_eq!(rt; report.accepted.as_slice(), &[1_000, 1_000][..]);
-    assert_eq!(rt; report.settled.acknowledged.len(), 2_000);
-    assert!(rt; report.settled.refused.is_empty());
-    assert!(rt; report.held.is_empty() && report.queued.is_empty() && report.returned.is_empty());
-    drop(report);
+    let wanted = Wanted {
+        accepted: &[1_000, 1_000],
+        acknowledged: 2_000,
+        held: &[],
+        queued: &[],
+        returned: &[],
+    };
+    wanted.compare(&rt, report);
     Ok(())
 }

@@ -1,0 +1,37 @@
+//! What a report is to say.
+
+use dispatch_core::Job;
+use group_jobs::Report;
+use std::process::Abort;
+
+/// What a report is to say: what each port accepted, how many messages were acknowledged, and none refused, and which were held, queued and returned.
+#[derive(Drop)]
+pub struct Wanted {
+    pub accepted: &'static [u64],
+    pub acknowledged: u128,
+    pub held: &'static [Job],
+    pub queued: &'static [Job],
+    pub returned: &'static [Job],
+}
+
+impl Wanted {
+    /// That of four messages of one port the first was acknowledged, the second returned, the third held, and the fourth queued.
+    pub const ONE_OF_EACH: Wanted = Wanted {
+        accepted: &[4],
+        acknowledged: 1,
+        held: &[Job { port: 0, number: 2 }],
+        queued: &[Job { port: 0, number: 3 }],
+        returned: &[Job { port: 0, number: 1 }],
+    };
+
+    /// A report says this.
+    pub fn compare(&self, rt: &impl Abort, report: Report) {
+        assert_eq!(rt; report.accepted.as_slice(), self.accepted);
+        assert_eq!(rt; report.settled.acknowledged.len(), self.acknowledged);
+        assert!(rt; report.settled.refused.is_empty());
+        assert_eq!(rt; report.held.as_slice(), self.held);
+        assert_eq!(rt; report.queued.as_slice(), self.queued);
+        assert_eq!(rt; report.returned.as_slice(), self.returned);
+        drop(report);
+    }
+}
