@@ -10,7 +10,7 @@ use local_broker::{LocalPlace, LocalSupply};
 use local_server::Setup;
 use mqtt_topic::{Routes, Share};
 use mqtt_wire::Text;
-use plays::{PLAYS, Play};
+use plays::{Event, Play, What, all_plays};
 use std::alloc::Global;
 use std::marker::Model;
 use std::process::Abort;
@@ -65,45 +65,8 @@ impl<P: HoldingPlace, T: Transport> Line<P, T> {
     }
 }
 
-/// What happens to a connection.
-#[derive(Drop)]
-enum What {
-    Open,
-    Bytes(Vec<u8>),
-    Tick,
-    End,
-}
-
-/// An event of a play.
-#[derive(Drop)]
-struct Event {
-    moment: u64,
-    connection: u16,
-    what: What,
-}
-
-/// The event of a connection that a line spells.
-fn event_of(alloc: Global, line: &str) -> Option<Event> {
-    let mut words = line.split(' ');
-    let moment = words.next()?.parse::<u64>().ok()?;
-    let word = words.next()?;
-    let connection = words.next()?.parse::<u16>().ok()?;
-    let what = match word {
-        "open" => What::Open,
-        "bytes" => What::Bytes(hex::decode(alloc, words.next()?.as_bytes()).ok()?),
-        "tick" => What::Tick,
-        "end" => What::End,
-        _ => return None,
-    };
-    Some(Event {
-        moment,
-        connection,
-        what,
-    })
-}
-
 /// A transport that gives what happens to a connection from here on, an event with each read.
-fn script_of(alloc: Global, connection: u16, events: &[Event]) -> Option<Scripted>
+fn script_of(alloc: Global, connection: u8, events: &[Event]) -> Option<Scripted>
     ensures { IfSome result (λ scripted. scripted.counts ≡ no_counts) }
 {
     let mut input = Vec::new(alloc);
@@ -126,7 +89,7 @@ fn script_of(alloc: Global, connection: u16, events: &[Event]) -> Option<Scripte
 
 /// The number of a connection, the connection as long as it goes on, and all that was written to those that had the number.
 struct Lane {
-    number: u16,
+    number: u8,
     line: Option<Line<LocalPlace, Scripted>>,
     text: Vec<u8>,
 }
@@ -136,7 +99,7 @@ impl Lane {
     fn open(&mut self, rt: &impl Abort, alloc: Global, now: u64, events: &[Event]) {
         if self.line.is_none() {
             let script = script_of(alloc, self.number, events).expect(rt, "memory");
-            let line = Line::open(rt, alloc, self.number % 64, now, script);
+            let line = Line::open(rt, alloc, u16::from(self.number), now, script);
             match self.line.replace(line) {
                 None => {}
                 Some(_other) => unreachable!(),
@@ -206,11 +169,11 @@ fn act(
 }
 
 /// All that `drive` writes to a connection, in these lines.
-fn wanted_of(alloc: Global, number: u16, lines: &str) -> Option<Vec<u8>> {
+fn wanted_of(alloc: Global, number: u8, lines: &str) -> Option<Vec<u8>> {
     let mut wanted = Vec::new(alloc);
     for line in lines.lines() {
         let mut words = line.split(' ');
-        if words.next()?.parse::<u16>().ok() == Some(number) {
+        if words.next()?.parse::<u8>().ok() == Some(number) {
             let word = words.next()?;
             if word != "close" && word != "kicked" {
                 let bytes = hex::decode(alloc, word.as_bytes()).ok()?;
@@ -262,34 +225,23 @@ fn routes_of(alloc: Global, shares: &[&str]) -> Option<Routes> {
 }
 
 /// What `drive` writes of a play behind which the broker closes.
-fn driven(alloc: Global, play: &Play) -> Option<Vec<u8>> {
+fn driven(alloc: Global, play: &Play<'_>) -> Option<Vec<u8>> {
     let setup = Setup {
         capacity: play.capacity,
         groups: routes_of(alloc, play.shares)?,
     };
-    let mut script = String::from_str(alloc, play.events).ok()?;
+    let mut script = play.script(alloc)?;
     script.push_str("0 close\n").ok()?;
     let mut written = Vec::new(alloc);
     drive_lines(alloc, setup, &mut script.as_bytes(), &mut written).ok()?;
     Some(written)
 }
 
-/// The events of a play, but for its close.
-fn events_of(alloc: Global, play: &Play) -> Option<Vec<Event>> {
-    let mut events = Vec::new(alloc);
-    for line in play.events.lines() {
-        if !line.ends_with(" close") {
-            events.push(event_of(alloc, line)?).ok()?;
-        }
-    }
-    Some(events)
-}
-
 /// A play writes to each connection what `drive` does, and the broker reports the same.
-fn compare(rt: &impl Abort, alloc: Global, play: &Play) {
+fn compare(rt: &impl Abort, alloc: Global, play: &Play<'_>) {
     let written = driven(alloc, play).expect(rt, "a run");
     let lines = std::str::from_utf8(&written).ok().expect(rt, "text");
-    let events = events_of(alloc, play).expect(rt, "events");
+    let events = play.events(alloc).expect(rt, "events");
     let routes = routes_of(alloc, play.shares).expect(rt, "routes");
     let supply = LocalSupply::open(alloc, play.capacity, routes);
     let mut supply = supply.ok().expect(rt, "a broker");
@@ -302,7 +254,9 @@ fn compare(rt: &impl Abort, alloc: Global, play: &Play) {
 
 #[test]
 fn plays(rt: HostRuntime) {
-    for play in PLAYS.iter() {
-        compare(&rt, rt.alloc(), play);
+    for plays in all_plays() {
+        for play in plays {
+            compare(&rt, rt.alloc(), play);
+        }
     }
 }
