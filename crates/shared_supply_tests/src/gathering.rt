@@ -2,12 +2,13 @@
 ghost use Rattle.std.specs.Prelude.{◌≡◌, [], true};
 ghost use Rattle.broker_groups.specs.Outs.{HasOut};
 
-use crate::broker::{Counts, Day, Hand, keep, open};
+use crate::broker::{Built, Day, open};
 use crate::calls::{acknowledge, offer};
-use broker_groups::{Broker, BrokerPlace, Key, Ports};
+use crate::ending::Counts;
+use crate::worker::{Shift, work_alone};
+use broker_groups::{Broker, BrokerPlace, Key};
 use conn_engine::Supply;
 use gate_word::Gate;
-use shared_supply::{Hall, SharedSupply};
 use std::alloc::Global;
 use std::sync::Wait;
 use std::test::Fail;
@@ -60,46 +61,34 @@ fn turns<B: Broker, S: Supply<BrokerPlace<B>>>(alloc: Global, supply: &mut S) ->
     Some(runs)
 }
 
+impl Shift for Runs {
+    fn work<B: Broker, S: Supply<BrokerPlace<B>>>(
+        &mut self,
+        alloc: Global,
+        supply: &mut S,
+        gate: &Gate,
+        spare: Key<B>,
+    ) {
+        let _ = gate;
+        drop(spare);
+        if let Some(runs) = turns(alloc, supply) {
+            *self = runs;
+        }
+    }
+}
+
 impl Day for Runs {
+    type Told = Vec<Counts>;
+
     fn pass<B: Broker + Send + Sync, R: Threads + Wait + Sync>(
         &mut self,
         rt: &R,
         alloc: Global,
         gate: &Gate,
-        hall: &Hall<'_, B>,
-        hands: Vec<Hand<B>>,
-        spare: Key<B>,
-    ) -> Vec<Ports<B>> {
-        let _ = gate;
-        drop(spare);
-        let mut hands = hands;
-        let mut all = Vec::new(alloc);
-        if let Some(hand) = hands.pop() {
-            keep(&mut all, work(rt, alloc, hall, hand, self));
-        }
-        all
+        built: Built<'_, B>,
+    ) -> Option<Vec<Counts>> {
+        work_alone(rt, alloc, gate, built, self)
     }
-}
-
-/// The turns by a worker, whose ports come back.
-fn work<B: Broker, R: Wait>(
-    rt: &R,
-    alloc: Global,
-    hall: &Hall<'_, B>,
-    hand: Hand<B>,
-    runs: &mut Runs,
-) -> Ports<B> {
-    let Hand { key, ports } = hand;
-    let known = match hall.know_routes(alloc) {
-        Ok(known) => known,
-        Err(_) => return ports,
-    };
-    let mut supply = SharedSupply::new(rt, alloc, hall, key, ports, known);
-    if let Some(told) = turns(alloc, &mut supply) {
-        *runs = told;
-    }
-    let (_key, ports) = supply.into_parts();
-    ports
 }
 
 // Each docket gathers its first 64 runs, and keeps the 36 behind them; the report has them all.

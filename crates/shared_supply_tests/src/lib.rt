@@ -10,12 +10,26 @@ mod calls;
 #[cfg(test)]
 mod clients;
 #[cfg(test)]
+mod ending;
+#[cfg(test)]
 mod gathering;
 #[cfg(test)]
 mod one_day;
 #[cfg(test)]
-mod plays;
+mod packets;
+#[cfg(test)]
+mod pair;
 #[cfg(test)]
 mod row;
+#[cfg(test)]
+mod row_end;
+#[cfg(test)]
+mod seen;
+#[cfg(test)]
+mod shares;
+#[cfg(test)]
+mod telling;
+#[cfg(test)]
+mod worker;
 #[cfg(test)]
 mod workers;

@@ -1,63 +1,54 @@
 //! One broker with one worker on one thread, from its opening to its reports.
 ghost use Rattle.std.specs.Prelude.{◌≡◌};
 
-use crate::broker::{Counts, Day, Hand, keep, open, shut};
+use crate::broker::{Built, Day, open, shut};
 use crate::clients::{WRITTEN, two_clients};
-use broker_groups::{Broker, Key, Ports};
+use crate::ending::Counts;
+use crate::worker::{Shift, work_alone};
+use broker_groups::{Broker, BrokerPlace, Key};
+use conn_engine::Supply;
 use gate_word::Gate;
-use shared_supply::{Hall, SharedSupply};
+use shared_supply::Hall;
 use std::alloc::Global;
 use std::marker::Brand;
 use std::sync::Wait;
 use std::test::Fail;
 use std::thread::Threads;
 
-/// Two clients come to each worker, once the gate was shut or while it is open. What the last worker's are written.
+/// Two clients come to the worker, once the gate was shut or while it is open. What they are written.
 #[derive(Drop)]
 struct TwoClients {
     is_shut: bool,
     written: Option<Vec<u8>>,
 }
 
+impl Shift for TwoClients {
+    fn work<B: Broker, S: Supply<BrokerPlace<B>>>(
+        &mut self,
+        alloc: Global,
+        supply: &mut S,
+        gate: &Gate,
+        spare: Key<B>,
+    ) {
+        if self.is_shut {
+            let _is_drained = shut(gate, spare);
+        }
+        self.written = two_clients(alloc, supply);
+    }
+}
+
 impl Day for TwoClients {
+    type Told = Vec<Counts>;
+
     fn pass<B: Broker + Send + Sync, R: Threads + Wait + Sync>(
         &mut self,
         rt: &R,
         alloc: Global,
         gate: &Gate,
-        hall: &Hall<'_, B>,
-        hands: Vec<Hand<B>>,
-        spare: Key<B>,
-    ) -> Vec<Ports<B>> {
-        if self.is_shut {
-            shut(gate, spare);
-        }
-        let mut all = Vec::new(alloc);
-        for hand in hands {
-            let (written, ports) = serve(rt, alloc, hall, hand);
-            self.written = written;
-            keep(&mut all, ports);
-        }
-        all
+        built: Built<'_, B>,
+    ) -> Option<Vec<Counts>> {
+        work_alone(rt, alloc, gate, built, self)
     }
-}
-
-/// What a worker's clients are written. Its ports come back.
-fn serve<B: Broker, R: Wait>(
-    rt: &R,
-    alloc: Global,
-    hall: &Hall<'_, B>,
-    hand: Hand<B>,
-) -> (Option<Vec<u8>>, Ports<B>) {
-    let Hand { key, ports } = hand;
-    let known = match hall.know_routes(alloc) {
-        Ok(known) => known,
-        Err(_) => return (None, ports),
-    };
-    let mut supply = SharedSupply::new(rt, alloc, hall, key, ports, known);
-    let written = two_clients(alloc, &mut supply);
-    let (_key, ports) = supply.into_parts();
-    (written, ports)
 }
 
 /// How many groups ended, and how many messages they acknowledged.
