@@ -245,9 +245,11 @@ fn hand_to<P: HoldingPlace, S: Supply<P>>(
     ensures sound { IsSoundSession P.has_out link.new.session }
     ensures visiting { S.visiting supply.new ≡ S.visiting supply.old }
 {
-    let membership = link.take_membership();
-    let window = &mut link.session.window;
-    let (membership, handed) = hand_out(supply, membership, window, packets);
-    link.put_membership(membership);
-    handed
+    let session = &mut link.session;
+    hand_out(
+        supply,
+        &mut session.membership,
+        &mut session.window,
+        packets,
+    )
 }

@@ -5,6 +5,7 @@ ghost use Rattle.group_jobs.specs.Stamps.{Held};
 ghost use Rattle.member_window.specs.Identifiers.{identifiers, IsLeastFree};
 ghost use Rattle.member_window.specs.Contents.{held_of, HasRoom, IsNextResend, after_put, after_resend};
 ghost use Rattle.conn_rules.specs.Packets.{job};
+ghost use Rattle.session_desk.specs.declared.session.Membership.TheVariants.{Leaving};
 ghost use Rattle.conn_engine.specs.Holding.{messages, AreOut, FindsOut};
 ghost use Rattle.conn_engine.specs.HandOuts.{SendsAgain, SendsSomeAgain, AsksFor, IsRefused, SendsOne, SendsNone, SendsFresh, LeavesWith, HandsFresh, HandsOut, KeepsHeld, HoldsMore, TakesSome, HandsSome};
 
@@ -14,41 +15,43 @@ use group_jobs::Envelope;
 use member_window::Window;
 use mqtt_wire::{Packet, PacketIdentifier};
 use session_desk::Membership;
+use std::mem;
 
 /// Hands out to a session what is due: what waits is sent again; then a member is handed messages while there is room, and who
-/// leaves is no member once it holds nothing. The packets go behind those that are there; the membership comes back.
+/// leaves is no member once it holds nothing. The packets go behind those that are there.
 ///
 /// # Errors
 ///
 /// Want of memory. Nothing that the session holds is lost.
 pub(crate) fn hand_out<P: HoldingPlace, S: Supply<P>>(
     supply: &mut S,
-    membership: Membership<P>,
+    membership: &mut Membership<P>,
     window: &mut Window<Envelope>,
     packets: &mut Vec<Packet>,
-) -> (Membership<P>, Result<(), NoMemory>)
-    requires out { AreOut P.has_out membership (messages window.old) }
+) -> Result<(), NoMemory>
+    requires out { AreOut P.has_out membership.old (messages window.old) }
     requires visiting { S.visiting supply.old ≡ true }
-    ensures handed { MatchResult result.1
+    ensures handed { MatchResult result
         (λ _. (sent : List Packet) × (packets.new.items ≡ packets.old.items ++ sent)
-        × HandsOut S.call supply.old membership window.old sent result.0 window.new supply.new)
-        (λ _. HandsSome S.call supply.old membership window.old result.0 window.new supply.new) }
+        × HandsOut S.call supply.old membership.old window.old sent membership.new window.new supply.new)
+        (λ _. HandsSome S.call supply.old membership.old window.old membership.new window.new supply.new) }
     ensures sound { window.new.retired ≡ window.old.retired }
-    ensures out { AreOut P.has_out result.0 (messages window.new) }
+    ensures out { AreOut P.has_out membership.new (messages window.new) }
     ensures visiting { S.visiting supply.new ≡ S.visiting supply.old }
 {
     if let Err(NoMemory) = send_again(window, packets) {
-        return (membership, Err(NoMemory));
+        return Err(NoMemory);
     }
     match membership {
-        Membership::NotMember => (Membership::NotMember, Ok(())),
-        Membership::Member(mut place) => {
-            match send_fresh(supply, &mut place, window, packets) {
-                Ok(()) => (Membership::Member(place), Ok(())),
-                Err(NoMemory) => (Membership::Member(place), Err(NoMemory)),
-            }
+        Membership::NotMember => Ok(()),
+        Membership::Member(place) => match send_fresh(supply, place, window, packets) {
+            Ok(()) => Ok(()),
+            Err(NoMemory) => Err(NoMemory),
+        },
+        Membership::Leaving(_) => {
+            leave(supply, membership, window);
+            Ok(())
         }
-        Membership::Leaving(place) => (leave(supply, place, window), Ok(())),
     }
 }
 
@@ -194,18 +197,20 @@ fn ask<P: HoldingPlace, S: Supply<P>>(
 /// Whoever leaves is no member once it holds nothing.
 fn leave<P: HoldingPlace, S: Supply<P>>(
     supply: &mut S,
-    place: P,
+    membership: &mut Membership<P>,
     window: &Window<Envelope>,
-) -> Membership<P>
-    requires { P.has_out place (messages window.now) }
-    ensures left { LeavesWith S.call supply.old place window.now result supply.new }
-    ensures out { AreOut P.has_out result (messages window.now) }
+)
+    requires leaving { (place : P) × (membership.old ≡ Leaving place) }
+    requires out { AreOut P.has_out membership.old (messages window.now) }
+    ensures left { (place : P) → membership.old ≡ Leaving place → LeavesWith S.call supply.old place window.now membership.new supply.new }
+    ensures out { AreOut P.has_out membership.new (messages window.now) }
     ensures visiting { S.visiting supply.new ≡ S.visiting supply.old }
 {
-    if window.is_empty() {
-        supply.take_place(place);
-        Membership::NotMember
-    } else {
-        Membership::Leaving(place)
+    if !window.is_empty() {
+        return;
+    }
+    match mem::replace(membership, Membership::NotMember) {
+        Membership::Leaving(place) => supply.take_place(place),
+        _other => unreachable!(),
     }
 }

@@ -56,6 +56,9 @@ impl Docket {
         ensures room { self.old.room ≤ self.new.room }
         ensures full { OnErr result (self.old.room ≡ 0) }
     {
+        if self.room() > 0 {
+            return Ok(());
+        }
         self.out.reserve(1)?;
         self.settled.reserve(self.out.len() + 1)?;
         Ok(())
