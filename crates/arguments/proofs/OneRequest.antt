@@ -32,7 +32,7 @@ never_both old new (Some share) Twice h i =
     absurd (search (rules, some))
 never_both old new (Some share) Ninth h i = omega (arith, h.1, i.1)
 
-each_or_refused : (pairs : List Text) (old new : List Share) (refusal : Refusal) → AddsEach old pairs new → RefusesOne old pairs refusal → ⊥
+pub each_or_refused : (pairs : List Text) (old new : List Share) (refusal : Refusal) → AddsEach old pairs new → RefusesOne old pairs refusal → ⊥
 each_or_refused [] old new refusal h i = i
 each_or_refused (pair ∷ pairs) old new refusal (next, first, others) (inl refused) = never_both old next (share_named pair) refusal first refused
 each_or_refused (pair ∷ pairs) old new refusal (next, first, others) (inr (next', first', refused)) =

@@ -81,7 +81,7 @@ fn command_named<'a>(
 }
 
 /// `--capacity N`.
-fn capacity<'a>(alloc: Global) -> Arg<'a>
+pub(crate) fn capacity<'a>(alloc: Global) -> Arg<'a>
     ensures { rule_of result ≡ capacity_option }
 {
     Arg::new(alloc, "capacity")
@@ -93,7 +93,7 @@ fn capacity<'a>(alloc: Global) -> Arg<'a>
 }
 
 /// `--group NAME:FILTER`.
-fn group<'a>(alloc: Global) -> Arg<'a>
+pub(crate) fn group<'a>(alloc: Global) -> Arg<'a>
     ensures { rule_of result ≡ group_option }
 {
     Arg::new(alloc, "group")

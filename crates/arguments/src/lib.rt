@@ -9,7 +9,9 @@
 mod command;
 mod groups;
 pub mod laws;
+mod service;
 mod serving;
 
 pub use command::{Request, arguments};
-pub use serving::{Service, serve_arguments};
+pub use service::Service;
+pub use serving::serve_arguments;

@@ -1,38 +1,19 @@
 //! The words of `serve`.
-ghost use Rattle.std.specs.Prelude.{◌≡◌, ◌≤◌};
+ghost use Rattle.std.specs.Prelude.{◌≡◌, ◌≤◌, ◌⊎◌, ℕ, codes, IfOk, IfErr, MatchOption, map};
+ghost use Rattle.std.specs.String.{string_bytes};
+ghost use Rattle.clap.specs.Words.{app_of, found_of, kind_of, rows_of, rule_of};
+ghost use Rattle.arguments.specs.ServeLine.{AskForService, HasNumber, IsServiceBy, SpellNoService};
+ghost use Rattle.arguments.specs.declared.service.Service.{Service as AnyService};
+ghost use Rattle.arguments.specs.ServeLine.{address_option, port_option, serve_line, workers_option};
 
+use crate::command::{capacity, group};
 use crate::groups::groups_of;
+use crate::service::Service;
 use clap::error::ErrorKind;
-use clap::{Arg, ArgAction, ArgMatches, Command, Error, value_parser};
+use clap::{Arg, ArgMatches, Command, Error, value_parser};
 use local_server::Setup;
 use std::alloc::{AllocError, Global};
 use std::net::Ipv4Addr;
-
-/// The most workers that a broker has.
-const MOST_WORKERS: u32 = 64;
-
-/// How many workers a broker has where the words do not say.
-const WORKERS: u32 = 8;
-
-/// How many messages may wait in the queue of a group where the words do not say, and at most.
-const CAPACITY: u32 = 1_024;
-
-const MOST_CAPACITY: u32 = 65_536;
-
-/// What a broker on TCP begins with.
-#[derive(Drop)]
-pub struct Service {
-    /// The address of this machine that it listens at.
-    pub address: Ipv4Addr,
-    /// The port; at 0 the system chooses one.
-    pub port: u16,
-    /// How many workers it has, 1 to 64.
-    pub workers: u8,
-    /// What its groups begin with: a capacity of 1 to 65,536, and the shares that are bound.
-    pub setup: Setup,
-    ghost few: { (1 ≤ workers) × (workers ≤ 64) },
-    ghost room: { (1 ≤ setup.capacity) × (setup.capacity ≤ 65536) },
-}
 
 /// What the words behind `share_broker` ask for, of which the first is `serve`: `serve --port P [--address IP] [--workers W] [--capacity N]
 /// [--group NAME:FILTER]..`.
@@ -40,111 +21,128 @@ pub struct Service {
 /// # Errors
 ///
 /// The text of a fault, or of the help, as clap has them; [`ErrorKind::OutOfMemory`] for want of memory.
-pub fn serve_arguments(alloc: Global, words: &[String]) -> Result<Service, Error> {
+pub fn serve_arguments(alloc: Global, words: &[String]) -> Result<Service, Error>
+    ensures ok { IfOk result (AskForService (map string_bytes words.now)) }
+    ensures err { IfErr result (λ error. (kind_of error ≡ ErrorKind.OutOfMemory)
+        ⊎ SpellNoService (map string_bytes words.now) (kind_of error)) }
+{
     let matches = serve_command(alloc)?.try_get_matches_from(words)?;
-    let port = matches.get_one::<u32>("port").unwrap_or(0);
-    let workers = matches
-        .get_one::<u32>("workers")
-        .unwrap_or(WORKERS)
-        .clamp(1, MOST_WORKERS);
-    let capacity = matches
-        .get_one::<u32>("capacity")
-        .unwrap_or(CAPACITY)
-        .clamp(1, MOST_CAPACITY);
-    let address = address_of(alloc, &matches)?;
-    let groups = match groups_of(alloc, matches.get_strs("group").unwrap_or(&[]))? {
-        Ok(groups) => groups,
-        Err(refusal) => return Err(wrong(alloc, refusal.text())?),
+    service_of(alloc, &matches)
+}
+
+/// What a broker begins with, by the options.
+fn service_of(alloc: Global, options: &ArgMatches) -> Result<Service, Error>
+    ensures ok { IfOk result (IsServiceBy (rows_of (found_of options.now))) }
+    ensures err { IfErr result (λ error. (kind_of error ≡ ErrorKind.OutOfMemory)
+        ⊎ ((kind_of error ≡ ErrorKind.ValueValidation)
+        × ((service : AnyService) → ¬ IsServiceBy (rows_of (found_of options.now)) service))) }
+{
+    let Some(address) = options.get_one::<Ipv4Addr>("address") else {
+        return Err(wrong(
+            alloc,
+            "an address is four numbers from 0 to 255 with dots between",
+        )?);
     };
-    Ok(Service {
-        address,
-        port: port.min(u32::from(u16::MAX)) as u16,
-        workers: workers as u8,
-        setup: Setup {
-            capacity: capacity as usize,
-            groups,
-        },
-    })
+    let Some((port, workers, capacity)) = numbers(options) else {
+        return Err(wrong(alloc, "a number is out of its range")?);
+    };
+    match groups_of(alloc, options.get_strs("group").unwrap_or(&[]))? {
+        Ok(groups) => Ok(Service {
+            address,
+            port: port as u16,
+            workers: workers as u8,
+            setup: Setup {
+                capacity: capacity as usize,
+                groups,
+            },
+        }),
+        Err(refusal) => Err(wrong(alloc, refusal.text())?),
+    }
+}
+
+/// The port, how many workers, and the capacity.
+fn numbers(options: &ArgMatches) -> Option<(u32, u32, u32)>
+    ensures { MatchOption result
+        ((service : AnyService) → ¬ IsServiceBy (rows_of (found_of options.now)) service)
+        (λ numbers. HasNumber (codes "port") 0 65535 (rows_of (found_of options.now)) numbers.0
+        × HasNumber (codes "workers") 1 64 (rows_of (found_of options.now)) numbers.1
+        × HasNumber (codes "capacity") 1 65536 (rows_of (found_of options.now)) numbers.2) }
+{
+    let port = number(options, "port", 0, 65_535)?;
+    let workers = number(options, "workers", 1, 64)?;
+    let capacity = number(options, "capacity", 1, 65_536)?;
+    Some((port, workers, capacity))
+}
+
+/// The number in this range that an option has, as it was given or is left out.
+fn number(options: &ArgMatches, id: &str, least: u32, most: u32) -> Option<u32>
+    ensures { MatchOption result
+        ((number : ℕ) → ¬ HasNumber id.now least most (rows_of (found_of options.now)) number)
+        (HasNumber id.now least most (rows_of (found_of options.now))) }
+{
+    match options.get_one::<u32>(id) {
+        Some(number) if least <= number && number <= most => Some(number),
+        _ => None,
+    }
 }
 
 /// The command and its options.
-fn serve_command<'a>(alloc: Global) -> Result<Command<'a>, AllocError> {
+fn serve_command<'a>(alloc: Global) -> Result<Command<'a>, AllocError>
+    ensures { IfOk result (λ command. app_of command ≡ serve_line) }
+{
     Command::new(alloc, "share_broker serve")
         .about(
             "Serves MQTT clients on TCP until standard input ends, and then prints what became of the jobs of each group",
         )
-        .arg(
-            Arg::new(alloc, "port")
-                .long("port")
-                .value_name("P")
-                .required(true)
-                .value_parser(value_parser!(u32).range(0..=65_535))
-                .help(
-                    "The port to listen at; 0 lets the system choose, and the first line printed tells which",
-                ),
-        )?
-        .arg(
-            Arg::new(alloc, "address")
-                .long("address")
-                .value_name("IP")
-                .default_value("127.0.0.1")
-                .help(
-                    "The IPv4 address of this machine to listen at, or 0.0.0.0 for each of them. Nobody is asked for a password",
-                ),
-        )?
-        .arg(
-            Arg::new(alloc, "workers")
-                .long("workers")
-                .value_name("W")
-                .value_parser(value_parser!(u32).range(1..=64))
-                .default_value("8")
-                .help("How many threads serve connections, 1 to 64"),
-        )?
-        .arg(
-            Arg::new(alloc, "capacity")
-                .long("capacity")
-                .value_name("N")
-                .value_parser(value_parser!(u32).range(1..=65_536))
-                .default_value("1024")
-                .help("How many messages may wait in the queue of a group, 1 to 65536"),
-        )?
-        .arg(
-            Arg::new(alloc, "group")
-                .long("group")
-                .value_name("NAME:FILTER")
-                .action(ArgAction::Append)
-                .help("A group that is there from the start: $share/NAME/FILTER; at most eight"),
+        .arg(port(alloc))?
+        .arg(address(alloc))?
+        .arg(workers(alloc))?
+        .arg(capacity(alloc))?
+        .arg(group(alloc))
+}
+
+/// `--port P`.
+fn port<'a>(alloc: Global) -> Arg<'a>
+    ensures { rule_of result ≡ port_option }
+{
+    Arg::new(alloc, "port")
+        .long("port")
+        .value_name("P")
+        .required(true)
+        .value_parser(value_parser!(u32).range(0..=65_535))
+        .help(
+            "The port to listen at; 0 lets the system choose, and the first line printed tells which",
         )
 }
 
+/// `--address IP`.
+fn address<'a>(alloc: Global) -> Arg<'a>
+    ensures { rule_of result ≡ address_option }
+{
+    Arg::new(alloc, "address")
+        .long("address")
+        .value_name("IP")
+        .default_value("127.0.0.1")
+        .help(
+            "The IPv4 address of this machine to listen at, or 0.0.0.0 for each of them. Nobody is asked for a password",
+        )
+}
+
+/// `--workers W`.
+fn workers<'a>(alloc: Global) -> Arg<'a>
+    ensures { rule_of result ≡ workers_option }
+{
+    Arg::new(alloc, "workers")
+        .long("workers")
+        .value_name("W")
+        .value_parser(value_parser!(u32).range(1..=64))
+        .default_value("8")
+        .help("How many threads serve connections, 1 to 64")
+}
+
 /// An error of the words.
-fn wrong(alloc: Global, text: &str) -> Result<Error, AllocError> {
+fn wrong(alloc: Global, text: &str) -> Result<Error, AllocError>
+    ensures { IfOk result (λ error. kind_of error ≡ ErrorKind.ValueValidation) }
+{
     serve_command(alloc)?.error(ErrorKind::ValueValidation, text)
-}
-
-/// The address that the words give.
-fn address_of(alloc: Global, matches: &ArgMatches) -> Result<Ipv4Addr, Error> {
-    let Some(text) = matches.get_str("address") else {
-        return Ok(Ipv4Addr::LOCALHOST);
-    };
-    match parse_address(text) {
-        Some(address) => Ok(address),
-        None => Err(wrong(
-            alloc,
-            "an address is four numbers from 0 to 255 with dots between",
-        )?),
-    }
-}
-
-/// The address that a text spells: four numbers from 0 to 255 with dots between.
-fn parse_address(text: &str) -> Option<Ipv4Addr> {
-    let (first, rest) = text.split_once('.')?;
-    let (second, rest) = rest.split_once('.')?;
-    let (third, fourth) = rest.split_once('.')?;
-    Some(Ipv4Addr::new(
-        first.parse::<u8>().ok()?,
-        second.parse::<u8>().ok()?,
-        third.parse::<u8>().ok()?,
-        fourth.parse::<u8>().ok()?,
-    ))
 }

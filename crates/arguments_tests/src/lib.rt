@@ -2,4 +2,6 @@
 #![tactic(auto)]
 
 #[cfg(test)]
+mod serving;
+#[cfg(test)]
 mod words;

@@ -5,7 +5,7 @@ use std::alloc::{AllocError, Global};
 use std::test::Fail;
 
 /// The words of a line, cut at each blank.
-fn words_of(alloc: Global, line: &str) -> Result<Vec<String>, AllocError> {
+pub(crate) fn words_of(alloc: Global, line: &str) -> Result<Vec<String>, AllocError> {
     let mut words = Vec::new(alloc);
     for word in line.split(' ') {
         words.push(String::from_str(alloc, word)?)?;
@@ -24,7 +24,7 @@ fn asked(alloc: Global, line: &str) -> Result<String, AllocError> {
 }
 
 /// A command, and what its server begins with: the shares in the order of their slots.
-fn told(alloc: Global, command: &str, setup: &Setup) -> Result<String, AllocError> {
+pub(crate) fn told(alloc: Global, command: &str, setup: &Setup) -> Result<String, AllocError> {
     let mut text = format!(in alloc; "{command} {}", setup.capacity)?;
     for share in setup.groups.shares() {
         text.push(' ')?;

@@ -1,6 +1,6 @@
 -- How the program ends where its words ask to serve, and where they do not (profile).
 use Rattle.std.specs.Prelude.{◌≡◌, ◌⊎◌, ⊤, ℕ, List, codes, slice_get, Some, Result, Ok, Err}
-use Rattle.arguments.specs.declared.serving.Service.{Service}
+use Rattle.arguments.specs.declared.service.Service.{Service}
 use Rattle.line_io.specs.declared.error.RunError.{RunError}
 use Rattle.tcp_server.specs.Serving.{IsServedAt}
 use Rattle.program.specs.declared.ending.Exit.{Exit}

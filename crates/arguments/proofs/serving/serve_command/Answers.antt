@@ -1,0 +1,16 @@
+use Rattle.std.proofs.Common.{◌∙◌, ap, ap₂, ◌≡◌, codes}
+use Rattle.std.proofs.lemmas.Result.{IfOk-weaker}
+use Rattle.clap.specs.Words.{Rule, app_of, new_app, with_rule}
+use Rattle.clap.specs.Simple.{app_of_fields}
+use Rattle.arguments.proofs.Built.{simple_own}
+use Rattle.arguments.proofs.serving.serve_command.Goals as goal
+
+pub returns : goal.returns
+returns c =
+    let named : app_of c.about.result ≡ new_app (codes "share_broker serve") = ap app_of_fields c.about.ensures ∙ c.new.ensures.app in
+    let port = c.in_ok-arg.ensures.shape (simple_own c.port.result (ap (λ (r : Rule). r.is_simple) c.port.ensures)) ∙ ap₂ with_rule named c.port.ensures in
+    let address = c.in_ok-arg-2.ensures.shape (simple_own c.address.result (ap (λ (r : Rule). r.is_simple) c.address.ensures)) ∙ ap₂ with_rule port c.address.ensures in
+    let workers = c.in_ok-arg-3.ensures.shape (simple_own c.workers.result (ap (λ (r : Rule). r.is_simple) c.workers.ensures)) ∙ ap₂ with_rule address c.workers.ensures in
+    let capacity = c.in_ok-arg-4.ensures.shape (simple_own c.capacity.result (ap (λ (r : Rule). r.is_simple) c.capacity.ensures)) ∙ ap₂ with_rule workers c.capacity.ensures in
+    let own = simple_own c.group.result (ap (λ (r : Rule). r.is_simple) c.group.ensures) in
+    IfOk-weaker c.arg-5.result _ _ (λ command h. h.shape own ∙ ap₂ with_rule capacity c.group.ensures) c.arg-5.ensures

@@ -1,0 +1,20 @@
+//! What a broker on TCP begins with.
+ghost use Rattle.std.specs.Prelude.{◌≤◌};
+
+use local_server::Setup;
+use std::net::Ipv4Addr;
+
+/// What a broker on TCP begins with.
+#[derive(Drop)]
+pub struct Service {
+    /// The address of this machine that it listens at.
+    pub address: Ipv4Addr,
+    /// The port; at 0 the system chooses one.
+    pub port: u16,
+    /// How many workers it has, 1 to 64.
+    pub workers: u8,
+    /// What its groups begin with: a capacity of 1 to 65,536, and the shares that are bound.
+    pub setup: Setup,
+    ghost few: { (1 ≤ workers) × (workers ≤ 64) },
+    ghost room: { (1 ≤ setup.capacity) × (setup.capacity ≤ 65536) },
+}
