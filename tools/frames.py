@@ -100,12 +100,12 @@ def free_port():
 
 
 class Broker:
-    """`PROGRAM serve` at a port of its own, with what it prints."""
+    """`PROGRAM serve` at a port that the system chooses, with what it prints. The port is 0 where it does not listen."""
 
     def __init__(self, program, *words, patience=20, environment=None, output=subprocess.PIPE, before=None):
-        self.port = free_port()
+        self.port = 0
         self.process = subprocess.Popen(
-            [os.path.realpath(program), "serve", "--port", str(self.port), *words],
+            [os.path.realpath(program), "serve", "--port", "0", *words],
             stdin=subprocess.PIPE, stdout=output, stderr=subprocess.PIPE, env=environment, preexec_fn=before,
         )
         self.first = b""
@@ -115,13 +115,15 @@ class Broker:
         self.reader.start()
         if output == subprocess.PIPE and select.select([self.process.stdout], [], [], patience)[0]:
             self.first = self.process.stdout.readline().rstrip(b"\n")
+            if self.first.startswith(b"listening "):
+                self.port = int(self.first.split()[1])
 
     def _read_errors(self):
         for line in self.process.stderr:
             self.errors += line
 
     def listens(self):
-        return self.first == b"listening %d" % self.port
+        return self.port > 0 and self.first == b"listening %d" % self.port
 
     def close(self):
         """Ends the broker's standard input."""

@@ -1,4 +1,3 @@
 pub mod Counted
 pub mod Ended
 pub mod Gathered
-pub mod Hired

@@ -1,3 +1,3 @@
 pub mod Accepting
 pub mod Pools
-pub mod Roles
+pub mod Workers

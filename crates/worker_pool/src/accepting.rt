@@ -149,13 +149,6 @@ impl<'a, B: Broker, T: Transport + Drop, S: Source<T>, W> Acceptor<'a, B, T, S, 
         &self.sender
     }
 
-    /// The source, of which nothing was taken.
-    pub(crate) fn into_source(self) -> S
-        ensures { result ≡ self.entry.source }
-    {
-        self.source
-    }
-
     /// The end of the channel, and what became of the source.
     pub(crate) fn into_parts(self) -> (Sender<Arrived<T>>, Taken<S>)
         ensures sender { result.0 ≡ self.entry.sender }

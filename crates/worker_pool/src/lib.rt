@@ -7,7 +7,7 @@
 mod accepting;
 mod pool;
 mod provision;
-mod role;
+mod running;
 mod watching;
 
 pub use accepting::{Closer, SourceEnd, Taken};

@@ -1,16 +1,12 @@
 //! A pool of workers, and its run.
 ghost use Rattle.std.specs.Prelude.{◌≡◌, ◌+◌, ◌<◌, ◌≤◌, ◌^◌, [], All, length, vec_capacity, IfOk, IfErr, MatchResult};
 ghost use Rattle.conn_channel.specs.Ends.{AreOf, end_marks_received_by, new_receiver};
-ghost use Rattle.std.specs.Prelude.{List};
-ghost use Rattle.worker_pool.specs.Accepting.{AcceptorState};
-ghost use Rattle.worker_pool.specs.declared.role.Role.{Role as AnyRole};
-ghost use Rattle.worker_pool.specs.declared.role.Role.TheVariants.{Serving};
 ghost use Rattle.worker_pool.specs.Pools.{AreAllServed, ServesAll, total_in};
-ghost use Rattle.worker_pool.specs.Roles.{AreHired, AreOfPool, HasServed, HaveAllEnded, HaveEnded, IsServing, IsStaff};
+ghost use Rattle.worker_pool.specs.Workers.{HasServed, IsHired};
 
 use crate::accepting::{Acceptor, Closer, Taken};
 use crate::provision::{Provision, provide};
-use crate::role::{Role, run_all};
+use crate::running::run_all;
 use crate::watching::Watch;
 use bell::Wake;
 use broker_groups::Broker;
@@ -92,27 +88,26 @@ pub fn run<
     else {
         return Err(Unbegun { hands, source });
     };
-    let acceptor = Acceptor::new(source, sender, &roster, closer);
-    match hire(
-        rt, alloc, hall, hands, kits, &roster, crossing, acceptor, watch,
-    ) {
-        Ok((roles, hands)) => Ok(retire(run_all(rt, roles), hands, receivers, served)),
-        Err(unbegun) => Err(unbegun),
-    }
+    let (workers, hands) = match hire(rt, alloc, hall, hands, kits, &roster, crossing, &sender) {
+        Ok(hired) => hired,
+        Err(hands) => return Err(Unbegun { hands, source }),
+    };
+    let mut acceptor = Acceptor::new(source, sender, &roster, closer);
+    let mut workers = workers;
+    run_all(rt, &mut acceptor, watch, &mut workers);
+    Ok(retire(acceptor, workers, hands, receivers, served))
 }
 
-/// Hires a worker for each hand, with a kit, behind who takes connections and who watches. Where memory is wanted for one of them, all hands come back.
+/// Hires a worker for each hand, with a kit, who receives from the channel of this sender. Where memory is wanted for one of them, all hands come back.
 fn hire<
     'a,
     'g,
     B: Broker,
     T: Transport + Drop,
-    S: Source<T> + Drop,
     Q: Poller<T> + Drop,
     W: Wake + Drop,
     X: Crossing,
     C: Clock + Drop,
-    D: Watch,
     R: Wait,
 >(
     rt: &'a R,
@@ -122,98 +117,34 @@ fn hire<
     kits: Vec<Kit<T, Q, W, C>>,
     roster: &'a Roster<W>,
     crossing: &'a X,
-    acceptor: Acceptor<'a, B, T, S, W>,
-    watch: &'a mut D,
-) -> Result<(Vec<Role<'a, 'g, B, T, S, Q, W, X, C, D, R>>, Vec<Hand<B>>), Unbegun<B, S>>
+    sender: &Sender<Arrived<T>>,
+) -> Result<(Vec<Worker<'a, 'g, B, T, Q, W, X, C, R>>, Vec<Hand<B>>), Vec<Hand<B>>>
     requires count { length hands.items ≤ 64 }
     requires kits { length kits.items ≡ length hands.items }
-    requires each { All (λ kit. kit ≡ new_receiver acceptor.sender.channel) kits.items }
-    ensures hired { IfOk result (λ made. AreHired acceptor.entry (length hands.items) made.0.items) }
+    requires each { All (λ kit. kit ≡ new_receiver sender.now.channel) kits.items }
+    ensures hired { IfOk result (λ made. (length made.0.items ≡ length hands.items) × All (IsHired sender.now.channel) made.0.items) }
     ensures hands { IfOk result (λ made. (length made.1.items ≡ 0) × (length hands.items ≤ vec_capacity made.1)) }
-    ensures back { IfErr result (λ unbegun. (length unbegun.hands.items ≡ length hands.items) × (unbegun.source ≡ acceptor.entry.source)) }
+    ensures back { IfErr result (λ back. length back.items ≡ length hands.items) }
 {
     let mut hands = hands;
     let mut kits = kits;
-    let Ok(mut roles) = Vec::with_capacity(alloc, hands.len() + 2) else {
-        return Err(Unbegun {
-            hands,
-            source: acceptor.into_source(),
-        });
+    let Ok(mut workers) = Vec::with_capacity(alloc, hands.len()) else {
+        return Err(hands);
     };
-    roles.push_reserved(Role::Accepting(acceptor));
-    roles.push_reserved(Role::Watching(watch));
     'kits: while let Some(kit) = kits.pop() {
         let Some(hand) = hands.pop() else {
             unreachable!()
         };
         match Worker::begin(rt, alloc, hall, hand, kit, roster, crossing) {
-            Ok(worker) => roles.push_reserved(Role::Serving(worker)),
+            Ok(worker) => workers.push_reserved(worker),
             Err(hand) => {
                 hands.push_reserved(hand);
-                let source = dismiss(roles, &mut hands);
-                return Err(Unbegun { hands, source });
+                let_go(workers, &mut hands);
+                return Err(hands);
             }
         }
     }
-    Ok((roles, hands))
-}
-
-/// Lets those go that were hired. What they had of the broker is put to the hands, and the source comes back.
-fn dismiss<
-    'a,
-    'g,
-    B: Broker,
-    T: Transport + Drop,
-    S: Source<T> + Drop,
-    Q: Poller<T> + Drop,
-    W: Wake + Drop,
-    X: Crossing,
-    C: Clock + Drop,
-    D: Watch,
-    R: Wait,
->(roles: Vec<Role<'a, 'g, B, T, S, Q, W, X, C, D, R>>, hands: &mut Vec<Hand<B>>) -> S
-    requires roles { IsStaff roles.items }
-    requires room { length hands.old.items + length roles.items ≤ vec_capacity hands.old + 2 }
-    ensures hands { length hands.new.items + 2 ≡ length hands.old.items + length roles.entry.items }
-    ensures source { (acceptor : AcceptorState T S) (workers : List (AnyRole B T S Q W X C D R)) → AreOfPool roles.entry.items acceptor workers → result ≡ acceptor.source }
-{
-    let (acceptor, workers) = parted(roles);
-    let_go(workers, hands);
-    acceptor.into_source()
-}
-
-/// Who takes connections, and the workers. Who watches is let go.
-fn parted<
-    'a,
-    'g,
-    B: Broker,
-    T: Transport + Drop,
-    S: Source<T> + Drop,
-    Q: Poller<T> + Drop,
-    W: Wake + Drop,
-    X: Crossing,
-    C: Clock + Drop,
-    D: Watch,
-    R: Wait,
->(
-    roles: Vec<Role<'a, 'g, B, T, S, Q, W, X, C, D, R>>,
-) -> (
-    Acceptor<'a, B, T, S, W>,
-    Vec<Role<'a, 'g, B, T, S, Q, W, X, C, D, R>>,
-)
-    requires { IsStaff roles.items }
-    ensures { AreOfPool roles.entry.items result.0 result.1.items }
-{
-    let mut roles = roles;
-    let acceptor = match roles.remove(0) {
-        Role::Accepting(acceptor) => acceptor,
-        _ => unreachable!(),
-    };
-    match roles.remove(0) {
-        Role::Watching(_watch) => {}
-        _ => unreachable!(),
-    }
-    (acceptor, roles)
+    Ok((workers, hands))
 }
 
 /// Lets workers go. What they had of the broker is put to the hands.
@@ -222,47 +153,21 @@ fn let_go<
     'g,
     B: Broker,
     T: Transport + Drop,
-    S: Source<T> + Drop,
     Q: Poller<T> + Drop,
     W: Wake + Drop,
     X: Crossing,
     C: Clock + Drop,
-    D: Watch,
     R: Wait,
->(workers: Vec<Role<'a, 'g, B, T, S, Q, W, X, C, D, R>>, hands: &mut Vec<Hand<B>>)
-    requires workers { All IsServing workers.items }
-    requires room { length hands.old.items + length workers.items ≤ vec_capacity hands.old }
-    ensures hands { length hands.new.items ≡ length hands.old.items + length workers.entry.items }
+>(workers: Vec<Worker<'a, 'g, B, T, Q, W, X, C, R>>, hands: &mut Vec<Hand<B>>)
+    requires { length hands.old.items + length workers.items ≤ vec_capacity hands.old }
+    ensures { length hands.new.items ≡ length hands.old.items + length workers.entry.items }
 {
     let mut workers = workers;
-    'workers: while let Some(role) = workers.pop() {
-        let (hand, _receiver, _served) = worker_of(role).into_parts();
+    'workers: while let Some(worker) = workers.pop() {
+        let (hand, _receiver, _served) = worker.into_parts();
         hands.push_reserved(hand);
     }
     workers.destroy_empty();
-}
-
-/// The worker whose role it is.
-fn worker_of<
-    'a,
-    'g,
-    B: Broker,
-    T: Transport + Drop,
-    S: Source<T> + Drop,
-    Q: Poller<T> + Drop,
-    W: Wake + Drop,
-    X: Crossing,
-    C: Clock + Drop,
-    D: Watch,
-    R: Wait,
->(role: Role<'a, 'g, B, T, S, Q, W, X, C, D, R>) -> Worker<'a, 'g, B, T, Q, W, X, C, R>
-    requires { IsServing role }
-    ensures { role.entry ≡ Serving result }
-{
-    match role {
-        Role::Serving(worker) => worker,
-        _ => unreachable!(),
-    }
 }
 
 /// What workers give back that have ended, and what became of the source. There is room for all of it.
@@ -276,24 +181,24 @@ fn retire<
     W: Wake + Drop,
     X: Crossing,
     C: Clock + Drop,
-    D: Watch,
     R: Wait,
 >(
-    roles: Vec<Role<'a, 'g, B, T, S, Q, W, X, C, D, R>>,
+    acceptor: Acceptor<'a, B, T, S, W>,
+    workers: Vec<Worker<'a, 'g, B, T, Q, W, X, C, R>>,
     hands: Vec<Hand<B>>,
     receivers: Vec<Receiver<Arrived<T>>>,
     served: Vec<ServedCounts>,
 ) -> Pooled<B, S>
-    requires roles { HaveAllEnded roles.items }
-    requires some { 3 ≤ length roles.items }
-    requires hands { (length hands.items ≡ 0) × (length roles.items ≤ vec_capacity hands + 2) }
-    requires receivers { (receivers.items ≡ []) × (length roles.items ≤ vec_capacity receivers + 2) }
-    requires served { (served.items ≡ []) × (length roles.items ≤ vec_capacity served + 2) }
-    ensures hands { length result.hands.items + 2 ≡ length roles.entry.items }
-    ensures taken { (acceptor : AcceptorState T S) → HaveEnded acceptor roles.entry.items → (result.taken.source ≡ acceptor.source) × (result.taken.came ≡ length acceptor.sender.sent) }
+    requires workers { All (HasServed acceptor.sender.channel) workers.items }
+    requires count { (1 ≤ length workers.items) × (length workers.items ≡ acceptor.sender.receivers) }
+    requires hands { (length hands.items ≡ 0) × (length workers.items ≤ vec_capacity hands) }
+    requires receivers { (receivers.items ≡ []) × (length workers.items ≤ vec_capacity receivers) }
+    requires served { (served.items ≡ []) × (length workers.items ≤ vec_capacity served) }
+    ensures hands { length result.hands.items ≡ length workers.entry.items }
+    ensures source { result.taken.source ≡ acceptor.entry.source }
+    ensures came { result.taken.came ≡ length acceptor.entry.sender.sent }
     ensures served { ServesAll B.group T.counts T.given T.accepted result.taken.came result.served.items }
 {
-    let (acceptor, workers) = parted(roles);
     let mut hands = hands;
     let mut receivers = receivers;
     let mut served = served;
@@ -319,15 +224,13 @@ fn gather<
     'g,
     B: Broker,
     T: Transport + Drop,
-    S: Source<T> + Drop,
     Q: Poller<T> + Drop,
     W: Wake + Drop,
     X: Crossing,
     C: Clock + Drop,
-    D: Watch,
     R: Wait,
 >(
-    workers: Vec<Role<'a, 'g, B, T, S, Q, W, X, C, D, R>>,
+    workers: Vec<Worker<'a, 'g, B, T, Q, W, X, C, R>>,
     sender: &Sender<Arrived<T>>,
     hands: &mut Vec<Hand<B>>,
     receivers: &mut Vec<Receiver<Arrived<T>>>,
@@ -346,8 +249,8 @@ fn gather<
     ensures all { AreAllServed B.group T.counts T.given T.accepted receivers.new.items served.new.items }
 {
     let mut workers = workers;
-    'workers: while let Some(role) = workers.pop() {
-        let (hand, receiver, counts) = worker_of(role).into_parts();
+    'workers: while let Some(worker) = workers.pop() {
+        let (hand, receiver, counts) = worker.into_parts();
         hands.push_reserved(hand);
         receivers.push_reserved(receiver);
         served.push_reserved(counts);

@@ -1,25 +1,17 @@
 -- One worker more has given back what it had.
-use Rattle.std.proofs.Common.{◌≡◌, ◌++◌, List, [], ◌∷◌, Some, length, sym, subst, ◌∙◌, ap, arith}
+use Rattle.std.proofs.Common.{◌≡◌, ◌++◌, List, [], ◌∷◌, Some, length, ◌∙◌, ap, arith}
 use Rattle.std.proofs.Math.ListN.{length-append}
-use Rattle.std.proofs.lemmas.List.Elements.{All-pop, All-push, All-same, All-weaker}
+use Rattle.std.proofs.lemmas.List.Elements.{All-pop, All-push, All-same}
 use Rattle.std.proofs.lemmas.List.Sums.{sum_by_push}
 use Rattle.conn_channel.specs.Ends.{ReceiverState, end_marks_received_by}
-use Rattle.worker_pool.specs.Roles.{HasServed, IsServing}
-use Rattle.worker_pool.specs.declared.role.Role.{Role}
+use Rattle.worker_pool.specs.Workers.{HasServed}
 use Rattle.worker_pool.proofs.Gathered.{gathers}
-use Rattle.worker_pool.proofs.Hired.{serving_of_served}
 use Rattle.worker_pool.proofs.pool.gather.Goals as goal
-
-pub worker_of-requires : goal.worker_of-requires
-worker_of-requires g c =
-    serving_of_served c.args.sender.now.channel c.in-Some.role
-    (All-pop (HasServed c.args.sender.now.channel) c.workers.workers.items c.pop.new.self.items (Some c.in-Some.role) c.in-Some.ensures.items c.workers.invariant.workers).1
 
 pub workers-preserved : goal.workers-preserved
 workers-preserved g c =
-    let split = All-pop (HasServed c.args.sender.now.channel) c.workers.workers.items c.pop.new.self.items (Some c.in-Some.role) c.in-Some.ensures.items c.workers.invariant.workers in
-    let Served : Role g.row.B.Denot g.row.T.Denot g.row.S.Denot g.row.Q.Denot g.row.W.Denot g.row.X.Denot g.row.C.Denot g.row.D.Denot g.row.R.Denot → Type 0 = λ role. HasServed c.args.sender.now.channel role in
-    let done = subst Served c.worker_of.ensures split.1 in
+    let split = All-pop (HasServed c.args.sender.now.channel) c.workers.workers.items c.pop.new.self.items (Some c.in-Some.worker) c.in-Some.ensures.items c.workers.invariant.workers in
+    let done = split.1 in
     let left = simp length-append at (ap length c.in-Some.ensures.items) in
     let hands = simp length-append at (ap length c.push_reserved.ensures.items) in
     let receivers = simp length-append at (ap length c.push_reserved-in-Some.ensures.items) in
@@ -42,5 +34,5 @@ workers-preserved g c =
       marks = omega (arith, left, marks, mark, done.1.mark, c.workers.invariant.marks);
       all =
           gathers g.B.Broker.group g.T.Transport.counts g.T.Transport.given g.T.Transport.accepted c.workers.receivers.items c.push_reserved-in-Some.new.self.items c.workers.served.items c.push_reserved-in-Some-2.new.self.items
-          c.worker_of.result receiver c.into_parts-hand.result.2 c.workers.invariant.all c.push_reserved-in-Some.ensures.items c.push_reserved-in-Some-2.ensures.items is c.into_parts-hand.ensures.served done.1.none_live;
+          c.in-Some.worker receiver c.into_parts-hand.result.2 c.workers.invariant.all c.push_reserved-in-Some.ensures.items c.push_reserved-in-Some-2.ensures.items is c.into_parts-hand.ensures.served done.1.none_live;
     }

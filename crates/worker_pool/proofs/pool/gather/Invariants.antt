@@ -2,7 +2,7 @@
 use Rattle.std.proofs.Common.{◌≡◌, ◌+◌, ◌≤◌, All, length, vec_len, vec_capacity}
 use Rattle.conn_channel.specs.Ends.{AreOf, end_marks_received_by}
 use Rattle.worker_pool.specs.Pools.{AreAllServed}
-use Rattle.worker_pool.specs.Roles.{HasServed}
+use Rattle.worker_pool.specs.Workers.{HasServed}
 use Rattle.worker_pool.proofs.pool.gather.Given as goal
 
 abbrev pub invariant-workers : goal.invariant-workers

@@ -1,0 +1,123 @@
+//! What the threads of a pool do.
+ghost use Rattle.std.specs.Prelude.{◌<◌, ℕ, length, slice_index_or};
+ghost use Rattle.worker_pool.specs.Accepting.{HasAccepted};
+ghost use Rattle.worker_pool.specs.Workers.{HaveRun};
+
+use crate::accepting::Acceptor;
+use crate::watching::Watch;
+use bell::Wake;
+use broker_groups::Broker;
+use broker_worker::{Poller, Worker};
+use std::rt::Clock as SystemClock;
+use std::sync::Wait;
+use std::thread;
+use std::thread::Threads;
+use transport::{Clock, Crossing, Source, Transport};
+
+/// Who does something in a thread.
+trait Labour<R> {
+    /// What it was, and what it is once it has done that.
+    ghost has_run: { Self → Self → Type 0 };
+
+    /// Does it to its end.
+    fn labour(&mut self, rt: &R)
+        ensures { has_run self.old self.new };
+}
+
+impl<'a, B: Broker, T: Transport + Drop, S: Source<T>, W: Wake, R: Wait + SystemClock> Labour<R>
+    for Acceptor<'a, B, T, S, W> {
+    ghost use Rattle.worker_pool.specs.Accepting.{HasAccepted};
+
+    ghost has_run = { λ old new. HasAccepted S.tally old new };
+
+    fn labour(&mut self, rt: &R) {
+        self.accept_all(rt);
+    }
+}
+
+impl<
+    'a,
+    'g,
+    B: Broker,
+    T: Transport + Drop,
+    Q: Poller<T> + Drop,
+    W: Wake + Drop,
+    X: Crossing,
+    C: Clock + Drop,
+    R: Wait,
+> Labour<R> for Worker<'a, 'g, B, T, Q, W, X, C, R> {
+    ghost use Rattle.worker_pool.specs.Workers.{HasRun};
+
+    ghost has_run = { λ old new. HasRun old new };
+
+    fn labour(&mut self, rt: &R) {
+        self.run(rt);
+    }
+}
+
+/// Who accepts does so in this thread, who watches in a second one, and each worker works in one of its own.
+///
+/// Where the system makes no thread for one of them, it is run once another has returned, which does not wait for it. That is so whichever thread is refused. Who accepts
+/// is run at once, and where a worker does not begin in time it tells all workers to end. Who watches is run at once, or once who accepts has returned; no worker is run
+/// before that in its thread. A worker is run at once, or once who watches or another worker has returned.
+pub(crate) fn run_all<
+    'a,
+    'g,
+    B: Broker + Send + Sync,
+    T: Transport + Drop + Send,
+    S: Source<T> + Send,
+    Q: Poller<T> + Drop + Send,
+    W: Wake + Drop + Send + Sync,
+    X: Crossing + Sync,
+    C: Clock + Drop + Send,
+    D: Watch + Send,
+    R: Threads + Wait + SystemClock + Sync,
+>(
+    rt: &R,
+    acceptor: &mut Acceptor<'a, B, T, S, W>,
+    watch: &mut D,
+    workers: &mut Vec<Worker<'a, 'g, B, T, Q, W, X, C, R>>,
+)
+    ensures accepted { HasAccepted S.tally acceptor.old acceptor.new }
+    ensures run { HaveRun workers.old.items workers.new.items }
+{
+    accept_beside(rt, acceptor, watch, workers.as_mut_slice());
+}
+
+/// The same over any who accepts, and workers in a row. The second of two is always run in this thread, at once.
+fn accept_beside<R: Threads + Sync, A: Labour<R>, D: Watch + Send, K: Labour<R> + Send>(
+    rt: &R,
+    acceptor: &mut A,
+    watch: &mut D,
+    workers: &mut [K],
+)
+    ensures accepted { A.has_run acceptor.old acceptor.new }
+    ensures run { (i : ℕ) (d : K) → i < length workers.old → K.has_run (slice_index_or workers.old i d) (slice_index_or workers.new i d) }
+{
+    let mut beside = || watch_beside(rt, watch, workers);
+    let mut accepting = || acceptor.labour(rt);
+    thread::join_mut(rt, &mut beside, &mut accepting);
+}
+
+/// Who watches does so in this thread, and each worker works in one of its own.
+fn watch_beside<R: Threads + Sync, D: Watch + Send, K: Labour<R> + Send>(
+    rt: &R,
+    watch: &mut D,
+    workers: &mut [K],
+)
+    ensures { (i : ℕ) (d : K) → i < length workers.old → K.has_run (slice_index_or workers.old i d) (slice_index_or workers.new i d) }
+{
+    let mut working = || work_each(rt, workers);
+    let mut watching = || watch.run();
+    thread::join_mut(rt, &mut working, &mut watching);
+}
+
+/// Each worker works, in a thread of its own.
+fn work_each<R: Threads + Sync, K: Labour<R> + Send>(rt: &R, workers: &mut [K])
+    ensures { (i : ℕ) (d : K) → i < length workers.old → K.has_run (slice_index_or workers.old i d) (slice_index_or workers.new i d) }
+{
+    let count = workers.len();
+    if count > 0 {
+        thread::for_each_mut(rt, workers, count, &|_, worker| worker.labour(rt));
+    }
+}
