@@ -1,7 +1,7 @@
 //! A broker that is served while its clients do something.
 ghost use Rattle.std.specs.Prelude.{◌≤◌};
 
-use crate::wrong::Wrong;
+use fleet_clients::{Counts, Wrong};
 use line_io::RunError;
 use mqtt_topic::Routes;
 use std::alloc::Global;
@@ -37,17 +37,6 @@ impl<'a, R: Clock> Read for Held<'a, R> {
         }
         Ok(0)
     }
-}
-
-/// What the clients saw of the jobs of `$share/g/job`: how many were accepted, acknowledged and refused, how many sessions surely have, and how many
-/// more they may have beside those.
-#[derive(Clone, Copy)]
-pub(crate) struct Counts {
-    pub(crate) accepted: u64,
-    pub(crate) acknowledged: u64,
-    pub(crate) refused: u64,
-    pub(crate) held: u64,
-    pub(crate) open: u64,
 }
 
 /// What clients do.

@@ -1,11 +1,8 @@
 //! Sixty-four clients at once, of which some are slow, half-dead or no clients of MQTT.
-use crate::broker::{Counts, Day, live};
-use crate::jobs::Jobs;
-use crate::link::{Asks, connect, open, send, wanted};
-use crate::member::Member;
-use crate::publisher::Publisher;
-use crate::rule::Rule;
-use crate::wrong::Wrong;
+use crate::broker::{Day, live};
+use fleet_clients::{
+    Asks, Counts, Jobs, Member, Publisher, Rule, Wrong, connect, open, send, wanted,
+};
 use std::alloc::Global;
 use std::net::{Net, TcpListener, TcpStream};
 use std::rt::Clock;

@@ -1,11 +1,6 @@
 //! A run of publishers and members that a rule chooses among.
-use crate::broker::{Counts, Day};
-use crate::jobs::{Jobs, PUBLISHERS};
-use crate::link::{open, send};
-use crate::member::{Ending, Member};
-use crate::publisher::Publisher;
-use crate::rule::Rule;
-use crate::wrong::Wrong;
+use crate::broker::Day;
+use fleet_clients::{Counts, Ending, Jobs, Member, PUBLISHERS, Publisher, Rule, Wrong, open, send};
 use std::alloc::Global;
 use std::net::{Net, TcpListener, TcpStream};
 use std::rt::Clock;

@@ -9,18 +9,6 @@ mod crowd;
 #[cfg(test)]
 mod fleet;
 #[cfg(test)]
-mod jobs;
-#[cfg(test)]
-mod link;
-#[cfg(test)]
-mod member;
-#[cfg(test)]
 mod pacing;
 #[cfg(test)]
-mod publisher;
-#[cfg(test)]
-mod rule;
-#[cfg(test)]
 mod seeds;
-#[cfg(test)]
-mod wrong;

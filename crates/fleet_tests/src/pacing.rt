@@ -1,11 +1,6 @@
 //! Jobs one at a time, from the connections of several workers to a member of one of them: each of them arrives.
-use crate::broker::{Counts, Day, live};
-use crate::jobs::Jobs;
-use crate::link::open;
-use crate::member::Member;
-use crate::publisher::Publisher;
-use crate::rule::Rule;
-use crate::wrong::Wrong;
+use crate::broker::{Day, live};
+use fleet_clients::{Counts, Jobs, Member, Publisher, Rule, Wrong, open};
 use std::alloc::Global;
 use std::net::{Net, TcpListener, TcpStream};
 use std::rt::Clock;

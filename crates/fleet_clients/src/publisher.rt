@@ -8,7 +8,7 @@ use std::net::TcpStream;
 
 /// A publisher: its connection, its number, and how many jobs it published.
 #[derive(Drop)]
-pub(crate) struct Publisher {
+pub struct Publisher {
     stream: TcpStream,
     number: u8,
     published: u8,
@@ -16,11 +16,7 @@ pub(crate) struct Publisher {
 
 impl Publisher {
     /// Connects.
-    pub(crate) fn new(
-        mut stream: TcpStream,
-        alloc: Global,
-        number: u8,
-    ) -> Result<Publisher, Wrong> {
+    pub fn new(mut stream: TcpStream, alloc: Global, number: u8) -> Result<Publisher, Wrong> {
         let asks = Asks {
             name: [b'p', b'0'.saturating_add(number)],
             clean: true,
@@ -36,19 +32,14 @@ impl Publisher {
     }
 
     /// Goes in the midst of a PUBLISH.
-    pub(crate) fn drop_it(mut self, rule: &mut Rule) -> Result<(), Wrong> {
+    pub fn drop_it(mut self, rule: &mut Rule) -> Result<(), Wrong> {
         let part = publish(1, [self.number, u8::MAX]);
         let cut = usize::from(rule.below(11));
         send(&mut self.stream, part.get(..cut).ok_or(Wrong::Place)?)
     }
 
     /// Publishes so many jobs at once, as far as there are numbers for them, and reads their PUBACK packets.
-    pub(crate) fn publish(
-        &mut self,
-        alloc: Global,
-        jobs: &mut Jobs,
-        count: u16,
-    ) -> Result<(), Wrong> {
+    pub fn publish(&mut self, alloc: Global, jobs: &mut Jobs, count: u16) -> Result<(), Wrong> {
         let from = self.published;
         for _ in 0..count {
             if self.published == u8::MAX {
@@ -78,7 +69,7 @@ impl Publisher {
     }
 
     /// Reads to the end that the close of the broker makes.
-    pub(crate) fn is_closed(&mut self, alloc: Global) -> Result<(), Wrong> {
+    pub fn is_closed(&mut self, alloc: Global) -> Result<(), Wrong> {
         let body = wanted(&mut self.stream, alloc, 0xE0)?;
         match body.as_slice() {
             [0x8B] => Ok(()),

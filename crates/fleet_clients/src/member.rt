@@ -18,7 +18,7 @@ struct Held {
 
 /// A client, with its connection where it has one, and its session as it knows it.
 #[derive(Drop)]
-pub(crate) struct Member {
+pub struct Member {
     number: u8,
     stream: Option<TcpStream>,
     lives: bool,
@@ -30,7 +30,7 @@ pub(crate) struct Member {
 
 /// What ends a connection that is read to its end.
 #[derive(Clone, Copy, PartialEq, Eq, Drop)]
-pub(crate) enum Ending {
+pub enum Ending {
     /// A newer one took it over.
     TakenOver,
     /// The broker closed.
@@ -41,7 +41,7 @@ pub(crate) enum Ending {
 
 impl Member {
     /// A client that did not come yet.
-    pub(crate) fn new(alloc: Global, number: u8) -> Result<Member, Wrong> {
+    pub fn new(alloc: Global, number: u8) -> Result<Member, Wrong> {
         let latest = vec![in alloc; 0u8; PUBLISHERS].ok().ok_or(Wrong::Memory)?;
         Ok(Member {
             number,
@@ -54,12 +54,12 @@ impl Member {
     }
 
     /// Whether it is connected.
-    pub(crate) fn is_there(&self) -> bool {
+    pub fn is_there(&self) -> bool {
         self.stream.is_some()
     }
 
     /// How many jobs its session surely has.
-    pub(crate) fn holds(&self) -> u64 {
+    pub fn holds(&self) -> u64 {
         self.held.len() as u64
     }
 
@@ -76,7 +76,7 @@ impl Member {
     }
 
     /// Connects: takes over its own connection where it has one, resumes its session, or starts a new one and joins the share.
-    pub(crate) fn come(
+    pub fn come(
         &mut self,
         mut stream: TcpStream,
         alloc: Global,
@@ -204,7 +204,7 @@ impl Member {
     }
 
     /// Asks whether the broker is there, and takes all that comes before its answer.
-    pub(crate) fn look(&mut self, alloc: Global, jobs: &mut Jobs) -> Result<(), Wrong> {
+    pub fn look(&mut self, alloc: Global, jobs: &mut Jobs) -> Result<(), Wrong> {
         send(self.stream.as_mut().ok_or(Wrong::Place)?, &PINGREQ)?;
         for _ in 0..2_000u32 {
             let packet = next(self.stream.as_mut().ok_or(Wrong::Place)?, alloc)?;
@@ -217,18 +217,13 @@ impl Member {
     }
 
     /// Waits for a packet, and takes it: a job.
-    pub(crate) fn wait(&mut self, alloc: Global, jobs: &mut Jobs) -> Result<(), Wrong> {
+    pub fn wait(&mut self, alloc: Global, jobs: &mut Jobs) -> Result<(), Wrong> {
         let packet = next(self.stream.as_mut().ok_or(Wrong::Place)?, alloc)?;
         self.hear(&packet, jobs)
     }
 
     /// Acknowledges or refuses a job that came on this connection, an old one or a new one, and waits until that was read.
-    pub(crate) fn settle(
-        &mut self,
-        alloc: Global,
-        rule: &mut Rule,
-        jobs: &mut Jobs,
-    ) -> Result<(), Wrong> {
+    pub fn settle(&mut self, alloc: Global, rule: &mut Rule, jobs: &mut Jobs) -> Result<(), Wrong> {
         let count = self.held.iter().filter(|held| held.sent).count() as u64;
         if count > 0 {
             let chosen = u64::from(rule.draw()) % count;
@@ -267,7 +262,7 @@ impl Member {
     }
 
     /// Drops the connection with whatever is on its way, in the midst of a packet or not.
-    pub(crate) fn drop_it(&mut self, rule: &mut Rule, jobs: &mut Jobs) -> Result<(), Wrong> {
+    pub fn drop_it(&mut self, rule: &mut Rule, jobs: &mut Jobs) -> Result<(), Wrong> {
         let mut stream = self.stream.take().ok_or(Wrong::Place)?;
         let part = b"\x40\x03\x00\x01";
         send(
@@ -285,7 +280,7 @@ impl Member {
     }
 
     /// Says DISCONNECT, and reads the stream to its end.
-    pub(crate) fn leave(&mut self, alloc: Global, jobs: &mut Jobs) -> Result<(), Wrong> {
+    pub fn leave(&mut self, alloc: Global, jobs: &mut Jobs) -> Result<(), Wrong> {
         send(self.stream.as_mut().ok_or(Wrong::Place)?, &DISCONNECT)?;
         self.read_to_end(alloc, jobs, Ending::Left)?;
         if !self.lives {
@@ -295,7 +290,7 @@ impl Member {
     }
 
     /// Reads the stream to its end, which comes as is expected.
-    pub(crate) fn read_to_end(
+    pub fn read_to_end(
         &mut self,
         alloc: Global,
         jobs: &mut Jobs,

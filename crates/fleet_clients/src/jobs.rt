@@ -1,16 +1,26 @@
 //! The jobs of a run, and what became of each as its clients saw it.
-use crate::broker::Counts;
 use crate::wrong::Wrong;
 use std::alloc::Global;
 
 /// How many publishers there are, and how many jobs each of them publishes at most.
-pub(crate) const PUBLISHERS: usize = 16;
+pub const PUBLISHERS: usize = 16;
 
-pub(crate) const JOBS: usize = 256;
+pub const JOBS: usize = 256;
+
+/// What the clients saw of the jobs of `$share/g/job`: how many were accepted, acknowledged and refused, how many sessions surely have, and how many
+/// more they may have beside those.
+#[derive(Clone, Copy)]
+pub struct Counts {
+    pub accepted: u64,
+    pub acknowledged: u64,
+    pub refused: u64,
+    pub held: u64,
+    pub open: u64,
+}
 
 /// What a job's publisher and members saw of it.
 #[derive(Clone, Copy, PartialEq, Eq, Drop)]
-pub(crate) enum Seen {
+pub enum Seen {
     /// It was not published, or its PUBACK is to come.
     Nothing,
     /// Its PUBACK has 00.
@@ -27,17 +37,17 @@ pub(crate) enum Seen {
 
 /// The jobs of all publishers, by publisher and number, and the counts of what came to them.
 #[derive(Drop)]
-pub(crate) struct Jobs {
+pub struct Jobs {
     seen: Vec<Seen>,
-    pub(crate) accepted: u64,
-    pub(crate) acknowledged: u64,
-    pub(crate) refused: u64,
+    pub accepted: u64,
+    pub acknowledged: u64,
+    pub refused: u64,
     /// How many first deliveries to a member came behind a later job of their publisher.
-    pub(crate) turned: u64,
+    pub turned: u64,
     /// How many deliveries were on their way at most where a connection was dropped.
-    pub(crate) hidden: u64,
+    pub hidden: u64,
     /// How many jobs the sessions had that end with a connection that was dropped: the broker may close before it sees that.
-    pub(crate) loose: u64,
+    pub loose: u64,
 }
 
 /// Where the job of a payload stands.
@@ -50,7 +60,7 @@ fn place_of(payload: [u8; 2]) -> usize {
 
 impl Jobs {
     /// None published yet.
-    pub(crate) fn new(alloc: Global) -> Result<Jobs, Wrong> {
+    pub fn new(alloc: Global) -> Result<Jobs, Wrong> {
         let seen = vec![in alloc; Seen::Nothing; PUBLISHERS * JOBS]
             .ok()
             .ok_or(Wrong::Memory)?;
@@ -66,12 +76,12 @@ impl Jobs {
     }
 
     /// Whether each job that was accepted was settled.
-    pub(crate) fn are_settled(&self) -> bool {
+    pub fn are_settled(&self) -> bool {
         self.acknowledged.saturating_add(self.refused) == self.accepted
     }
 
     /// What the report has to say where sessions surely have so many jobs.
-    pub(crate) fn counts(&self, held: u64) -> Counts {
+    pub fn counts(&self, held: u64) -> Counts {
         Counts {
             accepted: self.accepted,
             acknowledged: self.acknowledged,
@@ -82,7 +92,7 @@ impl Jobs {
     }
 
     /// A PUBACK came to the publisher; a job may have come to a member before it.
-    pub(crate) fn answered(&mut self, payload: [u8; 2], code: u8) -> Result<(), Wrong> {
+    pub fn answered(&mut self, payload: [u8; 2], code: u8) -> Result<(), Wrong> {
         let seen = self.seen.get_mut(place_of(payload)).ok_or(Wrong::Place)?;
         match (*seen, code) {
             (Seen::Nothing, 0) => *seen = Seen::Accepted,
@@ -96,7 +106,7 @@ impl Jobs {
     }
 
     /// A job came to a member, again to the session that had it or not. Whether it is the first time that a member saw it.
-    pub(crate) fn handed(&mut self, payload: [u8; 2], again: bool) -> Result<bool, Wrong> {
+    pub fn handed(&mut self, payload: [u8; 2], again: bool) -> Result<bool, Wrong> {
         let seen = self.seen.get_mut(place_of(payload)).ok_or(Wrong::Place)?;
         let first = match *seen {
             Seen::Accepted => true,
@@ -109,14 +119,14 @@ impl Jobs {
     }
 
     /// The session that has a job ends.
-    pub(crate) fn given_back(&mut self, payload: [u8; 2]) -> Result<(), Wrong> {
+    pub fn given_back(&mut self, payload: [u8; 2]) -> Result<(), Wrong> {
         let seen = self.seen.get_mut(place_of(payload)).ok_or(Wrong::Place)?;
         *seen = Seen::Back;
         Ok(())
     }
 
     /// The PUBACK of a member was read.
-    pub(crate) fn settled(&mut self, payload: [u8; 2], refused: bool) -> Result<(), Wrong> {
+    pub fn settled(&mut self, payload: [u8; 2], refused: bool) -> Result<(), Wrong> {
         let seen = self.seen.get_mut(place_of(payload)).ok_or(Wrong::Place)?;
         if *seen != Seen::Out {
             return Err(Wrong::Job);

@@ -2,7 +2,7 @@
 
 /// What came that may not, or did not come.
 #[derive(Clone, Copy, Debug, PartialEq, Eq, Drop)]
-pub(crate) enum Wrong {
+pub enum Wrong {
     /// An allocation failed.
     Memory,
     /// The broker is not to be connected to.

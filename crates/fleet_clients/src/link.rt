@@ -13,7 +13,7 @@ const TRIES: u32 = 400;
 const PAUSE: u64 = 10;
 
 /// A connection to a port of the loopback, once the broker listens there; none waits longer than ten seconds for what is to come.
-pub(crate) fn open<R: Net<Listener = TcpListener, Stream = TcpStream> + Clock>(
+pub fn open<R: Net<Listener = TcpListener, Stream = TcpStream> + Clock>(
     rt: &R,
     port: u16,
 ) -> Result<TcpStream, Wrong> {
@@ -33,19 +33,19 @@ pub(crate) fn open<R: Net<Listener = TcpListener, Stream = TcpStream> + Clock>(
 }
 
 /// Sends bytes.
-pub(crate) fn send(stream: &mut TcpStream, bytes: &[u8]) -> Result<(), Wrong> {
+pub fn send(stream: &mut TcpStream, bytes: &[u8]) -> Result<(), Wrong> {
     stream.write_all(bytes).ok().ok_or(Wrong::Sends)
 }
 
 /// A packet of fewer than 128 bytes: its first byte, and what follows its Remaining Length.
 #[derive(Drop)]
-pub(crate) struct Packet {
-    pub(crate) first: u8,
-    pub(crate) body: Vec<u8>,
+pub struct Packet {
+    pub first: u8,
+    pub body: Vec<u8>,
 }
 
 /// The next packet.
-pub(crate) fn next(stream: &mut TcpStream, alloc: Global) -> Result<Packet, Wrong> {
+pub fn next(stream: &mut TcpStream, alloc: Global) -> Result<Packet, Wrong> {
     let mut head = [0; 2];
     stream.read_exact(&mut head).ok().ok_or(Wrong::Silent)?;
     let [first, length] = head;
@@ -57,7 +57,7 @@ pub(crate) fn next(stream: &mut TcpStream, alloc: Global) -> Result<Packet, Wron
 }
 
 /// The bytes of the next packet behind its length, where it begins with this byte.
-pub(crate) fn wanted(stream: &mut TcpStream, alloc: Global, first: u8) -> Result<Vec<u8>, Wrong> {
+pub fn wanted(stream: &mut TcpStream, alloc: Global, first: u8) -> Result<Vec<u8>, Wrong> {
     let packet = next(stream, alloc)?;
     if packet.first == first {
         Ok(packet.body)
@@ -67,7 +67,7 @@ pub(crate) fn wanted(stream: &mut TcpStream, alloc: Global, first: u8) -> Result
 }
 
 /// Whether the stream ends next.
-pub(crate) fn ends(stream: &mut TcpStream) -> Result<(), Wrong> {
+pub fn ends(stream: &mut TcpStream) -> Result<(), Wrong> {
     let mut one = [0; 1];
     match stream.read(&mut one) {
         Ok(0) => Ok(()),
@@ -77,7 +77,7 @@ pub(crate) fn ends(stream: &mut TcpStream) -> Result<(), Wrong> {
 
 /// A CONNECT of the client whose identifier is this letter and digit, with a Receive Maximum, for a session that lives for an hour behind its connection, or
 /// ends with it. Whether Clean Start is set, and the Session Present of the CONNACK that is the next packet.
-pub(crate) fn join(stream: &mut TcpStream, alloc: Global, asks: Asks) -> Result<bool, Wrong> {
+pub fn join(stream: &mut TcpStream, alloc: Global, asks: Asks) -> Result<bool, Wrong> {
     send(stream, &connect(asks))?;
     let body = wanted(stream, alloc, 0x20)?;
     match body.as_slice() {
@@ -88,15 +88,15 @@ pub(crate) fn join(stream: &mut TcpStream, alloc: Global, asks: Asks) -> Result<
 
 /// What a CONNECT asks for.
 #[derive(Clone, Copy)]
-pub(crate) struct Asks {
-    pub(crate) name: [u8; 2],
-    pub(crate) clean: bool,
-    pub(crate) lives: bool,
-    pub(crate) receive_maximum: u8,
+pub struct Asks {
+    pub name: [u8; 2],
+    pub clean: bool,
+    pub lives: bool,
+    pub receive_maximum: u8,
 }
 
 /// Its bytes.
-pub(crate) fn connect(asks: Asks) -> [u8; 25] {
+pub fn connect(asks: Asks) -> [u8; 25] {
     let mut bytes =
         *b"\x10\x17\x00\x04MQTT\x05\x00\x00\x3C\x08\x11\x00\x00\x00\x00\x21\x00\x01\x00\x02w1";
     bytes[9] = if asks.clean { 2 } else { 0 };
@@ -112,7 +112,7 @@ pub(crate) fn connect(asks: Asks) -> [u8; 25] {
 }
 
 /// A PUBLISH to `job` of this packet identifier and payload.
-pub(crate) fn publish(identifier: u16, payload: [u8; 2]) -> [u8; 12] {
+pub fn publish(identifier: u16, payload: [u8; 2]) -> [u8; 12] {
     let mut bytes = *b"\x32\x0A\x00\x03job\x00\x00\x00AA";
     let [high, low] = identifier.to_be_bytes();
     bytes[7] = high;
@@ -124,8 +124,8 @@ pub(crate) fn publish(identifier: u16, payload: [u8; 2]) -> [u8; 12] {
 }
 
 /// A SUBSCRIBE to `$share/g/job`.
-pub(crate) const SUBSCRIBE: [u8; 20] = *b"\x82\x12\x00\x01\x00\x00\x0C$share/g/job\x01";
+pub const SUBSCRIBE: [u8; 20] = *b"\x82\x12\x00\x01\x00\x00\x0C$share/g/job\x01";
 
-pub(crate) const PINGREQ: [u8; 2] = *b"\xC0\x00";
+pub const PINGREQ: [u8; 2] = *b"\xC0\x00";
 
-pub(crate) const DISCONNECT: [u8; 2] = *b"\xE0\x00";
+pub const DISCONNECT: [u8; 2] = *b"\xE0\x00";
