@@ -4,10 +4,10 @@ ghost use Rattle.group_queue.specs.Ports.{IsPortOf};
 ghost use Rattle.group_queue.specs.Places.{IsPlaceOf};
 
 use crate::group_ledger::{acknowledge, return_one};
-use crate::reports::Wanted;
+use crate::life::{Life, live, take_place};
+use crate::reports::{Wanted, assert_same};
 use crate::row::{end, held_list, offer_four, spend, take_again};
 use crate::values::message;
-use crate::visit::{Visit, take_place, take_seat, visit_once};
 use gate_word::{Gate, GateSeat, Turn};
 use group_jobs::{Envelope, Report, Stamp};
 use group_queue::{FinishError, Lack, Place, Port, SharedGroup, Unfinished};
@@ -19,8 +19,10 @@ use std::test::Fail;
 #[derive(Drop)]
 struct Work;
 
-impl Visit for Work {
+impl Life for Work {
     type Told = Option<Envelope>;
+
+    type End = Ends;
 
     fn pass<R: Wait>(
         &self,
@@ -36,6 +38,27 @@ impl Visit for Work {
         acknowledge(rt, group, near, turn);
         return_one(rt, group, near, turn);
         take_again(rt, group, far, turn)
+    }
+
+    fn end<R: Wait>(
+        &self,
+        rt: &R,
+        alloc: Global,
+        _gate: &Gate,
+        _seat: GateSeat,
+        taken: Option<Envelope>,
+        opened: (SharedGroup<'_>, Vec<Port>, Vec<Place>),
+    ) -> Option<Ends> {
+        let (group, ports, places) = opened;
+        let mut places = places;
+        match take_place(&group, &mut places) {
+            Some(far) => end_with(rt, alloc, group, ports, places, taken, far),
+            None => {
+                let held = held_list(alloc, taken);
+                drop(end(rt, alloc, group, ports, places, held));
+                None
+            }
+        }
     }
 }
 
@@ -145,43 +168,6 @@ fn end_thrice<R: Wait>(
     }
 }
 
-/// The same of a group that worked, whose gate is entered and left.
-fn end_worked<R: Wait>(
-    rt: &R,
-    alloc: Global,
-    gate: &Gate,
-    seat: GateSeat,
-    opened: (SharedGroup<'_>, Vec<Port>, Vec<Place>),
-) -> Option<Ends>
-    requires seat { seat.gate ≡ gate.now }
-    requires gate { opened.0.gate ≡ gate.now }
-    requires ports { All (IsPortOf opened.0) opened.1.items }
-    requires places { All (IsPlaceOf opened.0) opened.2.items }
-{
-    let (group, mut ports, mut places) = opened;
-    let taken = match visit_once(
-        rt,
-        alloc,
-        gate,
-        seat,
-        &group,
-        &mut ports,
-        &mut places,
-        &Work,
-    ) {
-        Some((taken, _seat)) => taken,
-        None => None,
-    };
-    match take_place(&group, &mut places) {
-        Some(far) => end_with(rt, alloc, group, ports, places, taken, far),
-        None => {
-            let held = held_list(alloc, taken);
-            drop(end(rt, alloc, group, ports, places, held));
-            None
-        }
-    }
-}
-
 /// An envelope of the fourth message, which the group never handed out.
 fn stranger(alloc: Global) -> Option<Envelope> {
     let message = message(alloc, b"A")?;
@@ -225,17 +211,15 @@ fn end_with<R: Wait>(
 
 #[test]
 fn a_group_ends_with_a_report(rt: HostRuntime) -> Result<(), Fail> {
-    let (gate, mut seats) = Gate::open(rt.alloc(), 1)?;
-    let seat = take_seat(&gate, &mut seats).ok_or("a seat")?;
-    let opened = SharedGroup::open(rt.alloc(), &gate, 0, 1, 2, 8)?;
-    let ends = end_worked(&rt, rt.alloc(), &gate, seat, opened).ok_or("its ends")?;
-    assert_eq!(rt; ends.without, Some(FinishError::Missing(Lack::Place(1))));
+    let ends = live(&rt, rt.alloc(), 8, &Work).ok_or("a life")?;
+    let missing = FinishError::Missing(Lack::Place(1));
+    assert_same(&rt, &ends.without, &Some(missing));
     let stamp = Stamp {
         group: 0,
         port: 0,
         number: 3,
     };
-    assert_eq!(rt; ends.beside, Some(FinishError::Stranger(stamp)));
+    assert_same(&rt, &ends.beside, &Some(FinishError::Stranger(stamp)));
     let report = ends.report.ok_or("a report")?;
     Wanted::ONE_OF_EACH.compare(&rt, report);
     Ok(())

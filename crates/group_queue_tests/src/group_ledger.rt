@@ -1,10 +1,10 @@
 //! One group on one thread: a port, two places and a gate.
-ghost use Rattle.std.specs.Prelude.{◌≡◌, All};
+ghost use Rattle.std.specs.Prelude.{◌≡◌};
 ghost use Rattle.group_queue.specs.Ports.{IsPortOf};
 ghost use Rattle.group_queue.specs.Places.{IsPlaceOf};
 
+use crate::life::{Life, live};
 use crate::values::message;
-use crate::visit::{Visit, take_seat, visit_once};
 use gate_word::{Gate, GateSeat, Turn};
 use group_jobs::Fate;
 use group_queue::{Place, Port, SharedGroup};
@@ -97,12 +97,14 @@ struct Told {
 }
 
 /// Offers three messages to a group with room for two, of which the near place acknowledges one, and gives back one that the
-/// far place then refuses.
+/// far place then refuses. The group is given up.
 #[derive(Drop)]
 struct Tell;
 
-impl Visit for Tell {
+impl Life for Tell {
     type Told = Told;
+
+    type End = Told;
 
     fn pass<R: Wait>(
         &self,
@@ -132,47 +134,27 @@ impl Visit for Tell {
             is_empty: far_is_empty && near_is_empty,
         }
     }
-}
 
-/// A visit of a group, which is given up.
-fn tell_once<R: Wait>(
-    rt: &R,
-    alloc: Global,
-    gate: &Gate,
-    seat: GateSeat,
-    opened: (SharedGroup<'_>, Vec<Port>, Vec<Place>),
-) -> Option<Told>
-    requires seat { seat.gate ≡ gate.now }
-    requires gate { opened.0.gate ≡ gate.now }
-    requires ports { All (IsPortOf opened.0) opened.1.items }
-    requires places { All (IsPlaceOf opened.0) opened.2.items }
-{
-    let (group, mut ports, mut places) = opened;
-    let told = visit_once(
-        rt,
-        alloc,
-        gate,
-        seat,
-        &group,
-        &mut ports,
-        &mut places,
-        &Tell,
-    );
-    drop(ports);
-    drop(places);
-    group.abandon();
-    match told {
-        Some((told, _seat)) => Some(told),
-        None => None,
+    fn end<R: Wait>(
+        &self,
+        _rt: &R,
+        _alloc: Global,
+        _gate: &Gate,
+        _seat: GateSeat,
+        told: Told,
+        opened: (SharedGroup<'_>, Vec<Port>, Vec<Place>),
+    ) -> Option<Told> {
+        let (group, ports, places) = opened;
+        drop(ports);
+        drop(places);
+        group.abandon();
+        Some(told)
     }
 }
 
 #[test]
 fn group_ledger(rt: HostRuntime) -> Result<(), Fail> {
-    let (gate, mut seats) = Gate::open(rt.alloc(), 1)?;
-    let seat = take_seat(&gate, &mut seats).ok_or("a seat")?;
-    let opened = SharedGroup::open(rt.alloc(), &gate, 0, 1, 2, 2)?;
-    let told = tell_once(&rt, rt.alloc(), &gate, seat, opened).ok_or("a visit")?;
+    let told = live(&rt, rt.alloc(), 2, &Tell).ok_or("a life")?;
     assert_eq!(rt;
         told,
         Told {

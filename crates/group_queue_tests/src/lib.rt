@@ -6,6 +6,8 @@ mod finishing;
 #[cfg(test)]
 mod group_ledger;
 #[cfg(test)]
+mod life;
+#[cfg(test)]
 mod long_run;
 #[cfg(test)]
 mod reports;
@@ -15,5 +17,3 @@ mod row;
 mod threads;
 #[cfg(test)]
 mod values;
-#[cfg(test)]
-mod visit;

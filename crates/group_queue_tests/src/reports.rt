@@ -2,6 +2,7 @@
 
 use dispatch_core::Job;
 use group_jobs::Report;
+use std::fmt::Debug;
 use std::process::Abort;
 
 /// What a report is to say: what each port accepted, how many messages were acknowledged, and none refused, and which were held, queued and returned.
@@ -26,12 +27,22 @@ impl Wanted {
 
     /// A report says this.
     pub fn compare(&self, rt: &impl Abort, report: Report) {
-        assert_eq!(rt; report.accepted.as_slice(), self.accepted);
-        assert_eq!(rt; report.settled.acknowledged.len(), self.acknowledged);
+        assert!(rt; report.accepted.as_slice() == self.accepted);
+        assert_same(rt, &report.settled.acknowledged.len(), &self.acknowledged);
         assert!(rt; report.settled.refused.is_empty());
-        assert_eq!(rt; report.held.as_slice(), self.held);
-        assert_eq!(rt; report.queued.as_slice(), self.queued);
-        assert_eq!(rt; report.returned.as_slice(), self.returned);
+        assert_jobs(rt, &report.held, self.held);
+        assert_jobs(rt, &report.queued, self.queued);
+        assert_jobs(rt, &report.returned, self.returned);
         drop(report);
     }
+}
+
+/// Two answers are the same.
+pub fn assert_same<T: PartialEq + Debug>(rt: &impl Abort, found: &T, wanted: &T) {
+    assert_eq!(rt; found, wanted);
+}
+
+/// Jobs are these.
+fn assert_jobs(rt: &impl Abort, found: &[Job], wanted: &[Job]) {
+    assert_eq!(rt; found, wanted);
 }

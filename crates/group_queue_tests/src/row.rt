@@ -6,8 +6,8 @@ ghost use Rattle.group_queue.specs.Ports.{IsPortOf};
 ghost use Rattle.group_queue.specs.Places.{IsPlaceOf, Holds};
 
 use crate::group_ledger::offer;
+use crate::life::{Life, live};
 use crate::reports::Wanted;
-use crate::visit::{Visit, take_seat, visit_once};
 use dispatch_core::Job;
 use gate_word::{Gate, GateSeat, Turn};
 use group_jobs::{Envelope, Fate, Report};
@@ -153,8 +153,10 @@ pub fn offer_four<R: Wait>(
 #[derive(Drop)]
 struct Row;
 
-impl Visit for Row {
+impl Life for Row {
     type Told = Option<Envelope>;
+
+    type End = Report;
 
     fn pass<R: Wait>(
         &self,
@@ -170,6 +172,20 @@ impl Visit for Row {
         near_works(rt, alloc, group, near, turn);
         take_again(rt, group, far, turn)
     }
+
+    fn end<R: Wait>(
+        &self,
+        rt: &R,
+        alloc: Global,
+        gate: &Gate,
+        seat: GateSeat,
+        held: Option<Envelope>,
+        opened: (SharedGroup<'_>, Vec<Port>, Vec<Place>),
+    ) -> Option<Report> {
+        let (group, ports, places) = opened;
+        shut(gate, seat);
+        end(rt, alloc, group, ports, places, held_list(alloc, held))
+    }
 }
 
 /// Shuts a gate, and looks whether it is drained.
@@ -181,59 +197,9 @@ fn shut(gate: &Gate, seat: GateSeat)
     let _drained = gate.drained(&mut seat);
 }
 
-/// The report of the row.
-fn report_of<R: Wait>(
-    rt: &R,
-    alloc: Global,
-    gate: &Gate,
-    seat: GateSeat,
-    opened: (SharedGroup<'_>, Vec<Port>, Vec<Place>),
-) -> Option<Report>
-    requires seat { seat.gate ≡ gate.now }
-    requires gate { opened.0.gate ≡ gate.now }
-    requires ports { All (IsPortOf opened.0) opened.1.items }
-    requires places { All (IsPlaceOf opened.0) opened.2.items }
-{
-    let (group, mut ports, mut places) = opened;
-    let taken = match visit_once(rt, alloc, gate, seat, &group, &mut ports, &mut places, &Row) {
-        Some((taken, seat)) => {
-            shut(gate, seat);
-            taken
-        }
-        None => None,
-    };
-    end(rt, alloc, group, ports, places, held_list(alloc, taken))
-}
-
-/// A gate with one seat; where that was refused, once more.
-fn open_gate(alloc: Global) -> Option<(Gate, GateSeat)>
-    ensures { IfSome result (λ opened. opened.1.gate ≡ opened.0) }
-{
-    let (gate, mut seats) = match Gate::open(alloc, 1) {
-        Ok(opened) => opened,
-        Err(_) => Gate::open(alloc, 1).ok()?,
-    };
-    let seat = take_seat(&gate, &mut seats)?;
-    Some((gate, seat))
-}
-
-/// A group with a port, two places and room for eight messages; where that was refused, once more.
-fn open_group<'a>(alloc: Global, gate: &'a Gate) -> Option<(SharedGroup<'a>, Vec<Port>, Vec<Place>)>
-    ensures gate { IfSome result (λ opened. opened.0.gate ≡ gate.entry.now) }
-    ensures ports { IfSome result (λ opened. All (IsPortOf opened.0) opened.1.items) }
-    ensures places { IfSome result (λ opened. All (IsPlaceOf opened.0) opened.2.items) }
-{
-    if let Ok(opened) = SharedGroup::open(alloc, gate, 0, 1, 2, 8) {
-        return Some(opened);
-    }
-    SharedGroup::open(alloc, gate, 0, 1, 2, 8).ok()
-}
-
 #[test]
 fn refused_calls_made_again(rt: HostRuntime) -> Result<(), Fail> {
-    let (gate, seat) = open_gate(rt.alloc()).ok_or("a gate")?;
-    let opened = open_group(rt.alloc(), &gate).ok_or("a group")?;
-    let report = report_of(&rt, rt.alloc(), &gate, seat, opened).ok_or("a report")?;
+    let report = live(&rt, rt.alloc(), 8, &Row).ok_or("a life")?;
     let first = Job { port: 0, number: 0 };
     assert!(rt; report.settled.acknowledged.contains(first));
     Wanted::ONE_OF_EACH.compare(&rt, report);

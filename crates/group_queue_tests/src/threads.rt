@@ -6,9 +6,9 @@ ghost use Rattle.group_queue.specs.Ports.{GroupId, IsPortOf};
 ghost use Rattle.group_queue.specs.Places.{IsPlaceOf};
 
 use crate::group_ledger::{acknowledge, offer};
+use crate::life::{put_place, put_port, take_place, take_port, take_seat};
 use crate::reports::Wanted;
 use crate::row::end;
-use crate::visit::{put_place, put_port, take_place, take_port, take_seat};
 use gate_word::{Gate, GateSeat, Turn};
 use group_jobs::Report;
 use group_queue::{Place, Port, SharedGroup};

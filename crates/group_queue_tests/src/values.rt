@@ -5,7 +5,7 @@ use group_queue::{NotTaken, OfferError, Place, Port, SharedGroup};
 use mqtt_wire::{PublishProperties, RareProperties, Text};
 use std::alloc::Global;
 use std::fmt::Display;
-use std::test::Fail;
+use std::process::Abort;
 
 /// A message on the topic `job` with this payload.
 pub fn message(alloc: Global, payload: &'static [u8]) -> Option<SharedMessage> {
@@ -34,30 +34,28 @@ fn what_threads_may_do_with_it() {
     is_shared_by_threads::<SharedMessage>();
 }
 
-/// The text of an error.
-fn told<E: Display>(alloc: Global, error: &E) -> Result<String, Fail> {
-    Ok(format!(in alloc; "{error}")?)
+/// An error has this text.
+fn assert_text<E: Display>(rt: &impl Abort, alloc: Global, error: &E, wanted: &str) {
+    let text = format!(in alloc; "{error}").ok().expect(rt, "memory");
+    assert_eq!(rt; text.as_str(), wanted);
 }
 
-/// The text of a refusal that hands a message back.
-fn told_with_message(alloc: Global) -> Result<String, Fail> {
-    let refused = NotTaken {
-        message: message(alloc, b"A").ok_or("a message")?,
+/// A refusal that hands a message back.
+fn refused(alloc: Global) -> Option<NotTaken> {
+    Some(NotTaken {
+        message: message(alloc, b"A")?,
         error: OfferError::Full,
-    };
-    let text = told(alloc, &refused);
-    drop(refused);
-    text
+    })
 }
 
 #[test]
-fn errors_have_texts(rt: HostRuntime) -> Result<(), Fail> {
+fn errors_have_texts(rt: HostRuntime) {
     let full = "the queue is full";
-    assert_eq!(rt; told(rt.alloc(), &OfferError::Full)?.as_str(), full);
-    assert_eq!(rt; told_with_message(rt.alloc())?.as_str(), full);
-    let spent = told(rt.alloc(), &OfferError::LifeSpent)?;
-    assert_eq!(rt; spent.as_str(), "the numbers of the port are used up");
-    let memory = told(rt.alloc(), &JobError::Memory)?;
-    assert_eq!(rt; memory.as_str(), "out of memory");
-    Ok(())
+    assert_text(&rt, rt.alloc(), &OfferError::Full, full);
+    let refused = refused(rt.alloc()).expect(&rt, "a message");
+    assert_text(&rt, rt.alloc(), &refused, full);
+    drop(refused);
+    let spent = "the numbers of the port are used up";
+    assert_text(&rt, rt.alloc(), &OfferError::LifeSpent, spent);
+    assert_text(&rt, rt.alloc(), &JobError::Memory, "out of memory");
 }
