@@ -7,6 +7,7 @@ use mqtt_topic::{Routes, Share};
 use mqtt_wire::Text;
 use solo_output::solo;
 use std::alloc::Global;
+use std::fmt::Debug;
 use std::process::Abort;
 
 /// A server in each of whose groups so many messages may wait, and on which these shares are bound.
@@ -45,6 +46,16 @@ pub fn written(alloc: Global, setup: Setup, script: &str) -> Result<Vec<u8>, Run
     let mut output = Vec::new(alloc);
     drive_lines(alloc, setup, &mut script.as_bytes(), &mut output)?;
     Ok(output)
+}
+
+/// Two outputs are the same.
+pub fn assert_same_bytes(rt: &impl Abort, written: &[u8], wanted: &[u8], name: &str) {
+    assert_eq!(rt; written, wanted, "{name}");
+}
+
+/// Two answers are the same.
+pub fn assert_same<T: PartialEq + Debug>(rt: &impl Abort, found: &T, wanted: &T) {
+    assert_eq!(rt; found, wanted);
 }
 
 /// Plays a play on a server in each of whose groups 1,024 messages may wait, and on which no share is bound.

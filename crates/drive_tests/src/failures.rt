@@ -1,6 +1,6 @@
 //! Runs whose lines are none, and runs whose reader or writer fails.
-use crate::acting::plain;
-use crate::clients::{CONNECT, JOB, RUNS, SUBSCRIBE, join};
+use crate::acting::{assert_same, assert_same_bytes, plain};
+use crate::clients::{CONNECT, FIRST_JOB_OUT, JOB, SUBSCRIBE, join};
 use drive::drive_lines;
 use line_io::RunError;
 use solo_output::solo;
@@ -81,9 +81,9 @@ fn bad_input(rt: HostRuntime) {
     for (form, input, line) in bad.iter() {
         let mut writer = FailingWriter::new(rt.alloc(), 0);
         let ended = run(rt.alloc(), *form, &mut &input[..], &mut writer);
-        assert_eq!(rt; ended, Err(RunError::Line(*line)));
-        assert_eq!(rt; writer.taken.len(), 0);
-        assert_eq!(rt; RunError::Line(*line).status(), 5);
+        assert_same(&rt, &ended, &Err(RunError::Line(*line)));
+        assert_same(&rt, &writer.taken.len(), &0);
+        assert_same(&rt, &RunError::Line(*line).status(), &5);
     }
 }
 
@@ -112,10 +112,10 @@ fn reader_fails(rt: HostRuntime) {
     for (form, read) in rows.iter() {
         let mut writer = Vec::new(rt.alloc());
         let ended = run(rt.alloc(), *form, &mut FailingReader(read), &mut writer);
-        assert_eq!(rt; ended, Err(RunError::ReadFailed));
-        assert_eq!(rt; writer.len(), 0);
+        assert_same(&rt, &ended, &Err(RunError::ReadFailed));
+        assert_same(&rt, &writer.len(), &0);
     }
-    assert_eq!(rt; RunError::ReadFailed.status(), 3);
+    assert_same(&rt, &RunError::ReadFailed.status(), &3);
 }
 
 /// A reader that gives an empty line a read, so many times.
@@ -143,10 +143,10 @@ fn most_reads(rt: HostRuntime) {
     for (lines, wanted) in rows.iter() {
         let mut writer = Vec::new(rt.alloc());
         let ended = run(rt.alloc(), Form::Solo, &mut EmptyLines(*lines), &mut writer);
-        assert_eq!(rt; ended, *wanted);
-        assert_eq!(rt; writer.len(), 0);
+        assert_same(&rt, &ended, wanted);
+        assert_same(&rt, &writer.len(), &0);
     }
-    assert_eq!(rt; RunError::TooManyReads.status(), 3);
+    assert_same(&rt, &RunError::TooManyReads.status(), &3);
 }
 
 /// Reads are counted, and lines are not.
@@ -156,8 +156,8 @@ fn more_lines_than_reads(rt: HostRuntime) -> Result<(), Fail> {
     for form in [Form::Solo, Form::Drive].iter() {
         let mut writer = Vec::new(rt.alloc());
         let ended = run(rt.alloc(), *form, &mut lines.as_slice(), &mut writer);
-        assert_eq!(rt; ended, Ok(()));
-        assert_eq!(rt; writer.len(), 0);
+        assert_same(&rt, &ended, &Ok(()));
+        assert_same(&rt, &writer.len(), &0);
     }
     Ok(())
 }
@@ -182,17 +182,16 @@ fn fail_behind_each(rt: &impl Abort, alloc: Global, form: Form, input: &[u8], ou
     for room in 0..=output.len() {
         let mut writer = FailingWriter::new(alloc, room);
         let ended = run(alloc, form, &mut &input[..], &mut writer);
-        assert_eq!(rt; ended, Err(RunError::WriteFailed));
-        assert_eq!(rt; writer.taken.as_slice(), &output[..room]);
+        assert_same(&rt, &ended, &Err(RunError::WriteFailed));
+        assert_same_bytes(rt, &writer.taken, &output[..room], "behind a byte");
     }
 }
 
 #[test]
 fn writer_fails(rt: HostRuntime) -> Result<(), Fail> {
     let input = join(rt.alloc(), &[CONNECT, SUBSCRIBE, JOB])?;
-    let output = join(rt.alloc(), RUNS[3].output)?;
-    fail_behind_each(&rt, rt.alloc(), Form::Solo, &input, &output);
+    fail_behind_each(&rt, rt.alloc(), Form::Solo, &input, FIRST_JOB_OUT);
     fail_behind_each(&rt, rt.alloc(), Form::Drive, EVENTS, SAID);
-    assert_eq!(rt; RunError::WriteFailed.status(), 3);
+    assert_same(&rt, &RunError::WriteFailed.status(), &3);
     Ok(())
 }

@@ -1,5 +1,5 @@
 //! Scripts: lines that spell no event, and lines that are passed over.
-use crate::acting::{plain, written};
+use crate::acting::{assert_same, plain, written};
 use drive::drive_lines;
 use line_io::RunError;
 use std::test::Fail;
@@ -24,7 +24,7 @@ fn bad_lines(rt: HostRuntime) -> Result<(), Fail> {
     ];
     for (script, line) in bad.iter() {
         let ended = written(rt.alloc(), plain(rt.alloc()), script);
-        assert_eq!(rt; ended, Err(RunError::Line(*line)));
+        assert_same(&rt, &ended, &Err(RunError::Line(*line)));
     }
     Ok(())
 }

@@ -1,6 +1,6 @@
 //! Streams of one client: wherever they are cut, wherever they end, with bytes replaced, and long ones.
 use crate::acting::{answered, plain};
-use crate::clients::{CONNACK, CONNECT, JOB, RUNS, SUBACK, SUBSCRIBE, join};
+use crate::clients::{CONNACK, CONNECT, FIRST_JOB_OUT, JOB, MEMBER_OUT, SUBACK, SUBSCRIBE, join};
 use line_io::RunError;
 use std::alloc::{AllocError, Global};
 use std::process::Abort;
@@ -30,26 +30,38 @@ fn run_in_two(alloc: Global, digits: &[u8], place: usize) -> Result<Vec<u8>, Run
     answered(alloc, plain(alloc), &lines)
 }
 
+/// What goes out is the same; else the number of the byte, or how many a line has, is told.
+fn same_at(rt: &impl Abort, written: &[u8], wanted: &[u8], bytes: usize) {
+    assert_eq!(rt; written, wanted, "at {bytes} bytes");
+}
+
 /// A stream in lines of each size, from one byte to all of them, and cut in two at each byte.
 #[test]
 fn every_cutting(rt: HostRuntime) -> Result<(), Fail> {
-    let output = join(rt.alloc(), RUNS[3].output)?;
     let digits = first_job(rt.alloc())?;
     for bytes in 1..49usize {
         let written = run_in_lines(rt.alloc(), &digits, 2 * bytes)?;
-        assert_eq!(rt;
-            written.as_slice(),
-            output.as_slice(),
-            "in lines of {bytes} bytes"
-        );
+        same_at(&rt, &written, FIRST_JOB_OUT, bytes);
         let written = run_in_two(rt.alloc(), &digits, 2 * bytes)?;
-        assert_eq!(rt;
-            written.as_slice(),
-            output.as_slice(),
-            "cut in two behind {bytes} bytes"
-        );
+        same_at(&rt, &written, FIRST_JOB_OUT, bytes);
     }
     Ok(())
+}
+
+/// What goes out for the first bytes of the stream: that of the packets that are whole.
+fn output_of(bytes: usize) -> &'static [u8] {
+    match bytes {
+        0..=16 => b"",
+        17..=36 => CONNACK,
+        37..=47 => MEMBER_OUT,
+        _ => FIRST_JOB_OUT,
+    }
+}
+
+/// What goes out for so many bytes of the digits, where `solo` ends.
+fn run_of_first(alloc: Global, digits: &[u8], bytes: usize) -> Result<Vec<u8>, RunError> {
+    let (first, _) = digits.split_at(bytes.saturating_mul(2).min(digits.len()));
+    answered(alloc, plain(alloc), first)
 }
 
 /// A stream that ends behind each byte: what goes out is that of the packets that are whole.
@@ -57,20 +69,8 @@ fn every_cutting(rt: HostRuntime) -> Result<(), Fail> {
 fn every_end(rt: HostRuntime) -> Result<(), Fail> {
     let digits = first_job(rt.alloc())?;
     for bytes in 0..49usize {
-        let run = match bytes {
-            0..=16 => &RUNS[0],
-            17..=36 => &RUNS[1],
-            37..=47 => &RUNS[2],
-            _ => &RUNS[3],
-        };
-        let output = join(rt.alloc(), run.output)?;
-        let digits = digits.get(..2 * bytes).ok_or("48 bytes")?;
-        let written = answered(rt.alloc(), plain(rt.alloc()), digits)?;
-        assert_eq!(rt;
-            written.as_slice(),
-            output.as_slice(),
-            "ended behind {bytes} bytes"
-        );
+        let written = run_of_first(rt.alloc(), &digits, bytes)?;
+        same_at(&rt, &written, output_of(bytes), bytes);
     }
     Ok(())
 }
