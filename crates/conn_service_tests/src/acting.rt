@@ -73,13 +73,15 @@ pub(crate) struct Play<'a> {
 
 impl Play<'static> {
     /// A transport that gives the bytes of three packets, one with each read, and takes what it is given, all at the moment 0.
-    pub(crate) const WHOLE: Play<'static> = Play {
-        input: STREAM,
-        reads: PACKETS,
-        writes: &[],
-        room: 256,
-        moments: &[0],
-    };
+    pub(crate) fn whole() -> Play<'static> {
+        Play {
+            input: STREAM,
+            reads: PACKETS,
+            writes: &[],
+            room: 256,
+            moments: &[0],
+        }
+    }
 }
 
 /// A scripted transport.
@@ -114,7 +116,7 @@ pub(crate) fn reports(rt: &impl Abort, alloc: Global, supply: &LocalSupply, repo
     };
     match (line, report) {
         (None, None) => {}
-        (Some(line), Some(report)) => assert_eq!(rt; line.as_slice(), report.as_bytes()),
+        (Some(line), Some(report)) => assert_written(rt, &line, report.as_bytes()),
         (Some(_), None) => panic!(rt; "a share is bound"),
         (None, Some(_)) => panic!(rt; "no share is bound"),
     }
@@ -153,6 +155,16 @@ pub(crate) fn serve_alone<R: Abort + Wait>(
     (served, transport)
 }
 
+/// Bytes that were written are these.
+pub(crate) fn assert_written(rt: &impl Abort, written: &[u8], wanted: &[u8]) {
+    assert_eq!(rt; written, wanted);
+}
+
+/// A connection ended so.
+pub(crate) fn assert_served(rt: &impl Abort, served: Served, wanted: Served) {
+    assert_eq!(rt; served, wanted);
+}
+
 /// A play ends so, and these bytes are written, one part after the other.
 pub(crate) fn serves<R: Abort + Wait>(
     rt: &R,
@@ -162,6 +174,6 @@ pub(crate) fn serves<R: Abort + Wait>(
     written: &[u8],
 ) {
     let (how, transport) = serve_alone(rt, alloc, play);
-    assert_eq!(rt; how, served);
-    assert_eq!(rt; transport.output(), written);
+    assert_served(rt, how, served);
+    assert_written(rt, transport.output(), written);
 }

@@ -1,7 +1,9 @@
 //! One connection: faults, silence, a peer that is read byte by byte, and a crossing that lets nobody pass.
 ghost use Rattle.std.specs.Prelude.{⊤};
 
-use crate::acting::{ANSWERS, CONNACK, CONNECT, Moments, Play, broker, scripted, serves};
+use crate::acting::{
+    ANSWERS, CONNACK, CONNECT, Moments, Play, assert_served, broker, scripted, serves,
+};
 use conn_service::{Served, serve};
 use std::test::Fail;
 use transport::{Crossing, ReadTurn};
@@ -24,7 +26,7 @@ fn faults(rt: HostRuntime) -> Result<(), Fail> {
         written.extend_from_slice(wanted)?;
         let play = Play {
             input: &input,
-            ..Play::WHOLE
+            ..Play::whole()
         };
         serves(&rt, rt.alloc(), play, Served::Ended, &written);
     }
@@ -38,7 +40,7 @@ fn every_cutting(rt: HostRuntime) -> Result<(), Fail> {
         let reads = vec![in rt.alloc(); ReadTurn::AtMost(size); 48]?;
         let play = Play {
             reads: &reads,
-            ..Play::WHOLE
+            ..Play::whole()
         };
         serves(&rt, rt.alloc(), play, Served::Ended, ANSWERS);
     }
@@ -51,7 +53,7 @@ fn silence(rt: HostRuntime) {
     let play = Play {
         reads: &[ReadTurn::AtMost(17), ReadTurn::Idle],
         moments: &[0, 0, 90_000],
-        ..Play::WHOLE
+        ..Play::whole()
     };
     let written = b"\x20\x0E\x00\x00\x0B\x24\x01\x25\x00\x27\x00\x01\x00\x00\x29\x00\xE0\x01\x8D";
     serves(&rt, rt.alloc(), play, Served::Ended, written);
@@ -72,7 +74,7 @@ impl Crossing for ShutCrossing {
 #[test]
 fn no_crossing(rt: HostRuntime) {
     let mut supply = broker(&rt, rt.alloc());
-    let transport = scripted(&rt, rt.alloc(), Play::WHOLE);
+    let transport = scripted(&rt, rt.alloc(), Play::whole());
     let mut clock = Moments::of(&[0]);
     let (served, transport) = serve(
         &rt,
@@ -85,7 +87,7 @@ fn no_crossing(rt: HostRuntime) {
         &mut clock,
     );
     supply.abandon();
-    assert_eq!(rt; served, Served::NoCrossing);
+    assert_served(&rt, served, Served::NoCrossing);
     assert!(rt; transport.output().is_empty());
 }
 

@@ -1,5 +1,5 @@
 //! Streams that end behind each byte, and streams in which each byte is replaced: what is written is what `solo` writes.
-use crate::acting::{Play, STREAM, serve_alone};
+use crate::acting::{Play, STREAM, assert_served, assert_written, serve_alone};
 use conn_service::Served;
 use line_io::RunError;
 use local_server::Setup;
@@ -44,14 +44,14 @@ fn writes_as_solo<R: Abort + Wait>(rt: &R, alloc: Global, stream: &[u8]) {
     };
     let play = Play {
         input: stream,
-        ..Play::WHOLE
+        ..Play::whole()
     };
     let (served, transport) = serve_alone(rt, alloc, play);
-    assert_eq!(rt; served, Served::Ended);
+    assert_served(rt, served, Served::Ended);
     let Ok(written) = hex::encode(alloc, transport.output()) else {
         panic!(rt; "out of memory");
     };
-    assert_eq!(rt; written.as_bytes(), wanted.as_slice());
+    assert_written(rt, written.as_bytes(), &wanted);
 }
 
 #[test]

@@ -1,5 +1,7 @@
 //! Transports that fail, and transports that take nothing.
-use crate::acting::{ANSWERS, CONNACK, CONNECT, Play, broker, reports, serve_over, serves};
+use crate::acting::{
+    ANSWERS, CONNACK, CONNECT, Play, assert_written, broker, reports, serve_over, serves,
+};
 use conn_service::Served;
 use std::alloc::{AllocError, Global};
 use std::process::Abort;
@@ -29,7 +31,7 @@ fn each_write_fails(rt: HostRuntime) {
         let mut supply = broker(&rt, rt.alloc());
         let play = Play {
             room,
-            ..Play::WHOLE
+            ..Play::whole()
         };
         let (served, transport) = serve_over(&rt, rt.alloc(), &mut supply, play);
         let wanted = if room < 37 {
@@ -38,7 +40,7 @@ fn each_write_fails(rt: HostRuntime) {
             Served::Ended
         };
         assert_eq!(rt; served, wanted, "room for {room} bytes");
-        assert_eq!(rt; transport.output(), &ANSWERS[..room.min(ANSWERS.len())]);
+        assert_written(&rt, transport.output(), &ANSWERS[..room.min(ANSWERS.len())]);
         reports(&rt, rt.alloc(), &supply, report_at(room));
         supply.abandon();
     }
@@ -49,83 +51,39 @@ fn each_write_fails(rt: HostRuntime) {
 fn third_read_fails(rt: HostRuntime) {
     let play = Play {
         reads: &[ReadTurn::AtMost(17), ReadTurn::AtMost(20), ReadTurn::Failed],
-        ..Play::WHOLE
+        ..Play::whole()
     };
     serves(&rt, rt.alloc(), play, Served::Read, &ANSWERS[..22]);
-}
-
-/// A transport that takes nothing in so many writes.
-#[derive(Clone, Copy)]
-struct Deaf {
-    input: &'static [u8],
-    refused: usize,
-    moments: &'static [u64],
-    served: Served,
-    written: &'static [u8],
 }
 
 /// A CONNECT, and a length that is malformed behind it: the connection ends (1.5.5).
 const FAULTY: &[u8] = b"\x10\x0F\x00\x04MQTT\x05\x02\x00\x3C\x00\x00\x02w1\x82\xFF\xFF\xFF\xFF";
 
-/// 600 writes in a row, of which a round makes two, or 60 seconds are too much; and where the connection has ended, one second is.
-const DEAF: [Deaf; 6] = [
-    Deaf {
-        input: CONNECT,
-        refused: 601,
-        moments: &[0],
-        served: Served::Stalled,
-        written: b"",
-    },
-    Deaf {
-        input: CONNECT,
-        refused: 599,
-        moments: &[0],
-        served: Served::Ended,
-        written: CONNACK,
-    },
-    Deaf {
-        input: CONNECT,
-        refused: 3,
-        moments: &[0, 0, 60_000],
-        served: Served::Stalled,
-        written: b"",
-    },
-    Deaf {
-        input: CONNECT,
-        refused: 3,
-        moments: &[0, 0, 59_999],
-        served: Served::Ended,
-        written: CONNACK,
-    },
-    Deaf {
-        input: FAULTY,
-        refused: 3,
-        moments: &[0, 0, 1_000],
-        served: Served::Stalled,
-        written: b"",
-    },
-    Deaf {
-        input: FAULTY,
-        refused: 3,
-        moments: &[0, 0, 999],
-        served: Served::Ended,
-        written: b"\x20\x0E\x00\x00\x0B\x24\x01\x25\x00\x27\x00\x01\x00\x00\x29\x00\xE0\x01\x81",
-    },
-];
+/// What is written then: a CONNACK, and a DISCONNECT: Malformed Packet.
+const FAULT_TOLD: &[u8] =
+    b"\x20\x0E\x00\x00\x0B\x24\x01\x25\x00\x27\x00\x01\x00\x00\x29\x00\xE0\x01\x81";
 
-/// The connection of such a row ends as the row says.
-fn is_deaf<R: Abort + Wait>(rt: &R, alloc: Global, row: Deaf) {
-    let Ok(writes) = idle_writes(alloc, row.refused) else {
+/// This comes over a transport that takes nothing in so many writes, at these moments; how the connection ends, and what is written.
+fn is_deaf<R: Abort + Wait>(
+    rt: &R,
+    alloc: Global,
+    input: &[u8],
+    refused: usize,
+    moments: &'static [u64],
+    served: Served,
+    written: &[u8],
+) {
+    let Ok(writes) = idle_writes(alloc, refused) else {
         panic!(rt; "out of memory");
     };
     let play = Play {
-        input: row.input,
+        input,
         reads: &[],
         writes: &writes,
         room: 256,
-        moments: row.moments,
+        moments,
     };
-    serves(rt, alloc, play, row.served, row.written);
+    serves(rt, alloc, play, served, written);
 }
 
 /// So many writes that are idle.
@@ -133,9 +91,33 @@ fn idle_writes(alloc: Global, count: usize) -> Result<Vec<WriteTurn>, AllocError
     Ok(vec![in alloc; WriteTurn::Idle; count]?)
 }
 
+/// 600 writes in a row, of which a round makes two, are too much.
 #[test]
 fn writes_are_refused(rt: HostRuntime) {
-    for row in DEAF {
-        is_deaf(&rt, rt.alloc(), row);
-    }
+    is_deaf(&rt, rt.alloc(), CONNECT, 601, &[0], Served::Stalled, b"");
+    is_deaf(&rt, rt.alloc(), CONNECT, 599, &[0], Served::Ended, CONNACK);
+}
+
+/// 60 seconds are too much.
+#[test]
+fn writes_are_refused_for_a_minute(rt: HostRuntime) {
+    let (late, in_time) = (&[0, 0, 60_000], &[0, 0, 59_999]);
+    is_deaf(&rt, rt.alloc(), CONNECT, 3, late, Served::Stalled, b"");
+    is_deaf(&rt, rt.alloc(), CONNECT, 3, in_time, Served::Ended, CONNACK);
+}
+
+/// Where the connection has ended, one second is too much.
+#[test]
+fn last_writes_are_refused_for_a_second(rt: HostRuntime) {
+    let (late, in_time) = (&[0, 0, 1_000], &[0, 0, 999]);
+    is_deaf(&rt, rt.alloc(), FAULTY, 3, late, Served::Stalled, b"");
+    is_deaf(
+        &rt,
+        rt.alloc(),
+        FAULTY,
+        3,
+        in_time,
+        Served::Ended,
+        FAULT_TOLD,
+    );
 }

@@ -2,7 +2,9 @@
 ghost use Rattle.std.specs.Prelude.{◌≡◌, ◌<◌, None};
 ghost use Rattle.transport.specs.Counting.{no_counts};
 
-use crate::acting::{ANSWERS, CONNECT, Play, broker, reports, scripted};
+use crate::acting::{
+    ANSWERS, CONNECT, Play, assert_served, assert_written, broker, reports, scripted,
+};
 use crate::noting::Noting;
 use conn_service::{Round, Served, Service};
 use local_broker::{LocalPlace, LocalSupply};
@@ -75,7 +77,7 @@ fn ends<T: Transport>(
     let mut buffer = [0; 4_096];
     match service.round(supply, &OpenCrossing, 0, now, &mut buffer) {
         Round::Ended(served) => {
-            assert_eq!(rt; served, wanted);
+            assert_served(rt, served, wanted);
             service.end()
         }
         Round::More | Round::Reading | Round::Writing | Round::Waiting => {
@@ -85,11 +87,13 @@ fn ends<T: Transport>(
 }
 
 /// A CONNECT, and behind it nothing for now.
-const CONNECTS: Play<'static> = Play {
-    input: CONNECT,
-    reads: &[ReadTurn::AtMost(17), ReadTurn::Idle, ReadTurn::Idle],
-    ..Play::WHOLE
-};
+fn connects() -> Play<'static> {
+    Play {
+        input: CONNECT,
+        reads: &[ReadTurn::AtMost(17), ReadTurn::Idle, ReadTurn::Idle],
+        ..Play::whole()
+    }
+}
 
 /// The CONNACK, and a DISCONNECT: Server shutting down, and Session taken over (3.14.2.1).
 const CLOSED: &[u8] =
@@ -101,31 +105,31 @@ const TAKEN_OVER: &[u8] =
 #[test]
 fn close(rt: HostRuntime) {
     let mut supply = broker(&rt, rt.alloc());
-    let transport = scripted(&rt, rt.alloc(), CONNECTS);
+    let transport = scripted(&rt, rt.alloc(), connects());
     let mut service = open(&rt, rt.alloc(), 0, transport);
     goes_on(&rt, &mut service, &mut supply, 0, Round::Reading);
     supply.close();
     let transport = ends(&rt, service, &mut supply, 0, Served::Ended);
     supply.abandon();
-    assert_eq!(rt; transport.output(), CLOSED);
+    assert_written(&rt, transport.output(), CLOSED);
 }
 
 /// A second connection of the same client: the first one is told at its next round, and then the second one has its session.
 #[test]
 fn takeover(rt: HostRuntime) {
     let mut supply = broker(&rt, rt.alloc());
-    let transport = scripted(&rt, rt.alloc(), CONNECTS);
+    let transport = scripted(&rt, rt.alloc(), connects());
     let mut first = open(&rt, rt.alloc(), 0, transport);
-    let transport = scripted(&rt, rt.alloc(), CONNECTS);
+    let transport = scripted(&rt, rt.alloc(), connects());
     let mut second = open(&rt, rt.alloc(), 1, transport);
     goes_on(&rt, &mut first, &mut supply, 0, Round::Reading);
     goes_on(&rt, &mut second, &mut supply, 0, Round::Reading);
     let transport = ends(&rt, first, &mut supply, 0, Served::Ended);
-    assert_eq!(rt; transport.output(), TAKEN_OVER);
+    assert_written(&rt, transport.output(), TAKEN_OVER);
     goes_on(&rt, &mut second, &mut supply, 0, Round::Reading);
     supply.close();
     let transport = ends(&rt, second, &mut supply, 0, Served::Ended);
-    assert_eq!(rt; transport.output(), CLOSED);
+    assert_written(&rt, transport.output(), CLOSED);
     supply.abandon();
 }
 
@@ -197,18 +201,18 @@ fn deaf_member(rt: HostRuntime) -> Result<(), Fail> {
         input: MEMBER,
         reads: &[ReadTurn::AtMost(20), ReadTurn::AtMost(20)],
         writes: &writes,
-        ..Play::WHOLE
+        ..Play::whole()
     };
     let transport = scripted(&rt, rt.alloc(), play);
     let stream = large_jobs(rt.alloc())?;
     let play = Play {
         input: &stream,
         reads: PUBLISHES,
-        ..Play::WHOLE
+        ..Play::whole()
     };
     let jobs = scripted(&rt, rt.alloc(), play);
     let member = hold_up(&rt, rt.alloc(), Noting::over(transport), jobs);
     assert_eq!(rt; (member.reads, member.most), (2, 2 * JOB_SIZE));
-    assert_eq!(rt; member.inner.output(), &ANSWERS[..22]);
+    assert_written(&rt, member.inner.output(), &ANSWERS[..22]);
     Ok(())
 }
