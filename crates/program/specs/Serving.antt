@@ -1,7 +1,12 @@
 -- How the program ends where its words ask to serve, and where they do not (profile).
-use Rattle.std.specs.Prelude.{◌≡◌, ◌⊎◌, ⊤, ℕ, List, codes, slice_get, Some, Result, Ok, Err}
+use Rattle.std.specs.Prelude.{◌≡◌, ◌≢◌, ◌⊎◌, ℕ, List, codes, drop, slice_get, Some, Result, Ok, Err, OnOk}
+use Rattle.std.specs.Io.KnownBytes.{IsAtEnd}
+use Rattle.clap.specs.declared.error.kind.ErrorKind.{ErrorKind}
+use Rattle.clap.specs.declared.error.kind.ErrorKind.TheVariants as kinds
 use Rattle.arguments.specs.declared.service.Service.{Service}
+use Rattle.arguments.specs.ServeLine.{AskForService, SpellNoService}
 use Rattle.line_io.specs.declared.error.RunError.{RunError}
+use Rattle.line_io.specs.declared.error.RunError.TheVariants.{Memory}
 use Rattle.tcp_server.specs.Serving.{IsServedAt}
 use Rattle.program.specs.declared.ending.Exit.{Exit}
 use Rattle.program.specs.declared.asking.Asked.{Asked}
@@ -18,24 +23,32 @@ abbrev pub AskToServe : {Words Error : Type 0} → Result Words Error → (Words
 AskToServe (Ok words) texts = IsServe (texts words)
 AskToServe (Err error) texts = ⊥
 
--- A broker was served at the port that was asked for, and with what else was: what it wrote by how it ended is in the output, and at an error its line on the error output.
-pub record ServeEnds (old new : Streams) (exit : Exit) : Type 0 where
+-- A broker was served as these words ask for: what it wrote by how it ended is in the output, and at an error its line on the error output. It ended
+-- without an error only where the input had ended.
+pub record ServeEnds (words : List (List ℕ)) (old new : Streams) (exit : Exit) : Type 0 where
   pub service : Service
+  pub asked : AskForService words service
   pub ended : Result (Unit {0}) RunError
   pub served : IsServedAt service.port service.workers service.setup.groups ended old.output new.output
+  pub read : OnOk ended (IsAtEnd new.input)
   pub told : Tells ended exit.told old.errors new.errors
   pub ends_with : exit.status ≡ status_at ended
 
--- a text is shown, or words are refused, or memory was refused for them
-abbrev pub IsNoCommand : Result Asked RunError → Type 0
-IsNoCommand (Ok (Run request)) = ⊥
-IsNoCommand (Ok (Show text)) = ⊤
-IsNoCommand (Ok (Refuse text)) = ⊤
-IsNoCommand (Err error) = ⊤
+-- these words ask for no service: a text is shown where they wish for it, all others are refused; or memory was refused for them
+abbrev pub IsNoService : List (List ℕ) → Result Asked RunError → Type 0
+IsNoService words (Ok (Run request)) = ⊥
+IsNoService words (Ok (Show text)) = SpellNoService words kinds.DisplayHelp ⊎ SpellNoService words kinds.DisplayVersion
+IsNoService words (Ok (Refuse text)) = (kind : ErrorKind) × SpellNoService words kind × (kind ≢ kinds.DisplayHelp) × (kind ≢ kinds.DisplayVersion)
+IsNoService words (Err error) = error ≡ Memory
 
--- where the words ask to serve: a broker is served, or what follows the word is no more than a wish for a text, or wrong
-abbrev pub EndsServing : Streams → Streams → Exit → Type 0
-EndsServing old new exit = ServeEnds old new exit ⊎ ((asked : Result Asked RunError) × IsNoCommand asked × Ends asked old new exit)
+-- the words from `serve` on ask for a service, which is served, or for none
+abbrev pub EndsAsServed : List (List ℕ) → Streams → Streams → Exit → Type 0
+EndsAsServed words old new exit = ServeEnds words old new exit ⊎ ((asked : Result Asked RunError) × IsNoService words asked × Ends asked old new exit)
+
+-- where the words ask to serve: those behind the program's name say as what
+abbrev pub EndsServing : {Words Error : Type 0} → Result Words Error → (Words → List (List ℕ)) → Streams → Streams → Exit → Type 0
+EndsServing (Ok words) texts old new exit = EndsAsServed (drop 1 (texts words)) old new exit
+EndsServing (Err error) texts old new exit = ⊥
 
 -- where they do not: it ends as what they ask for ends
 abbrev pub EndsAsAsked : {Words Error : Type 0} → Result Words Error → (Words → List (List ℕ)) → Streams → Streams → Exit → Type 0

@@ -1,8 +1,9 @@
 //! The program with all its commands: `serve` needs threads, sockets and a clock.
-ghost use Rattle.std.specs.Prelude.{◌≤◌, ◌↔◌, map, string_bytes, IsTrue};
+ghost use Rattle.std.specs.Prelude.{◌≤◌, ◌↔◌, drop, map, string_bytes, IsTrue, OnOk};
+ghost use Rattle.std.specs.Io.KnownBytes.{IsAtEnd};
 ghost use Rattle.tcp_server.specs.Serving.{IsServedAt};
 ghost use Rattle.program.specs.Ending.{Streams};
-ghost use Rattle.program.specs.Serving.{AskToServe, EndsAsAsked, EndsServing, IsServe};
+ghost use Rattle.program.specs.Serving.{AskToServe, EndsAsAsked, EndsAsServed, EndsServing, IsServe};
 
 use crate::asking::answer;
 use crate::ending::{Exit, conclude, perform, run};
@@ -33,7 +34,7 @@ pub fn run_with<H: Threads + Wait + Net + Clock + Sync, R: Read + Send, W: Write
     output: &mut W,
     errors: &mut E,
 ) -> Exit
-    ensures serves { AskToServe words (λ given. map string_bytes given.items) → EndsServing
+    ensures serves { AskToServe words (λ given. map string_bytes given.items) → EndsServing words (λ given. map string_bytes given.items)
         (record { input = R.remaining reader.old; output = W.contents output.old; errors = E.contents errors.old })
         (record { input = R.remaining reader.new; output = W.contents output.new; errors = E.contents errors.new }) result }
     ensures runs { ¬ AskToServe words (λ given. map string_bytes given.items) → EndsAsAsked words (λ given. map string_bytes given.items)
@@ -71,7 +72,7 @@ fn serve<H: Threads + Wait + Net + Clock + Sync, R: Read + Send, W: Write, E: Wr
     output: &mut W,
     errors: &mut E,
 ) -> Exit
-    ensures { EndsServing
+    ensures { EndsAsServed (drop 1 (map string_bytes words.now))
         (record { input = R.remaining reader.old; output = W.contents output.old; errors = E.contents errors.old })
         (record { input = R.remaining reader.new; output = W.contents output.new; errors = E.contents errors.new }) result }
 {
@@ -93,7 +94,8 @@ fn serve_as<H: Threads + Wait + Net + Clock + Sync, R: Read + Send, W: Write>(
     reader: &mut R,
     output: &mut W,
 ) -> Result<(), RunError>
-    ensures { IsServedAt service.port service.workers service.setup.groups result (W.contents output.old) (W.contents output.new) }
+    ensures written { IsServedAt service.port service.workers service.setup.groups result (W.contents output.old) (W.contents output.new) }
+    ensures read { OnOk result (IsAtEnd (R.remaining reader.new)) }
 {
     let Service {
         address,

@@ -89,6 +89,7 @@ pub fn serve<
     ensures headline { IfOk result (λ outcome. KeepsTheHeadline B.group T.counts T.given T.accepted (length hands.items) outcome.ended.answers.items outcome.ended.strangers.items outcome.taken.came outcome.served.items) }
     ensures closed { IfOk result (λ outcome. outcome.drained ≡ B.gate) }
     ensures taken { IfOk result (λ outcome. (S.tally outcome.taken.source).arrivals ≡ (S.tally source).arrivals + outcome.taken.came) }
+    ensures watched { IfOk result (λ _. D.has_watched watch.old watch.new) }
     ensures shares { IfOk result (λ outcome. All (IsBoundIn outcome.shares.items) shares.now) }
 {
     quota_law::<BrokerPlace<B>, T, SharedSupply<'_, '_, B, R>>();
@@ -155,6 +156,7 @@ fn run_bound<
     ensures hands { MatchResult result (λ ran. length ran.pooled.hands.items ≡ length hands.items) (λ back. length back.items ≡ length hands.items) }
     ensures taken { IfOk result (λ ran. (S.tally ran.pooled.taken.source).arrivals ≡ (S.tally source).arrivals + ran.pooled.taken.came) }
     ensures served { IfOk result (λ ran. ServesAll B.group T.counts T.given T.accepted ran.pooled.taken.came ran.pooled.served.items) }
+    ensures watched { IfOk result (λ _. D.has_watched watch.old watch.new) }
     ensures shares { IfOk result (λ ran. All (IsBoundIn ran.shares.items) shares.now) }
 {
     let Ok(mut known) = hall.know_routes(alloc) else {

@@ -74,6 +74,7 @@ pub fn run<
     ensures taken { IfOk result (λ pooled. (S.tally pooled.taken.source).arrivals ≡ (S.tally source).arrivals + pooled.taken.came) }
     ensures served { IfOk result (λ pooled. ServesAll B.group T.counts T.given T.accepted pooled.taken.came pooled.served.items) }
     ensures counted { IfOk result (λ pooled. pooled.taken.came < 2 ^ 64 → pooled.taken.came ≡ total_in pooled.served.items) }
+    ensures watched { IfOk result (λ _. D.has_watched watch.old watch.new) }
     ensures untouched { IfErr result (λ unbegun. unbegun.source ≡ source) }
 {
     let Ok(

@@ -79,6 +79,7 @@ pub(crate) fn run_all<
     workers: &mut Vec<Worker<'a, 'g, B, T, Q, W, X, C, R>>,
 )
     ensures accepted { HasAccepted S.tally acceptor.old acceptor.new }
+    ensures watched { D.has_watched watch.old watch.new }
     ensures run { HaveRun workers.old.items workers.new.items }
 {
     accept_beside(rt, acceptor, watch, workers.as_mut_slice());
@@ -92,6 +93,7 @@ fn accept_beside<R: Threads + Sync, A: Labour<R>, D: Watch + Send, K: Labour<R> 
     workers: &mut [K],
 )
     ensures accepted { A.has_run acceptor.old acceptor.new }
+    ensures watched { D.has_watched watch.old watch.new }
     ensures run { (i : ℕ) (d : K) → i < length workers.old → K.has_run (slice_index_or workers.old i d) (slice_index_or workers.new i d) }
 {
     let mut beside = || watch_beside(rt, watch, workers);
@@ -105,7 +107,8 @@ fn watch_beside<R: Threads + Sync, D: Watch + Send, K: Labour<R> + Send>(
     watch: &mut D,
     workers: &mut [K],
 )
-    ensures { (i : ℕ) (d : K) → i < length workers.old → K.has_run (slice_index_or workers.old i d) (slice_index_or workers.new i d) }
+    ensures watched { D.has_watched watch.old watch.new }
+    ensures run { (i : ℕ) (d : K) → i < length workers.old → K.has_run (slice_index_or workers.old i d) (slice_index_or workers.new i d) }
 {
     let mut working = || work_each(rt, workers);
     let mut watching = || watch.run();

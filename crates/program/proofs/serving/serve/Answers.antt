@@ -6,7 +6,8 @@ pub returns-in-Ok : goal.returns-in-Ok
 returns-in-Ok g c = inl (record {
   service = c.in-Ok.service;
   ended = c.serve_as-ended.result;
-  served = c.serve_as-ended.ensures;
+  served = c.serve_as-ended.ensures.written;
+  read = c.serve_as-ended.ensures.read;
   told = c.conclude.ensures.told;
   ends_with = c.conclude.ensures.status;
 })
