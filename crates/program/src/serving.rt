@@ -1,11 +1,11 @@
 //! The program with all its commands: `serve` needs threads, sockets and a clock.
-ghost use Rattle.std.specs.Prelude.{◌≤◌, ◌↔◌, drop, map, string_bytes, IsTrue, OnOk};
-ghost use Rattle.std.specs.Io.KnownBytes.{IsAtEnd};
+ghost use Rattle.std.specs.Prelude.{◌≡◌, ◌≤◌, ◌↔◌, drop, map, string_bytes, IsTrue, MatchResult};
 ghost use Rattle.tcp_server.specs.Serving.{IsServedAt};
 ghost use Rattle.program.specs.Ending.{Streams};
-ghost use Rattle.program.specs.Serving.{AskToServe, EndsAsAsked, EndsAsServed, EndsServing, IsServe};
+ghost use Rattle.arguments.specs.ServeLine.{AskForService};
+ghost use Rattle.program.specs.Serving.{AskToServe, EndsAsAsked, EndsAsServed, EndsServing, IsNoService, IsServe};
 
-use crate::asking::answer;
+use crate::asking::{Asked, answer};
 use crate::ending::{Exit, conclude, perform, run};
 use arguments::{Service, serve_arguments};
 use line_io::RunError;
@@ -76,13 +76,32 @@ fn serve<H: Threads + Wait + Net + Clock + Sync, R: Read + Send, W: Write, E: Wr
         (record { input = R.remaining reader.old; output = W.contents output.old; errors = E.contents errors.old })
         (record { input = R.remaining reader.new; output = W.contents output.new; errors = E.contents errors.new }) result }
 {
-    let (_name, words) = words.split_at(1.min(words.len()));
-    match serve_arguments(alloc, words) {
+    match asked_service(alloc, behind_the_name(words)) {
         Ok(service) => {
             let ended = serve_as(rt, alloc, service, reader, output);
             conclude(alloc, ended, errors)
         }
-        Err(error) => perform(alloc, answer(alloc, &error), reader, output, errors),
+        Err(asked) => perform(alloc, asked, reader, output, errors),
+    }
+}
+
+/// The service that the words ask for, of which the first is `serve`; or what is done where they ask for none.
+fn asked_service(alloc: Global, words: &[String]) -> Result<Service, Result<Asked, RunError>>
+    ensures { MatchResult result (AskForService (map string_bytes words.now)) (IsNoService (map string_bytes words.now)) }
+{
+    match serve_arguments(alloc, words) {
+        Ok(service) => Ok(service),
+        Err(error) => Err(answer(alloc, &error)),
+    }
+}
+
+/// The words behind the program's name.
+fn behind_the_name(words: &[String]) -> &[String]
+    ensures { map string_bytes result.now ≡ drop 1 (map string_bytes words.now) }
+{
+    match words.split_first() {
+        Some((_name, rest)) => rest,
+        None => words,
     }
 }
 
@@ -94,8 +113,7 @@ fn serve_as<H: Threads + Wait + Net + Clock + Sync, R: Read + Send, W: Write>(
     reader: &mut R,
     output: &mut W,
 ) -> Result<(), RunError>
-    ensures written { IsServedAt service.port service.workers service.setup.groups result (W.contents output.old) (W.contents output.new) }
-    ensures read { OnOk result (IsAtEnd (R.remaining reader.new)) }
+    ensures { IsServedAt service.port service.workers service.setup.groups result (W.contents output.old) (W.contents output.new) }
 {
     let Service {
         address,

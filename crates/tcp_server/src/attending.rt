@@ -1,14 +1,13 @@
 //! Serving the connections of a broker that is open, to its reports.
 ghost use Rattle.std.specs.Prelude.{◌≡◌, ◌≤◌, ◌⊎◌, true, [], length, vec_capacity, IfOk, IfErr};
 ghost use Rattle.line_io.specs.declared.error.RunError.TheVariants.{Memory, Unfinished as NotKnown};
-ghost use Rattle.std.specs.Io.KnownBytes.{IsAtEnd};
 ghost use Rattle.tcp_server.specs.Reporting.{AreLines, AreReports};
 
 use crate::crew::Crew;
 use crate::listening::Awaited;
 use crate::reporting::{let_go_of_all, lines, reports_in};
 use crate::serving::Served;
-use crate::watching::{Watching, take_back};
+use crate::watching::Watching;
 use broker_groups::{Broker, Ended, Ports};
 use broker_worker::Hand;
 use line_io::RunError;
@@ -55,7 +54,6 @@ pub(crate) fn attend<
     requires room { (room.items ≡ []) × (length hands.items ≤ vec_capacity room) }
     requires crew { length crew.gear.items ≡ length hands.items }
     ensures told { IfOk result (λ told. AreReports (length hands.items) groups.now told.0.items) }
-    ensures read { IfOk result (λ told. told.1 ≡ Served.Ended → IsAtEnd (I.remaining input.new)) }
     ensures cause { IfErr result (λ error. (error ≡ Memory) ⊎ (error ≡ NotKnown)) }
 {
     let ends = AtomicBool::new(false);
@@ -89,15 +87,8 @@ pub(crate) fn attend<
     ) else {
         return Err(RunError::Memory);
     };
-    let Watching {
-        stopper: _,
-        ends: _,
-        input,
-        is_read,
-    } = watching;
-    take_back(input);
     let (text, end) = tell(alloc, outcome)?;
-    Ok((text, end_of(end, is_read)?))
+    Ok((text, end_of(end, watching.is_read)?))
 }
 
 /// The lines of the reports of a broker that has ended, and how its source did.

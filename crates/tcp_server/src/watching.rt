@@ -24,20 +24,13 @@ impl<'a, B: Broker, I: Read> Watch for Watching<'a, B, I> {
     ghost use Rattle.std.specs.Prelude.{◌≡◌, true};
     ghost use Rattle.std.specs.Io.KnownBytes.{IsAtEnd};
 
-    ghost has_watched = { λ old new. (new.input.ghost_name ≡ old.input.ghost_name) × (new.is_read ≡ true → IsAtEnd (I.remaining new.input.now)) };
+    ghost has_watched = { λ old new. new.is_read ≡ true → IsAtEnd (I.remaining new.input.now) };
 
     fn run(&mut self) {
         self.is_read = read_to_end(self.input);
         self.stopper.shut();
         self.ends.store(true, Ordering::SeqCst);
     }
-}
-
-/// Takes back what was lent. It does nothing, and says to the borrow checker that what is lent is used until now.
-pub(crate) fn take_back<I>(input: &mut I)
-    ensures { input.new ≡ input.old }
-{
-    let _ = input;
 }
 
 /// Reads to the end. Whether the reader did not fail.
