@@ -1,5 +1,5 @@
 -- A list without one of its jobs, and a ledger with one job more.
-use Rattle.std.proofs.Common.{◌≡◌, ◌≢◌, ℕ, zero, suc, ◌+◌, ◌<◌, ◌≤◌, List, [], ◌∷◌, ◌++◌, length, get_or, slice_get, Some, Contains, refl, sym, ap, subst, arith, All, length-append}
+use Rattle.std.proofs.Common.{◌≡◌, ◌≢◌, ℕ, zero, suc, ◌+◌, ◌<◌, ◌≤◌, List, [], ◌∷◌, ◌++◌, length, drop, get_or, slice_get, Some, Contains, refl, sym, ap, subst, arith, All, length-append}
 use Rattle.std.specs.List.{remove}
 use Rattle.std.proofs.lemmas.List.Elements.{All-cons, All-head, All-tail}
 use Rattle.dispatch_core.specs.declared.event.Job.{Job}
@@ -20,6 +20,10 @@ takes_off (x ∷ xs) job (suc i) at none =
     let r = takes_off xs job i at (λ k less. none (suc k) (omega arith)) in
     let other : x ≢ job = λ is. none 0 (omega arith) (ap Some is) in
     record { front = x ∷ r.front; behind = r.behind; was = ap (λ l. x ∷ l) r.was; is = ap (λ l. x ∷ l) r.is; first = λ h. not_at x r.front job other r.first h.0 h.1 h.2 }
+
+pub takes_first : (xs : List Job) (job : Job) → slice_get xs 0 ≡ Some job → TakesOff xs job (drop 1 xs)
+takes_first [] job at = cc
+takes_first (x ∷ xs) job at = takes_off (x ∷ xs) job 0 at (λ k less. absurd (omega (arith, less)))
 
 -- what holds of all holds of all but one
 All-without : (P : Job → Type 0) (front : List Job) (job : Job) (behind : List Job) → All P (front ++ job ∷ behind) → All P (front ++ behind)

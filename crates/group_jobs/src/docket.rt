@@ -1,5 +1,6 @@
 //! The docket of a place: what it has out, and what it settled.
-ghost use Rattle.std.specs.Prelude.{◌≡◌, ◌≤◌, ◌<◌, ◌+◌, ◌↔◌, [], ◌∷◌, ◌++◌, IfOk, OnOk, OnErr, IsTrue, Contains, vec_capacity, slice_get, Some, ◌≢◌, ℕ};
+ghost use Rattle.std.specs.Prelude.{◌≡◌, ◌≤◌, ◌<◌, ◌+◌, ◌↔◌, [], ◌∷◌, ◌++◌, IfOk, OnOk, OnErr, IsTrue, Contains, slice_get, Some, ◌≢◌, ℕ};
+ghost use Rattle.std.specs.VecDeque.{deque_capacity, deque_len};
 ghost use Rattle.group_jobs.specs.Settled.{KeepsSettled, IsUnsettled, Settles, least_spare};
 ghost use Rattle.group_jobs.specs.Dockets.{TakesOff};
 
@@ -8,6 +9,7 @@ use crate::fate::Fate;
 use crate::ledger::Ledger;
 use dispatch_core::Job;
 use std::alloc::Global;
+use std::collections::VecDeque;
 use std::marker::Model;
 use std::mem;
 
@@ -17,17 +19,17 @@ use std::mem;
 /// fate, so that no call but [`Docket::reserve`] takes memory.
 #[derive(Debug, Drop)]
 pub struct Docket {
-    out: Vec<Job>,
+    out: VecDeque<Job>,
     settled: Ledger,
 }
 
 impl Model for Docket {
-    ghost use Rattle.std.specs.Prelude.{vec_capacity};
+    ghost use Rattle.std.specs.VecDeque.{deque_capacity};
     ghost use Rattle.group_jobs.specs.Dockets.{Kept, docket_of, HasRoom};
 
     ghost Value = { Kept };
 
-    ghost view = { λ d. docket_of d.out.items (vec_capacity d.out) d.settled };
+    ghost view = { λ d. docket_of d.out.items (deque_capacity d.out) d.settled };
 
     ghost invariant = { λ d. HasRoom d.out.items d.settled };
 }
@@ -39,7 +41,7 @@ impl Docket {
         ensures settled { IsUnsettled result.settled }
     {
         Docket {
-            out: Vec::new(alloc),
+            out: VecDeque::new(alloc),
             settled: Ledger::new(alloc),
         }
     }
@@ -79,7 +81,7 @@ impl Docket {
         ensures settled { self.new.settled ≡ self.old.settled }
         ensures room { self.new.room + 1 ≡ self.old.room }
     {
-        self.out.push_reserved(job);
+        self.out.push_back_reserved(job);
     }
 
     /// Whether a job is out.
@@ -90,8 +92,8 @@ impl Docket {
     }
 
     /// The jobs that are out, in the order in which they were handed out.
-    pub fn out(&self) -> &[Job]
-        ensures { result.now ≡ self.now.out }
+    pub fn out(&self) -> &VecDeque<Job>
+        ensures { result.now.items ≡ self.now.out }
     {
         &self.out
     }
@@ -158,23 +160,28 @@ impl Docket {
 }
 
 /// Takes a job off the list. What was taken out first mostly ends first, so it stands in front.
-fn take_off(out: &mut Vec<Job>, job: Job)
+fn take_off(out: &mut VecDeque<Job>, job: Job)
     requires { Contains out.old.items job }
     ensures taken { TakesOff out.old.items job out.new.items }
-    ensures capacity { vec_capacity out.new ≡ vec_capacity out.old }
+    ensures capacity { deque_capacity out.new ≡ deque_capacity out.old }
 {
     let place = place_of(out, job);
-    out.remove(place);
+    if place == 0 {
+        out.pop_front();
+    } else {
+        out.remove(place);
+    }
 }
 
 /// The place at which a job first stands in the list.
-fn place_of(jobs: &[Job], job: Job) -> usize
-    requires { Contains jobs.now job }
-    ensures there { slice_get jobs.now result ≡ Some job }
-    ensures first { (place : ℕ) → place < result → slice_get jobs.now place ≢ Some job }
+fn place_of(jobs: &VecDeque<Job>, job: Job) -> usize
+    requires { Contains jobs.now.items job }
+    ensures within { result < deque_len jobs.now }
+    ensures there { slice_get jobs.now.items result ≡ Some job }
+    ensures first { (place : ℕ) → place < result → slice_get jobs.now.items place ≢ Some job }
 {
-    for (place, other) in jobs.iter().enumerate() {
-        if *other == job {
+    for place in 0..jobs.len() {
+        if jobs[place] == job {
             return place;
         }
     }

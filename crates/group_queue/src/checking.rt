@@ -16,6 +16,7 @@ use crate::witness::Witness;
 use dispatch_core::Job;
 use group_jobs::{Envelope, Stamp};
 use std::alloc::Global;
+use std::collections::VecDeque;
 
 impl<'a, W: Witness> SharedGroup<'a, W> {
     /// Looks at ports, places, lacking envelopes and strangers, in this order.
@@ -67,8 +68,8 @@ impl<'a, W: Witness> SharedGroup<'a, W> {
     }
 
     // The same of some of the messages that are out.
-    fn lacking_of(&self, out: &[Job], places: &[Place<W>], held: &[Envelope]) -> Option<Stamp>
-        ensures { MatchOption result (All (λ job. times_out self.now (stamp_of self.now.slot job) places.now ≤ times_held (stamp_of self.now.slot job) held.now) out.now)
+    fn lacking_of(&self, out: &VecDeque<Job>, places: &[Place<W>], held: &[Envelope]) -> Option<Stamp>
+        ensures { MatchOption result (All (λ job. times_out self.now (stamp_of self.now.slot job) places.now ≤ times_held (stamp_of self.now.slot job) held.now) out.now.items)
             (λ stamp. times_held stamp held.now < times_out self.now stamp places.now) }
     {
         for job in out {
@@ -181,8 +182,8 @@ fn times_among<W: Witness>(job: Job, places: &[Place<W>]) -> u128
 }
 
 // How often a job is in the list.
-fn times_in(job: Job, jobs: &[Job]) -> u128
-    ensures times { result ≡ count_of job jobs.now }
+fn times_in(job: Job, jobs: &VecDeque<Job>) -> u128
+    ensures times { result ≡ count_of job jobs.now.items }
     ensures few { result ≤ 18446744073709551615 }
 {
     let mut times = 0;

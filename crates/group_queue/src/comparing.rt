@@ -14,6 +14,7 @@ use crate::witness::Witness;
 use dispatch_core::{Job, Runs};
 use group_jobs::{Envelope, JobError, Stamp};
 use std::alloc::Global;
+use std::collections::VecDeque;
 
 impl<'a, W: Witness> SharedGroup<'a, W> {
     /// Compares the envelopes with what is out. `None` where memory is refused, and where the lists differ in how often
@@ -140,8 +141,8 @@ fn first_lacking<W: Witness>(known: &Runs, places: &[Place<W>]) -> Option<Job>
 }
 
 // The first of these jobs that is not in the list.
-fn lacking_of(known: &Runs, jobs: &[Job]) -> Option<Job>
-    ensures { IfSome result (λ job. Contains jobs.now job × ¬ Contains (jobs_of known.now.runs) job) }
+fn lacking_of(known: &Runs, jobs: &VecDeque<Job>) -> Option<Job>
+    ensures { IfSome result (λ job. Contains jobs.now.items job × ¬ Contains (jobs_of known.now.runs) job) }
 {
     for job in jobs {
         if !known.contains(*job) {

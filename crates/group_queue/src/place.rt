@@ -8,6 +8,7 @@ use crate::witness::{Nobody, Witness};
 use dispatch_core::Job;
 use group_jobs::{Docket, Envelope, Fate, JobError, Stamp};
 use shared_ledger::Giver;
+use std::collections::VecDeque;
 use std::marker::{Model, PhantomData};
 
 /// Who has it alone takes messages at it. A place belongs to the group that it was opened with, may go to another thread,
@@ -94,9 +95,9 @@ impl<W: Witness> Place<W> {
     }
 
     /// The jobs that it has out. Their numbers are those that a run can have.
-    pub(crate) fn out(&self) -> &[Job]
-        ensures value { result.now ≡ self.now.docket.out }
-        ensures small { All (λ job. job.number < u64.MAX) result.now }
+    pub(crate) fn out(&self) -> &VecDeque<Job>
+        ensures value { result.now.items ≡ self.now.docket.out }
+        ensures small { All (λ job. job.number < u64.MAX) result.now.items }
     {
         self.docket.out()
     }
