@@ -1,5 +1,6 @@
 -- How the program ends where its words ask to serve, and where they do not (profile).
-use Rattle.std.specs.Prelude.{◌≡◌, ◌≢◌, ◌⊎◌, ℕ, List, codes, drop, slice_get, Some, Result, Ok, Err}
+use Rattle.std.specs.Prelude.{◌≡◌, ◌≢◌, ◌⊎◌, ℕ, List, codes, drop, slice_get, Some, Result, Ok, Err, IfOk}
+use Rattle.std.specs.Io.KnownBytes.{IsAtEnd}
 use Rattle.clap.specs.declared.error.kind.ErrorKind.{ErrorKind}
 use Rattle.clap.specs.declared.error.kind.ErrorKind.TheVariants as kinds
 use Rattle.arguments.specs.declared.service.Service.{Service}
@@ -22,12 +23,14 @@ abbrev pub AskToServe : {Words Error : Type 0} → Result Words Error → (Words
 AskToServe (Ok words) texts = IsServe (texts words)
 AskToServe (Err error) texts = ⊥
 
--- A broker was served as these words ask for: what it wrote by how it ended is in the output, and at an error its line on the error output.
+-- A broker was served at the port, with the workers and with the shares that these words ask for: what it wrote by how it ended is in the output, and at an error its line on the
+-- error output. It ended with none only where the input had ended.
 pub record ServeEnds (words : List (List ℕ)) (old new : Streams) (exit : Exit) : Type 0 where
   pub service : Service
   pub asked : AskForService words service
   pub ended : Result (Unit {0}) RunError
   pub served : IsServedAt service.port service.workers service.setup.groups ended old.output new.output
+  pub read : IfOk ended (λ done. IsAtEnd new.input)
   pub told : Tells ended exit.told old.errors new.errors
   pub ends_with : exit.status ≡ status_at ended
 

@@ -1,5 +1,6 @@
 //! The program with all its commands: `serve` needs threads, sockets and a clock.
-ghost use Rattle.std.specs.Prelude.{◌≡◌, ◌≤◌, ◌↔◌, drop, map, string_bytes, IsTrue, MatchResult};
+ghost use Rattle.std.specs.Prelude.{◌≡◌, ◌≤◌, ◌↔◌, drop, map, string_bytes, IsTrue, IfOk, MatchResult};
+ghost use Rattle.std.specs.Io.KnownBytes.{IsAtEnd};
 ghost use Rattle.tcp_server.specs.Serving.{IsServedAt};
 ghost use Rattle.program.specs.Ending.{Streams};
 ghost use Rattle.arguments.specs.ServeLine.{AskForService};
@@ -113,7 +114,8 @@ fn serve_as<H: Threads + Wait + Net + Clock + Sync, R: Read + Send, W: Write>(
     reader: &mut R,
     output: &mut W,
 ) -> Result<(), RunError>
-    ensures { IsServedAt service.port service.workers service.setup.groups result (W.contents output.old) (W.contents output.new) }
+    ensures written { IsServedAt service.port service.workers service.setup.groups result (W.contents output.old) (W.contents output.new) }
+    ensures read { IfOk result (λ _. IsAtEnd (R.remaining reader.new)) }
 {
     let Service {
         address,

@@ -1,5 +1,6 @@
 //! Serving the connections of a broker that is open, to its reports.
 ghost use Rattle.std.specs.Prelude.{◌≡◌, ◌≤◌, ◌⊎◌, true, [], length, vec_capacity, IfOk, IfErr};
+ghost use Rattle.std.specs.Io.KnownBytes.{IsAtEnd};
 ghost use Rattle.line_io.specs.declared.error.RunError.TheVariants.{Memory, Unfinished as NotKnown};
 ghost use Rattle.tcp_server.specs.Reporting.{AreLines, AreReports};
 
@@ -54,6 +55,7 @@ pub(crate) fn attend<
     requires room { (room.items ≡ []) × (length hands.items ≤ vec_capacity room) }
     requires crew { length crew.gear.items ≡ length hands.items }
     ensures told { IfOk result (λ told. AreReports (length hands.items) groups.now told.0.items) }
+    ensures read { IfOk result (λ told. told.1 ≡ Served.Ended → IsAtEnd (I.remaining input.new)) }
     ensures cause { IfErr result (λ error. (error ≡ Memory) ⊎ (error ≡ NotKnown)) }
 {
     let ends = AtomicBool::new(false);
@@ -65,7 +67,6 @@ pub(crate) fn attend<
     let mut watching = Watching {
         stopper: watching,
         ends: &ends,
-        input,
         is_read: false,
     };
     let source = Until::new(source, &ends);
@@ -84,6 +85,7 @@ pub(crate) fn attend<
         accepting,
         ending,
         &mut watching,
+        input,
     ) else {
         return Err(RunError::Memory);
     };

@@ -12,22 +12,21 @@ const INPUT_SIZE: usize = 4_096;
 
 /// Reads the input to its end, and closes the broker then.
 #[derive(Drop)]
-pub(crate) struct Watching<'a, B: Broker, I> {
+pub(crate) struct Watching<'a, B: Broker> {
     pub(crate) stopper: Closer<'a, B>,
     pub(crate) ends: &'a AtomicBool,
-    pub(crate) input: &'a mut I,
     /// Whether the input has ended, and did not fail.
     pub(crate) is_read: bool,
 }
 
-impl<'a, B: Broker, I: Read> Watch for Watching<'a, B, I> {
+impl<'a, B: Broker, I: Read> Watch<I> for Watching<'a, B> {
     ghost use Rattle.std.specs.Prelude.{◌≡◌, true};
     ghost use Rattle.std.specs.Io.KnownBytes.{IsAtEnd};
 
-    ghost has_watched = { λ old new. new.is_read ≡ true → IsAtEnd (I.remaining new.input.now) };
+    ghost has_watched = { λ old new before after. new.is_read ≡ true → IsAtEnd (I.remaining after) };
 
-    fn run(&mut self) {
-        self.is_read = read_to_end(self.input);
+    fn run(&mut self, input: &mut I) {
+        self.is_read = read_to_end(input);
         self.stopper.shut();
         self.ends.store(true, Ordering::SeqCst);
     }

@@ -38,7 +38,7 @@ pub struct Outcome<'g, S> {
 }
 
 /// Serves the connections of a source with the workers of a broker, each in a thread of its own, until the source has ended or failed, the broker's gate is
-/// shut, and all connections have ended; then ends its groups. Who watches shuts the gate and ends the source, in a thread of its own. There is room for the
+/// shut, and all connections have ended; then ends its groups. Who watches is given the input, and shuts the gate and ends the source, in a thread of its own. There is room for the
 /// ports of all workers. The shares that are given are bound before the first connection is served, in their order.
 ///
 /// **What a broker promises**, in every schedule of its threads, whatever its transports do (`headline`). Of each group whose report is given:
@@ -66,7 +66,8 @@ pub fn serve<
     W: Wake + Drop + Send + Sync,
     X: Crossing + Sync,
     C: Clock + Drop + Send,
-    D: Watch + Send,
+    I: Send,
+    D: Watch<I> + Send,
     R: Threads + Wait + SystemClock + Sync,
 >(
     rt: &R,
@@ -82,6 +83,7 @@ pub fn serve<
     closer: Closer<'_, B>,
     stopper: Closer<'_, B>,
     watch: &mut D,
+    input: &mut I,
 ) -> Result<Outcome<'g, S>, NoMemory>
     requires workers { (1 ≤ length hands.items) × (length hands.items ≤ 64) }
     requires gear { length gear.items ≡ length hands.items }
@@ -89,13 +91,13 @@ pub fn serve<
     ensures headline { IfOk result (λ outcome. KeepsTheHeadline B.group T.counts T.given T.accepted (length hands.items) outcome.ended.answers.items outcome.ended.strangers.items outcome.taken.came outcome.served.items) }
     ensures closed { IfOk result (λ outcome. outcome.drained ≡ B.gate) }
     ensures taken { IfOk result (λ outcome. (S.tally outcome.taken.source).arrivals ≡ (S.tally source).arrivals + outcome.taken.came) }
-    ensures watched { IfOk result (λ _. D.has_watched watch.old watch.new) }
+    ensures watched { IfOk result (λ _. D.has_watched watch.old watch.new input.old input.new) }
     ensures shares { IfOk result (λ outcome. All (IsBoundIn outcome.shares.items) shares.now) }
 {
     quota_law::<BrokerPlace<B>, T, SharedSupply<'_, '_, B, R>>();
     let mut stopper = stopper;
     let ran = run_bound(
-        rt, alloc, &hall, shares, hands, gear, alarms, source, crossing, closer, watch,
+        rt, alloc, &hall, shares, hands, gear, alarms, source, crossing, closer, watch, input,
     );
     let drained = close(rt, &mut stopper);
     match ran {
@@ -136,7 +138,8 @@ fn run_bound<
     W: Wake + Drop + Send + Sync,
     X: Crossing + Sync,
     C: Clock + Drop + Send,
-    D: Watch + Send,
+    I: Send,
+    D: Watch<I> + Send,
     R: Threads + Wait + SystemClock + Sync,
 >(
     rt: &R,
@@ -150,13 +153,14 @@ fn run_bound<
     crossing: &X,
     closer: Closer<'_, B>,
     watch: &mut D,
+    input: &mut I,
 ) -> Result<Ran<B, S>, Vec<Hand<B>>>
     requires workers { (1 ≤ length hands.items) × (length hands.items ≤ 64) }
     requires gear { length gear.items ≡ length hands.items }
     ensures hands { MatchResult result (λ ran. length ran.pooled.hands.items ≡ length hands.items) (λ back. length back.items ≡ length hands.items) }
     ensures taken { IfOk result (λ ran. (S.tally ran.pooled.taken.source).arrivals ≡ (S.tally source).arrivals + ran.pooled.taken.came) }
     ensures served { IfOk result (λ ran. ServesAll B.group T.counts T.given T.accepted ran.pooled.taken.came ran.pooled.served.items) }
-    ensures watched { IfOk result (λ _. D.has_watched watch.old watch.new) }
+    ensures watched { IfOk result (λ _. D.has_watched watch.old watch.new input.old input.new) }
     ensures shares { IfOk result (λ ran. All (IsBoundIn ran.shares.items) shares.now) }
 {
     let Ok(mut known) = hall.know_routes(alloc) else {
@@ -166,7 +170,7 @@ fn run_bound<
         return Err(hands);
     };
     match run(
-        rt, alloc, hall, hands, gear, alarms, source, crossing, closer, watch,
+        rt, alloc, hall, hands, gear, alarms, source, crossing, closer, watch, input,
     ) {
         Ok(pooled) => {
             known.learn();

@@ -221,6 +221,7 @@ fn attend<
         accepting,
         ending,
         &mut NothingToWatch,
+        &mut (),
     );
     Some(told_of(served.ok()?))
 }

@@ -95,8 +95,8 @@ impl Wake for Silent {
 #[derive(Drop)]
 pub(crate) struct NothingToWatch;
 
-impl Watch for NothingToWatch {
-    fn run(&mut self) {}
+impl Watch<()> for NothingToWatch {
+    fn run(&mut self, _input: &mut ()) {}
 }
 
 /// A crossing that workers pass together: it refuses each of them, pausing a millisecond, until all have asked.

@@ -37,7 +37,7 @@ pub struct Unbegun<B: Broker, S> {
 }
 
 /// Serves the connections of a source with as many workers as there are hands, each in a thread of its own, until the source has ended or failed, the
-/// broker's gate is shut, and all connections have ended. A thread of its own takes the connections, and another one watches for the end. The gear and the
+/// broker's gate is shut, and all connections have ended. A thread of its own takes the connections, and another one watches the input. The gear and the
 /// alarms are in the order of workers: a worker waits at its gear's poller, which its alarm wakes. Where the source fails, the gate is shut.
 ///
 /// All that workers had of the broker comes back. Each connection that came was served by one worker, once: it lived as a connection is served, from its opening to its
@@ -54,7 +54,8 @@ pub fn run<
     W: Wake + Drop + Send + Sync,
     X: Crossing + Sync,
     C: Clock + Drop + Send,
-    D: Watch + Send,
+    I: Send,
+    D: Watch<I> + Send,
     R: Threads + Wait + SystemClock + Sync,
 >(
     rt: &R,
@@ -67,6 +68,7 @@ pub fn run<
     crossing: &X,
     closer: Closer<'_, B>,
     watch: &mut D,
+    input: &mut I,
 ) -> Result<Pooled<B, S>, Unbegun<B, S>>
     requires workers { (1 ≤ length hands.items) × (length hands.items ≤ 64) }
     requires gear { length gear.items ≡ length hands.items }
@@ -74,7 +76,7 @@ pub fn run<
     ensures taken { IfOk result (λ pooled. (S.tally pooled.taken.source).arrivals ≡ (S.tally source).arrivals + pooled.taken.came) }
     ensures served { IfOk result (λ pooled. ServesAll B.group T.counts T.given T.accepted pooled.taken.came pooled.served.items) }
     ensures counted { IfOk result (λ pooled. pooled.taken.came < 2 ^ 64 → pooled.taken.came ≡ total_in pooled.served.items) }
-    ensures watched { IfOk result (λ _. D.has_watched watch.old watch.new) }
+    ensures watched { IfOk result (λ _. D.has_watched watch.old watch.new input.old input.new) }
     ensures untouched { IfErr result (λ unbegun. unbegun.source ≡ source) }
 {
     let Ok(
@@ -95,7 +97,7 @@ pub fn run<
     };
     let mut acceptor = Acceptor::new(source, sender, &roster, closer);
     let mut workers = workers;
-    run_all(rt, &mut acceptor, watch, &mut workers);
+    run_all(rt, &mut acceptor, watch, input, &mut workers);
     Ok(retire(acceptor, workers, hands, receivers, served))
 }
 

@@ -70,48 +70,52 @@ pub(crate) fn run_all<
     W: Wake + Drop + Send + Sync,
     X: Crossing + Sync,
     C: Clock + Drop + Send,
-    D: Watch + Send,
+    I: Send,
+    D: Watch<I> + Send,
     R: Threads + Wait + SystemClock + Sync,
 >(
     rt: &R,
     acceptor: &mut Acceptor<'a, B, T, S, W>,
     watch: &mut D,
+    input: &mut I,
     workers: &mut Vec<Worker<'a, 'g, B, T, Q, W, X, C, R>>,
 )
     ensures accepted { HasAccepted S.tally acceptor.old acceptor.new }
-    ensures watched { D.has_watched watch.old watch.new }
+    ensures watched { D.has_watched watch.old watch.new input.old input.new }
     ensures run { HaveRun workers.old.items workers.new.items }
 {
-    accept_beside(rt, acceptor, watch, workers.as_mut_slice());
+    accept_beside(rt, acceptor, watch, input, workers.as_mut_slice());
 }
 
 /// The same over any who accepts, and workers in a row. The second of two is always run in this thread, at once.
-fn accept_beside<R: Threads + Sync, A: Labour<R>, D: Watch + Send, K: Labour<R> + Send>(
+fn accept_beside<R: Threads + Sync, A: Labour<R>, I: Send, D: Watch<I> + Send, K: Labour<R> + Send>(
     rt: &R,
     acceptor: &mut A,
     watch: &mut D,
+    input: &mut I,
     workers: &mut [K],
 )
     ensures accepted { A.has_run acceptor.old acceptor.new }
-    ensures watched { D.has_watched watch.old watch.new }
+    ensures watched { D.has_watched watch.old watch.new input.old input.new }
     ensures run { (i : ℕ) (d : K) → i < length workers.old → K.has_run (slice_index_or workers.old i d) (slice_index_or workers.new i d) }
 {
-    let mut beside = || watch_beside(rt, watch, workers);
+    let mut beside = || watch_beside(rt, watch, input, workers);
     let mut accepting = || acceptor.labour(rt);
     thread::join_mut(rt, &mut beside, &mut accepting);
 }
 
 /// Who watches does so in this thread, and each worker works in one of its own.
-fn watch_beside<R: Threads + Sync, D: Watch + Send, K: Labour<R> + Send>(
+fn watch_beside<R: Threads + Sync, I: Send, D: Watch<I> + Send, K: Labour<R> + Send>(
     rt: &R,
     watch: &mut D,
+    input: &mut I,
     workers: &mut [K],
 )
-    ensures watched { D.has_watched watch.old watch.new }
+    ensures watched { D.has_watched watch.old watch.new input.old input.new }
     ensures run { (i : ℕ) (d : K) → i < length workers.old → K.has_run (slice_index_or workers.old i d) (slice_index_or workers.new i d) }
 {
     let mut working = || work_each(rt, workers);
-    let mut watching = || watch.run();
+    let mut watching = || watch.run(input);
     thread::join_mut(rt, &mut working, &mut watching);
 }
 

@@ -8,7 +8,8 @@ returns-in-Ok g c = inl (record {
   service = c.in-Ok.service;
   asked = subst (λ words. AskForService words c.in-Ok.service) c.behind_the_name.ensures c.in-Ok.ensures;
   ended = c.serve_as-ended.result;
-  served = c.serve_as-ended.ensures;
+  served = c.serve_as-ended.ensures.written;
+  read = c.serve_as-ended.ensures.read;
   told = c.conclude.ensures.told;
   ends_with = c.conclude.ensures.status;
 })

@@ -6,8 +6,8 @@ use Rattle.tcp_server.specs.Serving.{listening_line, IsServed}
 use Rattle.tcp_server.proofs.Served.{all, begun}
 use Rattle.tcp_server.proofs.serving.serve_with.Goals as goal
 
-pub returns-in-Err-write_all : goal.returns-in-Err-write_all
-returns-in-Err-write_all g c =
+pub returns-in-Err-write_all-clause-written : goal.returns-in-Err-write_all-clause-written
+returns-in-Err-write_all-clause-written g c =
     let line : c.as_bytes.result.now ≡ listening_line c.args.source.port = c.as_bytes.ensures.value ∙ c.in-Ok-line.ensures.ok ∙ ap listening_line c.port-port.ensures in
     subst (λ error. IsServed (listening_line c.args.source.port) c.args.workers c.args.groups (Err error) (g.O.Write.contents c.args.output.now) (g.O.Write.contents c.write_all.new.writer))
     (sym c.in-Err-write_all.ensures.cause)
@@ -16,24 +16,24 @@ returns-in-Err-write_all g c =
     (subst (λ text. Appends (g.O.Write.contents c.args.output.now) (g.O.Write.contents c.live.new.output) text) line c.in_ok-text-in-Ok-line.ensures.told.1)
     (subst (λ text. Begins (g.O.Write.contents c.live.new.output) (g.O.Write.contents c.write_all.new.writer) text) c.deref.ensures.value c.in-Err-write_all.ensures.err)))
 
-pub returns-in-Ended : goal.returns-in-Ended
-returns-in-Ended g c =
+pub returns-in-Ended-clause-written : goal.returns-in-Ended-clause-written
+returns-in-Ended-clause-written g c =
     let line : c.as_bytes.result.now ≡ listening_line c.args.source.port = c.as_bytes.ensures.value ∙ c.in-Ok-line.ensures.ok ∙ ap listening_line c.port-port.ensures in
     all (listening_line c.args.source.port) c.args.workers c.args.groups (g.O.Write.contents c.args.output.now) (g.O.Write.contents c.live.new.output) (g.O.Write.contents c.write_all.new.writer)
     c.in_ok-text-in-Ok-line.text.items c.in_ok-text-in-Ok-line.ensures.told.0
     (subst (λ text. Appends (g.O.Write.contents c.args.output.now) (g.O.Write.contents c.live.new.output) text) line c.in_ok-text-in-Ok-line.ensures.told.1)
     (subst (λ text. Appends (g.O.Write.contents c.live.new.output) (g.O.Write.contents c.write_all.new.writer) text) c.deref.ensures.value c.in-Ok-write_all.ensures.ok)
 
-pub returns-in-InputFailed : goal.returns-in-InputFailed
-returns-in-InputFailed g c =
+pub returns-in-InputFailed-clause-written : goal.returns-in-InputFailed-clause-written
+returns-in-InputFailed-clause-written g c =
     let line : c.as_bytes.result.now ≡ listening_line c.args.source.port = c.as_bytes.ensures.value ∙ c.in-Ok-line.ensures.ok ∙ ap listening_line c.port-port.ensures in
     all (listening_line c.args.source.port) c.args.workers c.args.groups (g.O.Write.contents c.args.output.now) (g.O.Write.contents c.live.new.output) (g.O.Write.contents c.write_all.new.writer)
     c.in_ok-text-in-Ok-line.text.items c.in_ok-text-in-Ok-line.ensures.told.0
     (subst (λ text. Appends (g.O.Write.contents c.args.output.now) (g.O.Write.contents c.live.new.output) text) line c.in_ok-text-in-Ok-line.ensures.told.1)
     (subst (λ text. Appends (g.O.Write.contents c.live.new.output) (g.O.Write.contents c.write_all.new.writer) text) c.deref.ensures.value c.in-Ok-write_all.ensures.ok)
 
-pub returns : goal.returns
-returns g c = inr (
+pub returns-clause-written : goal.returns-clause-written
+returns-clause-written g c = inr (
     let line : c.as_bytes.result.now ≡ listening_line c.args.source.port = c.as_bytes.ensures.value ∙ c.in-Ok-line.ensures.ok ∙ ap listening_line c.port-port.ensures in
     all (listening_line c.args.source.port) c.args.workers c.args.groups (g.O.Write.contents c.args.output.now) (g.O.Write.contents c.live.new.output) (g.O.Write.contents c.write_all.new.writer)
     c.in_ok-text-in-Ok-line.text.items c.in_ok-text-in-Ok-line.ensures.told.0
