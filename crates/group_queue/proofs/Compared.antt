@@ -23,6 +23,11 @@ counted_contained jobs job some =
     let same = both (eqb found.0.port job.port) (eqb found.0.number job.number) found.2 in
     subst (Contains jobs) (λ i. record { port = eqb-true found.0.port job.port same.0 i; number = eqb-true found.0.number job.number same.1 i }) found.1
 
+-- of no jobs there is none
+pub none_counted : (jobs : List Job) (job : Job) → length jobs ≡ 0 → count_of job jobs ≡ 0
+none_counted [] job none = refl
+none_counted (first ∷ jobs) job none = absurd (omega (arith, none))
+
 -- one job more, and the others as often
 pub count_push : (old new : List Job) (one : Job) → IsPermutation (one ∷ old) new → (job : Job) → count_of job new ≡ count_of job old + count_of job (one ∷ [])
 count_push old new one same job = omega (

@@ -68,7 +68,12 @@ impl<'a, W: Witness> SharedGroup<'a, W> {
     }
 
     // The same of some of the messages that are out.
-    fn lacking_of(&self, out: &VecDeque<Job>, places: &[Place<W>], held: &[Envelope]) -> Option<Stamp>
+    fn lacking_of(
+        &self,
+        out: &VecDeque<Job>,
+        places: &[Place<W>],
+        held: &[Envelope],
+    ) -> Option<Stamp>
         ensures { MatchOption result (All (λ job. times_out self.now (stamp_of self.now.slot job) places.now ≤ times_held (stamp_of self.now.slot job) held.now) out.now.items)
             (λ stamp. times_held stamp held.now < times_out self.now stamp places.now) }
     {

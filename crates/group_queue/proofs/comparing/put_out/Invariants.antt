@@ -8,7 +8,7 @@ use Rattle.group_queue.proofs.comparing.put_out.Given as goal
 abbrev pub invariant-loop-job : goal.invariant-loop-job
 invariant-loop-job g l = record {
   room : length (deque_iter_rest l.job-iterator) ≤ l.list.spare;
-  counts : (job : Job) → count_of job (jobs_of l.list.runs) + count_of job (deque_iter_rest l.job-iterator) ≡ count_of job (jobs_of l.fn.list.runs) + count_of job l.jobs.items;
+  counts : (job : Job) → count_of job (jobs_of l.list.runs) + count_of job (deque_iter_rest l.job-iterator) ≡ count_of job (jobs_of l.fn.list.runs) + count_of job l.place.docket.out;
   small : All (λ (job : Job). job.number < 18446744073709551615) (jobs_of l.list.runs);
   left : All (λ (job : Job). job.number < 18446744073709551615) (deque_iter_rest l.job-iterator);
 }
