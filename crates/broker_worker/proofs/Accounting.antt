@@ -1,5 +1,5 @@
 -- The connections of a worker stay accounted for.
-use Rattle.std.proofs.Common.{◌≡◌, ◌+◌, ℕ, List, [], ◌∷◌, Option, Some, None, replicate, All, refl, sym, subst, inr, ◌∙◌, ap, arith}
+use Rattle.std.proofs.Common.{◌≡◌, ◌+◌, ℕ, List, [], ◌∷◌, Option, Some, None, replicate, All, refl, sym, subst, inl, inr, ◌∙◌, ap, arith}
 use Rattle.std.specs.List.{slice_get}
 use Rattle.std.proofs.lemmas.Option.{get_or_from_slice_get, slice_get_within}
 use Rattle.std.proofs.lemmas.List.Elements.{All-set, All-replicate}
@@ -9,14 +9,14 @@ use Rattle.group_queue.specs.Places.{PlaceState}
 use Rattle.conn_service.specs.declared.served.Served.{Served}
 use Rattle.conn_service.specs.declared.served.Served.TheVariants.{Memory}
 use Rattle.conn_service.specs.Services.{ServiceState}
-use Rattle.service_table.specs.Cells.{InCell, Turns, occupied}
+use Rattle.service_table.specs.Cells.{InCell, Turns, ended_by, occupied}
 use Rattle.service_table.specs.declared.turned.Turned.{Turned}
-use Rattle.service_table.specs.declared.turned.Turned.TheVariants.{Ended}
+use Rattle.service_table.specs.declared.turned.Turned.TheVariants.{Vacant, Goes, Ended}
 use Rattle.shared_supply.specs.Calls.{Calls}
 use Rattle.shared_supply.specs.Workers.{Worker, Turns as Visits, is_visiting}
 use Rattle.broker_worker.specs.declared.served.ServedCounts.{ServedCounts}
-use Rattle.broker_worker.specs.Counting.{counted, none_served}
-use Rattle.broker_worker.specs.Serving.{Admits, AreServed, IfLives, IsAccounted}
+use Rattle.broker_worker.specs.Counting.{counted, counted_behind, none_served}
+use Rattle.broker_worker.specs.Serving.{Admits, AreServed, IfLives, IsAccounted, TakesIn}
 use Rattle.broker_worker.proofs.Living.{ends, opens, turns}
 
 -- what holds of each cell holds of the one at a place
@@ -50,7 +50,7 @@ module _ {T : Type 0} (group : ℕ → GroupId) (counts : T → Counts) (given a
       subst Living (sym made.is) (All-set (IfLives group counts given accepted) cells cell made.after after living)
 
   -- a round that ended nobody
-  pub goes_on : (received : ℕ) (cells cells' : Table) (served : ServedCounts) (now cell : ℕ) (supply supply' : Worker) (turned : Turned T)
+  goes_on : (received : ℕ) (cells cells' : Table) (served : ServedCounts) (now cell : ℕ) (supply supply' : Worker) (turned : Turned T)
       → IsAccounted group counts given accepted received cells served
       → InCell cells cell (λ before after. Turns (Calls group) Visits is_visiting (λ (p : PlaceState). p.group) counts given accepted now before supply turned after supply') cells'
       → occupied cells ≡ occupied cells' + 0 → IsAccounted group counts given accepted received cells' served
@@ -63,7 +63,7 @@ module _ {T : Type 0} (group : ℕ → GroupId) (counts : T → Counts) (given a
   }
 
   -- a round that ended one, which is counted
-  pub ends_one : (received : ℕ) (cells cells' : Table) (served served' : ServedCounts) (now cell : ℕ) (supply supply' : Worker) (how : Served) (transport : T)
+  ends_one : (received : ℕ) (cells cells' : Table) (served served' : ServedCounts) (now cell : ℕ) (supply supply' : Worker) (how : Served) (transport : T)
       → IsAccounted group counts given accepted received cells served
       → InCell cells cell (λ before after. Turns (Calls group) Visits is_visiting (λ (p : PlaceState). p.group) counts given accepted now before supply (Ended how transport) after supply') cells'
       → occupied cells ≡ occupied cells' + 1 → served' ≡ counted how served → IsAccounted group counts given accepted received cells' served'
@@ -77,8 +77,22 @@ module _ {T : Type 0} (group : ℕ → GroupId) (counts : T → Counts) (given a
         all = omega (arith, old.all, fewer);
       }
 
+  -- behind a round those that have ended are counted
+  pub behind_round : (received : ℕ) (cells cells' : Table) (served served' : ServedCounts) (now cell : ℕ) (supply supply' : Worker) (turned : Turned T)
+      → IsAccounted group counts given accepted received cells served
+      → InCell cells cell (λ before after. Turns (Calls group) Visits is_visiting (λ (p : PlaceState). p.group) counts given accepted now before supply turned after supply') cells'
+      → occupied cells ≡ occupied cells' + ended_by turned → served' ≡ counted_behind turned served → IsAccounted group counts given accepted received cells' served'
+  behind_round received cells cells' served served' now cell supply supply' Vacant old made fewer counts_it =
+      let Accounted : ServedCounts → Type 0 = λ counts_now. IsAccounted group counts given accepted received cells' counts_now in
+      subst Accounted (sym counts_it) (goes_on received cells cells' served now cell supply supply' Vacant old made fewer)
+  behind_round received cells cells' served served' now cell supply supply' (Goes round) old made fewer counts_it =
+      let Accounted : ServedCounts → Type 0 = λ counts_now. IsAccounted group counts given accepted received cells' counts_now in
+      subst Accounted (sym counts_it) (goes_on received cells cells' served now cell supply supply' (Goes round) old made fewer)
+  behind_round received cells cells' served served' now cell supply supply' (Ended how transport) old made fewer counts_it =
+      ends_one received cells cells' served served' now cell supply supply' how transport old made fewer counts_it
+
   -- one more was received, and is open
-  pub opened_one : (received received' : ℕ) (cells cells' : Table) (served : ServedCounts) (now cell : ℕ) (supply : Worker) → received' ≡ received + 1
+  opened_one : (received received' : ℕ) (cells cells' : Table) (served : ServedCounts) (now cell : ℕ) (supply : Worker) → received' ≡ received + 1
       → IsAccounted group counts given accepted received cells served → Admits counts now cells (Some cell) cells' → IsAccounted group counts given accepted received' cells' served
   opened_one received received' cells cells' served now cell supply more old admitted =
       let Living : Table → Type 0 = λ cells. All (IfLives group counts given accepted) cells in
@@ -93,7 +107,7 @@ module _ {T : Type 0} (group : ℕ → GroupId) (counts : T → Counts) (given a
       }
 
   -- one more was received, and was not opened
-  pub refused_one : (received received' : ℕ) (cells cells' : Table) (served served' : ServedCounts) → received' ≡ received + 1
+  refused_one : (received received' : ℕ) (cells cells' : Table) (served served' : ServedCounts) → received' ≡ received + 1
       → IsAccounted group counts given accepted received cells served → (now : ℕ) → Admits counts now cells None cells' → served' ≡ counted Memory served
       → IsAccounted group counts given accepted received' cells' served'
   refused_one received received' cells cells' served served' more old now same counts_it =
@@ -105,6 +119,15 @@ module _ {T : Type 0} (group : ℕ → GroupId) (counts : T → Counts) (given a
         counted = counts_it ∙ ap (counted Memory) old.counted;
         all = omega (arith, more, old.all, ap occupied same);
       }
+
+  -- one more was received, and is open or counted
+  pub came_one : (received received' : ℕ) (cells cells' : Table) (served served' : ServedCounts) (now : ℕ) (supply : Worker) → received' ≡ received + 1
+      → IsAccounted group counts given accepted received cells served → TakesIn counts now cells served cells' served' → IsAccounted group counts given accepted received' cells' served'
+  came_one received received' cells cells' served served' now supply more old (inl opened) =
+      let Accounted : ServedCounts → Type 0 = λ counts_now. IsAccounted group counts given accepted received' cells' counts_now in
+      subst Accounted (sym opened.2) (opened_one received received' cells cells' served now opened.0 supply more old opened.1)
+  came_one received received' cells cells' served served' now supply more old (inr refused) =
+      refused_one received received' cells cells' served served' more old now refused.0 refused.1
 
   -- where no connection is open, all that were received have ended
   pub settled : (received : ℕ) (cells : Table) (served : ServedCounts) → IsAccounted group counts given accepted received cells served → occupied cells ≡ 0

@@ -13,6 +13,9 @@ use Rattle.service_table.specs.Cells.{InCell, Opens, Tells, Turns}
 use Rattle.service_table.specs.declared.turned.Turned.{Turned}
 use Rattle.service_table.specs.declared.turned.Turned.TheVariants.{Vacant, Goes, Ended}
 use Rattle.broker_worker.specs.declared.sweeps.Sweeps.{Sweeps}
+use Rattle.group_queue.specs.Places.{PlaceState}
+use Rattle.broker_worker.specs.declared.served.ServedCounts.{ServedCounts}
+use Rattle.broker_worker.specs.Serving.{TakesIn}
 use Rattle.broker_worker.specs.Sweeping.{AreSwept, Begins, IfFreshSince, Notes, looked}
 
 before_it : (k n : ℕ) → k ≢ n → k < n + 1 → k < n
@@ -87,7 +90,7 @@ module _ {P T : Type 0} where
       (subst (IfFreshSince since) (sym (get_or-set_same cells cell after None (slice_get_within cells cell before has))) fresh)
 
   -- behind one that was opened
-  pub opened_one : (cells cells' : List (Option (ServiceState P T))) (cell : ℕ) (transport : T) (sweeps : Sweeps) → AreSwept sweeps cells → InCell cells cell (Opens sweeps.latest transport) cells'
+  opened_one : (cells cells' : List (Option (ServiceState P T))) (cell : ℕ) (transport : T) (sweeps : Sweeps) → AreSwept sweeps cells → InCell cells cell (Opens sweeps.latest transport) cells'
       → AreSwept sweeps cells'
   opened_one cells cells' cell transport sweeps are made =
       touched cells cells' cell made.before made.after sweeps are made.has made.is (opens sweeps.latest transport made.before made.after made.becomes)
@@ -141,3 +144,9 @@ module _ {S P T : Type 0} (call : S → Fact P → S → Type 0) (turn : S → S
       (touched cells cells' cell made.before made.after old are made.has made.is fresh)
       (here cells cells' cell made.before made.after old.latest made.has made.is fresh)
       (subst (λ n. Notes cell n old new) long notes)
+
+-- behind one that came
+pub came_one : {T : Type 0} (counts : T → Counts) (cells cells' : List (Option (ServiceState PlaceState T))) (served served' : ServedCounts) (sweeps : Sweeps) → AreSwept sweeps cells
+    → TakesIn counts sweeps.latest cells served cells' served' → AreSwept sweeps cells'
+came_one counts cells cells' served served' sweeps are (inl opened) = opened_one cells cells' opened.0 opened.1.0 sweeps are opened.1.2
+came_one counts cells cells' served served' sweeps are (inr refused) = subst (λ those. AreSwept sweeps those) (sym refused.0) are

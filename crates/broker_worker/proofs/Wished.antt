@@ -1,20 +1,24 @@
 -- Each client that would be handed a job stands among the wishes.
-use Rattle.std.proofs.Common.{◌≡◌, ◌≢◌, ℕ, List, length, slice_get, get_or, replicate, Option, Some, None, sym, subst, ap, ◌∙◌, refl, ⊎_elim, arith}
+use Rattle.std.proofs.Common.{◌≡◌, ◌≢◌, ℕ, List, length, slice_get, get_or, replicate, Option, Some, None, sym, subst, ap, ◌∙◌, refl, inl, inr, ⊎_elim, arith}
 use Rattle.std.specs.List.{slice_set}
+use Rattle.std.proofs.Math.ListN.{length-set}
 use Rattle.std.proofs.lemmas.Bool.{cases_eq}
 use Rattle.std.proofs.lemmas.List.{get_or-set_same}
 use Rattle.std.proofs.lemmas.List.Elements.{All-replicate}
 use Rattle.std.proofs.lemmas.Option.{slice_get_within, get_or_from_slice_get}
+use Rattle.transport.specs.declared.counts.Counts.{Counts}
 use Rattle.group_queue.specs.Places.{PlaceState}
 use Rattle.conn_engine.specs.Looking.{TakesAt}
 use Rattle.conn_engine.specs.declared.standing.Standing.{Standing}
 use Rattle.conn_engine.specs.declared.standing.Standing.TheVariants.{Unconnected, Waiting, Connected, Ended}
 use Rattle.conn_service.specs.Services.{ServiceState, opened}
 use Rattle.service_table.specs.Cells.{InCell, Opens, TakesFrom}
-use Rattle.broker_worker.specs.declared.members.Wish.{Wish}
+use Rattle.worker_bells.specs.declared.members.Wish.{Wish}
+use Rattle.broker_worker.specs.declared.served.ServedCounts.{ServedCounts}
 use Rattle.broker_worker.specs.Resting.{AreWished, HasTaker}
-use Rattle.broker_worker.specs.Wishing.{IsWished}
-use Rattle.broker_worker.proofs.Places.{others_stay, put_there}
+use Rattle.broker_worker.specs.Serving.{TakesIn}
+use Rattle.worker_bells.specs.Wishing.{IsWished}
+use Rattle.worker_bells.proofs.Places.{others_stay, put_there}
 
 -- a client has one place
 takes_same : (standing : Standing PlaceState) (one other : PlaceState) → TakesAt standing one → TakesAt standing other → one ≡ other
@@ -54,7 +58,7 @@ module _ {T : Type 0} where
       opened_takes service other.client.conn.number now transport place (sym (some_is other service is) ∙ opened_so.1) takes
 
   -- one that is opened would not be handed a job
-  pub wished_opened : (cells cells' : List (Option (ServiceState PlaceState T))) (wishes : List Wish) (cell now : ℕ) (transport : T) → AreWished cells wishes
+  wished_opened : (cells cells' : List (Option (ServiceState PlaceState T))) (wishes : List Wish) (cell now : ℕ) (transport : T) → AreWished cells wishes
       → InCell cells cell (Opens now transport) cells' → AreWished cells' wishes
   wished_opened cells cells' wishes cell now transport are made k service place has takes =
       let has' = subst (λ (cs : List (Option (ServiceState PlaceState T))). slice_get cs k ≡ Some (Some service)) made.is has in
@@ -65,6 +69,16 @@ module _ {T : Type 0} where
       absurd (opened_one now transport made.before made.after service place made.becomes after takes))
       (λ (other : k ≢ cell). are k service place (sym (others_stay cells cell k made.after other) ∙ has') takes)
       (cases_eq k cell)
+
+  -- nor would one that came
+  pub wished_came : (counts : T → Counts) (cells cells' : List (Option (ServiceState PlaceState T))) (served served' : ServedCounts) (wishes : List Wish) (now : ℕ) → length wishes ≡ length cells
+      → AreWished cells wishes → TakesIn counts now cells served cells' served' → (length wishes ≡ length cells') × AreWished cells' wishes
+  wished_came counts cells cells' served served' wishes now long are (inl opened) = (
+    omega (arith, long, ap length opened.1.2.is, length-set cells opened.0 opened.1.2.after),
+    wished_opened cells cells' wishes opened.0 now opened.1.0 are opened.1.2,
+  )
+  wished_came counts cells cells' served served' wishes now long are (inr refused) =
+      subst (λ those. (length wishes ≡ length those) × AreWished those wishes) (sym refused.0) (long, are)
 
   -- behind a round the wish of the connection in its cell is noted
   pub wished_noted : (cells cells' : List (Option (ServiceState PlaceState T))) (wishes wishes' : List Wish) (cell : ℕ) (before after : Option (ServiceState PlaceState T)) (wish : Wish)

@@ -2,6 +2,8 @@
 use Rattle.std.specs.Prelude.{ℕ, ◌+◌, min, List, [], ◌∷◌}
 use Rattle.conn_service.specs.declared.served.Served.{Served}
 use Rattle.conn_service.specs.declared.served.Served.TheVariants.{Ended, Read, Write, Memory, NoCrossing, Stalled}
+use Rattle.service_table.specs.declared.turned.Turned.{Turned}
+use Rattle.service_table.specs.declared.turned.Turned.TheVariants as turns
 use Rattle.broker_worker.specs.declared.served.ServedCounts.{ServedCounts}
 
 -- one more, up to 2^64 - 1
@@ -19,6 +21,12 @@ counted Write counts = record counts { write = raised counts.write }
 counted Memory counts = record counts { memory = raised counts.memory }
 counted NoCrossing counts = record counts { no_crossing = raised counts.no_crossing }
 counted Stalled counts = record counts { stalled = raised counts.stalled }
+
+-- behind a round, which may have ended one
+abbrev pub counted_behind : {T : Type 0} → Turned T → ServedCounts → ServedCounts
+counted_behind turns.Vacant counts = counts
+counted_behind (turns.Goes round) counts = counts
+counted_behind (turns.Ended how transport) counts = counted how counts
 
 -- the counts of connections that ended so, the latest first
 abbrev pub counts_of : List Served → ServedCounts

@@ -1,7 +1,5 @@
 pub mod Counting
 pub mod Lives
 pub mod Resting
-pub mod Ringing
 pub mod Serving
 pub mod Sweeping
-pub mod Wishing

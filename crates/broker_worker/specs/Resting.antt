@@ -4,8 +4,8 @@ use Rattle.group_queue.specs.Places.{PlaceState}
 use Rattle.conn_engine.specs.Looking.{TakesAt}
 use Rattle.conn_service.specs.Services.{ServiceState}
 use Rattle.shared_supply.specs.Waking.{no_wakes}
-use Rattle.broker_worker.specs.declared.members.Wish.{Wish}
-use Rattle.broker_worker.specs.Ringing.{HasSettledAt, OutfitState}
+use Rattle.worker_bells.specs.declared.members.Wish.{Wish}
+use Rattle.worker_bells.specs.Ringing.{HasSettledAt, OutfitState}
 use Rattle.broker_worker.specs.Serving.{ConnectionsState}
 use Rattle.broker_worker.specs.Sweeping.{WaitsInTime}
 

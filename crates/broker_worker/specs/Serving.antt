@@ -1,5 +1,5 @@
 -- The connections of a worker of a broker: each that it received is open, and has lived as a connection is served; or it has ended, and is counted by its ending.
-use Rattle.std.specs.Prelude.{◌≡◌, ℕ, ◌+◌, List, length, Option, Some, None, All}
+use Rattle.std.specs.Prelude.{◌≡◌, ◌⊎◌, ℕ, ◌+◌, List, length, Option, Some, None, All}
 use Rattle.std.specs.List.{AllByRecursion}
 use Rattle.transport.specs.declared.counts.Counts.{Counts}
 use Rattle.transport.specs.Counting.{no_counts}
@@ -7,6 +7,7 @@ use Rattle.group_queue.specs.Ports.{GroupId}
 use Rattle.group_queue.specs.Places.{PlaceState}
 use Rattle.conn_channel.specs.Ends.{ReceiverState}
 use Rattle.conn_service.specs.declared.served.Served.{Served}
+use Rattle.conn_service.specs.declared.served.Served.TheVariants.{Memory}
 use Rattle.conn_service.specs.Services.{ServiceState}
 use Rattle.service_table.specs.Cells.{InCell, Opens, occupied}
 use Rattle.shared_supply.specs.Calls.{Calls}
@@ -15,7 +16,7 @@ use Rattle.shared_supply.specs.Workers.{Turns, is_visiting}
 use Rattle.shared_supply.specs.declared.wakes.Wakes.{Wakes}
 use Rattle.broker_worker.specs.declared.served.ServedCounts.{ServedCounts}
 use Rattle.broker_worker.specs.declared.sweeps.Sweeps.{Sweeps}
-use Rattle.broker_worker.specs.Counting.{counts_of, none_served}
+use Rattle.broker_worker.specs.Counting.{counted, counts_of, none_served}
 use Rattle.broker_worker.specs.Lives.{IfLived, IsLife}
 use Rattle.broker_worker.specs.Sweeping.{KeepsMoment}
 
@@ -59,6 +60,11 @@ abbrev pub Admits : {T : Type 0} → (T → Counts) → ℕ → List (Option (Se
 Admits counts now old None new = new ≡ old
 Admits {T} counts now old (Some cell) new =
     (transport : T) × (counts transport ≡ no_counts) × InCell old cell (Opens now transport) new × (occupied new ≡ occupied old + 1)
+
+-- it is open then, or has ended and is counted as one for which there was no memory
+abbrev pub TakesIn : {T : Type 0} → (T → Counts) → ℕ → List (Option (ServiceState PlaceState T)) → ServedCounts → List (Option (ServiceState PlaceState T)) → ServedCounts → Type 0
+TakesIn counts now old served new served' =
+    ((cell : ℕ) × Admits counts now old (Some cell) new × (served' ≡ served)) ⊎ (Admits counts now old None new × (served' ≡ counted Memory served))
 
 module _ {T : Type 0} (group : ℕ → GroupId) (counts : T → Counts) (given accepted : T → Option (List ℕ)) where
   -- in a broker with these groups, the connection in a cell has lived, where there is one

@@ -1,19 +1,20 @@
 //! The connections of a worker: those that it received are open, or have ended and are counted.
-ghost use Rattle.std.specs.Prelude.{◌≡◌, ◌<◌, ℕ, [], None, true, false, replicate, length, slice_set, slice_index_or};
+ghost use Rattle.std.specs.Prelude.{◌≡◌, ◌<◌, ◌+◌, ℕ, [], None, true, false, replicate, length, slice_set, slice_index_or};
 ghost use Rattle.transport.specs.Counting.{no_counts};
 ghost use Rattle.group_queue.specs.Places.{PlaceState};
-ghost use Rattle.service_table.specs.Cells.{TakesFrom};
+ghost use Rattle.service_table.specs.Cells.{InCell, TakesFrom, Turns, ended_by, occupied};
+ghost use Rattle.shared_supply.specs.Calls.{Calls};
 ghost use Rattle.shared_supply.specs.Waking.{no_wakes};
-ghost use Rattle.broker_worker.specs.declared.members.Wish.{Wish as AnyWish};
+ghost use Rattle.shared_supply.specs.Workers.{Turns as Visits, is_visiting};
+ghost use Rattle.worker_bells.specs.declared.members.Wish.{Wish as AnyWish};
 ghost use Rattle.broker_worker.specs.Counting.{none_served};
-ghost use Rattle.broker_worker.specs.Serving.{Admits, AreFresh, AreServed, IsDone, Rounds, StaysOf, live};
+ghost use Rattle.broker_worker.specs.Serving.{Admits, AreFresh, AreServed, IsDone, Rounds, StaysOf, TakesIn, live};
 ghost use Rattle.broker_worker.specs.Resting.{HasTaker};
-ghost use Rattle.broker_worker.specs.Wishing.{IsWished};
+ghost use Rattle.worker_bells.specs.Wishing.{IsWished};
 ghost use Rattle.broker_worker.specs.Sweeping.{AreTicked, Begins, HasGone, IsInTime, Notes, WaitsInTime, looked};
 
 use crate::arrived::Arrived;
 use crate::hand::Hand;
-use crate::members::{Members, Wish};
 use crate::poller::Poller;
 use crate::served::ServedCounts;
 use crate::sweeps::Sweeps;
@@ -25,6 +26,7 @@ use shared_supply::{SharedSupply, Wakes};
 use std::marker::Model;
 use std::sync::Wait;
 use transport::{Crossing, Transport};
+use worker_bells::{Members, Wish};
 
 /// The connections that a worker received, each in a cell of its table as long as it is open, and what they ask of the broker.
 ///
@@ -180,13 +182,13 @@ impl<'a, 'g, B: Broker, T: Transport + Drop, R: Wait> Connections<'a, 'g, B, T, 
         let now = self.sweeps.latest;
         match self.receiver.receive(rt) {
             Received::Connection(arrived) => {
-                match admit(&mut self.table, poller, arrived.into_transport(), now) {
-                    Some(cell) => Came::Opened(cell),
-                    None => {
-                        self.served.count(Served::Memory);
-                        Came::Refused
-                    }
-                }
+                take_in(
+                    &mut self.table,
+                    &mut self.served,
+                    poller,
+                    arrived.into_transport(),
+                    now,
+                )
             }
             Received::EndMark => Came::EndMark,
             Received::Nothing => Came::Nothing,
@@ -209,21 +211,43 @@ impl<'a, 'g, B: Broker, T: Transport + Drop, R: Wait> Connections<'a, 'g, B, T, 
         if cell >= self.table.len() {
             return Went::Nowhere;
         }
-        let now = self.sweeps.latest;
-        let turned = self
-            .table
-            .round(cell, &mut self.supply, crossing, worker, now, buffer);
-        self.sweeps.note(cell, self.table.len());
-        note_wish(&self.table, cell, &mut self.members);
-        match turned {
+        match self.go_on(cell, crossing, worker, buffer) {
             Turned::Vacant => Went::Nowhere,
             Turned::Goes(round) => Went::On(round),
-            Turned::Ended(served, transport) => {
+            Turned::Ended(_, transport) => {
                 close(poller, cell, transport);
-                self.served.count(served);
                 Went::ToItsEnd
             }
         }
+    }
+
+    /// The same, where there is such a cell. What became of it is noted; a connection that ended is still watched.
+    fn go_on<X: Crossing>(
+        &mut self,
+        cell: usize,
+        crossing: &X,
+        worker: u32,
+        buffer: &mut [u8],
+    ) -> Turned<T>
+        requires cell { cell < length self.old.cells }
+        requires room { 0 < length buffer.old }
+        ensures goes { Rounds self.old self.new }
+        ensures notes { Notes cell (length self.old.cells) self.old.sweeps self.new.sweeps }
+    {
+        let now = self.sweeps.latest;
+        let turned = turn(
+            &mut self.table,
+            &mut self.supply,
+            cell,
+            crossing,
+            worker,
+            now,
+            buffer,
+        );
+        self.served.count_behind(&turned);
+        self.sweeps.note(cell, self.table.len());
+        note_wish(&self.table, cell, &mut self.members);
+        turned
     }
 
     /// What they had of the broker, the end of the channel, and how they ended. Any that is still open ends as where the broker closes.
@@ -237,12 +261,32 @@ impl<'a, 'g, B: Broker, T: Transport + Drop, R: Wait> Connections<'a, 'g, B, T, 
             mut supply,
             served,
             sweeps: _,
-            members: _,
+            members,
         } = self;
+        drop(members);
         table.abandon(&mut supply, 0);
         let (key, ports) = supply.into_parts();
         (Hand { key, ports }, receiver, served)
     }
+}
+
+/// The connection in a cell goes on by a round, at this moment.
+fn turn<'a, 'g, B: Broker, T: Transport, R: Wait, X: Crossing>(
+    table: &mut ServiceTable<BrokerPlace<B>, T>,
+    supply: &mut SharedSupply<'a, 'g, B, R>,
+    cell: usize,
+    crossing: &X,
+    worker: u32,
+    now: u64,
+    buffer: &mut [u8],
+) -> Turned<T>
+    requires cell { cell < length table.old }
+    requires room { 0 < length buffer.old }
+    ensures turns { InCell table.old cell (λ before after. Turns (Calls B.group) Visits is_visiting (λ (p : PlaceState). p.group) T.counts T.given T.accepted now before supply.old result after supply.new) table.new }
+    ensures len { length table.new ≡ length table.old }
+    ensures count { occupied table.old ≡ occupied table.new + ended_by result }
+{
+    table.round(cell, supply, crossing, worker, now, buffer)
 }
 
 /// Notes what the connection in a cell would do if others did something.
@@ -259,6 +303,26 @@ fn note_wish<B: Broker, T: Transport>(
         waits: table.is_waiting(cell),
     };
     members.note(cell, wish);
+}
+
+/// Opens a connection that came; where it can't, it counts it as ended.
+fn take_in<B: Broker, T: Transport + Drop, Q: Poller<T>>(
+    table: &mut ServiceTable<BrokerPlace<B>, T>,
+    served: &mut ServedCounts,
+    poller: &mut Q,
+    transport: T,
+    now: u64,
+) -> Came
+    requires new { T.counts transport ≡ no_counts }
+    ensures { TakesIn T.counts now table.old served.old table.new served.new }
+{
+    match admit(table, poller, transport, now) {
+        Some(cell) => Came::Opened(cell),
+        None => {
+            served.count(Served::Memory);
+            Came::Refused
+        }
+    }
 }
 
 /// Opens a connection in the cell of the number under which the poller watches it. That cell; `None` where it was closed.

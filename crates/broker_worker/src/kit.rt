@@ -1,29 +1,16 @@
 //! What each worker has for itself, made before any worker is.
-ghost use Rattle.std.specs.Prelude.{◌≡◌, All, length, IfOk};
+ghost use Rattle.std.specs.Prelude.{◌≡◌, ◌≤◌, ◌++◌, [], ◌∷◌, All, length, IfOk, OnOk};
 ghost use Rattle.conn_channel.specs.Ends.{AreReceivers, new_receiver};
 
 use crate::arrived::Arrived;
-use crate::calls::Roster;
 use crate::marks::Marks;
-use crate::members::{Members, Wish};
-use crate::outfit::{Outfit, outfits};
 use bell::Wake;
 use conn_channel::{Receiver, Sender};
 use conn_engine::NoMemory;
 use std::alloc::Global;
 use std::marker::Model;
 use transport::Transport;
-
-/// How many connections all workers have together at most.
-pub(crate) const MOST_CONNECTIONS: u16 = 1_024;
-
-/// How many connections each of so many workers has at most.
-pub(crate) fn share_of(count: usize) -> u16 {
-    if count == 0 || count > 64 {
-        return 0;
-    }
-    MOST_CONNECTIONS / count as u16
-}
+use worker_bells::{Members, Outfit, Roster, Wish, outfits, share_of};
 
 /// Where a worker waits, and its clock.
 #[derive(Drop)]
@@ -80,30 +67,47 @@ pub fn kits<T: Transport + Drop, Q: Drop, W: Wake + Drop, C: Drop>(
         let (Some(receiver), Some(outfit)) = (receivers.pop(), outfits.pop()) else {
             unreachable!()
         };
-        kits.push(kit_of(alloc, gear.len(), share, own, receiver, outfit)?)?;
+        add_kit(alloc, &mut kits, gear.len(), share, own, receiver, outfit)?;
     }
     Ok(kits)
 }
 
-/// The kit of the worker of a number.
-fn kit_of<T: Transport + Drop, Q: Drop, W: Drop, C: Drop>(
+/// One kit more: that of the worker of a number.
+fn add_kit<T: Transport + Drop, Q: Drop, W: Drop, C: Drop>(
     alloc: Global,
+    kits: &mut Vec<Kit<T, Q, W, C>>,
     number: usize,
     share: u16,
     gear: Gear<Q, C>,
     receiver: Receiver<Arrived<T>>,
     outfit: Outfit<W>,
-) -> Result<Kit<T, Q, W, C>, NoMemory>
-    ensures { IfOk result (λ kit. kit ≡ receiver) }
+) -> Result<(), NoMemory>
+    ensures { OnOk result (kits.new.items ≡ kits.old.items ++ receiver ∷ []) }
 {
-    let count = usize::from(share);
-    Ok(Kit {
+    let Ok((due, members)) = blank(alloc, usize::from(share)) else {
+        drop(gear);
+        drop(receiver);
+        drop(outfit);
+        return Err(NoMemory);
+    };
+    kits.push(Kit {
         number,
         share,
         gear,
         receiver,
         outfit,
-        due: Marks::new(vec![in alloc; false; count]?),
-        members: Members::new(vec![in alloc; Wish::NONE; count]?),
-    })
+        due,
+        members,
+    })?;
+    Ok(())
+}
+
+/// Marks and wishes for so many cells, none of which is marked or has a wish.
+fn blank(alloc: Global, count: usize) -> Result<(Marks, Members), NoMemory>
+    requires few { count ≤ 65535 }
+    ensures { IfOk result (λ both. length both.1 ≡ count) }
+{
+    let marks = vec![in alloc; false; count]?;
+    let wishes = vec![in alloc; Wish::NONE; count]?;
+    Ok((Marks::new(marks), Members::new(wishes)))
 }

@@ -6,14 +6,10 @@
 #![tactic(auto)]
 
 mod arrived;
-mod bells;
-mod calls;
 mod connections;
 mod hand;
 mod kit;
 mod marks;
-mod members;
-mod outfit;
 mod poller;
 mod rounds;
 mod served;
@@ -22,9 +18,9 @@ mod telling;
 mod worker;
 
 pub use arrived::Arrived;
-pub use calls::Roster;
 pub use hand::Hand;
 pub use kit::{Gear, Kit, kits};
 pub use poller::Poller;
 pub use served::ServedCounts;
 pub use worker::Worker;
+pub use worker_bells::Roster;

@@ -4,7 +4,6 @@ ghost use Rattle.broker_worker.specs.Serving.{Rounds};
 ghost use Rattle.broker_worker.specs.Sweeping.{HasGone, IsInTime, Notes};
 
 use crate::connections::Went;
-use crate::outfit::SLOTS;
 use crate::poller::Poller;
 use crate::worker::{READ_SIZE, Worker};
 use bell::Wake;
@@ -12,6 +11,7 @@ use broker_groups::Broker;
 use conn_service::Round;
 use std::sync::Wait;
 use transport::{Clock, Crossing, Transport};
+use worker_bells::SLOTS;
 
 impl<
     'a,

@@ -1,8 +1,9 @@
 //! How the connections of a worker ended.
 ghost use Rattle.std.specs.Prelude.{◌≡◌};
-ghost use Rattle.broker_worker.specs.Counting.{counted};
+ghost use Rattle.broker_worker.specs.Counting.{counted, counted_behind};
 
 use conn_service::Served;
+use service_table::Turned;
 
 /// How many connections ended in each way, up to `u64::MAX`.
 #[derive(Clone, Copy, Debug, PartialEq, Eq)]
@@ -43,6 +44,15 @@ impl ServedCounts {
             Served::Memory => self.memory = self.memory.saturating_add(1),
             Served::NoCrossing => self.no_crossing = self.no_crossing.saturating_add(1),
             Served::Stalled => self.stalled = self.stalled.saturating_add(1),
+        }
+    }
+
+    /// Counts the connection that a round ended, if it ended one.
+    pub(crate) fn count_behind<T>(&mut self, turned: &Turned<T>)
+        ensures { self.new ≡ counted_behind turned.now self.old }
+    {
+        if let Turned::Ended(served, _) = turned {
+            self.count(*served);
         }
     }
 }

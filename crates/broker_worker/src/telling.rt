@@ -2,7 +2,7 @@
 ghost use Rattle.std.specs.Prelude.{◌≡◌};
 ghost use Rattle.shared_supply.specs.Waking.{no_wakes};
 ghost use Rattle.broker_worker.specs.Resting.{MayWait};
-ghost use Rattle.broker_worker.specs.Ringing.{AreRung};
+ghost use Rattle.worker_bells.specs.Ringing.{AreRung};
 ghost use Rattle.broker_worker.specs.Sweeping.{AreTicked, IsInTime, WaitsInTime};
 
 use crate::poller::Poller;

@@ -5,12 +5,10 @@ ghost use Rattle.broker_worker.specs.Resting.{MayWait};
 ghost use Rattle.broker_worker.specs.Sweeping.{AreTicked};
 
 use crate::arrived::Arrived;
-use crate::calls::Roster;
 use crate::connections::{Came, Connections};
 use crate::hand::Hand;
-use crate::kit::{Gear, Kit, MOST_CONNECTIONS};
+use crate::kit::{Gear, Kit};
 use crate::marks::Marks;
-use crate::outfit::Outfit;
 use crate::poller::Poller;
 use crate::served::ServedCounts;
 use bell::Wake;
@@ -23,6 +21,7 @@ use std::alloc::Global;
 use std::marker::Model;
 use std::sync::Wait;
 use transport::{Clock, Crossing, Transport};
+use worker_bells::{MOST_CONNECTIONS, Outfit, Roster};
 
 /// How many bytes a round reads at most.
 pub(crate) const READ_SIZE: usize = 4_096;
@@ -86,20 +85,23 @@ impl<
         ensures { IfOk result (λ worker. AreFresh kit worker.connections) }
     {
         let Ok(known) = hall.know_routes(alloc) else {
+            drop(kit);
+            return Err(hand);
+        };
+        let Ok(table) = table_of::<B, T>(alloc, kit.number, kit.share) else {
+            drop(kit);
+            drop(known);
             return Err(hand);
         };
         let Kit {
             number,
-            share,
+            share: _,
             gear,
             receiver,
             outfit,
             due,
             members,
         } = kit;
-        let Ok(table) = table_of::<B, T>(alloc, number, share) else {
-            return Err(hand);
-        };
         let Hand { key, ports } = hand;
         let supply = SharedSupply::new(rt, alloc, hall, key, ports, known);
         let connections = Connections::new(receiver, table, supply, members);
@@ -225,15 +227,19 @@ impl<
         let Worker {
             number: _,
             connections,
-            poller: _,
-            outfit: _,
+            poller,
+            outfit,
             roster: _,
             crossing: _,
-            clock: _,
-            due: _,
+            clock,
+            due,
             closing: _,
             waits: _,
         } = self;
+        drop(poller);
+        drop(outfit);
+        drop(clock);
+        drop(due);
         connections.into_parts()
     }
 }

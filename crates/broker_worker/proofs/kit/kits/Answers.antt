@@ -12,7 +12,7 @@ kits-preserved g c =
     let gear_left = simp length-append at (ap length c.in-Some.ensures.items) in
     let receivers_left = simp length-append at (ap length c.in-Some-Some.ensures.items) in
     let outfits_left = simp length-append at (ap length c.in-Some-Some.ensures'.items) in
-    let pushed = simp length-append at (ap length c.in_ok-push.ensures.items) in
+    let pushed = simp length-append at (ap length c.in_ok-add_kit.ensures) in
     record {
       receivers = record {
         all = omega (arith, gear_left, receivers_left, c.kits.invariant.receivers.all);
@@ -21,6 +21,6 @@ kits-preserved g c =
       outfits = omega (arith, gear_left, outfits_left, c.kits.invariant.outfits);
       count = omega (arith, gear_left, pushed, c.kits.invariant.count);
       each =
-          All-same IsNew c.push.new.self.items (c.kits.kits.items ++ c.in_ok-kit_of.field-0 ∷ []) c.in_ok-push.ensures.items
-          (All-push IsNew c.kits.kits.items c.in_ok-kit_of.field-0 c.kits.invariant.each (c.in_ok-kit_of.ensures ∙ left.1));
+          All-same IsNew c.add_kit.new.kits.items (c.kits.kits.items ++ c.in-Some-Some.receiver ∷ []) c.in_ok-add_kit.ensures
+          (All-push IsNew c.kits.kits.items c.in-Some-Some.receiver c.kits.invariant.each left.1);
     }

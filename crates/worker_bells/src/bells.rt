@@ -1,0 +1,170 @@
+//! The bell of a group, as a worker has it.
+ghost use Rattle.std.specs.Prelude.{◌≡◌, true, length};
+ghost use Rattle.std.specs.Arc.{arc_value};
+ghost use Rattle.worker_bells.specs.Ringing.{HasSettled, IsEarOfSame, RingsFor};
+
+use bell::{Bell, Listener, Ringer, Wake};
+use std::alloc::Global;
+use std::marker::Model;
+use std::sync::Arc;
+
+/// A worker's ear at the bell of a group. Contracts see it as an `EarState`.
+#[derive(Drop)]
+pub struct Listening {
+    bell: Arc<Bell, Global>,
+    listener: Listener,
+    slot: usize,
+    // It settled at its last step, and else it listened.
+    is_settled: bool,
+    // It rang since the group's members were served.
+    is_rung: bool,
+    // And this worker may have been the one that was called for it.
+    is_called: bool,
+    ghost own: { listener.bell ≡ (arc_value bell).word },
+}
+
+impl Model for Listening {
+    ghost use Rattle.std.specs.Prelude.{◌≡◌, true, false};
+    ghost use Rattle.worker_bells.specs.Ringing.{EarState, HasListened, HasSettled};
+
+    ghost Value = { EarState };
+
+    ghost view = { λ l. record { slot = l.slot; ear = l.listener } };
+
+    ghost invariant = { λ l. (l.is_settled ≡ true → HasSettled l.listener) × (l.is_settled ≡ false → HasListened l.listener) };
+}
+
+impl Listening {
+    /// An ear at the bell of the group of this slot: it listens.
+    pub fn new(bell: Arc<Bell, Global>, listener: Listener, slot: usize) -> Listening
+        requires { listener.bell ≡ (arc_value bell).word }
+        ensures { (result.slot ≡ slot) × (result.ear.bell ≡ listener.bell) }
+    {
+        let mut listener = listener;
+        bell.listen(&mut listener);
+        Listening {
+            bell,
+            listener,
+            slot,
+            is_settled: false,
+            is_rung: true,
+            is_called: false,
+        }
+    }
+
+    /// The slot of the group.
+    pub fn slot(&self) -> usize
+        ensures { result ≡ self.now.slot }
+    {
+        self.slot
+    }
+
+    /// At the beginning of a turn: if it was idle, it is not any more, and knows whether it rang meanwhile.
+    pub fn hear(&mut self)
+        ensures { IsEarOfSame self.old self.new }
+    {
+        if self.is_settled {
+            if !self.bell.settle(&mut self.listener) {
+                self.is_rung = true;
+                self.is_called = true;
+            }
+            self.bell.listen(&mut self.listener);
+            self.is_settled = false;
+        }
+    }
+
+    /// At the end of a turn behind which members wait: it is idle from now on. Whether the worker may wait: it rang for nobody since it was heard last.
+    pub fn settle(&mut self) -> bool
+        ensures settled { result ≡ true → HasSettled self.new.ear }
+        ensures same { IsEarOfSame self.old self.new }
+    {
+        if self.is_settled {
+            return true;
+        }
+        let may_wait = self.bell.settle(&mut self.listener);
+        if may_wait {
+            self.is_settled = true;
+        } else {
+            self.bell.listen(&mut self.listener);
+            self.is_rung = true;
+        }
+        may_wait
+    }
+
+    /// Notes that there is something for the group's members.
+    pub fn note(&mut self)
+        ensures { self.new ≡ self.old }
+    {
+        self.is_rung = true;
+    }
+
+    /// Whether this worker may have been called for what there is; if so, it sees to it from now on.
+    pub fn take_called(&mut self) -> bool
+        ensures { self.new ≡ self.old }
+    {
+        let called = self.is_called;
+        self.is_called = false;
+        called
+    }
+
+    /// Whether there is something for the group's members; they are served from now on.
+    pub fn take_rung(&mut self) -> bool
+        ensures { self.new ≡ self.old }
+    {
+        let rung = self.is_rung;
+        self.is_rung = false;
+        rung
+    }
+}
+
+/// A worker's hand at the bell of a group. Contracts see it as a `HandState`.
+#[derive(Drop)]
+pub struct Ringing<W> {
+    bell: Arc<Bell, Global>,
+    ringer: Ringer,
+    alarms: Arc<Vec<W>, Global>,
+    slot: usize,
+    ghost own: { ringer.bell ≡ (arc_value bell).word },
+    ghost all: { length (arc_value alarms).items ≡ (arc_value bell).workers },
+}
+
+impl<W> Model for Ringing<W> {
+    ghost use Rattle.std.specs.Arc.{arc_value};
+    ghost use Rattle.worker_bells.specs.Ringing.{HandState};
+
+    ghost Value = { HandState };
+
+    ghost view = { λ r. record { slot = r.slot; workers = (arc_value r.bell).workers; hand = r.ringer } };
+}
+
+impl<W: Wake> Ringing<W> {
+    /// A hand at the bell of the group of this slot, whose listeners these alarms wake.
+    pub fn new(
+        bell: Arc<Bell, Global>,
+        ringer: Ringer,
+        alarms: Arc<Vec<W>, Global>,
+        slot: usize,
+    ) -> Ringing<W>
+        requires own { ringer.bell ≡ (arc_value bell).word }
+        requires all { length (arc_value alarms).items ≡ (arc_value bell).workers }
+        ensures { (result.slot ≡ slot) × (result.hand.bell ≡ ringer.bell) }
+    {
+        Ringing {
+            bell,
+            ringer,
+            alarms,
+            slot,
+        }
+    }
+
+    /// Rings for so many workers, where it is at a bell of this group. How many are still to be woken.
+    pub fn ring(&mut self, slot: usize, left: usize) -> usize
+        ensures { RingsFor slot left result self.old self.new }
+    {
+        if self.slot != slot || left == 0 {
+            return left;
+        }
+        let alarms = self.alarms.as_slice();
+        left - self.bell.ring(&mut self.ringer, left, alarms)
+    }
+}
