@@ -1,10 +1,10 @@
 //! The connections of a worker: those that it received are open, or have ended and are counted.
-ghost use Rattle.std.specs.Prelude.{◌≡◌, ◌<◌, ◌+◌, ℕ, [], None, true, false, replicate, length, slice_set, slice_index_or};
+ghost use Rattle.std.specs.Prelude.{◌≡◌, ◌<◌, ◌+◌, ℕ, List, [], None, true, false, replicate, length, slice_set, slice_index_or};
 ghost use Rattle.transport.specs.Counting.{no_counts};
 ghost use Rattle.group_queue.specs.Places.{PlaceState};
 ghost use Rattle.service_table.specs.Cells.{InCell, TakesFrom, Turns, ended_by, occupied};
 ghost use Rattle.shared_supply.specs.Calls.{Calls};
-ghost use Rattle.shared_supply.specs.Waking.{no_wakes};
+ghost use Rattle.shared_supply.specs.Waking.{KeepsAtMost, no_wakes, one_called};
 ghost use Rattle.shared_supply.specs.Workers.{Turns as Visits, is_visiting};
 ghost use Rattle.worker_bells.specs.declared.members.Wish.{Wish as AnyWish};
 ghost use Rattle.broker_worker.specs.Counting.{none_served};
@@ -26,7 +26,7 @@ use shared_supply::{SharedSupply, Wakes};
 use std::marker::Model;
 use std::sync::Wait;
 use transport::{Crossing, Transport};
-use worker_bells::{Members, Wish};
+use worker_bells::{Members, SLOTS, Wish};
 
 /// The connections that a worker received, each in a cell of its table as long as it is open, and what they ask of the broker.
 ///
@@ -161,6 +161,29 @@ impl<'a, 'g, B: Broker, T: Transport + Drop, R: Wait> Connections<'a, 'g, B, T, 
         ensures { self.new ≡ self.old }
     {
         self.members.begin_at(cell);
+    }
+
+    /// Another worker called this one for a message of the group of this slot.
+    pub(crate) fn count_call(&mut self, slot: usize)
+        requires { slot < 8 }
+        ensures { self.new ≡ record self.old { wakes = one_called slot self.old.wakes } }
+    {
+        self.supply.count_call(slot);
+    }
+
+    /// For each slot, how many messages of its group they brought that others may wait for.
+    pub(crate) fn messages(&self) -> [u32; SLOTS]
+        ensures { result ≡ self.now.wakes.messages }
+    {
+        self.supply.wakes().messages
+    }
+
+    /// Keeps of these messages as many as there are members here that would be handed one, and gives back how many more there are.
+    pub(crate) fn keep_own(&mut self) -> [u32; SLOTS]
+        ensures kept { (most : List ℕ) × KeepsAtMost most result self.old.wakes self.new.wakes }
+        ensures same { self.new ≡ record self.old { wakes = self.new.wakes } }
+    {
+        self.supply.keep_messages(self.members.takers())
     }
 
     /// What they did since it was last asked that others may wait for.

@@ -162,10 +162,10 @@ impl<
     {
         self.wait(rt, pause);
         self.mark_ready();
-        self.outfit.hear();
+        self.hear();
         let all = self.connections.begin_sweep();
         self.serve_due(all, buffer);
-        self.tell();
+        self.tell_beyond();
         self.hand_out(buffer);
         self.tell();
         self.outlook()

@@ -19,7 +19,7 @@ use Rattle.broker_groups.specs.Offering.{OffersTo}
 use Rattle.broker_groups.specs.Outs.{HasOut}
 use Rattle.shared_routes.specs.Known.{KnownState, BindAnswers, HasNoSlot}
 use Rattle.shared_supply.specs.declared.wakes.Wakes.{Wakes}
-use Rattle.shared_supply.specs.Waking.{asking_back, freeing, one_more_if}
+use Rattle.shared_supply.specs.Waking.{asking_back, freeing, one_more_if, one_taken_if}
 use Rattle.shared_supply.specs.Workers.{Worker}
 use Rattle.shared_supply.specs.Settling.{SettlesAndGathers}
 
@@ -71,8 +71,8 @@ module _ (group : ℕ → GroupId) where
   Calls old (Match topic slots) new = (slots ≡ places_of 0 (routed topic old.known.shares)) × (new ≡ old)
   Calls old (Offer slot connection message answer) new =
       OffersTo group old.ports slot message answer new.ports × (new ≡ waking (record old { ports = new.ports }) (one_more_if answer slot old.wakes))
-  Calls old (Take place place' answer) new = TakeAnswers seen_main place (in_group answer) place' × (new ≡ old)
-  Calls old (TakeBack place place' answer) new = TakeBackAnswers seen_returns place (in_group answer) place' × (new ≡ old)
+  Calls old (Take place place' answer) new = TakeAnswers seen_main place (in_group answer) place' × (new ≡ waking old (one_taken_if answer place.group old.wakes))
+  Calls old (TakeBack place place' answer) new = TakeBackAnswers seen_returns place (in_group answer) place' × (new ≡ waking old (one_taken_if answer place.group old.wakes))
   Calls old (Settle place place' envelope fate) new = SettlesAndGathers place envelope fate place' × (new ≡ old)
   Calls old (GiveBack place place' envelope answer) new =
       GiveBackAnswers place envelope answer place' × (new ≡ waking old (one_more_if answer place.group old.wakes))

@@ -1,5 +1,5 @@
 -- What a worker did that others may wait for, and how it is counted.
-use Rattle.std.specs.Prelude.{ℕ, ◌+◌, ◌-◌, ◌^◌, min, true, false, replicate, slice_index, slice_set, Result, Ok, Err}
+use Rattle.std.specs.Prelude.{◌≡◌, ℕ, ◌<◌, ◌+◌, ◌-◌, ◌^◌, min, true, false, replicate, slice_index, slice_set, Option, Some, None, Result, Ok, Err, List}
 use Rattle.session_desk.specs.declared.attached.Attached.{Attached}
 use Rattle.session_desk.specs.declared.attached.Attached.TheVariants.{New, Resumed, Replace, Busy}
 use Rattle.shared_supply.specs.declared.wakes.Wakes.{Wakes}
@@ -8,7 +8,7 @@ use Rattle.shared_supply.specs.declared.wakes.AskedBack.TheVariants.{Nobody, One
 
 -- nobody has anything to wait for
 abbrev pub no_wakes : Wakes
-no_wakes = record { messages = replicate 8 0; asked_back = Nobody; has_freed_session = false }
+no_wakes = record { messages = replicate 8 0; calls = replicate 8 0; asked_back = Nobody; has_freed_session = false }
 
 -- one message more in the group of this slot
 abbrev pub one_more : ℕ → Wakes → Wakes
@@ -18,6 +18,29 @@ one_more slot wakes = record wakes { messages = slice_set wakes.messages slot (m
 abbrev pub one_more_if : {T E : Type 0} → Result T E → ℕ → Wakes → Wakes
 one_more_if (Ok done) slot wakes = one_more slot wakes
 one_more_if (Err refusal) slot wakes = wakes
+
+-- another worker called for a message of the group of this slot
+abbrev pub one_called : ℕ → Wakes → Wakes
+one_called slot wakes = record wakes { calls = slice_set wakes.calls slot (min (slice_index wakes.calls slot + 1) (2 ^ 32 - 1)) }
+
+-- a message of the group of this slot is handed out: one less for which it was called, or else one less for others
+abbrev pub one_taken : ℕ → Wakes → Wakes
+one_taken slot wakes = record wakes {
+  messages = slice_set wakes.messages slot (slice_index wakes.messages slot - (1 - slice_index wakes.calls slot));
+  calls = slice_set wakes.calls slot (slice_index wakes.calls slot - 1);
+}
+
+-- it is where the answer has one
+abbrev pub one_taken_if : {T E : Type 0} → Result (Option T) E → ℕ → Wakes → Wakes
+one_taken_if (Ok (Some envelope)) slot wakes = one_taken slot wakes
+one_taken_if (Ok None) slot wakes = wakes
+one_taken_if (Err refusal) slot wakes = wakes
+
+-- of the messages of each group so many are kept at most, and the others are these
+pub record KeepsAtMost (most others : List ℕ) (old new : Wakes) : Type 0 where
+  pub kept : (slot : ℕ) → slot < 8 → slice_index new.messages slot ≡ min (slice_index old.messages slot) (slice_index most slot)
+  pub all : (slot : ℕ) → slot < 8 → slice_index others slot + slice_index new.messages slot ≡ slice_index old.messages slot
+  pub rest : new ≡ record old { messages = new.messages }
 
 -- the session of this connection is asked back too
 abbrev pub also_asked : AskedBack → ℕ → AskedBack

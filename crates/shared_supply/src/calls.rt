@@ -167,12 +167,18 @@ impl<'a, 'g, B: Broker, R: Wait> Supply<BrokerPlace<B>> for SharedSupply<'a, 'g,
 
     fn take(&mut self, place: &mut BrokerPlace<B>) -> Result<Option<Envelope>, NoMemory> {
         let hall = self.hall;
-        place.take(&hall.groups, self.rt, turn_of(&self.visitor))
+        let slot = place.slot();
+        let taken = place.take(&hall.groups, self.rt, turn_of(&self.visitor));
+        self.wakes.note_taken(slot, &taken);
+        taken
     }
 
     fn take_back(&mut self, place: &mut BrokerPlace<B>) -> Result<Option<Envelope>, NoMemory> {
         let hall = self.hall;
-        place.take_back(&hall.groups, self.rt, turn_of(&self.visitor))
+        let slot = place.slot();
+        let taken = place.take_back(&hall.groups, self.rt, turn_of(&self.visitor));
+        self.wakes.note_taken(slot, &taken);
+        taken
     }
 
     fn settle(&mut self, place: &mut BrokerPlace<B>, envelope: Envelope, fate: Fate) {

@@ -1,8 +1,8 @@
 //! What a worker has of a broker.
-ghost use Rattle.std.specs.Prelude.{◌≡◌, true};
+ghost use Rattle.std.specs.Prelude.{◌≡◌, ◌<◌, true};
 ghost use Rattle.gate_word.specs.Visits.{Ends};
 ghost use Rattle.gate_word.specs.declared.visitor.Visitor.TheVariants.{Inside, Outside};
-ghost use Rattle.shared_supply.specs.Waking.{no_wakes};
+ghost use Rattle.shared_supply.specs.Waking.{KeepsAtMost, no_wakes, one_called};
 ghost use Rattle.shared_supply.specs.Workers.{Begins, Leaves, standing, is_inside};
 
 use crate::hall::Hall;
@@ -78,6 +78,30 @@ impl<'a, 'g, B: Broker, R: Wait> SharedSupply<'a, 'g, B, R> {
         ensures cleared { self.new ≡ record self.old { wakes = no_wakes } }
     {
         mem::replace(&mut self.wakes, Wakes::none())
+    }
+
+    /// What it did since it was last asked that others may wait for; it stays to be told.
+    pub fn wakes(&self) -> &Wakes
+        ensures { result.now ≡ self.now.wakes }
+    {
+        &self.wakes
+    }
+
+    /// Another worker called it for a message of the group of this slot: its next hand-out there is no message less for others.
+    pub fn count_call(&mut self, slot: usize)
+        requires { slot < 8 }
+        ensures { self.new ≡ record self.old { wakes = one_called slot self.old.wakes } }
+    {
+        self.wakes.count_call(slot);
+    }
+
+    /// Keeps so many of the messages of each group at most among what others may wait for, and gives back how many more there were: for those others can be
+    /// woken at once, while this worker goes on to hand out what it keeps.
+    pub fn keep_messages(&mut self, most: &[u32; 8]) -> [u32; 8]
+        ensures kept { KeepsAtMost most.now result self.old.wakes self.new.wakes }
+        ensures same { self.new ≡ record self.old { wakes = self.new.wakes } }
+    {
+        self.wakes.keep(most)
     }
 
     /// Its key and its ports. A worker that is inside leaves first.

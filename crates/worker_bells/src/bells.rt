@@ -59,25 +59,33 @@ impl Listening {
         self.slot
     }
 
-    /// At the beginning of a turn: if it was idle, it is not any more, and knows whether it rang meanwhile.
-    pub fn hear(&mut self)
+    /// At the beginning of a turn: if it was idle, it is not any more, and knows whether it rang meanwhile. Whether it did, so that this worker may be the one that
+    /// was called.
+    pub fn hear(&mut self) -> bool
         ensures { IsEarOfSame self.old self.new }
     {
-        if self.is_settled {
-            if !self.bell.settle(&mut self.listener) {
-                self.is_rung = true;
-                self.is_called = true;
-            }
-            self.bell.listen(&mut self.listener);
-            self.is_settled = false;
+        if !self.is_settled {
+            return false;
         }
+        let called = !self.bell.settle(&mut self.listener);
+        if called {
+            self.is_rung = true;
+            self.is_called = true;
+        }
+        self.bell.listen(&mut self.listener);
+        self.is_settled = false;
+        called
     }
 
-    /// At the end of a turn behind which members wait: it is idle from now on. Whether the worker may wait: it rang for nobody since it was heard last.
+    /// At the end of a turn behind which members wait: it is idle from now on. Whether the worker may wait: it rang for nobody since it was heard last, and
+    /// nothing is noted for the group's members that they were not served since.
     pub fn settle(&mut self) -> bool
         ensures settled { result ≡ true → HasSettled self.new.ear }
         ensures same { IsEarOfSame self.old self.new }
     {
+        if self.is_rung {
+            return false;
+        }
         if self.is_settled {
             return true;
         }

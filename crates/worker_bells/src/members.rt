@@ -85,6 +85,11 @@ impl Members {
         slot < self.takers.len() && self.takers[slot] > 0
     }
 
+    /// How many would be handed a job of each group.
+    pub fn takers(&self) -> &[u32; 8] {
+        &self.takers
+    }
+
     /// Whether the connection in this cell would be.
     pub fn takes(&self, cell: usize, slot: usize) -> bool {
         match self.wishes.get(cell) {

@@ -43,10 +43,11 @@ impl<W: Wake> Outfit<W> {
         }
     }
 
-    /// Hears which bells rang.
-    pub fn hear(&mut self) {
-        for ear in &mut self.ears {
-            ear.hear();
+    /// Hears whether the bell of a group rang while this worker was idle there, so that it may be the one that was called.
+    pub fn hear(&mut self, slot: usize) -> bool {
+        match self.ears.get_mut(slot) {
+            Some(ear) => ear.hear(),
+            None => false,
         }
     }
 
@@ -77,8 +78,17 @@ impl<W: Wake> Outfit<W> {
         }
     }
 
+    /// Notes of each group that there is something for the worker's own members, where there are so many messages.
+    pub fn note_each(&mut self, messages: &[u32; SLOTS])
+        ensures { self.new ≡ self.old }
+    {
+        'slots: for slot in 0..SLOTS {
+            self.note_some(slot, messages[slot]);
+        }
+    }
+
     /// Notes that there is something for the worker's own members of a group, where there are so many messages.
-    fn note_some(&mut self, slot: usize, count: usize)
+    fn note_some(&mut self, slot: usize, count: u32)
         ensures { self.new ≡ self.old }
     {
         if count > 0 {
@@ -99,14 +109,12 @@ impl<W: Wake> Outfit<W> {
         }
     }
 
-    /// Rings for so many workers that have members of each group, one group after the other, and notes that there is something for its own members.
+    /// Rings for so many workers that have members of each group, one group after the other.
     pub fn ring_each(&mut self, wanted: &[u32; SLOTS])
         ensures { AreRung 0 wanted.now self.old.hands self.new.hands }
     {
         'slots: for slot in 0..SLOTS {
-            let count = wanted[slot] as usize;
-            self.note_some(slot, count);
-            self.ring(slot, count);
+            self.ring(slot, wanted[slot] as usize);
         }
     }
 

@@ -1,7 +1,7 @@
 -- One group after the other.
-use Rattle.std.proofs.Common.{◌≡◌, ◌<◌, ◌+◌, ℕ, List, length, take, get_or, subst, sym, ap, arith}
+use Rattle.std.proofs.Common.{◌≡◌, ◌<◌, ◌+◌, ℕ, List, length, take, get_or, subst, sym, arith}
 use Rattle.std.proofs.lemmas.List.{length-take-le, take_more}
-use Rattle.worker_bells.specs.Ringing.{AreRung, HandState, IsRung, OutfitState}
+use Rattle.worker_bells.specs.Ringing.{AreRung, IsRung}
 use Rattle.worker_bells.proofs.Ringing.{group_more}
 use Rattle.worker_bells.proofs.outfit.Outfit.ring_each.Goals as goal
 
@@ -11,10 +11,8 @@ slots-preserved g c =
     let slot = c.slots.slot in
     let count = get_or wanted slot 0 in
     let within : slot < length wanted = omega (arith, c.told-wanted) in
-    let From : List HandState → Type 0 = λ hands. IsRung slot count hands c.ring.new.self.hands in
     let At : ℕ → Type 0 = λ n. IsRung n count c.slots.self.hands c.ring.new.self.hands in
-    let one = subst From (ap (λ (o : OutfitState). o.hands) c.note_some.ensures) c.ring.ensures.rung in
     let Rung : List ℕ → Type 0 = λ before. AreRung 0 before c.args.self.now.hands c.ring.new.self.hands in
     let at : slot ≡ 0 + length (take slot wanted) = omega (arith, length-take-le slot wanted (omega arith)) in
     subst Rung (sym (take_more wanted slot 0 within))
-    (group_more 0 count (take slot wanted) c.args.self.now.hands c.slots.self.hands c.ring.new.self.hands c.slots.invariant (subst At at one))
+    (group_more 0 count (take slot wanted) c.args.self.now.hands c.slots.self.hands c.ring.new.self.hands c.slots.invariant (subst At at c.ring.ensures.rung))
