@@ -287,7 +287,7 @@ impl<'a, 'g, B: Broker, T: Transport + Drop, R: Wait> Connections<'a, 'g, B, T, 
             members,
         } = self;
         drop(members);
-        table.abandon(&mut supply, 0);
+        abandon(table, &mut supply);
         let (key, ports) = supply.into_parts();
         (Hand { key, ports }, receiver, served)
     }
@@ -310,6 +310,14 @@ fn turn<'a, 'g, B: Broker, T: Transport, R: Wait, X: Crossing>(
     ensures count { occupied table.old ≡ occupied table.new + ended_by result }
 {
     table.round(cell, supply, crossing, worker, now, buffer)
+}
+
+/// Lets go of the connections that are still open.
+fn abandon<'a, 'g, B: Broker, T: Transport + Drop, R: Wait>(
+    table: ServiceTable<BrokerPlace<B>, T>,
+    supply: &mut SharedSupply<'a, 'g, B, R>,
+) {
+    table.abandon(supply, 0);
 }
 
 /// Notes what the connection in a cell would do if others did something.

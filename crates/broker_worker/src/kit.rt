@@ -60,16 +60,42 @@ pub fn kits<T: Transport + Drop, Q: Drop, W: Wake + Drop, C: Drop>(
 {
     let mut gear = gear;
     let mut receivers = receivers;
-    let share = share_of(gear.len());
     let mut outfits = outfits(alloc, roster, gear.len())?;
     let mut kits = Vec::with_capacity(alloc, gear.len())?;
+    add_kits(
+        alloc,
+        &mut kits,
+        &mut gear,
+        sender,
+        &mut receivers,
+        &mut outfits,
+    )?;
+    Ok(kits)
+}
+
+/// The kits of all workers, the last worker's first.
+fn add_kits<T: Transport + Drop, Q: Drop, W: Drop, C: Drop>(
+    alloc: Global,
+    kits: &mut Vec<Kit<T, Q, W, C>>,
+    gear: &mut Vec<Gear<Q, C>>,
+    sender: &Sender<Arrived<T>>,
+    receivers: &mut Vec<Receiver<Arrived<T>>>,
+    outfits: &mut Vec<Outfit<W>>,
+) -> Result<(), NoMemory>
+    requires none { kits.old.items ≡ [] }
+    requires receivers { AreReceivers sender.now.channel (length gear.old.items) receivers.old.items }
+    requires outfits { length outfits.old.items ≡ length gear.old.items }
+    ensures count { OnOk result (length kits.new.items ≡ length gear.old.items) }
+    ensures each { OnOk result (All (λ kit. kit ≡ new_receiver sender.now.channel) kits.new.items) }
+{
+    let share = share_of(gear.len());
     'kits: while let Some(own) = gear.pop() {
         let (Some(receiver), Some(outfit)) = (receivers.pop(), outfits.pop()) else {
             unreachable!()
         };
-        add_kit(alloc, &mut kits, gear.len(), share, own, receiver, outfit)?;
+        add_kit(alloc, kits, gear.len(), share, own, receiver, outfit)?;
     }
-    Ok(kits)
+    Ok(())
 }
 
 /// One kit more: that of the worker of a number.

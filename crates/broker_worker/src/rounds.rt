@@ -66,13 +66,20 @@ impl<
         ensures notes { cell < length self.old.connections.cells → Notes cell (length self.old.connections.cells) self.old.connections.sweeps self.new.connections.sweeps }
     {
         let worker = u32::try_from(self.number).unwrap_or(u32::MAX);
-        match self
+        let went = self
             .connections
-            .round(cell, self.crossing, &mut self.poller, worker, buffer)
-        {
+            .round(cell, self.crossing, &mut self.poller, worker, buffer);
+        self.note(cell, went)
+    }
+
+    /// Notes what a round made of a cell: whose connection can do more at once is due again, and one that has ended is not counted any more.
+    fn note(&mut self, cell: usize, went: Went) -> Option<Round>
+        ensures { self.new ≡ self.old }
+    {
+        match went {
             Went::Nowhere => None,
             Went::On(round) => {
-                if round == Round::More {
+                if matches!(round, Round::More) {
                     self.due.mark(cell);
                 }
                 Some(round)

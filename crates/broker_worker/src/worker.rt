@@ -181,6 +181,13 @@ impl<
         if called {
             self.answer(rt);
         }
+        self.receive_end(rt);
+    }
+
+    /// Receives its end mark, where the broker closes and all connections were received.
+    fn receive_end(&mut self, rt: &R)
+        ensures { StaysOf self.old.connections self.new.connections }
+    {
         if self.closing && self.roster.is_all_received() {
             self.receive(rt);
         }

@@ -1,7 +1,7 @@
 -- The kits so far, and what is left for the others.
 use Rattle.std.proofs.Common.{◌≡◌, ◌+◌, All, length, vec_len}
 use Rattle.conn_channel.specs.Ends.{AreReceivers, new_receiver}
-use Rattle.broker_worker.proofs.kit.kits.Given as goal
+use Rattle.broker_worker.proofs.kit.add_kits.Given as goal
 
 abbrev pub invariant-kits : goal.invariant-kits
 invariant-kits g l = record {

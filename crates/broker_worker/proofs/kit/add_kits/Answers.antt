@@ -3,7 +3,7 @@ use Rattle.std.proofs.Common.{◌≡◌, ◌++◌, [], ◌∷◌, Some, length, 
 use Rattle.std.proofs.Math.ListN.{length-append}
 use Rattle.std.proofs.lemmas.List.Elements.{All-pop, All-push, All-same}
 use Rattle.conn_channel.specs.Ends.{ReceiverState, new_receiver}
-use Rattle.broker_worker.proofs.kit.kits.Goals as goal
+use Rattle.broker_worker.proofs.kit.add_kits.Goals as goal
 
 pub kits-preserved : goal.kits-preserved
 kits-preserved g c =
