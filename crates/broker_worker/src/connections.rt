@@ -86,9 +86,8 @@ impl<'a, 'g, B: Broker, T: Transport + Drop, R: Wait> Connections<'a, 'g, B, T, 
         members: Members,
     ) -> Connections<'a, 'g, B, T, R>
         requires receiver { receiver.received ≡ [] }
-        requires table { table ≡ replicate (length table) None }
+        requires table { table ≡ replicate (length members) None }
         requires supply { supply.wakes ≡ no_wakes }
-        requires members { length members ≡ length table }
         ensures { AreFresh receiver result }
     {
         Connections {

@@ -4,6 +4,7 @@ ghost use Rattle.broker_worker.specs.Serving.{Rounds};
 ghost use Rattle.broker_worker.specs.Sweeping.{HasGone, IsInTime, Notes};
 
 use crate::connections::Went;
+use crate::marks::Marks;
 use crate::poller::Poller;
 use crate::worker::{READ_SIZE, Worker};
 use bell::Wake;
@@ -11,7 +12,7 @@ use broker_groups::Broker;
 use conn_service::Round;
 use std::sync::Wait;
 use transport::{Clock, Crossing, Transport};
-use worker_bells::SLOTS;
+use worker_bells::{Roster, SLOTS};
 
 impl<
     'a,
@@ -24,18 +25,6 @@ impl<
     C: Clock + Drop,
     R: Wait,
 > Worker<'a, 'g, B, T, Q, W, X, C, R> {
-    /// Those that may be read or written are due.
-    pub(crate) fn mark_ready(&mut self)
-        ensures { self.new.connections ≡ self.old.connections }
-    {
-        'ready: for _ in 0..self.connections.len() {
-            match self.poller.take_ready() {
-                Some(cell) => self.due.mark(cell),
-                None => return,
-            }
-        }
-    }
-
     /// Goes on with each connection that is due, once; or with all of them, where a sweep has begun.
     pub(crate) fn serve_due(&mut self, all: bool, buffer: &mut [u8; READ_SIZE])
         requires late { all ≡ true → HasGone 0 (length self.old.connections.cells) self.old.connections.sweeps }
@@ -69,26 +58,7 @@ impl<
         let went = self
             .connections
             .round(cell, self.crossing, &mut self.poller, worker, buffer);
-        self.note(cell, went)
-    }
-
-    /// Notes what a round made of a cell: whose connection can do more at once is due again, and one that has ended is not counted any more.
-    fn note(&mut self, cell: usize, went: Went) -> Option<Round>
-        ensures { self.new ≡ self.old }
-    {
-        match went {
-            Went::Nowhere => None,
-            Went::On(round) => {
-                if matches!(round, Round::More) {
-                    self.due.mark(cell);
-                }
-                Some(round)
-            }
-            Went::ToItsEnd => {
-                self.roster.leave(self.number);
-                None
-            }
-        }
+        note_went(&mut self.due, self.roster, self.number, cell, went)
     }
 
     /// Goes on with members of the groups for which it rang. Where this worker was called, and none of them could be handed a job, it rings for another one.
@@ -118,7 +88,7 @@ impl<
             }
             let cell = first.wrapping_add(step) % count;
             if self.connections.members().takes(cell, slot) {
-                let went_on = self.serve_member(cell, buffer);
+                let went_on = can_go_on(self.round(cell, buffer));
                 seen = seen || went_on;
                 if went_on && self.connections.members().takes(cell, slot) {
                     self.connections.begin_at(cell);
@@ -128,14 +98,50 @@ impl<
         }
         seen
     }
+}
 
-    /// Goes on with the connection in a cell by a round. Whether it has not ended, and does not wait until its client reads.
-    fn serve_member(&mut self, cell: usize, buffer: &mut [u8; READ_SIZE]) -> bool
-        ensures { Rounds self.old.connections self.new.connections }
-    {
-        match self.round(cell, buffer) {
-            Some(Round::Writing) | None => false,
-            Some(_) => true,
+/// Those that may be read or written are due: of so many cells.
+pub(crate) fn mark_ready<T: Transport, Q: Poller<T>>(
+    poller: &mut Q,
+    due: &mut Marks,
+    count: usize,
+) {
+    for _ in 0..count {
+        match poller.take_ready() {
+            Some(cell) => due.mark(cell),
+            None => return,
         }
+    }
+}
+
+/// Notes what a round made of a cell: whose connection can do more at once is due again, and one that has ended has left the worker. What it waits for; `None` where
+/// there is none, or it has ended.
+fn note_went<W: Wake>(
+    due: &mut Marks,
+    roster: &Roster<W>,
+    number: usize,
+    cell: usize,
+    went: Went,
+) -> Option<Round> {
+    match went {
+        Went::Nowhere => None,
+        Went::On(round) => {
+            if matches!(round, Round::More) {
+                due.mark(cell);
+            }
+            Some(round)
+        }
+        Went::ToItsEnd => {
+            roster.leave(number);
+            None
+        }
+    }
+}
+
+/// Whether a connection has not ended, and does not wait until its client reads.
+fn can_go_on(round: Option<Round>) -> bool {
+    match round {
+        Some(Round::Writing) | None => false,
+        Some(_) => true,
     }
 }

@@ -12,7 +12,7 @@ use broker_groups::Broker;
 use shared_supply::AskedBack;
 use std::sync::Wait;
 use transport::{Clock, Crossing, Transport};
-use worker_bells::SLOTS;
+use worker_bells::{Roster, SLOTS};
 
 impl<
     'a,
@@ -42,36 +42,12 @@ impl<
         ensures told { self.new.connections ≡ record self.old.connections { wakes = no_wakes } }
         ensures rung { AreRung 0 self.old.connections.wakes.messages self.old.bells.hands self.new.bells.hands }
     {
-        self.tell_whether_waiting();
+        let waits = self.connections.members().has_waiting();
+        tell_whether_waiting(&mut self.waits, waits, self.roster, self.number);
         let wakes = self.connections.take_wakes();
         self.outfit.note_each(&wakes.messages);
         self.outfit.ring_each(&wakes.messages);
-        self.call(wakes.asked_back, wakes.has_freed_session);
-    }
-
-    /// Calls whom it concerns that sessions were asked back, and that one is free.
-    fn call(&self, asked_back: AskedBack, has_freed_session: bool) {
-        match asked_back {
-            AskedBack::Nobody => {}
-            AskedBack::One(connection) => {
-                self.roster.call_all_due(self.roster.worker_of(connection))
-            }
-            AskedBack::Several => self.roster.call_everybody(),
-        }
-        if has_freed_session {
-            self.roster.call_waiting();
-        }
-    }
-
-    /// Tells the others whether a connection of it waits for a session, where that has changed.
-    fn tell_whether_waiting(&mut self)
-        ensures { self.new ≡ self.old }
-    {
-        let waits = self.connections.members().has_waiting();
-        if waits != self.waits {
-            self.waits = waits;
-            self.roster.note_waiting(self.number, waits);
-        }
+        call(self.roster, wakes.asked_back, wakes.has_freed_session);
     }
 
     /// Hears where others called it while it was idle.
@@ -112,5 +88,25 @@ impl<
             return left.min(END_PAUSE);
         }
         left
+    }
+}
+
+/// Calls whom it concerns that sessions were asked back, and that one is free.
+fn call<W: Wake>(roster: &Roster<W>, asked_back: AskedBack, has_freed_session: bool) {
+    match asked_back {
+        AskedBack::Nobody => {}
+        AskedBack::One(connection) => roster.call_all_due(roster.worker_of(connection)),
+        AskedBack::Several => roster.call_everybody(),
+    }
+    if has_freed_session {
+        roster.call_waiting();
+    }
+}
+
+/// Tells the others whether a connection of this worker waits for a session, where that has changed since it told so.
+fn tell_whether_waiting<W: Wake>(told: &mut bool, waits: bool, roster: &Roster<W>, number: usize) {
+    if waits != *told {
+        *told = waits;
+        roster.note_waiting(number, waits);
     }
 }

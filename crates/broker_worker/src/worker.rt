@@ -10,6 +10,7 @@ use crate::hand::Hand;
 use crate::kit::{Gear, Kit};
 use crate::marks::Marks;
 use crate::poller::Poller;
+use crate::rounds::mark_ready;
 use crate::served::ServedCounts;
 use bell::Wake;
 use broker_groups::{Broker, BrokerPlace};
@@ -161,7 +162,7 @@ impl<
         ensures ticked { AreTicked self.new.connections.sweeps.latest self.new.connections.cells }
     {
         self.wait(rt, pause);
-        self.mark_ready();
+        mark_ready(&mut self.poller, &mut self.due, self.connections.len());
         self.hear();
         let all = self.connections.begin_sweep();
         self.serve_due(all, buffer);
@@ -213,17 +214,8 @@ impl<
     fn receive(&mut self, rt: &R)
         ensures { StaysOf self.old.connections self.new.connections }
     {
-        match self.connections.receive(rt, &mut self.poller) {
-            Came::Opened(cell) => {
-                self.roster.note_received();
-                self.due.mark(cell);
-            }
-            Came::Refused => {
-                self.roster.note_received();
-                self.roster.leave(self.number);
-            }
-            Came::EndMark | Came::Nothing => {}
-        }
+        let came = self.connections.receive(rt, &mut self.poller);
+        note_came(&mut self.due, self.roster, self.number, came);
     }
 
     /// What it had of the broker, its end of the channel, and how its connections ended. Any that is still open ends as where the broker closes.
@@ -251,14 +243,28 @@ impl<
     }
 }
 
+/// Notes what came through the channel: a connection that is open is due, and one that was not opened has left the worker.
+fn note_came<W: Wake>(due: &mut Marks, roster: &Roster<W>, number: usize, came: Came) {
+    match came {
+        Came::Opened(cell) => {
+            roster.note_received();
+            due.mark(cell);
+        }
+        Came::Refused => {
+            roster.note_received();
+            roster.leave(number);
+        }
+        Came::EndMark | Came::Nothing => {}
+    }
+}
+
 /// The cells of a worker's connections, all free.
 fn table_of<B: Broker, T: Transport>(
     alloc: Global,
     number: usize,
     share: u16,
 ) -> Result<ServiceTable<BrokerPlace<B>, T>, NoMemory>
-    ensures free { IfOk result (λ table. table ≡ replicate (length table) None) }
-    ensures count { IfOk result (λ table. length table ≡ share) }
+    ensures { IfOk result (λ table. table ≡ replicate share None) }
 {
     let first = number.saturating_mul(usize::from(share));
     if first >= usize::from(MOST_CONNECTIONS) {

@@ -1,5 +1,6 @@
 -- None was received, and all cells are free.
-use Rattle.std.proofs.Common.{◌≡◌, ℕ, length, refl, sym, subst, ap}
+use Rattle.std.proofs.Common.{◌≡◌, ℕ, length, None, refl, sym, subst, ap, ◌∙◌}
+use Rattle.std.proofs.lemmas.List.{length-replicate}
 use Rattle.service_table.proofs.Occupied.{replicate-occupied}
 use Rattle.broker_worker.specs.Counting.{none_served}
 use Rattle.broker_worker.specs.Serving.{IsAccounted}
@@ -15,6 +16,6 @@ invariant_of-result g c =
       subst Accounted (sym none)
           (fresh g.B.Broker.group g.T.Transport.counts g.T.Transport.given g.T.Transport.accepted _ c.args.table c.requires.table (replicate-occupied _ c.args.table c.requires.table)),
       free _ c.args.table _ c.requires.table refl refl refl,
-      c.requires.members,
+      sym (ap length c.requires.table ∙ length-replicate (length c.args.members) None),
       none_wished _ c.args.table c.args.members c.requires.table,
     )
