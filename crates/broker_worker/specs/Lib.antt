@@ -3,3 +3,5 @@ pub mod Lives
 pub mod Resting
 pub mod Serving
 pub mod Sweeping
+pub use Rattle.worker_bells.specs.Ringing
+pub use Rattle.worker_bells.specs.Wishing
