@@ -1,11 +1,7 @@
 //! Plays over the supply that threads share, and over the server on one thread: both write the same.
 ghost use Rattle.std.specs.Prelude.{◌≡◌, true};
 
-use crate::broker::{Built, Day, open, shut};
-use crate::ending::Counts;
-use crate::shares::{bind, share_of};
 use crate::telling::tell;
-use crate::worker::{Shift, work_alone};
 use broker_groups::{Broker, BrokerPlace, Key};
 use client_table::{CLIENTS, ClientTable, Said};
 use conn_engine::{HoldingPlace, NoMemory, Supply};
@@ -18,7 +14,10 @@ use std::alloc::Global;
 use std::process::Abort;
 use std::sync::Wait;
 use std::test::Fail;
-use std::thread::Threads;
+use test_broker::broker::{Built, Day, open, shut};
+use test_broker::ending::Counts;
+use test_broker::shares::{bind, share_of};
+use test_broker::worker::{Shift, work_alone};
 
 /// An event happens, within a visit.
 fn serve<P: HoldingPlace, S: Supply<P>>(
@@ -165,7 +164,7 @@ impl<'t> Shift for Stage<'t> {
 impl<'t> Day for Stage<'t> {
     type Told = Vec<Counts>;
 
-    fn pass<B: Broker + Send + Sync, R: Threads + Wait + Sync>(
+    fn pass<B: Broker, R: Wait>(
         &mut self,
         rt: &R,
         alloc: Global,
@@ -222,7 +221,7 @@ fn compare_reports(rt: &impl Abort, alloc: Global, name: &str, lines: &str, coun
 }
 
 /// A play writes the same over both, and each group's report counts the same.
-fn compare<R: Threads + Wait + Sync + Abort>(rt: &R, alloc: Global, play: &Play<'_>) {
+fn compare<R: Wait + Abort>(rt: &R, alloc: Global, play: &Play<'_>) {
     let mut stage = Stage::of(alloc, play);
     let capacity = play.capacity.max(1).min(65_536);
     let counts = open(rt, alloc, capacity, 1, &mut stage).expect(rt, "a day");

@@ -2,17 +2,16 @@
 ghost use Rattle.std.specs.Prelude.{◌≡◌, [], true};
 ghost use Rattle.broker_groups.specs.Outs.{HasOut};
 
-use crate::broker::{Built, Day, open};
-use crate::calls::{acknowledge, offer};
-use crate::ending::Counts;
-use crate::worker::{Shift, work_alone};
 use broker_groups::{Broker, BrokerPlace, Key};
 use conn_engine::Supply;
 use gate_word::Gate;
 use std::alloc::Global;
 use std::sync::Wait;
 use std::test::Fail;
-use std::thread::Threads;
+use test_broker::broker::{Built, Day, open};
+use test_broker::calls::{acknowledge, offer};
+use test_broker::ending::Counts;
+use test_broker::worker::{Shift, work_alone};
 
 /// How many jobs each place settles.
 const JOBS: u32 = 100;
@@ -80,7 +79,7 @@ impl Shift for Runs {
 impl Day for Runs {
     type Told = Vec<Counts>;
 
-    fn pass<B: Broker + Send + Sync, R: Threads + Wait + Sync>(
+    fn pass<B: Broker, R: Wait>(
         &mut self,
         rt: &R,
         alloc: Global,

@@ -1,35 +1,13 @@
-//! The tests of `shared_supply`.
+//! The tests of `shared_supply` on one thread: rows of calls, and plays beside the server on one thread, byte for byte.
 #![tactic(auto)]
 
 #[cfg(test)]
 mod acting;
 #[cfg(test)]
-mod broker;
-#[cfg(test)]
-mod calls;
-#[cfg(test)]
 mod clients;
-#[cfg(test)]
-mod ending;
 #[cfg(test)]
 mod gathering;
 #[cfg(test)]
 mod one_day;
 #[cfg(test)]
-mod packets;
-#[cfg(test)]
-mod pair;
-#[cfg(test)]
-mod row;
-#[cfg(test)]
-mod row_end;
-#[cfg(test)]
-mod seen;
-#[cfg(test)]
-mod shares;
-#[cfg(test)]
 mod telling;
-#[cfg(test)]
-mod worker;
-#[cfg(test)]
-mod workers;

@@ -1,10 +1,7 @@
 //! One broker with one worker on one thread, from its opening to its reports.
 ghost use Rattle.std.specs.Prelude.{◌≡◌};
 
-use crate::broker::{Built, Day, open, shut};
 use crate::clients::{WRITTEN, two_clients};
-use crate::ending::Counts;
-use crate::worker::{Shift, work_alone};
 use broker_groups::{Broker, BrokerPlace, Key};
 use conn_engine::Supply;
 use gate_word::Gate;
@@ -13,7 +10,9 @@ use std::alloc::Global;
 use std::marker::Brand;
 use std::sync::Wait;
 use std::test::Fail;
-use std::thread::Threads;
+use test_broker::broker::{Built, Day, open, shut};
+use test_broker::ending::Counts;
+use test_broker::worker::{Shift, work_alone};
 
 /// Two clients come to the worker, once the gate was shut or while it is open. What they are written.
 #[derive(Drop)]
@@ -40,7 +39,7 @@ impl Shift for TwoClients {
 impl Day for TwoClients {
     type Told = Vec<Counts>;
 
-    fn pass<B: Broker + Send + Sync, R: Threads + Wait + Sync>(
+    fn pass<B: Broker, R: Wait>(
         &mut self,
         rt: &R,
         alloc: Global,

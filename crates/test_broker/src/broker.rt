@@ -1,0 +1,201 @@
+//! A broker that is opened, and what is done with it.
+ghost use Rattle.std.specs.Prelude.{◌≡◌, ◌≤◌, ◌<◌, All, IfSome};
+ghost use Rattle.gate_word.specs.Seats.{AreSeatsOf};
+ghost use Rattle.broker_groups.specs.Naming.{HasNoneOut, IsOfBroker};
+
+use broker_groups::{Broker, BrokerPlace, Key, Named, Opened, Ports};
+use gate_word::{Gate, GateSeat};
+use shared_desk::SharedDesk;
+use shared_routes::SharedRoutes;
+use shared_supply::Hall;
+use std::alloc::Global;
+use std::marker::Brand;
+use std::sync::Wait;
+
+/// What a worker has of a broker.
+#[derive(Drop)]
+pub struct Hand<B: Broker> {
+    pub key: Key<B>,
+    pub ports: Ports<B>,
+}
+
+/// A broker that is open: its hall, what each worker has, and a key for who shuts the gate.
+pub struct Built<'g, B: Broker> {
+    pub hall: Hall<'g, B>,
+    pub hands: Vec<Hand<B>>,
+    pub spare: Key<B>,
+}
+
+/// What is done with a broker from its opening to its end.
+pub trait Day {
+    /// What is told of it.
+    type Told;
+
+    /// Does it, and ends the broker. Where memory was wanted for that, nothing is told.
+    fn pass<B: Broker, R: Wait>(
+        &mut self,
+        rt: &R,
+        alloc: Global,
+        gate: &Gate,
+        built: Built<'_, B>,
+    ) -> Option<Self::Told>
+        requires { gate.now ≡ B.gate };
+}
+
+/// Gives the desk all places.
+fn furnish<B: Broker, R: Wait>(
+    rt: &R,
+    desk: &SharedDesk<BrokerPlace<B>>,
+    places: Vec<BrokerPlace<B>>,
+)
+    requires { All HasNoneOut places.items }
+{
+    let mut places = places;
+    'places: while let Some(place) = places.pop() {
+        give_place(rt, desk, place);
+    }
+}
+
+/// Gives the desk a place.
+fn give_place<B: Broker, R: Wait>(rt: &R, desk: &SharedDesk<BrokerPlace<B>>, place: BrokerPlace<B>)
+    requires { HasNoneOut place }
+{
+    let _back = desk.take_place(rt, place);
+}
+
+/// Shuts the gate, and says whether it was drained then.
+pub fn shut<B: Broker>(gate: &Gate, key: Key<B>) -> bool
+    requires { gate.now ≡ B.gate }
+{
+    let mut seat = key.into_seat();
+    gate.shut(&mut seat);
+    gate.drained(&mut seat).is_some()
+}
+
+/// A key by the last seat.
+fn take_key<B: Broker>(gate: &Gate, seats: &mut Vec<GateSeat>) -> Option<Key<B>>
+    requires gate { gate.now ≡ B.gate }
+    requires seats { AreSeatsOf gate.now seats.old.items }
+    ensures { AreSeatsOf gate.now seats.new.items }
+{
+    let _ = gate;
+    match seats.pop() {
+        Some(seat) => Some(Key::of(seat)),
+        None => None,
+    }
+}
+
+/// What each worker has: a seat and ports.
+fn deal<B: Broker>(
+    alloc: Global,
+    gate: &Gate,
+    seats: &mut Vec<GateSeat>,
+    ports: Vec<Ports<B>>,
+) -> Vec<Hand<B>>
+    requires gate { gate.now ≡ B.gate }
+    requires seats { AreSeatsOf gate.now seats.old.items }
+{
+    let mut hands = Vec::new(alloc);
+    let mut left = ports;
+    'hands: while let Some(ports) = left.pop() {
+        if let Some(key) = take_key(gate, seats) {
+            if let Err(refused) = hands.push(Hand { key, ports }) {
+                drop(refused);
+            }
+        }
+    }
+    hands
+}
+
+/// Names what was opened, and furnishes the desk. Where memory is wanted, the groups are given up.
+pub fn build<'g, B: Broker, R: Wait>(
+    rt: &R,
+    alloc: Global,
+    gate: &'g Gate,
+    seats: Vec<GateSeat>,
+    opened: Opened<'g>,
+    workers: u8,
+) -> Option<Built<'g, B>>
+    requires gate { gate.now ≡ B.gate }
+    requires seats { AreSeatsOf gate.now seats.items }
+    requires opened { IsOfBroker B.gate B.group workers opened }
+{
+    let Named {
+        groups,
+        ports,
+        places,
+    } = match opened.name::<B>(alloc, workers) {
+        Ok(named) => named,
+        Err(_) => return None,
+    };
+    let mut seats = seats;
+    let Some(spare) = take_key(gate, &mut seats) else {
+        groups.abandon();
+        return None;
+    };
+    let Ok(desk) = SharedDesk::new(alloc) else {
+        groups.abandon();
+        return None;
+    };
+    furnish(rt, &desk, places);
+    let hands = deal(alloc, gate, &mut seats, ports);
+    let hall = Hall::new(gate, groups, desk, SharedRoutes::new());
+    Some(Built { hall, hands, spare })
+}
+
+/// The day of a broker with so many workers.
+fn live<B: Broker, D: Day, R: Wait>(
+    rt: &R,
+    alloc: Global,
+    gate: &Gate,
+    seats: Vec<GateSeat>,
+    opened: Opened<'_>,
+    workers: u8,
+    day: &mut D,
+) -> Option<D::Told>
+    requires gate { gate.now ≡ B.gate }
+    requires seats { AreSeatsOf gate.now seats.items }
+    requires opened { IsOfBroker B.gate B.group workers opened }
+{
+    match build::<B, R>(rt, alloc, gate, seats, opened, workers) {
+        Some(built) => day.pass(rt, alloc, gate, built),
+        None => None,
+    }
+}
+
+/// The same, of groups that are opened and named by what they are.
+fn open_groups<D: Day, R: Wait>(
+    rt: &R,
+    alloc: Global,
+    gate: &Gate,
+    seats: Vec<GateSeat>,
+    capacity: usize,
+    workers: u8,
+    day: &mut D,
+) -> Option<D::Told>
+    requires seats { AreSeatsOf gate.now seats.items }
+    requires capacity { (1 ≤ capacity) × (capacity ≤ 65536) }
+    requires workers { (1 ≤ workers) × (workers ≤ 63) }
+{
+    match Opened::open(alloc, gate, capacity, workers) {
+        Ok(opened) => live::<Brand, D, R>(rt, alloc, gate, seats, opened, workers, day),
+        Err(_) => None,
+    }
+}
+
+/// A broker for so many workers, in each of whose groups so many messages may wait, lives a day.
+pub fn open<D: Day, R: Wait>(
+    rt: &R,
+    alloc: Global,
+    capacity: usize,
+    workers: u8,
+    day: &mut D,
+) -> Option<D::Told>
+    requires capacity { (1 ≤ capacity) × (capacity ≤ 65536) }
+    requires workers { (1 ≤ workers) × (workers ≤ 63) }
+{
+    match Gate::open(alloc, usize::from(workers) + 1) {
+        Ok((gate, seats)) => open_groups(rt, alloc, &gate, seats, capacity, workers, day),
+        Err(_) => None,
+    }
+}

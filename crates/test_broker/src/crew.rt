@@ -1,0 +1,204 @@
+//! Workers of a broker in threads of their own.
+ghost use Rattle.std.specs.Prelude.{◌≡◌, ◌≤◌};
+ghost use Rattle.gate_word.specs.Seats.{AreSeatsOf};
+ghost use Rattle.broker_groups.specs.Naming.{IsOfBroker};
+
+use crate::broker::{Built, Hand, build};
+use crate::ending::{Counts, end};
+use crate::seen::Seen;
+use crate::worker::{keep, supply_of};
+use broker_groups::{Broker, BrokerPlace, Opened, Ports};
+use conn_engine::Supply;
+use gate_word::{Gate, GateSeat};
+use shared_supply::Hall;
+use std::alloc::Global;
+use std::marker::Brand;
+use std::sync::Wait;
+use std::thread;
+use std::thread::Threads;
+use std::time::{Clock, Duration, Instant};
+
+/// What each worker does.
+pub trait Crew {
+    /// Does it over the worker's supply, and tells what the worker's clients saw; nothing where memory was wanted. Workers are numbered from 0 on.
+    fn work<B: Broker, S: Supply<BrokerPlace<B>>>(
+        &self,
+        alloc: Global,
+        supply: &mut S,
+        number: u8,
+    ) -> Option<Seen>;
+}
+
+/// A worker that is to work.
+#[derive(Drop)]
+struct Job<B: Broker> {
+    number: u8,
+    hand: Hand<B>,
+}
+
+/// What became of all workers.
+#[derive(Drop)]
+pub struct Worked {
+    /// What their clients saw, if there was memory for that.
+    pub seen: Option<Seen>,
+    /// What the groups' reports count, the last group first.
+    pub counts: Vec<Counts>,
+    /// How long their threads took, if the clock could be read.
+    pub took: Option<Duration>,
+}
+
+/// What all workers give back: their ports, and what their clients saw.
+#[derive(Drop)]
+struct Back<B: Broker> {
+    seen: Option<Seen>,
+    ports: Vec<Ports<B>>,
+}
+
+/// What a worker gives back.
+#[derive(Drop)]
+struct OneBack<B: Broker> {
+    seen: Option<Seen>,
+    ports: Ports<B>,
+}
+
+/// A worker works.
+fn work<B: Broker, C: Crew, R: Wait>(
+    rt: &R,
+    alloc: Global,
+    hall: &Hall<'_, B>,
+    crew: &C,
+    job: Job<B>,
+) -> OneBack<B> {
+    let Job { number, hand } = job;
+    match supply_of(rt, alloc, hall, hand) {
+        Ok(supply) => {
+            let mut supply = supply;
+            let seen = crew.work(alloc, &mut supply, number);
+            let (_key, ports) = supply.into_parts();
+            OneBack { seen, ports }
+        }
+        Err(ports) => OneBack { seen: None, ports },
+    }
+}
+
+/// The workers that are to work.
+fn jobs_of<B: Broker>(alloc: Global, hands: Vec<Hand<B>>) -> Vec<Job<B>> {
+    let mut jobs = Vec::new(alloc);
+    let mut number = 0u8;
+    for hand in hands {
+        if let Err(refused) = jobs.push(Job { number, hand }) {
+            drop(refused);
+        }
+        number = number.wrapping_add(1);
+    }
+    jobs
+}
+
+/// What all workers give back together.
+fn together<B: Broker>(alloc: Global, backs: Vec<OneBack<B>>) -> Back<B> {
+    let mut all = Vec::new(alloc);
+    let mut sum = Some(Seen::NOTHING);
+    for back in backs {
+        let OneBack { seen, ports } = back;
+        keep(&mut all, ports);
+        sum = match (sum, seen) {
+            (Some(one), Some(other)) => Some(one.with(other)),
+            _ => None,
+        };
+    }
+    Back {
+        seen: sum,
+        ports: all,
+    }
+}
+
+/// All workers work, each in a thread of its own; where memory is wanted for the threads, no ports come back.
+fn work_all<B: Broker + Send + Sync, C: Crew + Sync, R: Threads + Wait + Sync>(
+    rt: &R,
+    alloc: Global,
+    hall: &Hall<'_, B>,
+    hands: Vec<Hand<B>>,
+    crew: &C,
+) -> Back<B> {
+    match thread::map_vec(
+        rt,
+        jobs_of(alloc, hands),
+        &|job| { work(rt, alloc, hall, crew, job) },
+    ) {
+        Ok(backs) => together(alloc, backs),
+        Err(_) => Back {
+            seen: None,
+            ports: Vec::new(alloc),
+        },
+    }
+}
+
+/// All workers of a broker work, and it ends; where memory was wanted for that, nothing is told.
+fn live<B: Broker + Send + Sync, C: Crew + Sync, R: Threads + Wait + Clock + Sync>(
+    rt: &R,
+    alloc: Global,
+    gate: &Gate,
+    seats: Vec<GateSeat>,
+    opened: Opened<'_>,
+    workers: u8,
+    crew: &C,
+) -> Option<Worked>
+    requires gate { gate.now ≡ B.gate }
+    requires seats { AreSeatsOf gate.now seats.items }
+    requires opened { IsOfBroker B.gate B.group workers opened }
+{
+    let Built {
+        hall,
+        hands,
+        spare: _,
+    } = build::<B, R>(rt, alloc, gate, seats, opened, workers)?;
+    let start = Instant::now(rt).ok();
+    let Back { seen, ports } = work_all(rt, alloc, &hall, hands, crew);
+    let took = since(rt, start);
+    match end(rt, alloc, hall, ports) {
+        Some(counts) => Some(Worked { seen, counts, took }),
+        None => None,
+    }
+}
+
+/// How long it is since a moment, if the clock could be read.
+fn since(clock: &impl Clock, start: Option<Instant>) -> Option<Duration> {
+    start?.elapsed(clock).ok()
+}
+
+/// The same, of groups that are opened and named by what they are.
+fn open_groups<C: Crew + Sync, R: Threads + Wait + Clock + Sync>(
+    rt: &R,
+    alloc: Global,
+    gate: &Gate,
+    seats: Vec<GateSeat>,
+    capacity: usize,
+    workers: u8,
+    crew: &C,
+) -> Option<Worked>
+    requires seats { AreSeatsOf gate.now seats.items }
+    requires capacity { (1 ≤ capacity) × (capacity ≤ 65536) }
+    requires workers { (1 ≤ workers) × (workers ≤ 63) }
+{
+    match Opened::open(alloc, gate, capacity, workers) {
+        Ok(opened) => live::<Brand, C, R>(rt, alloc, gate, seats, opened, workers, crew),
+        Err(_) => None,
+    }
+}
+
+/// So many workers of a broker, in each of whose groups so many messages may wait, work, each in a thread of its own, and the broker ends.
+pub fn work_together<C: Crew + Sync, R: Threads + Wait + Clock + Sync>(
+    rt: &R,
+    alloc: Global,
+    capacity: usize,
+    workers: u8,
+    crew: &C,
+) -> Option<Worked>
+    requires capacity { (1 ≤ capacity) × (capacity ≤ 65536) }
+    requires workers { (1 ≤ workers) × (workers ≤ 63) }
+{
+    match Gate::open(alloc, usize::from(workers) + 1) {
+        Ok((gate, seats)) => open_groups(rt, alloc, &gate, seats, capacity, workers, crew),
+        Err(_) => None,
+    }
+}

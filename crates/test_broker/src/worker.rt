@@ -1,0 +1,90 @@
+//! A worker of a broker, and the day of one that works alone.
+ghost use Rattle.std.specs.Prelude.{◌≡◌};
+
+use crate::broker::{Built, Hand};
+use crate::ending::{Counts, end};
+use broker_groups::{Broker, BrokerPlace, Key, Ports};
+use conn_engine::Supply;
+use gate_word::Gate;
+use shared_supply::{Hall, SharedSupply};
+use std::alloc::Global;
+use std::sync::Wait;
+
+/// What a worker does that works alone.
+pub trait Shift {
+    /// Does it over the worker's supply. There is a key for who shuts the gate.
+    fn work<B: Broker, S: Supply<BrokerPlace<B>>>(
+        &mut self,
+        alloc: Global,
+        supply: &mut S,
+        gate: &Gate,
+        spare: Key<B>,
+    )
+        requires { gate.now ≡ B.gate };
+}
+
+/// The supply of a worker. Where memory is wanted for it, its ports come back.
+pub fn supply_of<'a, 'g, B: Broker, R: Wait>(
+    rt: &'a R,
+    alloc: Global,
+    hall: &'a Hall<'g, B>,
+    hand: Hand<B>,
+) -> Result<SharedSupply<'a, 'g, B, R>, Ports<B>> {
+    let Hand { key, ports } = hand;
+    match hall.know_routes(alloc) {
+        Ok(known) => Ok(SharedSupply::new(rt, alloc, hall, key, ports, known)),
+        Err(_) => Err(ports),
+    }
+}
+
+/// A worker works; its ports come back.
+fn work<B: Broker, H: Shift, R: Wait>(
+    rt: &R,
+    alloc: Global,
+    gate: &Gate,
+    hall: &Hall<'_, B>,
+    hand: Hand<B>,
+    spare: Key<B>,
+    shift: &mut H,
+) -> Ports<B>
+    requires { gate.now ≡ B.gate }
+{
+    match supply_of(rt, alloc, hall, hand) {
+        Ok(supply) => {
+            let mut supply = supply;
+            shift.work(alloc, &mut supply, gate, spare);
+            let (_key, ports) = supply.into_parts();
+            ports
+        }
+        Err(ports) => ports,
+    }
+}
+
+/// One worker of a broker works, and the broker ends.
+pub fn work_alone<B: Broker, H: Shift, R: Wait>(
+    rt: &R,
+    alloc: Global,
+    gate: &Gate,
+    built: Built<'_, B>,
+    shift: &mut H,
+) -> Option<Vec<Counts>>
+    requires { gate.now ≡ B.gate }
+{
+    let Built {
+        hall,
+        mut hands,
+        spare,
+    } = built;
+    let mut ports = Vec::new(alloc);
+    if let Some(hand) = hands.pop() {
+        keep(&mut ports, work(rt, alloc, gate, &hall, hand, spare, shift));
+    }
+    end(rt, alloc, hall, ports)
+}
+
+/// Puts a worker's ports to the others.
+pub fn keep<B: Broker>(all: &mut Vec<Ports<B>>, ports: Ports<B>) {
+    if let Err(refused) = all.push(ports) {
+        drop(refused);
+    }
+}
