@@ -66,7 +66,7 @@ fn main(rt: HostRuntime) -> ExitCode {
         Run::Matching { names } => matching::matched(rt.alloc(), names),
         Run::Reading { packets, piece } => reading::read(rt.alloc(), packets, piece),
         Run::Server { jobs, window } => server::served(rt.alloc(), jobs, window),
-        Run::Service { jobs, window } => service::served(&rt, rt.alloc(), jobs, window),
+        Run::Service { jobs, window } => service::served(rt.alloc(), jobs, window),
         Run::Settling { ports, jobs } => settling::isolated(rt.alloc(), ports, jobs),
         Run::Sweeps { sessions, sweeps } => desk::idle_sweeps(rt.alloc(), sessions, sweeps),
     };

@@ -1,5 +1,5 @@
 //! Workers in threads of their own, each with a publisher and a member. Each accepted job has one fate, and what the groups report is what the clients saw.
-ghost use Rattle.std.specs.Prelude.{◌≡◌, ◌≤◌};
+ghost use Rattle.std.specs.Prelude.{◌≤◌};
 
 use crate::pair::Pair;
 use broker_groups::{Broker, BrokerPlace};

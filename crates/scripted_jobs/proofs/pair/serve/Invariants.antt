@@ -1,7 +1,7 @@
 -- Each connection goes on or has ended, for as long as jobs go through both.
 use Rattle.std.proofs.Common.{◌≡◌, None, true, false}
 use Rattle.conn_engine.specs.declared.standing.Standing.TheVariants.{Ended}
-use Rattle.benchmark.proofs.service.serve.Given as goal
+use Rattle.scripted_jobs.proofs.pair.serve.Given as goal
 
 abbrev pub invariant-jobs : goal.invariant-jobs
 invariant-jobs g l = record {

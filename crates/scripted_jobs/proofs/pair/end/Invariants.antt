@@ -1,7 +1,7 @@
 -- The connection goes on or has ended.
 use Rattle.std.proofs.Common.{◌≡◌, None, true, false}
 use Rattle.conn_engine.specs.declared.standing.Standing.TheVariants.{Ended}
-use Rattle.benchmark.proofs.service.end.Given as goal
+use Rattle.scripted_jobs.proofs.pair.end.Given as goal
 
 abbrev pub invariant-rounds : goal.invariant-rounds
 invariant-rounds g l = record {
