@@ -13,9 +13,11 @@ use Rattle.bell.specs.Handles.{Ear, Hand, turn}
 abbrev pub Makes : Step → List Step → List Step → Type 0
 Makes step old new = (since : List Step) × (new ≡ step ∷ (since ++ old))
 
--- the worker listens: it isn't idle any more, and has heard all rings so far
-abbrev pub Listens : Ear → Ear → Type 0
-Listens old new = (new.bell ≡ old.bell) × (new.worker ≡ old.worker) × Makes (Listened old.worker) old.history new.history
+-- the worker isn't idle any more, has heard all rings so far, and knows whether the bell didn't ring since its last step, or rang a multiple of 2 ^ 32 times
+abbrev pub Listens : Ear → Bool → Ear → Type 0
+Listens old quiet new =
+    (new.bell ≡ old.bell) × (new.worker ≡ old.worker)
+    × ((since : List Step) × (new.history ≡ Listened old.worker ∷ (since ++ old.history)) × (quiet ≡ (rings since % turn == 0)))
 
 -- the worker is idle, and may wait exactly where the bell didn't ring since its last step, or rang a multiple of 2 ^ 32 times
 abbrev pub Settles : Ear → Bool → Ear → Type 0

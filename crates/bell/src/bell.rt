@@ -103,13 +103,16 @@ impl Bell {
         Ok((Bell { word }, row, hands))
     }
 
-    /// The worker listens: it isn't idle any more, and has heard each ring that was rung so far. One step.
-    pub fn listen(&self, listener: &mut Listener)
+    /// The worker listens: it isn't idle any more, and has heard each ring that was rung so far. Whether none was rung since its last step: where one was and the
+    /// worker was idle, it may be the one that was called. One step.
+    pub fn listen(&self, listener: &mut Listener) -> bool
         requires { listener.old.bell ≡ self.now.word }
-        ensures { Listens listener.old listener.new }
+        ensures { Listens listener.old result listener.new }
     {
         let found = word::listen(&self.word, &mut listener.pass, listener.worker);
+        let heard = listener.heard;
         listener.heard = word::count_of(found);
+        listener.heard == heard
     }
 
     /// The worker settles: it is idle until it listens or is called. Whether it may wait: only where no bell rang

@@ -98,6 +98,19 @@ fn who_looks_for_work_hears_a_ring(rt: HostRuntime) -> Result<(), Fail> {
 }
 
 #[test]
+fn who_listens_again_hears_the_ring_that_called_it(rt: HostRuntime) -> Result<(), Fail> {
+    let (bell, mut listeners, mut ringers) = Bell::open(rt.alloc(), 3, 1)?;
+    let mut third = take_listener(&bell, &mut listeners).expect(&rt, "a third listener");
+    let mut ringer = take_ringer(&bell, &mut ringers).expect(&rt, "a ringer");
+    let wakers = [none(), none(), none()];
+    assert!(rt; finds_nothing(&bell, &mut third));
+    assert_eq!(rt; bell.ring(&mut ringer, 1, &wakers), 1);
+    assert!(rt; !bell.listen(&mut third));
+    assert!(rt; bell.listen(&mut third));
+    Ok(())
+}
+
+#[test]
 fn a_bell_has_thirty_two_workers_at_most(rt: HostRuntime) {
     match Bell::open(rt.alloc(), MOST_WORKERS, 5) {
         Ok((_bell, listeners, ringers)) => {

@@ -67,13 +67,12 @@ impl Listening {
         if !self.is_settled {
             return false;
         }
-        let called = !self.bell.settle(&mut self.listener);
+        let called = !self.bell.listen(&mut self.listener);
+        self.is_settled = false;
         if called {
             self.is_rung = true;
             self.is_called = true;
         }
-        self.bell.listen(&mut self.listener);
-        self.is_settled = false;
         called
     }
 
