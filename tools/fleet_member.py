@@ -179,7 +179,7 @@ class Member(Link):
             if self.again[0] != identifier and session.in_order:
                 raise Fault(f"{where}: {self.again[0]} is older")
             self.again.remove(identifier)
-        elif known is job and job.code is None and not job.vague:
+        elif known is job and job.code is None and not job.vague and not late:
             raise Fault(f"{where}: sent again twice")
         elif known is not job:
             session.in_order = False
