@@ -4,6 +4,7 @@ import random
 import selectors
 import socket
 import struct
+import time
 
 from fleet_model import Fault, Job
 from frames import PINGREQ, connect, cut, disconnect, puback, publish, subscribe
@@ -21,6 +22,7 @@ class Link:
         self.sent = 0  # bytes that the system took
         self.said = 0  # bytes that were to be sent
         self.reads, self.gone, self.joined = True, False, False
+        self.dropped = None  # the moment at which it was dropped from here
         self.told = None  # the Reason Code of a DISCONNECT that came
         self.answers = collections.deque()  # which answers are due, in order
         self.slow = self.rule.random() < 0.2
@@ -95,12 +97,13 @@ class Link:
     def end(self, clean):
         """The stream ended: in an orderly way, or not."""
         self.close()
+        self.dropped = None
         self.over(clean)
 
     def close(self, reset=False):
         if self.gone:
             return
-        self.gone = True
+        self.gone, self.dropped = True, time.monotonic()
         try:
             self.fleet.selector.unregister(self.socket)
         except KeyError:

@@ -1,11 +1,13 @@
 """The members of `tools/fleet`: what each of their connections may see, and what it does."""
 import collections
+import time
 
 from fleet_links import Link
 from fleet_model import Fault, Session, fate_of
 from frames import PINGREQ, connect, disconnect, job_of, puback, subscribe, unsubscribe
 
 PLACES = 32
+NOTICED = 1  # after how many seconds the broker has surely noticed that a connection was dropped
 
 
 class Member(Link):
@@ -78,7 +80,7 @@ class Member(Link):
         name, old = self.identity.name, self.identity.session
         if code == 0x89:
             self.fleet.busy += 1
-            if not self.older and not self.hasty:
+            if not self.older and not self.hasty and not self.follows_dropped():
                 raise Fault(f"{name}: CONNACK 89 with no other connection of it")
             return
         if code:
@@ -106,6 +108,10 @@ class Member(Link):
         place = self.identity.links.index(self)
         if any(link.clean or not self.expiry for link in self.identity.links[place + 1 :]):
             self.session.may_have_ended()
+
+    def follows_dropped(self):
+        """Whether another connection of the client was dropped so lately that the broker may not have noticed: then one of them may still wait for the session."""
+        return any(link.dropped is not None and time.monotonic() - link.dropped < NOTICED for link in self.identity.links if link is not self)
 
     def hear_suback(self, body):
         code, group = body[-1], self.group
