@@ -1,4 +1,5 @@
 pub mod Accounting
+pub mod Hearing
 pub mod Living
 pub mod Swept
 pub mod Ticking

@@ -20,7 +20,7 @@ use crate::served::ServedCounts;
 use crate::sweeps::Sweeps;
 use broker_groups::{Broker, BrokerPlace};
 use conn_channel::{Received, Receiver};
-use conn_service::{Round, Served};
+use conn_service::{Direction, Round, Served};
 use service_table::{ServiceTable, Turned};
 use shared_supply::{SharedSupply, Wakes};
 use std::marker::Model;
@@ -217,7 +217,7 @@ impl<'a, 'g, B: Broker, T: Transport + Drop, R: Wait> Connections<'a, 'g, B, T, 
         }
     }
 
-    /// The connection in a cell goes on by a round, at the worker's moment. Where that ends it, it is not watched any more.
+    /// The connection in a cell goes on by a round this way, at the worker's moment. Where that ends it, it is not watched any more.
     pub(crate) fn round<X: Crossing, Q: Poller<T>>(
         &mut self,
         cell: usize,
@@ -225,6 +225,7 @@ impl<'a, 'g, B: Broker, T: Transport + Drop, R: Wait> Connections<'a, 'g, B, T, 
         poller: &mut Q,
         worker: u32,
         buffer: &mut [u8],
+        direction: Direction,
     ) -> Went
         requires room { 0 < length buffer.old }
         ensures goes { Rounds self.old self.new }
@@ -233,7 +234,7 @@ impl<'a, 'g, B: Broker, T: Transport + Drop, R: Wait> Connections<'a, 'g, B, T, 
         if cell >= self.table.len() {
             return Went::Nowhere;
         }
-        match self.go_on(cell, crossing, worker, buffer) {
+        match self.go_on(cell, crossing, worker, buffer, direction) {
             Turned::Vacant => Went::Nowhere,
             Turned::Goes(round) => Went::On(round),
             Turned::Ended(_, transport) => {
@@ -250,6 +251,7 @@ impl<'a, 'g, B: Broker, T: Transport + Drop, R: Wait> Connections<'a, 'g, B, T, 
         crossing: &X,
         worker: u32,
         buffer: &mut [u8],
+        direction: Direction,
     ) -> Turned<T>
         requires cell { cell < length self.old.cells }
         requires room { 0 < length buffer.old }
@@ -265,6 +267,7 @@ impl<'a, 'g, B: Broker, T: Transport + Drop, R: Wait> Connections<'a, 'g, B, T, 
             worker,
             now,
             buffer,
+            direction,
         );
         self.served.count_behind(&turned);
         self.sweeps.note(cell, self.table.len());
@@ -292,7 +295,7 @@ impl<'a, 'g, B: Broker, T: Transport + Drop, R: Wait> Connections<'a, 'g, B, T, 
     }
 }
 
-/// The connection in a cell goes on by a round, at this moment.
+/// The connection in a cell goes on by a round this way, at this moment.
 fn turn<'a, 'g, B: Broker, T: Transport, R: Wait, X: Crossing>(
     table: &mut ServiceTable<BrokerPlace<B>, T>,
     supply: &mut SharedSupply<'a, 'g, B, R>,
@@ -301,6 +304,7 @@ fn turn<'a, 'g, B: Broker, T: Transport, R: Wait, X: Crossing>(
     worker: u32,
     now: u64,
     buffer: &mut [u8],
+    direction: Direction,
 ) -> Turned<T>
     requires cell { cell < length table.old }
     requires room { 0 < length buffer.old }
@@ -308,7 +312,7 @@ fn turn<'a, 'g, B: Broker, T: Transport, R: Wait, X: Crossing>(
     ensures len { length table.new ≡ length table.old }
     ensures count { occupied table.old ≡ occupied table.new + ended_by result }
 {
-    table.round(cell, supply, crossing, worker, now, buffer)
+    table.round(cell, supply, crossing, worker, now, buffer, direction)
 }
 
 /// Lets go of the connections that are still open.

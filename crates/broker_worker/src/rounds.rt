@@ -9,7 +9,7 @@ use crate::poller::Poller;
 use crate::worker::{READ_SIZE, Worker};
 use bell::Wake;
 use broker_groups::Broker;
-use conn_service::Round;
+use conn_service::{Direction, Round};
 use std::sync::Wait;
 use transport::{Clock, Crossing, Transport};
 use worker_bells::{Roster, SLOTS};
@@ -25,7 +25,7 @@ impl<
     C: Clock + Drop,
     R: Wait,
 > Worker<'a, 'g, B, T, Q, W, X, C, R> {
-    /// Goes on with each connection that is due, once; or with all of them, where a sweep has begun.
+    /// Reads of each connection that is due, once; or of all of them, where a sweep has begun. What is to be written to them is due then.
     pub(crate) fn serve_due(&mut self, all: bool, buffer: &mut [u8; READ_SIZE])
         requires late { all ≡ true → HasGone 0 (length self.old.connections.cells) self.old.connections.sweeps }
         requires in_time { all ≡ false → IsInTime self.old.connections.sweeps }
@@ -34,31 +34,67 @@ impl<
     {
         self.due.begin();
         'cells: for cell in 0..self.connections.len() {
-            self.serve_if_due(cell, all, buffer);
+            self.serve_if_due(cell, all, Direction::Inbound, buffer);
         }
     }
 
-    /// Goes on with the connection in a cell by a round, where it is due, or all of them are.
-    fn serve_if_due(&mut self, cell: usize, all: bool, buffer: &mut [u8; READ_SIZE])
+    /// Writes to each connection that is due.
+    pub(crate) fn reply(&mut self, buffer: &mut [u8; READ_SIZE])
+        ensures { Rounds self.old.connections self.new.connections }
+    {
+        if !self.due.any() {
+            return;
+        }
+        self.due.begin();
+        'cells: for cell in 0..self.connections.len() {
+            self.serve_if_due(cell, false, Direction::Outbound, buffer);
+        }
+    }
+
+    /// Goes on with the connection in a cell by a round this way, where it is due, or all of them are.
+    fn serve_if_due(
+        &mut self,
+        cell: usize,
+        all: bool,
+        direction: Direction,
+        buffer: &mut [u8; READ_SIZE],
+    )
         ensures goes { Rounds self.old.connections self.new.connections }
         ensures late { all ≡ true → cell < length self.old.connections.cells → HasGone cell (length self.old.connections.cells) self.old.connections.sweeps → HasGone (cell + 1) (length self.old.connections.cells) self.new.connections.sweeps }
     {
         let due = self.due.take(cell);
         if due || all {
-            let _round = self.round(cell, buffer);
+            let _round = self.round(cell, direction, buffer);
         }
     }
 
-    /// Goes on with the connection in a cell by a round. What it waits for; `None` where there is none, or it has ended.
-    fn round(&mut self, cell: usize, buffer: &mut [u8; READ_SIZE]) -> Option<Round>
+    /// Goes on with the connection in a cell by a round this way. What it waits for; `None` where there is none, or it has ended.
+    fn round(
+        &mut self,
+        cell: usize,
+        direction: Direction,
+        buffer: &mut [u8; READ_SIZE],
+    ) -> Option<Round>
         ensures goes { Rounds self.old.connections self.new.connections }
         ensures notes { cell < length self.old.connections.cells → Notes cell (length self.old.connections.cells) self.old.connections.sweeps self.new.connections.sweeps }
     {
         let worker = u32::try_from(self.number).unwrap_or(u32::MAX);
-        let went = self
-            .connections
-            .round(cell, self.crossing, &mut self.poller, worker, buffer);
-        note_went(&mut self.due, self.roster, self.number, cell, went)
+        let went = self.connections.round(
+            cell,
+            self.crossing,
+            &mut self.poller,
+            worker,
+            buffer,
+            direction,
+        );
+        note_went(
+            &mut self.due,
+            self.roster,
+            self.number,
+            cell,
+            direction,
+            went,
+        )
     }
 
     /// Goes on with members of the groups for which it rang. Where this worker was called, and none of them could be handed a job, it rings for another one.
@@ -88,7 +124,7 @@ impl<
             }
             let cell = first.wrapping_add(step) % count;
             if self.connections.members().takes(cell, slot) {
-                let went_on = can_go_on(self.round(cell, buffer));
+                let went_on = can_go_on(self.round(cell, Direction::Outbound, buffer));
                 seen = seen || went_on;
                 if went_on && self.connections.members().takes(cell, slot) {
                     self.connections.begin_at(cell);
@@ -114,19 +150,20 @@ pub(crate) fn mark_ready<T: Transport, Q: Poller<T>>(
     }
 }
 
-/// Notes what a round made of a cell: whose connection can do more at once is due again, and one that has ended has left the worker. What it waits for; `None` where
-/// there is none, or it has ended.
+/// Notes what a round this way made of a cell: whose connection can do more at once, or has something to be written that was not tried yet, is due, and one that has
+/// ended has left the worker. What it waits for; `None` where there is none, or it has ended.
 fn note_went<W: Wake>(
     due: &mut Marks,
     roster: &Roster<W>,
     number: usize,
     cell: usize,
+    direction: Direction,
     went: Went,
 ) -> Option<Round> {
     match went {
         Went::Nowhere => None,
         Went::On(round) => {
-            if matches!(round, Round::More) {
+            if is_due_again(round, direction) {
                 due.mark(cell);
             }
             Some(round)
@@ -135,6 +172,15 @@ fn note_went<W: Wake>(
             roster.leave(number);
             None
         }
+    }
+}
+
+/// Whether a connection that waits for this behind a round this way can go on at once.
+fn is_due_again(round: Round, direction: Direction) -> bool {
+    match round {
+        Round::More => true,
+        Round::Writing => matches!(direction, Direction::Inbound),
+        Round::Reading | Round::Waiting | Round::Ended(_) => false,
     }
 }
 

@@ -1,7 +1,7 @@
 //! What a worker tells the others, and what it hears of them.
 ghost use Rattle.std.specs.Prelude.{◌≡◌, List, ℕ};
 ghost use Rattle.shared_supply.specs.Waking.{KeepsAtMost, no_wakes};
-ghost use Rattle.broker_worker.specs.Resting.{MayWait};
+ghost use Rattle.broker_worker.specs.Resting.{HearsCalls, MayWait};
 ghost use Rattle.worker_bells.specs.Ringing.{AreRung};
 ghost use Rattle.broker_worker.specs.Sweeping.{AreTicked, IsInTime, WaitsInTime};
 
@@ -50,9 +50,9 @@ impl<
         call(self.roster, wakes.asked_back, wakes.has_freed_session);
     }
 
-    /// Hears where others called it while it was idle.
+    /// Hears where others called it while it was idle, and counts each call.
     pub(crate) fn hear(&mut self)
-        ensures { self.new.connections ≡ record self.old.connections { wakes = self.new.connections.wakes } }
+        ensures { HearsCalls self.old self.new }
     {
         'slots: for slot in 0..SLOTS {
             if self.outfit.hear(slot) {

@@ -153,8 +153,9 @@ impl<
         unreachable!()
     }
 
-    /// A turn: waits for so many milliseconds at most, and goes on with the connections for which there is something to do. For how long the next turn
-    /// may wait: only where it is at rest, and no longer than until 50 milliseconds have gone by since all went on.
+    /// A turn: waits for so many milliseconds at most, and goes on with the connections for which there is something to do. What came is read of all of them first;
+    /// then jobs are handed out and others are called for them, and only then the replies are written. For how long the next turn may wait: only where it is at rest,
+    /// and no longer than until 50 milliseconds have gone by since all went on.
     fn turn(&mut self, rt: &R, pause: u64, buffer: &mut [u8; READ_SIZE]) -> u64
         requires rests { MayWait pause self.old }
         ensures same { StaysOf self.old.connections self.new.connections }
@@ -168,6 +169,8 @@ impl<
         self.serve_due(all, buffer);
         self.tell_beyond();
         self.hand_out(buffer);
+        self.tell();
+        self.reply(buffer);
         self.tell();
         self.outlook()
     }

@@ -117,25 +117,31 @@ module _ {S P T : Type 0} (call : S → Fact P → S → Type 0) (turn : S → S
       (ended_by mid read new a b supply' led same.0 (more same.1 (sym (ap (λ (s : ServiceState P T). s.outgoing) same.0) ∙ none)))
 
   -- what is done in a visit stands between its beginning and its end
-  visit_by : (is_open all : Bool) (old inside new : ServiceState P T) (supply entry mid supply' : S) → inside ≡ old → turn supply entry → visiting entry ≡ is_open → turn mid supply'
-      → ((all ≡ true) × HasNoMore new) ⊎ Advances call turn visiting slot_of counts given accepted (record inside { drained = false }) entry new mid
+  visit_by : (is_open all drained : Bool) (old inside new : ServiceState P T) (supply entry mid supply' : S) → inside ≡ old → (drained ≡ true → inside.drained ≡ true)
+      → turn supply entry → visiting entry ≡ is_open → turn mid supply'
+      → ((all ≡ true) × HasNoMore new) ⊎ Advances call turn visiting slot_of counts given accepted (record inside { drained = drained }) entry new mid
       → ((all ≡ true) × HasNoMore new) ⊎ Advances call turn visiting slot_of counts given accepted old supply new supply'
-  visit_by is_open all old inside new supply entry mid supply' is entered told left (inl done) = inl done
-  visit_by is_open all old inside new supply entry mid supply' is entered told left (inr advances) =
-      let begun = record inside { drained = false } in
+  visit_by is_open all drained old inside new supply entry mid supply' is fades entered told left (inl done) = inl done
+  visit_by is_open all drained old inside new supply entry mid supply' is fades entered told left (inr advances) =
+      let begun = record inside { drained = drained } in
       inr (then_advances old begun new supply entry supply'
       (leads_one call turn visiting slot_of counts given accepted (Enters is_open) old begun supply entry
-      (record { turned = entered; told = told; becomes = ap (λ (s : ServiceState P T). record s { drained = false }) is }))
+      (record {
+        turned = entered;
+        told = told;
+        becomes = ap (λ (s : ServiceState P T). record s { drained = drained }) is;
+        fades = λ still. sym (ap (λ (s : ServiceState P T). s.drained) is) ∙ fades still;
+      }))
       (advances_then begun new new entry mid supply' advances
       (leads_one call turn visiting slot_of counts given accepted Leaves new new mid supply' (record { turned = left; same = refl }))))
 
-  pub visit_more : (result : Result Bool Served) (is_open : Bool) (old inside new : ServiceState P T) (supply entry mid supply' : S) → inside ≡ old → turn supply entry
-      → visiting entry ≡ is_open → turn mid supply'
-      → IfOk result (λ all. IsDoneOrAdvances call turn visiting slot_of counts given accepted all (record inside { drained = false }) entry new mid)
+  pub visit_more : (result : Result Bool Served) (is_open drained : Bool) (old inside new : ServiceState P T) (supply entry mid supply' : S) → inside ≡ old
+      → (drained ≡ true → inside.drained ≡ true) → turn supply entry → visiting entry ≡ is_open → turn mid supply'
+      → IfOk result (λ all. IsDoneOrAdvances call turn visiting slot_of counts given accepted all (record inside { drained = drained }) entry new mid)
       → IfOk result (λ all. IsDoneOrAdvances call turn visiting slot_of counts given accepted all old supply new supply')
-  visit_more (Ok all) is_open old inside new supply entry mid supply' is entered told left more = λ none.
-      visit_by is_open all old inside new supply entry mid supply' is entered told left (more none)
-  visit_more (Err served) is_open old inside new supply entry mid supply' is entered told left more = more
+  visit_more (Ok all) is_open drained old inside new supply entry mid supply' is fades entered told left more = λ none.
+      visit_by is_open all drained old inside new supply entry mid supply' is fades entered told left (more none)
+  visit_more (Err served) is_open drained old inside new supply entry mid supply' is fades entered told left more = more
 
   -- a round: what waits is written before and behind a visit
   pub round_more : (all : Bool) (old sent visited written new : ServiceState P T) (supply supply' : S) → LeadsAtEdge counts given accepted old sent

@@ -157,7 +157,7 @@ module _ {S P T : Type 0} (call : S → Fact P → S → Type 0) (turn : S → S
       let gone = record inside { client = client; drained = false } in
       subst (λ (s : ServiceState P T). Leads call turn visiting slot_of counts given accepted s supply gone supply') is
       (leads_on call turn visiting slot_of counts given accepted inside begun gone supply between supply'
-      (leads_one call turn visiting slot_of counts given accepted (Enters is_open) inside begun supply between (record { turned = entered; told = told; becomes = refl }))
+      (leads_one call turn visiting slot_of counts given accepted (Enters is_open) inside begun supply between (record { turned = entered; told = told; becomes = refl; fades = λ still. cc still }))
       (leads_on call turn visiting slot_of counts given accepted begun gone gone between mid supply'
       (leads_one call turn visiting slot_of counts given accepted (GivesUp now) begun gone between mid
       (record { ended = λ going. ended (sym (ap (λ (s : ServiceState P T). s.ending) is) ∙ going); not_over = not_over; given_up = given_up; becomes = refl }))

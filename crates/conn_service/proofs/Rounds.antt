@@ -1,5 +1,5 @@
 -- Parts of a round, one after the other.
-use Rattle.std.proofs.Common.{◌≡◌, ℕ, ◌<◌, Bool, false, List, length, length-append, Option, refl, ap, ◌∙◌, arith}
+use Rattle.std.proofs.Common.{◌≡◌, ℕ, ◌<◌, Bool, true, List, length, length-append, Option, refl, sym, ap, ◌∙◌, arith}
 use Rattle.transport.specs.declared.counts.Counts.{Counts}
 use Rattle.transport.specs.declared.answers.Put.{Put}
 use Rattle.transport.specs.declared.answers.Put.TheVariants as put
@@ -55,13 +55,19 @@ module _ {S P T : Type 0} (call : S → Fact P → S → Type 0) (turn : S → S
   read_then size got bytes old mid new supply supply' reads led = edge_then old mid new supply supply' (edge_one counts given accepted (Reads size got bytes) old mid reads) led
 
   -- a visit: what is done in it stands between its beginning and its end
-  pub visited : (is_open : Bool) (old inside new : ServiceState P T) (supply between mid supply' : S) → inside ≡ old → turn supply between → visiting between ≡ is_open
-      → Leads call turn visiting slot_of counts given accepted (record inside { drained = false }) between new mid → turn mid supply'
+  pub visited : (is_open drained : Bool) (old inside new : ServiceState P T) (supply between mid supply' : S) → inside ≡ old → (drained ≡ true → inside.drained ≡ true)
+      → turn supply between → visiting between ≡ is_open
+      → Leads call turn visiting slot_of counts given accepted (record inside { drained = drained }) between new mid → turn mid supply'
       → Leads call turn visiting slot_of counts given accepted old supply new supply'
-  visited is_open old inside new supply between mid supply' is entered told led left =
-      let begun = record inside { drained = false } in
+  visited is_open drained old inside new supply between mid supply' is fades entered told led left =
+      let begun = record inside { drained = drained } in
       leads_on call turn visiting slot_of counts given accepted old begun new supply between supply'
       (leads_one call turn visiting slot_of counts given accepted (Enters is_open) old begun supply between
-      (record { turned = entered; told = told; becomes = ap (λ (s : ServiceState P T). record s { drained = false }) is }))
+      (record {
+        turned = entered;
+        told = told;
+        becomes = ap (λ (s : ServiceState P T). record s { drained = drained }) is;
+        fades = λ still. sym (ap (λ (s : ServiceState P T). s.drained) is) ∙ fades still;
+      }))
       (leads_on call turn visiting slot_of counts given accepted begun new new between mid supply' led
       (leads_one call turn visiting slot_of counts given accepted Leaves new new mid supply' (record { turned = left; same = refl })))

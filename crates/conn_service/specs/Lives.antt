@@ -46,11 +46,12 @@ module _ {S P T : Type 0} (call : S → Fact P → S → Type 0) (turn : S → S
     pub not_over : service.client.conn.standing ≢ Ended
     pub may : MayStep input now service supply
 
-  -- a visit begins, unless the supply is shut; nothing was read in this round yet
+  -- a visit begins, unless the supply is shut; that a read gave less than there was room for may be forgotten
   pub record BeginsVisit (is_open : Bool) (old : ServiceState P T) (supply : S) (new : ServiceState P T) (supply' : S) : Type 0 where
     pub turned : turn supply supply'
     pub told : visiting supply' ≡ is_open
-    pub becomes : new ≡ record old { drained = false }
+    pub becomes : new ≡ record old { drained = new.drained }
+    pub fades : new.drained ≡ true → old.drained ≡ true
 
   pub record EndsVisit (old : ServiceState P T) (supply : S) (new : ServiceState P T) (supply' : S) : Type 0 where
     pub turned : turn supply supply'

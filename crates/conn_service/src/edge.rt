@@ -46,6 +46,7 @@ impl<P: HoldingPlace, T: Transport> Service<P, T> {
         ensures whole { result ≢ Ok gots.Failed }
         ensures idles { OnErr result (KeepsIdles T.counts self.old self.new) }
         ensures no_crossing { result ≢ Err endings.NoCrossing }
+        ensures unwritten { T.accepted self.new.transport ≡ T.accepted self.old.transport }
     {
         let size = buffer.len();
         let got = self.transport.read(buffer);
@@ -104,6 +105,8 @@ impl<P: HoldingPlace, T: Transport> Service<P, T> {
         ensures client { self.new.client ≡ self.old.client }
         ensures ticked { self.new.ticked ≡ self.old.ticked }
         ensures idles { KeepsIdles T.counts self.old self.new }
+        ensures unread { T.given self.new.transport ≡ T.given self.old.transport }
+        ensures nothing { self.old.outgoing ≡ [] → self.new ≡ self.old }
         ensures sent { OnOk result (self.new.ending ≡ None) }
         ensures advances { OnOk result ((self.new ≡ self.old) ⊎ (AdvancesAtEdge T.counts T.given T.accepted self.old self.new ⊎ (self.new.outgoing ≢ []))) }
         ensures ended { IfErr result (λ served. self.new.ending ≡ Some served) }
@@ -136,6 +139,7 @@ impl<P: HoldingPlace, T: Transport> Service<P, T> {
         ensures client { self.new.client ≡ self.old.client }
         ensures ticked { self.new.ticked ≡ self.old.ticked }
         ensures idles { KeepsIdles T.counts self.old self.new }
+        ensures unread { T.given self.new.transport ≡ T.given self.old.transport }
         ensures sent { OnOk result (self.new.ending ≡ None) }
         ensures advances { OnOk result ((self.new ≡ self.old) ⊎ (AdvancesAtEdge T.counts T.given T.accepted self.old self.new ⊎ (self.new.outgoing ≢ []))) }
         ensures unasked { wanted ≡ false → self.new ≡ self.old }
@@ -175,6 +179,7 @@ impl<P: HoldingPlace, T: Transport> Service<P, T> {
         ensures led { LeadsAtEdge T.counts T.given T.accepted self.old self.new }
         ensures client { self.new.client ≡ self.old.client }
         ensures idles { KeepsIdles T.counts self.old self.new }
+        ensures transport { self.new.transport ≡ self.old.transport }
         ensures goes_on { OnOk result ((self.new ≡ self.old) × (self.old.outgoing ≡ [] → self.old.client.conn.standing ≢ Ended)) }
         ensures ended { IfErr result (λ served. self.new.ending ≡ Some served) }
         ensures no_crossing { result ≢ Err endings.NoCrossing }

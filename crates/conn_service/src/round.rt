@@ -9,10 +9,11 @@ ghost use Rattle.conn_engine.specs.declared.input.Input.TheVariants as inputs;
 ghost use Rattle.conn_engine.specs.Facts.Fact.{Kicked};
 ghost use Rattle.conn_service.specs.Moments.{is_tick_for};
 ghost use Rattle.conn_service.specs.Services.{HasNoMore, IsAnswered, IsOnTime, IsServed, IsTold, IdlesTick, KeepsEdge, KeepsEdgeAt, KeepsEnough};
+ghost use Rattle.conn_service.specs.Directions.{reads, writes};
 ghost use Rattle.conn_service.specs.Lives.{IsDue, Leads};
 ghost use Rattle.conn_service.specs.Advances.{Advances, IsDoneOrAdvances};
 
-use crate::served::{Round, Served};
+use crate::served::{Direction, Round, Served};
 use crate::service::Service;
 use conn_engine::{HoldingPlace, Input, Supply};
 use transport::{Crossing, Got, Transport};
@@ -23,6 +24,8 @@ const TICK_PERIOD: u64 = 50;
 impl<P: HoldingPlace, T: Transport> Service<P, T> {
     /// Goes on as far as it can without waiting, at this moment in milliseconds, and tells what it waits for: what waits is written, what came is read,
     /// once, into the buffer, which has room, and stepped packet by packet, and what that says is written.
+    ///
+    /// Inbound, what that says is left to a later round. Outbound, nothing is read, and it ticks instead, so that its client is handed what it has room for.
     pub fn round<S: Supply<P>, X: Crossing>(
         &mut self,
         supply: &mut S,
@@ -30,16 +33,19 @@ impl<P: HoldingPlace, T: Transport> Service<P, T> {
         worker: u32,
         now: u64,
         buffer: &mut [u8],
+        direction: Direction,
     ) -> Round
         requires going { self.old.ending ≡ None }
         requires room { 0 < length buffer.old }
         ensures led { Leads S.call S.turn S.visiting P.slot_of T.counts T.given T.accepted self.old supply.old self.new supply.new }
         ensures told { IsTold result self.new now }
-        ensures more { result ≡ rounds.More → Advances S.call S.turn S.visiting P.slot_of T.counts T.given T.accepted self.old supply.old self.new supply.new }
+        ensures more { reads direction ≡ true → result ≡ rounds.More → Advances S.call S.turn S.visiting P.slot_of T.counts T.given T.accepted self.old supply.old self.new supply.new }
         ensures idles { IdlesTick T.counts now self.old self.new }
+        ensures unread { reads direction ≡ false → T.given self.new.transport ≡ T.given self.old.transport }
+        ensures unwritten { writes direction ≡ false → self.old.outgoing ≡ [] → T.accepted self.new.transport ≡ T.accepted self.old.transport }
         ensures crossing { result ≡ rounds.Ended endings.NoCrossing → RefusesAlways X.refuses crossing.now worker }
     {
-        match self.go_on(supply, crossing, worker, now, buffer) {
+        match self.go_on(supply, crossing, worker, now, buffer, direction) {
             Ok(all) => self.outlook(all, now),
             Err(served) => {
                 self.give_up(supply, now);
@@ -76,23 +82,26 @@ impl<P: HoldingPlace, T: Transport> Service<P, T> {
         worker: u32,
         now: u64,
         buffer: &mut [u8],
+        direction: Direction,
     ) -> Result<bool, Served>
         requires going { self.old.ending ≡ None }
         requires room { 0 < length buffer.old }
         ensures led { Leads S.call S.turn S.visiting P.slot_of T.counts T.given T.accepted self.old supply.old self.new supply.new }
         ensures all { result ≡ Ok true → IsServed self.new now }
-        ensures more { IfOk result (λ all. IsDoneOrAdvances S.call S.turn S.visiting P.slot_of T.counts T.given T.accepted all self.old supply.old self.new supply.new) }
+        ensures more { reads direction ≡ true → IfOk result (λ all. IsDoneOrAdvances S.call S.turn S.visiting P.slot_of T.counts T.given T.accepted all self.old supply.old self.new supply.new) }
         ensures not_over { OnOk result (self.new.outgoing ≡ [] → self.new.client.conn.standing ≢ Ended) }
         ensures timely { OnOk result (self.new.outgoing ≡ [] → IsOnTime self.new now) }
         ensures going { OnOk result (self.new.ending ≡ None) }
         ensures ended { IfErr result (λ served. self.new.ending ≡ Some served) }
         ensures idles { IdlesTick T.counts now self.old self.new }
+        ensures unread { reads direction ≡ false → T.given self.new.transport ≡ T.given self.old.transport }
+        ensures unwritten { writes direction ≡ false → self.old.outgoing ≡ [] → T.accepted self.new.transport ≡ T.accepted self.old.transport }
         ensures crossing { result ≡ Err endings.NoCrossing → RefusesAlways X.refuses crossing.now worker }
     {
         self.send(crossing, worker, now)?;
         let taken = self.outgoing.is_empty();
-        let all = self.visit(supply, now, buffer)?;
-        self.send_if(crossing, worker, now, taken)?;
+        let all = self.visit(supply, now, buffer, direction.reads())?;
+        self.send_if(crossing, worker, now, taken && direction.writes())?;
         self.conclude(now)?;
         Ok(all)
     }
@@ -103,25 +112,28 @@ impl<P: HoldingPlace, T: Transport> Service<P, T> {
         supply: &mut S,
         now: u64,
         buffer: &mut [u8],
+        reads: bool,
     ) -> Result<bool, Served>
         requires going { self.old.ending ≡ None }
         requires room { 0 < length buffer.old }
         ensures led { Leads S.call S.turn S.visiting P.slot_of T.counts T.given T.accepted self.old supply.old self.new supply.new }
         ensures all { result ≡ Ok true → IsServed self.new now }
-        ensures more { IfOk result (λ all. IsDoneOrAdvances S.call S.turn S.visiting P.slot_of T.counts T.given T.accepted all self.old supply.old self.new supply.new) }
+        ensures more { reads ≡ true → IfOk result (λ all. IsDoneOrAdvances S.call S.turn S.visiting P.slot_of T.counts T.given T.accepted all self.old supply.old self.new supply.new) }
         ensures timely { result ≡ Ok false → self.old.outgoing ≡ [] → IsOnTime self.new now }
         ensures waits { OnOk result (self.old.outgoing ≢ [] → self.new.outgoing ≢ []) }
         ensures no_crossing { result ≢ Err endings.NoCrossing }
         ensures going { OnOk result (self.new.ending ≡ None) }
         ensures ended { IfErr result (λ served. self.new.ending ≡ Some served) }
         ensures idles { IdlesTick T.counts now self.old self.new }
+        ensures unread { reads ≡ false → T.given self.new.transport ≡ T.given self.old.transport }
+        ensures unwritten { T.accepted self.new.transport ≡ T.accepted self.old.transport }
     {
         if self.client.has_ended() {
             return Ok(true);
         }
         let open = supply.begin();
-        self.drained = false;
-        let all = self.step_within(supply, now, buffer, open);
+        self.drained = is_still_drained(self.drained, reads);
+        let all = self.step_within(supply, now, buffer, reads, open);
         supply.end();
         all
     }
@@ -132,6 +144,7 @@ impl<P: HoldingPlace, T: Transport> Service<P, T> {
         supply: &mut S,
         now: u64,
         buffer: &mut [u8],
+        reads: bool,
         is_open: bool,
     ) -> Result<bool, Served>
         requires going { self.old.ending ≡ None }
@@ -140,16 +153,18 @@ impl<P: HoldingPlace, T: Transport> Service<P, T> {
         requires room { 0 < length buffer.old }
         ensures led { Leads S.call S.turn S.visiting P.slot_of T.counts T.given T.accepted self.old supply.old self.new supply.new }
         ensures all { result ≡ Ok true → IsServed self.new now }
-        ensures more { IfOk result (λ all. IsDoneOrAdvances S.call S.turn S.visiting P.slot_of T.counts T.given T.accepted all self.old supply.old self.new supply.new) }
+        ensures more { reads ≡ true → IfOk result (λ all. IsDoneOrAdvances S.call S.turn S.visiting P.slot_of T.counts T.given T.accepted all self.old supply.old self.new supply.new) }
         ensures timely { result ≡ Ok false → self.old.outgoing ≡ [] → IsOnTime self.new now }
         ensures waits { OnOk result (self.old.outgoing ≢ [] → self.new.outgoing ≢ []) }
         ensures no_crossing { result ≢ Err endings.NoCrossing }
         ensures going { OnOk result (self.new.ending ≡ None) }
         ensures ended { IfErr result (λ served. self.new.ending ≡ Some served) }
         ensures idles { IdlesTick T.counts now self.old self.new }
+        ensures unread { reads ≡ false → T.given self.new.transport ≡ T.given self.old.transport }
+        ensures unwritten { T.accepted self.new.transport ≡ T.accepted self.old.transport }
     {
         if is_open {
-            self.proceed(supply, now, buffer)
+            self.proceed(supply, now, buffer, reads)
         } else {
             self.close(supply, now)
         }
@@ -169,18 +184,20 @@ impl<P: HoldingPlace, T: Transport> Service<P, T> {
         ensures going { OnOk result (self.new.ending ≡ None) }
         ensures ended { IfErr result (λ served. self.new.ending ≡ Some served) }
         ensures idles { IdlesTick T.counts now self.old self.new }
+        ensures transport { self.new.transport ≡ self.old.transport }
     {
         self.step(supply, now, Input::Closing)?;
         Ok(true)
     }
 
-    /// Where something waits to be written, it is stepped only if it is taken over or overdue. Else it ticks, if it is time; and then what is
-    /// left from the round before is stepped, and what comes is read.
+    /// Where something waits to be written, it is stepped only if it is taken over or overdue. Else it ticks, if it is time or it is not to be read;
+    /// and then what is left from the round before is stepped, and what comes is read.
     fn proceed<S: Supply<P>>(
         &mut self,
         supply: &mut S,
         now: u64,
         buffer: &mut [u8],
+        reads: bool,
     ) -> Result<bool, Served>
         requires going { self.old.ending ≡ None }
         requires not_over { self.old.client.conn.standing ≢ Ended }
@@ -188,13 +205,15 @@ impl<P: HoldingPlace, T: Transport> Service<P, T> {
         requires room { 0 < length buffer.old }
         ensures led { Leads S.call S.turn S.visiting P.slot_of T.counts T.given T.accepted self.old supply.old self.new supply.new }
         ensures all { result ≡ Ok true → IsServed self.new now }
-        ensures more { IfOk result (λ all. IsDoneOrAdvances S.call S.turn S.visiting P.slot_of T.counts T.given T.accepted all self.old supply.old self.new supply.new) }
+        ensures more { reads ≡ true → IfOk result (λ all. IsDoneOrAdvances S.call S.turn S.visiting P.slot_of T.counts T.given T.accepted all self.old supply.old self.new supply.new) }
         ensures timely { result ≡ Ok false → self.old.outgoing ≡ [] → IsOnTime self.new now }
         ensures waits { OnOk result (self.old.outgoing ≢ [] → self.new.outgoing ≢ []) }
         ensures no_crossing { result ≢ Err endings.NoCrossing }
         ensures going { OnOk result (self.new.ending ≡ None) }
         ensures ended { IfErr result (λ served. self.new.ending ≡ Some served) }
         ensures idles { IdlesTick T.counts now self.old self.new }
+        ensures unread { reads ≡ false → T.given self.new.transport ≡ T.given self.old.transport }
+        ensures unwritten { T.accepted self.new.transport ≡ T.accepted self.old.transport }
         ensures visiting { S.visiting supply.new ≡ S.visiting supply.old }
     {
         if !self.outgoing.is_empty() {
@@ -202,25 +221,26 @@ impl<P: HoldingPlace, T: Transport> Service<P, T> {
             self.tick_if(supply, now, urgent)?;
             return Ok(false);
         }
-        let due = self.is_tick_due(now);
+        let due = !reads || self.is_tick_due(now);
         self.tick_if(supply, now, due)?;
         if !self.step_each(supply, now)? {
             return Ok(false);
         }
-        if !self.read(supply, now, buffer)? {
+        if !self.read(supply, now, buffer, reads)? {
             return Ok(false);
         }
         self.end_input(supply, now)?;
         Ok(true)
     }
 
-    /// Reads, if it may be read, and steps by what came: a read that gives nothing is a Tick, and so is each one while the connection waits for its session.
+    /// Reads, if it is to be read and may be, and steps by what came: a read that gives nothing is a Tick, and so is each one while the connection waits for its session.
     /// Whether all that is whole was stepped.
     fn read<S: Supply<P>>(
         &mut self,
         supply: &mut S,
         now: u64,
         buffer: &mut [u8],
+        reads: bool,
     ) -> Result<bool, Served>
         requires going { self.old.ending ≡ None }
         requires answered { IsAnswered self.old }
@@ -229,16 +249,18 @@ impl<P: HoldingPlace, T: Transport> Service<P, T> {
         requires on_time { IsOnTime self.old now }
         ensures led { Leads S.call S.turn S.visiting P.slot_of T.counts T.given T.accepted self.old supply.old self.new supply.new }
         ensures all { result ≡ Ok true → IsServed self.new now }
-        ensures more { result ≡ Ok true → self.new.at_end ≡ false → IsDoneOrAdvances S.call S.turn S.visiting P.slot_of T.counts T.given T.accepted true self.old supply.old self.new supply.new }
+        ensures more { reads ≡ true → result ≡ Ok true → self.new.at_end ≡ false → IsDoneOrAdvances S.call S.turn S.visiting P.slot_of T.counts T.given T.accepted true self.old supply.old self.new supply.new }
         ensures full { result ≡ Ok false → self.new.outgoing ≢ [] }
         ensures timely { OnOk result (IsOnTime self.new now) }
         ensures no_crossing { result ≢ Err endings.NoCrossing }
         ensures going { OnOk result (self.new.ending ≡ None) }
         ensures ended { IfErr result (λ served. self.new.ending ≡ Some served) }
         ensures idles { IdlesTick T.counts now self.old self.new }
+        ensures unread { reads ≡ false → T.given self.new.transport ≡ T.given self.old.transport }
+        ensures unwritten { T.accepted self.new.transport ≡ T.accepted self.old.transport }
         ensures visiting { S.visiting supply.new ≡ S.visiting supply.old }
     {
-        if !self.may_read() {
+        if !reads || !self.may_read() {
             return Ok(true);
         }
         let got = self.read_once(buffer)?;
@@ -312,6 +334,13 @@ impl<P: HoldingPlace, T: Transport> Service<P, T> {
     {
         matches!(self.client.deadline(), Some(deadline) if deadline <= now)
     }
+}
+
+/// Whether there is still nothing to read behind the beginning of a visit: where it is to be read, that is asked again.
+fn is_still_drained(drained: bool, reads: bool) -> bool
+    ensures { result ≡ true → drained ≡ true }
+{
+    drained && !reads
 }
 
 /// Whether what a read gave is a Tick: nothing is one, and anything while the connection waits for its session.

@@ -1,6 +1,7 @@
 //! How a connection that was served has ended, and what it waits for until then.
 ghost use Rattle.std.specs.Prelude.{◌≡◌};
 ghost use Rattle.conn_service.specs.Numbers.{number_of};
+ghost use Rattle.conn_service.specs.Directions.{reads, writes};
 
 /// How a connection that was served has ended.
 #[derive(Clone, Copy, Debug, PartialEq, Eq)]
@@ -31,6 +32,39 @@ impl Served {
             Served::Memory => 903,
             Served::NoCrossing => 904,
             Served::Stalled => 905,
+        }
+    }
+}
+
+/// Which way a round goes.
+#[derive(Clone, Copy, Debug, PartialEq, Eq)]
+pub enum Direction {
+    /// Both: what comes is read, and what is said is written.
+    Both,
+    /// What comes is read. What that says waits to be written.
+    Inbound,
+    /// What waits is written, and what a Tick says. Nothing is read.
+    Outbound,
+}
+
+impl Direction {
+    /// Whether it reads.
+    pub(crate) fn reads(self) -> bool
+        ensures { result ≡ reads self }
+    {
+        match self {
+            Direction::Both | Direction::Inbound => true,
+            Direction::Outbound => false,
+        }
+    }
+
+    /// Whether it writes what it says.
+    pub(crate) fn writes(self) -> bool
+        ensures { result ≡ writes self }
+    {
+        match self {
+            Direction::Both | Direction::Outbound => true,
+            Direction::Inbound => false,
         }
     }
 }

@@ -5,7 +5,7 @@ ghost use Rattle.conn_service.specs.Crossings.{RefusesAlways};
 ghost use Rattle.conn_service.specs.declared.served.Served.TheVariants as endings;
 ghost use Rattle.conn_service.specs.Endings.{EndsAs, IsServedToItsEnd};
 
-use crate::served::{Round, Served};
+use crate::served::{Direction, Round, Served};
 use crate::service::Service;
 use conn_engine::{HoldingPlace, Supply};
 use std::alloc::Global;
@@ -58,7 +58,7 @@ fn serve_on<P: HoldingPlace, T: Transport, S: Supply<P>, X: Crossing, C: Clock, 
     let mut buffer = [0; READ_SIZE];
     'rounds: for _ in rt.forever() {
         let now = clock.now();
-        match service.round(supply, crossing, worker, now, &mut buffer) {
+        match service.round(supply, crossing, worker, now, &mut buffer, Direction::Both) {
             Round::Ended(served) => return (served, service.end()),
             Round::Writing => {
                 if service.is_refused() {

@@ -4,7 +4,7 @@ ghost use Rattle.transport.specs.Counting.{no_counts};
 
 use bytes::Bytes;
 use conn_engine::{HoldingPlace, Supply};
-use conn_service::{Round, Service};
+use conn_service::{Direction, Round, Service};
 use drive::drive_lines;
 use local_broker::{LocalPlace, LocalSupply};
 use local_server::Setup;
@@ -56,7 +56,7 @@ impl<P: HoldingPlace, T: Transport> Line<P, T> {
     fn go_on<S: Supply<P>>(self, supply: &mut S, now: u64) -> Next<P, T> {
         let Line { mut service } = self;
         let mut buffer = [0; 65_536];
-        match service.round(supply, &OpenCrossing, 0, now, &mut buffer) {
+        match service.round(supply, &OpenCrossing, 0, now, &mut buffer, Direction::Both) {
             Round::More | Round::Reading | Round::Writing | Round::Waiting => {
                 Next::GoesOn(Line { service })
             }

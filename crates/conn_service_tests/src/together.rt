@@ -6,7 +6,7 @@ use crate::acting::{
     ANSWERS, CONNECT, Play, assert_served, assert_written, broker, reports, scripted,
 };
 use crate::noting::Noting;
-use conn_service::{Round, Served, Service};
+use conn_service::{Direction, Round, Served, Service};
 use local_broker::{LocalPlace, LocalSupply};
 use std::alloc::{AllocError, Global};
 use std::process::Abort;
@@ -42,7 +42,7 @@ fn goes_on<T: Transport>(
     ensures { service.new.ending ≡ None }
 {
     let mut buffer = [0; 65_536];
-    let round = service.round(supply, &OpenCrossing, 0, now, &mut buffer);
+    let round = service.round(supply, &OpenCrossing, 0, now, &mut buffer, Direction::Both);
     assert_eq!(rt; round, wanted);
     if let Round::Ended(_) = round {
         panic!(rt; "it has ended");
@@ -75,7 +75,7 @@ fn ends<T: Transport>(
     requires { service.ending ≡ None }
 {
     let mut buffer = [0; 4_096];
-    match service.round(supply, &OpenCrossing, 0, now, &mut buffer) {
+    match service.round(supply, &OpenCrossing, 0, now, &mut buffer, Direction::Both) {
         Round::Ended(served) => {
             assert_served(rt, served, wanted);
             service.end()

@@ -4,7 +4,7 @@ ghost use Rattle.conn_engine.specs.declared.standing.Standing.TheVariants.{Ended
 
 use crate::scripts::{member, publisher};
 use conn_engine::{HoldingPlace, Supply};
-use conn_service::{Round, Service};
+use conn_service::{Direction, Round, Service};
 use std::alloc::Global;
 use transport::{OpenCrossing, Scripted};
 
@@ -69,7 +69,7 @@ fn go_on<P: HoldingPlace, S: Supply<P>>(
     if !goes {
         return false;
     }
-    match service.round(supply, &OpenCrossing, 0, 0, buffer) {
+    match service.round(supply, &OpenCrossing, 0, 0, buffer, Direction::Both) {
         Round::More | Round::Reading | Round::Writing | Round::Waiting => true,
         Round::Ended(_) => false,
     }

@@ -5,7 +5,7 @@ ghost use Rattle.service_table.specs.Cells.{Opens, Refuses, Turns, ended_by, tak
 
 use crate::turned::Turned;
 use conn_engine::{HoldingPlace, Supply};
-use conn_service::{Round, Service};
+use conn_service::{Direction, Round, Service};
 use std::alloc::Global;
 use std::marker::Model;
 use transport::{Crossing, Transport};
@@ -98,6 +98,7 @@ pub(crate) fn round<P: HoldingPlace, T: Transport, S: Supply<P>, X: Crossing>(
     worker: u32,
     now: u64,
     buffer: &mut [u8],
+    direction: Direction,
 ) -> Turned<T>
     requires room { 0 < length buffer.old }
     ensures turns { Turns S.call S.turn S.visiting P.slot_of T.counts T.given T.accepted now cell.old supply.old result cell.new supply.new }
@@ -107,7 +108,7 @@ pub(crate) fn round<P: HoldingPlace, T: Transport, S: Supply<P>, X: Crossing>(
         return Turned::Vacant;
     };
     let mut service = seat.into_service();
-    let round = service.round(supply, crossing, worker, now, buffer);
+    let round = service.round(supply, crossing, worker, now, buffer, direction);
     match round {
         Round::Ended(served) => Turned::Ended(served, service.end()),
         Round::More => {

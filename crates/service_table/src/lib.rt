@@ -9,7 +9,7 @@
 //!     Ok(()) => {}
 //!     Err(transport) => drop(transport), // no memory for it
 //! }
-//! match table.round(3, &mut supply, &crossing, worker, now, &mut buffer) {
+//! match table.round(3, &mut supply, &crossing, worker, now, &mut buffer, Direction::Both) {
 //!     Turned::Goes(Round::Reading) => {} // until something can be read
 //!     Turned::Ended(served, transport) => {} // its cell is free
 //!     ..

@@ -7,6 +7,7 @@ use crate::cell;
 use crate::cell::Seat;
 use crate::turned::Turned;
 use conn_engine::{HoldingPlace, NoMemory, Supply};
+use conn_service::Direction;
 use std::alloc::{AllocError, Global};
 use std::marker::Model;
 use transport::{Crossing, Transport};
@@ -80,6 +81,7 @@ impl<P: HoldingPlace, T: Transport> ServiceTable<P, T> {
         worker: u32,
         now: u64,
         buffer: &mut [u8],
+        direction: Direction,
     ) -> Turned<T>
         requires cell { cell < length self.old }
         requires room { 0 < length buffer.old }
@@ -87,7 +89,15 @@ impl<P: HoldingPlace, T: Transport> ServiceTable<P, T> {
         ensures len { length self.new ≡ length self.old }
         ensures count { occupied self.old ≡ occupied self.new + ended_by result }
     {
-        cell::round(&mut self.cells[cell], supply, crossing, worker, now, buffer)
+        cell::round(
+            &mut self.cells[cell],
+            supply,
+            crossing,
+            worker,
+            now,
+            buffer,
+            direction,
+        )
     }
 
     /// The slot of the group that the client in a cell would be handed a message of now: see

@@ -1,10 +1,10 @@
 -- What a worker has of the bells of its groups: where it is idle, and where it rang.
-use Rattle.std.specs.Prelude.{◌≡◌, ◌≢◌, ◌⊎◌, ℕ, ◌+◌, ◌%◌, ◌<◌, ◌≤◌, List, [], ◌∷◌, ◌++◌, Some, length, slice_get, slice_set, sum_by}
+use Rattle.std.specs.Prelude.{◌≡◌, ◌≢◌, ◌⊎◌, ℕ, ◌+◌, ◌%◌, ◌<◌, ◌≤◌, Bool, false, not, List, [], ◌∷◌, ◌++◌, Some, None, length, slice_get, slice_set, sum_by}
 use Rattle.bell.specs.declared.step.Step.{Step}
 use Rattle.bell.specs.declared.step.Step.TheVariants.{Listened, Settled, Rang}
 use Rattle.bell.specs.Handles.{Ear, Hand, turn}
 use Rattle.bell.specs.History.{rings, wakes}
-use Rattle.bell.specs.Calls.{CalledBelow}
+use Rattle.bell.specs.Calls.{CalledBelow, Listens}
 use Rattle.worker_bells.specs.declared.members.Wish.{Wish}
 use Rattle.worker_bells.specs.Wishing.{IsWished}
 
@@ -28,6 +28,17 @@ pub record EarState : Type 0 where
 pub record IsEarOfSame (old new : EarState) : Type 0 where
   pub slot : new.slot ≡ old.slot
   pub bell : new.ear.bell ≡ old.ear.bell
+
+-- it listened already; or it listens from now on, and knows whether the bell rang since it settled, but for a multiple of 2 ^ 32 times
+abbrev pub Hears : EarState → Bool → EarState → Type 0
+Hears old heard new =
+    IsEarOfSame old new × (((heard ≡ false) × (new ≡ old) × HasListened old.ear) ⊎ ((quiet : Bool) × (heard ≡ not quiet) × Listens old.ear quiet new.ear))
+
+-- the same at the bell of the group of a slot, where there is an ear
+abbrev pub HearsAt : ℕ → List EarState → Bool → List EarState → Type 0
+HearsAt slot old heard new =
+    ((heard ≡ false) × (slice_get old slot ≡ None) × (new ≡ old))
+    ⊎ ((ear ear' : EarState) × (slice_get old slot ≡ Some ear) × Hears ear heard ear' × (new ≡ slice_set old slot ear'))
 
 -- it has at the bell of the group of a slot
 abbrev pub HasSettledAt : List EarState → ℕ → Type 0

@@ -1,7 +1,7 @@
 //! The bell of a group, as a worker has it.
 ghost use Rattle.std.specs.Prelude.{◌≡◌, true, length};
 ghost use Rattle.std.specs.Arc.{arc_value};
-ghost use Rattle.worker_bells.specs.Ringing.{HasSettled, IsEarOfSame, RingsFor};
+ghost use Rattle.worker_bells.specs.Ringing.{HasSettled, Hears, IsEarOfSame, RingsFor};
 
 use bell::{Bell, Listener, Ringer, Wake};
 use std::alloc::Global;
@@ -62,7 +62,7 @@ impl Listening {
     /// At the beginning of a turn: if it was idle, it is not any more, and knows whether it rang meanwhile. Whether it did, so that this worker may be the one that
     /// was called.
     pub fn hear(&mut self) -> bool
-        ensures { IsEarOfSame self.old self.new }
+        ensures { Hears self.old result self.new }
     {
         if !self.is_settled {
             return false;

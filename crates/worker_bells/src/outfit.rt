@@ -2,7 +2,7 @@
 ghost use Rattle.std.specs.Prelude.{◌≡◌, ◌≢◌, ◌≤◌, ◌<◌, ℕ, true, length, slice_get, IfOk};
 ghost use Rattle.std.specs.Arc.{arc_value};
 ghost use Rattle.bell.specs.Calls.{AreListenersOf, AreRingersOf};
-ghost use Rattle.worker_bells.specs.Ringing.{AreRung, HasSettledAt, IsIdle, IsRung, RingsAt};
+ghost use Rattle.worker_bells.specs.Ringing.{AreRung, HasSettledAt, HearsAt, IsIdle, IsRung, RingsAt};
 ghost use Rattle.worker_bells.specs.Wishing.{IsWished};
 
 use crate::bells::{Listening, Ringing};
@@ -44,7 +44,10 @@ impl<W: Wake> Outfit<W> {
     }
 
     /// Hears whether the bell of a group rang while this worker was idle there, so that it may be the one that was called.
-    pub fn hear(&mut self, slot: usize) -> bool {
+    pub fn hear(&mut self, slot: usize) -> bool
+        ensures heard { HearsAt slot self.old.ears result self.new.ears }
+        ensures hands { self.new.hands ≡ self.old.hands }
+    {
         match self.ears.get_mut(slot) {
             Some(ear) => ear.hear(),
             None => false,

@@ -65,7 +65,7 @@ returns-clause-idles g c =
     (idles_before g.T.Transport.counts c.args.now c.args.self.now c.send.new.self c.visit.new.self c.send.ensures.idles c.visit.ensures.idles) c.send_if.ensures.idles) c.conclude.ensures.idles
 
 pub returns-clause-more : goal.returns-clause-more
-returns-clause-more g c =
+returns-clause-more g c reads =
     round_more g.S.Supply.call g.S.Supply.turn g.S.Supply.visiting g.P.Place.slot_of g.T.Transport.counts g.T.Transport.given g.T.Transport.accepted c.in_ok-all.all
     c.args.self.now c.send.new.self c.visit.new.self c.send_if.new.self c.conclude.new.self c.args.supply.now c.visit.new.supply c.send.ensures.led c.visit.ensures.led
-    c.in_ok-all.ensures.more c.in_ok-send_if.ensures.advances c.in_ok-conclude.ensures.goes_on.0
+    (c.in_ok-all.ensures.more reads) c.in_ok-send_if.ensures.advances c.in_ok-conclude.ensures.goes_on.0

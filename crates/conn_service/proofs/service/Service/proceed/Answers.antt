@@ -49,9 +49,9 @@ returns-clause-led g c =
     c.end_input.ensures.led
 
 pub returns-clause-more : goal.returns-clause-more
-returns-clause-more g c =
+returns-clause-more g c reads =
     end_more g.S.Supply.call g.S.Supply.turn g.S.Supply.visiting g.P.Place.slot_of g.T.Transport.counts g.T.Transport.given g.T.Transport.accepted c.args.self.now c.step_each.new.self c.read.new.self c.end_input.new.self
     c.args.supply.now c.step_each.new.supply c.read.new.supply c.end_input.new.supply
     (leads_on g.S.Supply.call g.S.Supply.turn g.S.Supply.visiting g.P.Place.slot_of g.T.Transport.counts g.T.Transport.given g.T.Transport.accepted c.args.self.now
     c.tick_if-2.new.self c.step_each.new.self c.args.supply.now c.tick_if-2.new.supply c.step_each.new.supply c.tick_if-2.ensures.led c.step_each.ensures.led)
-    (c.in_ok-read.ensures.more (search rules)) c.end_input.ensures.led c.in_ok-end_input.ensures.over
+    (c.in_ok-read.ensures.more reads (search rules)) c.end_input.ensures.led c.in_ok-end_input.ensures.over

@@ -25,7 +25,7 @@ returns-clause-led g c =
     c.in_ok-got.ensures.read.1 c.tick_if.ensures.led) c.step_each.ensures.led
 
 pub returns-clause-more : goal.returns-clause-more
-returns-clause-more g c _ _ =
+returns-clause-more g c _ _ _ =
     read_more g.S.Supply.call g.S.Supply.turn g.S.Supply.visiting g.P.Place.slot_of g.T.Transport.counts g.T.Transport.given g.T.Transport.accepted
     (length c.args.buffer.now) c.in_ok-got.got c.in_ok-got.ensures.read.0 c.args.self.now c.read_once.new.self c.step_each.new.self c.args.supply.now c.step_each.new.supply
     c.in_ok-got.ensures.read.1
@@ -34,4 +34,4 @@ returns-clause-more g c _ _ =
     c.requires.room (c.step_each.ensures.stays.drained ∙ c.tick_if.ensures.stays.drained)
 
 pub returns-then-not-may_read-clause-more : goal.returns-then-not-may_read-clause-more
-returns-then-not-may_read-clause-more g c _ not_at_end = λ none. inl (refl, c.may_read.ensures.no c.if-not-may_read.true none not_at_end)
+returns-then-not-may_read-clause-more g c _ _ not_at_end = λ none. inl (refl, c.may_read.ensures.no c.if-not-may_read.true none not_at_end)

@@ -14,6 +14,6 @@ pub returns-in-Err-clause-idles : goal.returns-in-Err-clause-idles
 returns-in-Err-clause-idles g c = idles_behind g.T.Transport.counts c.args.now c.args.self.now c.go_on.new.self c.give_up.new.self c.go_on.ensures.idles (search rules)
 
 pub returns-in-Ok-clause-more : goal.returns-in-Ok-clause-more
-returns-in-Ok-clause-more g c is_more =
+returns-in-Ok-clause-more g c reads is_more =
     told_more g.S.Supply.call g.S.Supply.turn g.S.Supply.visiting g.P.Place.slot_of g.T.Transport.counts g.T.Transport.given g.T.Transport.accepted c.in-Ok.all c.args.self.now
-    c.go_on.new.self c.args.supply.now c.go_on.new.supply (c.outlook.ensures.more is_more).0 (c.outlook.ensures.more is_more).1 c.in-Ok.ensures.more
+    c.go_on.new.self c.args.supply.now c.go_on.new.supply (c.outlook.ensures.more is_more).0 (c.outlook.ensures.more is_more).1 (c.in-Ok.ensures.more reads)

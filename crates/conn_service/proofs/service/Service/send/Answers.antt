@@ -23,6 +23,8 @@ writes-preserved g c = record {
   client = search rules;
   advances = inr (wrote_further g.T.Transport.counts g.T.Transport.given g.T.Transport.accepted c.args.now c.in-Wrote.field-0 c.args.self.now c.writes.self c.write_once.new.self c.writes.invariant.led c.in-Wrote.ensures);
   idles = search rules;
+  unread = c.write_once.ensures.given_is ∙ c.writes.invariant.unread;
+  nothing = λ none. cc (c.writes-test.ensures.1 (ap (λ (s : ServiceState g.row.P.Denot g.row.T.Denot). s.outgoing) (c.self.view_is ∙ c.writes.invariant.nothing none) ∙ none));
 }
 
 pub returns-in-Idle-clause-led : goal.returns-in-Idle-clause-led
@@ -36,3 +38,12 @@ returns-in-Idle-clause-advances g c =
 pub returns-in-Failed-clause-led : goal.returns-in-Failed-clause-led
 returns-in-Failed-clause-led g c =
     writes_on g.T.Transport.counts g.T.Transport.given g.T.Transport.accepted c.args.now c.write_once.result c.args.self.now c.writes.self c.write_once.new.self c.writes.invariant.led c.write_once.ensures
+
+pub returns-then-not-may_pass-clause-nothing : goal.returns-then-not-may_pass-clause-nothing
+returns-then-not-may_pass-clause-nothing g c = λ none. cc (c.writes-test.ensures.1 (ap (λ (s : ServiceState g.row.P.Denot g.row.T.Denot). s.outgoing) (c.self.view_is ∙ c.writes.invariant.nothing none) ∙ none))
+
+pub returns-in-Idle-clause-nothing : goal.returns-in-Idle-clause-nothing
+returns-in-Idle-clause-nothing g c = λ none. cc (c.writes-test.ensures.1 (ap (λ (s : ServiceState g.row.P.Denot g.row.T.Denot). s.outgoing) (c.self.view_is ∙ c.writes.invariant.nothing none) ∙ none))
+
+pub returns-in-Failed-clause-nothing : goal.returns-in-Failed-clause-nothing
+returns-in-Failed-clause-nothing g c = λ none. cc (c.writes-test.ensures.1 (ap (λ (s : ServiceState g.row.P.Denot g.row.T.Denot). s.outgoing) (c.self.view_is ∙ c.writes.invariant.nothing none) ∙ none))

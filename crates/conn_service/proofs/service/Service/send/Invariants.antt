@@ -1,5 +1,5 @@
 -- What was written so far.
-use Rattle.std.proofs.Common.{◌≡◌, ◌⊎◌, None, length}
+use Rattle.std.proofs.Common.{◌≡◌, ◌⊎◌, [], None, length}
 use Rattle.conn_service.specs.Services.{KeepsIdles}
 use Rattle.conn_service.specs.Edges.{LeadsAtEdge}
 use Rattle.conn_service.specs.Advances.{AdvancesAtEdge}
@@ -12,6 +12,8 @@ invariant-writes g l = record {
   client : l.self.client ≡ l.fn.self.client;
   advances : (l.self ≡ l.fn.self) ⊎ AdvancesAtEdge g.T.Transport.counts g.T.Transport.given g.T.Transport.accepted l.fn.self l.self;
   idles : KeepsIdles g.T.Transport.counts l.fn.self l.self;
+  unread : g.T.Transport.given l.self.transport ≡ g.T.Transport.given l.fn.self.transport;
+  nothing : l.fn.self.outgoing ≡ [] → l.self ≡ l.fn.self;
 }
 
 abbrev pub decreases-writes : goal.decreases-writes
