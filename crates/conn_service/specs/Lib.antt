@@ -1,5 +1,6 @@
 pub mod Numbers
 pub mod Crossings
+pub mod Directions
 pub mod Services
 pub mod Acts
 pub mod Moments

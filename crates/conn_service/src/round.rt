@@ -260,7 +260,7 @@ impl<P: HoldingPlace, T: Transport> Service<P, T> {
         ensures unwritten { T.accepted self.new.transport ≡ T.accepted self.old.transport }
         ensures visiting { S.visiting supply.new ≡ S.visiting supply.old }
     {
-        if !reads || !self.may_read() {
+        if !self.may_read(reads) {
             return Ok(true);
         }
         let got = self.read_once(buffer)?;
@@ -306,12 +306,17 @@ impl<P: HoldingPlace, T: Transport> Service<P, T> {
         }
     }
 
-    /// Whether more is read now: all that was said is written, and it is not over; and if it waits for its session, it has not kept enough.
-    fn may_read(&self) -> bool
+    /// Whether more is read now, where it is to be read: all that was said is written, and it is not over; and if it waits for its session, it has not kept enough.
+    fn may_read(&self, reads: bool) -> bool
+        ensures wanted { result ≡ true → reads ≡ true }
         ensures yes { result ≡ true → (self.now.client.conn.standing ≢ Ended) × (self.now.outgoing ≡ []) × (self.now.at_end ≡ false) × ¬ KeepsEnough self.now }
-        ensures no { result ≡ false → self.now.outgoing ≡ [] → self.now.at_end ≡ false → HasNoMore self.now }
+        ensures no { reads ≡ true → result ≡ false → self.now.outgoing ≡ [] → self.now.at_end ≡ false → HasNoMore self.now }
     {
-        !self.at_end && !self.client.has_ended() && self.outgoing.is_empty() && !self.keeps_enough()
+        reads
+            && !self.at_end
+            && !self.client.has_ended()
+            && self.outgoing.is_empty()
+            && !self.keeps_enough()
     }
 
     /// Whether a Tick can't wait until the transport takes more: it is overdue, or another connection asked for its session.

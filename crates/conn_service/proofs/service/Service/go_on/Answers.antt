@@ -1,4 +1,5 @@
 -- A round: what waits is written, then it is stepped, and then again what waits is written.
+use Rattle.std.proofs.Common.{◌∙◌}
 use Rattle.conn_service.proofs.Leading.{leads_at_edge}
 use Rattle.conn_service.proofs.Rounds.{edge_then, then_edge, idles_kept, idles_before, idles_behind}
 use Rattle.conn_service.proofs.Advancing.{round_more}
@@ -68,4 +69,4 @@ pub returns-clause-more : goal.returns-clause-more
 returns-clause-more g c reads =
     round_more g.S.Supply.call g.S.Supply.turn g.S.Supply.visiting g.P.Place.slot_of g.T.Transport.counts g.T.Transport.given g.T.Transport.accepted c.in_ok-all.all
     c.args.self.now c.send.new.self c.visit.new.self c.send_if.new.self c.conclude.new.self c.args.supply.now c.visit.new.supply c.send.ensures.led c.visit.ensures.led
-    (c.in_ok-all.ensures.more reads) c.in_ok-send_if.ensures.advances c.in_ok-conclude.ensures.goes_on.0
+    (c.in_ok-all.ensures.more (c.reads.ensures ∙ reads)) c.in_ok-send_if.ensures.advances c.in_ok-conclude.ensures.goes_on.0

@@ -34,4 +34,4 @@ returns-clause-more g c _ _ _ =
     c.requires.room (c.step_each.ensures.stays.drained ∙ c.tick_if.ensures.stays.drained)
 
 pub returns-then-not-may_read-clause-more : goal.returns-then-not-may_read-clause-more
-returns-then-not-may_read-clause-more g c _ _ not_at_end = λ none. inl (refl, c.may_read.ensures.no c.if-not-may_read.true none not_at_end)
+returns-then-not-may_read-clause-more g c reads _ not_at_end = λ none. inl (refl, c.may_read.ensures.no reads c.if-not-may_read.true none not_at_end)
