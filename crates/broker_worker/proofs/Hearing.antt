@@ -10,8 +10,7 @@ pub call_more : (slot : ℕ) (heard : Bool) (before : List Bool) (ears ears' ear
 call_more slot heard [] ears ears' ears'' wakes wakes' counted one = (
   ears'',
   subst (λ (e : List EarState). HearsAt slot e heard ears'') counted.0 (subst (λ n. HearsAt n ears' heard ears'') (omega arith) one),
-  refl,
-  subst (λ n. one_called_if heard n wakes' ≡ one_called_if heard slot wakes) (omega arith) (ap (λ (w : Wakes). one_called_if heard slot w) counted.1),
+  (refl, subst (λ n. one_called_if heard n wakes' ≡ one_called_if heard slot wakes) (omega arith) (ap (λ (w : Wakes). one_called_if heard slot w) counted.1)),
 )
 call_more slot heard (first ∷ before) ears ears' ears'' wakes wakes' counted one = (
   counted.0,

@@ -4,12 +4,12 @@ ghost use Rattle.transport.specs.Counting.{no_counts};
 ghost use Rattle.group_queue.specs.Places.{PlaceState};
 ghost use Rattle.service_table.specs.Cells.{InCell, TakesFrom, Turns, ended_by, occupied};
 ghost use Rattle.shared_supply.specs.Calls.{Calls};
-ghost use Rattle.shared_supply.specs.Waking.{KeepsAtMost, no_wakes, one_called};
+ghost use Rattle.shared_supply.specs.Waking.{KeepsAtMost, no_wakes};
 ghost use Rattle.shared_supply.specs.Workers.{Turns as Visits, is_visiting};
 ghost use Rattle.worker_bells.specs.declared.members.Wish.{Wish as AnyWish};
 ghost use Rattle.broker_worker.specs.Counting.{none_served};
 ghost use Rattle.broker_worker.specs.Serving.{Admits, AreFresh, AreServed, IsDone, Rounds, StaysOf, TakesIn, live};
-ghost use Rattle.broker_worker.specs.Resting.{HasTaker};
+ghost use Rattle.broker_worker.specs.Resting.{HasTaker, one_called_if};
 ghost use Rattle.worker_bells.specs.Wishing.{IsWished};
 ghost use Rattle.broker_worker.specs.Sweeping.{AreTicked, Begins, HasGone, IsInTime, Notes, WaitsInTime, looked};
 
@@ -162,12 +162,14 @@ impl<'a, 'g, B: Broker, T: Transport + Drop, R: Wait> Connections<'a, 'g, B, T, 
         self.members.begin_at(cell);
     }
 
-    /// Another worker called this one for a message of the group of this slot.
-    pub(crate) fn count_call(&mut self, slot: usize)
+    /// Counts, where a ring was heard, that another worker called this one for a message of the group of this slot.
+    pub(crate) fn count_call_if(&mut self, slot: usize, heard: bool)
         requires { slot < 8 }
-        ensures { self.new ≡ record self.old { wakes = one_called slot self.old.wakes } }
+        ensures { self.new ≡ record self.old { wakes = one_called_if heard slot self.old.wakes } }
     {
-        self.supply.count_call(slot);
+        if heard {
+            self.supply.count_call(slot);
+        }
     }
 
     /// For each slot, how many messages of its group they brought that others may wait for.

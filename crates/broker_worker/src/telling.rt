@@ -55,9 +55,8 @@ impl<
         ensures { HearsCalls self.old self.new }
     {
         'slots: for slot in 0..SLOTS {
-            if self.outfit.hear(slot) {
-                self.connections.count_call(slot);
-            }
+            let heard = self.outfit.hear(slot);
+            self.connections.count_call_if(slot, heard);
         }
     }
 

@@ -1,5 +1,5 @@
 -- How many of the cells have a connection.
-use Rattle.std.proofs.Common.{◌≡◌, ℕ, zero, suc, ◌+◌, ◌*◌, ◌<◌, List, [], ◌∷◌, length, get_or, Option, Some, None, is_some, cond, replicate, All, Bool, true, IsTrue, ◌↔◌, refl, subst, arith}
+use Rattle.std.proofs.Common.{◌≡◌, ℕ, suc, List, [], ◌∷◌, Option, None, replicate, All, Bool, true, IsTrue, ◌↔◌, refl, subst, arith}
 use Rattle.std.proofs.lemmas.List.Sums.{sum_by-cons}
 use Rattle.std.proofs.lemmas.List.Folds.{sum_by-replicate}
 use Rattle.service_table.specs.Cells.{taken, occupied}

@@ -1,5 +1,5 @@
 -- What a round makes of a cell, from what it makes of the connection in it.
-use Rattle.std.proofs.Common.{◌≡◌, ℕ, Bool, List, Option, Some, None, subst, sym}
+use Rattle.std.proofs.Common.{◌≡◌, ℕ, Bool, List, Option, Some, subst, sym}
 use Rattle.transport.specs.declared.counts.Counts.{Counts}
 use Rattle.conn_engine.specs.Facts.{Fact}
 use Rattle.conn_service.specs.Services.{ServiceState}

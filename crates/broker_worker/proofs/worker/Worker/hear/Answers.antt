@@ -1,0 +1,27 @@
+-- One group more is heard.
+use Rattle.std.proofs.Common.{◌≡◌, ℕ, ◌+◌, [], ◌∷◌, ◌++◌, length, length-append, ap, sym, subst, ◌∙◌, rules, arith}
+use Rattle.shared_supply.specs.declared.wakes.Wakes.{Wakes}
+use Rattle.worker_bells.specs.Ringing.{HearsAt}
+use Rattle.broker_worker.specs.Serving.{ConnectionsState}
+use Rattle.broker_worker.specs.Resting.{CountsCalls, one_called_if}
+use Rattle.broker_worker.proofs.Hearing.{call_more}
+use Rattle.broker_worker.proofs.worker.Worker.hear.Goals as goal
+
+pub slots-preserved : goal.slots-preserved
+slots-preserved g c =
+    let before = c.slots.invariant.heard in
+    let heard = c.hear-heard.result in
+    let old = c.slots.self-inside in
+    let at : c.slots.slot ≡ 0 + length before = omega (arith, c.slots.invariant.all) in
+    let Counted : Wakes → Type 0 = λ wakes. CountsCalls 0 (before ++ heard ∷ []) c.args.self.now.bells.ears c.args.self.now.connections.wakes c.hear-heard.new.self.ears wakes in
+    let At : ℕ → Type 0 = λ slot. HearsAt slot old.outfit.ears heard c.hear-heard.new.self.ears in
+    record {
+      heard = before ++ heard ∷ [];
+      all = omega (arith, length-append before (heard ∷ []), c.slots.invariant.all);
+      counted = subst Counted
+          (ap (λ n. one_called_if heard n old.connections.wakes) (sym at) ∙ sym (ap (λ (s : ConnectionsState g.row.T.Denot). s.wakes) {y = record old.connections { wakes = one_called_if heard c.slots.slot old.connections.wakes }} c.count_call_if.ensures))
+          (call_more 0 heard before c.args.self.now.bells.ears old.outfit.ears c.hear-heard.new.self.ears c.args.self.now.connections.wakes old.connections.wakes
+          c.slots.invariant.counted (subst At at c.hear-heard.ensures.heard));
+      connections = search rules;
+      hands = c.hear-heard.ensures.hands ∙ c.slots.invariant.hands;
+    }
