@@ -41,8 +41,23 @@ fn goes_on<T: Transport>(
     requires { service.old.ending ≡ None }
     ensures { service.new.ending ≡ None }
 {
+    goes(rt, service, supply, now, Direction::Both, wanted);
+}
+
+/// One round this way, behind which the connection waits so.
+fn goes<T: Transport>(
+    rt: &impl Abort,
+    service: &mut Service<LocalPlace, T>,
+    supply: &mut LocalSupply,
+    now: u64,
+    direction: Direction,
+    wanted: Round,
+)
+    requires { service.old.ending ≡ None }
+    ensures { service.new.ending ≡ None }
+{
     let mut buffer = [0; 65_536];
-    let round = service.round(supply, &OpenCrossing, 0, now, &mut buffer, Direction::Both);
+    let round = service.round(supply, &OpenCrossing, 0, now, &mut buffer, direction);
     assert_eq!(rt; round, wanted);
     if let Round::Ended(_) = round {
         panic!(rt; "it has ended");
@@ -108,6 +123,42 @@ fn close(rt: HostRuntime) {
     let transport = scripted(&rt, rt.alloc(), connects());
     let mut service = open(&rt, rt.alloc(), 0, transport);
     goes_on(&rt, &mut service, &mut supply, 0, Round::Reading);
+    supply.close();
+    let transport = ends(&rt, service, &mut supply, 0, Served::Ended);
+    supply.abandon();
+    assert_written(&rt, transport.output(), CLOSED);
+}
+
+/// Outbound, nothing is read; inbound, the CONNACK waits; and outbound, it is written.
+#[test]
+fn one_way(rt: HostRuntime) {
+    let mut supply = broker(&rt, rt.alloc());
+    let transport = scripted(&rt, rt.alloc(), connects());
+    let mut service = open(&rt, rt.alloc(), 0, transport);
+    goes(
+        &rt,
+        &mut service,
+        &mut supply,
+        0,
+        Direction::Outbound,
+        Round::More,
+    );
+    goes(
+        &rt,
+        &mut service,
+        &mut supply,
+        0,
+        Direction::Inbound,
+        Round::Writing,
+    );
+    goes(
+        &rt,
+        &mut service,
+        &mut supply,
+        0,
+        Direction::Outbound,
+        Round::Reading,
+    );
     supply.close();
     let transport = ends(&rt, service, &mut supply, 0, Served::Ended);
     supply.abandon();
