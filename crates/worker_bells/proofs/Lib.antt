@@ -1,3 +1,4 @@
+pub mod Joining
 pub mod Places
 pub mod Ringing
 pub mod Wishing

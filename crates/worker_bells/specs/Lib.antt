@@ -1,2 +1,3 @@
+pub mod Joining
 pub mod Ringing
 pub mod Wishing

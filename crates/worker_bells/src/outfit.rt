@@ -1,8 +1,9 @@
 //! What workers have of the bells: an ear at the bell of each group, and hands at all of them.
-ghost use Rattle.std.specs.Prelude.{◌≡◌, ◌≢◌, ◌≤◌, ◌<◌, ℕ, true, length, slice_get, IfOk};
+ghost use Rattle.std.specs.Prelude.{◌≡◌, ◌≢◌, ◌≤◌, ◌<◌, ℕ, true, length, slice_get, IfOk, OnOk};
 ghost use Rattle.std.specs.Arc.{arc_value};
 ghost use Rattle.bell.specs.Calls.{AreListenersOf, AreRingersOf};
 ghost use Rattle.worker_bells.specs.Ringing.{AreRung, HasSettledAt, HearsAt, IsIdle, IsRung, RingsAt};
+ghost use Rattle.worker_bells.specs.Joining.{AreJoined, AreJoinedBut, HasEarMore, HasHandMore};
 ghost use Rattle.worker_bells.specs.Wishing.{IsWished};
 
 use crate::bells::{Listening, Ringing};
@@ -131,13 +132,14 @@ impl<W: Wake> Outfit<W> {
     }
 }
 
-/// What each of so many workers of a roster has of the bells, in their order.
+/// What each of so many workers of a roster has of the bells, in their order: the hands of each are at the bells of all ears.
 pub fn outfits<W: Wake + Drop>(
     alloc: Global,
     roster: &Roster<W>,
     workers: usize,
 ) -> Result<Vec<Outfit<W>>, NoMemory>
-    ensures { IfOk result (λ outfits. length outfits.items ≡ workers) }
+    ensures count { IfOk result (λ outfits. length outfits.items ≡ workers) }
+    ensures joined { IfOk result (λ outfits. AreJoined outfits.items) }
 {
     let mut all = Vec::with_capacity(alloc, workers)?;
     'outfits: for _ in 0..workers {
@@ -158,9 +160,11 @@ fn fit_slot<W: Wake + Drop>(
     wards: &[Arc<Vec<W>, Global>],
     slot: usize,
     all: &mut [Outfit<W>],
-) -> Result<(), NoMemory> {
+) -> Result<(), NoMemory>
+    ensures { OnOk result (AreJoined all.old → AreJoined all.new) }
+{
     let mut first = 0usize;
-    for ward in wards {
+    'wards: for ward in wards {
         let count = fit_ward(alloc, ward, slot, first, all)?;
         first = first.saturating_add(count);
     }
@@ -174,15 +178,16 @@ fn fit_ward<W: Wake + Drop>(
     slot: usize,
     first: usize,
     all: &mut [Outfit<W>],
-) -> Result<usize, NoMemory> {
+) -> Result<usize, NoMemory>
+    ensures { OnOk result (AreJoined all.old → AreJoined all.new) }
+{
     let count = ward.len();
     if count == 0 || count > MOST_WORKERS {
         return Ok(count);
     }
     let (bell, listeners, ringers) = bell_of(alloc, count, all.len())?;
-    let seated = seat_ears(&bell, slot, listeners, first, all);
-    let handed = seat_hands(&bell, ward, slot, ringers, all);
-    seated.and(handed)?;
+    seat_ears(&bell, slot, listeners, first, all)?;
+    seat_hands(&bell, ward, slot, ringers, all)?;
     Ok(count)
 }
 
@@ -195,7 +200,7 @@ fn bell_of(
     requires count { (1 ≤ count) × (count ≤ MOST_WORKERS) }
     ensures count { IfOk result (λ opened. (arc_value opened.0).workers ≡ count) }
     ensures listeners { IfOk result (λ opened. AreListenersOf (arc_value opened.0).word opened.1.items) }
-    ensures ringers { IfOk result (λ opened. AreRingersOf (arc_value opened.0).word opened.2.items) }
+    ensures ringers { IfOk result (λ opened. AreRingersOf (arc_value opened.0).word opened.2.items × (length opened.2.items ≡ hands)) }
 {
     let (bell, listeners, ringers) = Bell::open(alloc, count, hands).map_err(|_| NoMemory)?;
     let bell = Arc::new(alloc, bell)?;
@@ -211,29 +216,48 @@ fn seat_ears<W>(
     all: &mut [Outfit<W>],
 ) -> Result<(), NoMemory>
     requires { AreListenersOf (arc_value bell.now).word listeners.items }
+    ensures { OnOk result (AreJoined all.old → AreJoinedBut (arc_value bell.now) slot all.new) }
 {
     let mut worker = first;
-    for listener in listeners {
-        match all.get_mut(worker) {
-            Some(outfit) => seat_ear(&mut outfit.ears, bell, slot, listener)?,
-            None => drop(listener),
-        }
+    'listeners: for listener in listeners {
+        seat_ear_of(all, worker, bell, slot, listener)?;
         worker = worker.saturating_add(1);
     }
     Ok(())
 }
 
-/// An ear more at a bell.
-fn seat_ear(
-    ears: &mut Vec<Listening>,
+/// An ear more of a worker at a bell, where there is that worker.
+fn seat_ear_of<W>(
+    all: &mut [Outfit<W>],
+    worker: usize,
     bell: &Arc<Bell, Global>,
     slot: usize,
     listener: Listener,
 ) -> Result<(), NoMemory>
     requires { listener.bell ≡ (arc_value bell.now).word }
+    ensures { OnOk result (AreJoinedBut (arc_value bell.now) slot all.old → AreJoinedBut (arc_value bell.now) slot all.new) }
+{
+    if worker < all.len() {
+        seat_ear(&mut all[worker], bell, slot, listener)
+    } else {
+        drop(listener);
+        Ok(())
+    }
+}
+
+/// An ear more at a bell.
+fn seat_ear<W>(
+    outfit: &mut Outfit<W>,
+    bell: &Arc<Bell, Global>,
+    slot: usize,
+    listener: Listener,
+) -> Result<(), NoMemory>
+    requires { listener.bell ≡ (arc_value bell.now).word }
+    ensures ear { OnOk result (HasEarMore (arc_value bell.now) slot outfit.old.ears outfit.new.ears) }
+    ensures hands { OnOk result (outfit.new.hands ≡ outfit.old.hands) }
 {
     match Arc::try_clone(bell) {
-        Ok(bell) => Ok(ears.push(Listening::new(bell, listener, slot))?),
+        Ok(bell) => Ok(outfit.ears.push(Listening::new(bell, listener, slot))?),
         Err(_) => {
             drop(listener);
             Err(NoMemory)
@@ -249,23 +273,21 @@ fn seat_hands<W: Wake + Drop>(
     ringers: Vec<Ringer>,
     all: &mut [Outfit<W>],
 ) -> Result<(), NoMemory>
-    requires ringers { AreRingersOf (arc_value bell.now).word ringers.items }
+    requires ringers { AreRingersOf (arc_value bell.now).word ringers.items × (length ringers.items ≡ length all.old) }
     requires ward { length (arc_value ward.now).items ≡ (arc_value bell.now).workers }
+    ensures { OnOk result (AreJoinedBut (arc_value bell.now) slot all.old → AreJoined all.new) }
 {
     let mut worker = 0usize;
-    for ringer in ringers {
-        match all.get_mut(worker) {
-            Some(outfit) => seat_hand(&mut outfit.hands, bell, ward, slot, ringer)?,
-            None => drop(ringer),
-        }
-        worker = worker.saturating_add(1);
+    'ringers: for ringer in ringers {
+        seat_hand(&mut all[worker], bell, ward, slot, ringer)?;
+        worker += 1;
     }
     Ok(())
 }
 
 /// A hand more at a bell.
 fn seat_hand<W: Wake + Drop>(
-    hands: &mut Vec<Ringing<W>>,
+    outfit: &mut Outfit<W>,
     bell: &Arc<Bell, Global>,
     ward: &Arc<Vec<W>, Global>,
     slot: usize,
@@ -273,9 +295,11 @@ fn seat_hand<W: Wake + Drop>(
 ) -> Result<(), NoMemory>
     requires ringer { ringer.bell ≡ (arc_value bell.now).word }
     requires ward { length (arc_value ward.now).items ≡ (arc_value bell.now).workers }
+    ensures hand { OnOk result (HasHandMore (arc_value bell.now) slot outfit.old.hands outfit.new.hands) }
+    ensures ears { OnOk result (outfit.new.ears ≡ outfit.old.ears) }
 {
     match (Arc::try_clone(bell), Arc::try_clone(ward)) {
-        (Ok(bell), Ok(ward)) => Ok(hands.push(Ringing::new(bell, ringer, ward, slot))?),
+        (Ok(bell), Ok(ward)) => Ok(outfit.hands.push(Ringing::new(bell, ringer, ward, slot))?),
         _ => {
             drop(ringer);
             Err(NoMemory)

@@ -1,9 +1,18 @@
--- As many as there were turns.
+-- As many as there were turns; and whose hands reach each ear.
 use Rattle.std.proofs.Common.{◌≡◌, length}
+use Rattle.worker_bells.specs.Joining.{AreJoined}
+use Rattle.worker_bells.proofs.Joining.{NobodyListens}
 use Rattle.worker_bells.proofs.outfit.outfits.Given as goal
 
 abbrev pub invariant-outfits : goal.invariant-outfits
-invariant-outfits g l = (length l.all.items ≡ l.counter) × (l.workers ≡ l.fn.workers)
+invariant-outfits g l = record {
+  count : length l.all.items ≡ l.counter;
+  workers : l.workers ≡ l.fn.workers;
+  nobody : NobodyListens l.all.items;
+}
 
 abbrev pub invariant-slots : goal.invariant-slots
-invariant-slots g l = length l.all.items ≡ l.fn.workers
+invariant-slots g l = record {
+  count : length l.all.items ≡ l.fn.workers;
+  joined : AreJoined l.all.items;
+}
