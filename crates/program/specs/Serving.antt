@@ -23,13 +23,13 @@ abbrev pub AskToServe : {Words Error : Type 0} → Result Words Error → (Words
 AskToServe (Ok words) texts = IsServe (texts words)
 AskToServe (Err error) texts = ⊥
 
--- A broker was served at the port, with the workers and with the shares that these words ask for: what it wrote by how it ended is in the output, and at an error its line on the
+-- A broker was served at the port, with groups of the capacity, with the workers and with the shares that these words ask for: what it wrote by how it ended is in the output, and at an error its line on the
 -- error output. It ended with none only where the input had ended.
 pub record ServeEnds (words : List (List ℕ)) (old new : Streams) (exit : Exit) : Type 0 where
   pub service : Service
   pub asked : AskForService words service
   pub ended : Result (Unit {0}) RunError
-  pub served : IsServedAt service.port service.workers service.setup.groups ended old.output new.output
+  pub served : IsServedAt service.port service.setup.capacity service.workers service.setup.groups ended old.output new.output
   pub read : IfOk ended (λ done. IsAtEnd new.input)
   pub told : Tells ended exit.told old.errors new.errors
   pub ends_with : exit.status ≡ status_at ended

@@ -1,21 +1,27 @@
 -- What was written, one part after another.
-use Rattle.std.proofs.Common.{◌≡◌, ◌⊎◌, ℕ, List, ◌++◌, Option, Err, sym, ap, subst, ◌∙◌, append_assoc, inl, inr}
+use Rattle.std.proofs.Common.{◌≡◌, ◌⊎◌, ℕ, ◌<◌, List, ◌++◌, get_or, Option, Err, sym, ap, subst, ◌∙◌, append_assoc, inl, inr, arith}
+use Rattle.std.proofs.lemmas.Option.{slice_get-get_or}
 use Rattle.std.specs.Io.KnownBytes.{Appends}
 use Rattle.line_io.proofs.PassingLaws.{Appends-then, Keeps-refl}
 use Rattle.line_io.specs.Passing.{Begins}
 use Rattle.line_io.specs.declared.error.RunError.{RunError}
 use Rattle.line_io.specs.declared.error.RunError.TheVariants.{ReadFailed, TooManyReads, WriteFailed, Network, Memory, Unfinished, Line}
 use Rattle.mqtt_topic.specs.Names.{Share}
-use Rattle.tcp_server.specs.Reporting.{AreReports}
+use Rattle.gate_word.specs.Seats.{GateId}
+use Rattle.group_queue.specs.Ports.{GroupId}
+use Rattle.broker_groups.specs.declared.opening.Opened.{Opened}
+use Rattle.broker_groups.specs.Brokers.{no_group}
+use Rattle.broker_groups.specs.Openings.{IsBrokerOpened, named_by, or_none}
+use Rattle.tcp_server.specs.Reporting.{AreReports, HaveCapacity}
 use Rattle.tcp_server.specs.Serving.{WritesAll, BeginsToWrite, EndsUnreported, IsServed}
 
-pub all : (line : List ℕ) (workers : ℕ) (given : List Share) (old mid new : Option (List ℕ)) (text : List ℕ) → AreReports workers given text → Appends old mid line → Appends mid new text
-    → WritesAll line workers given old new
-all line workers given old mid new text reports first second = record { text = text; reports = reports; written = Appends-then old mid new line text first second }
+pub all : (line : List ℕ) (capacity workers : ℕ) (given : List Share) (old mid new : Option (List ℕ)) (text : List ℕ) → AreReports capacity workers given text → Appends old mid line → Appends mid new text
+    → WritesAll line capacity workers given old new
+all line capacity workers given old mid new text reports first second = record { text = text; reports = reports; written = Appends-then old mid new line text first second }
 
-pub begun : (line : List ℕ) (workers : ℕ) (given : List Share) (old mid new : Option (List ℕ)) (text : List ℕ) → AreReports workers given text → Appends old mid line → Begins mid new text
-    → BeginsToWrite line workers given old new
-begun line workers given old mid new text reports first second = record {
+pub begun : (line : List ℕ) (capacity workers : ℕ) (given : List Share) (old mid new : Option (List ℕ)) (text : List ℕ) → AreReports capacity workers given text → Appends old mid line → Begins mid new text
+    → BeginsToWrite line capacity workers given old new
+begun line capacity workers given old mid new text reports first second = record {
   text = text;
   reports = reports;
   begun = record {
@@ -26,14 +32,14 @@ begun line workers given old mid new text reports first second = record {
   };
 }
 
-pub unreported : (line : List ℕ) (workers : ℕ) (given : List Share) (error : RunError) (old new : Option (List ℕ)) → EndsUnreported line error old new → IsServed line workers given (Err error) old new
-unreported line workers given ReadFailed old new ends = absurd ends
-unreported line workers given TooManyReads old new ends = absurd ends
-unreported line workers given WriteFailed old new ends = inl ends
-unreported line workers given Network old new ends = absurd ends
-unreported line workers given Memory old new ends = ends
-unreported line workers given Unfinished old new ends = ends
-unreported line workers given (Line number) old new ends = absurd ends
+pub unreported : (line : List ℕ) (capacity workers : ℕ) (given : List Share) (error : RunError) (old new : Option (List ℕ)) → EndsUnreported line error old new → IsServed line capacity workers given (Err error) old new
+unreported line capacity workers given ReadFailed old new ends = absurd ends
+unreported line capacity workers given TooManyReads old new ends = absurd ends
+unreported line capacity workers given WriteFailed old new ends = inl ends
+unreported line capacity workers given Network old new ends = absurd ends
+unreported line capacity workers given Memory old new ends = ends
+unreported line capacity workers given Unfinished old new ends = ends
+unreported line capacity workers given (Line number) old new ends = absurd ends
 
 pub no_memory : (line : List ℕ) (error : RunError) (known : Option (List ℕ)) → error ≡ Memory → EndsUnreported line error known known
 no_memory line error known is = subst (λ e. EndsUnreported line e known known) (sym is) (inl (Keeps-refl known))
@@ -44,3 +50,17 @@ not_written line error old new is begins = subst (λ e. EndsUnreported line e ol
 pub not_told : (line : List ℕ) (error : RunError) (old new : Option (List ℕ)) → (error ≡ Memory) ⊎ (error ≡ Unfinished) → Appends old new line → EndsUnreported line error old new
 not_told line error old new (inl is) written = subst (λ e. EndsUnreported line e old new) (sym is) (inr written)
 not_told line error old new (inr is) written = subst (λ e. EndsUnreported line e old new) (sym is) written
+
+-- the groups of a broker that was opened have the capacity that they were opened with
+pub opened_with : (gate : GateId) (capacity workers : ℕ) (opened : Opened) → IsBrokerOpened gate capacity workers opened → HaveCapacity (named_by opened.groups.items) capacity
+opened_with gate capacity workers opened is slot few =
+    let there = slice_get-get_or opened.groups.items slot no_group (omega (arith, few, is.groups_many)) in
+    ap (λ (found : Option GroupId). (or_none found).capacity) there ∙ (is.each slot (get_or opened.groups.items slot no_group) there).capacity_is
+
+pub same_capacity : (group : ℕ → GroupId) (capacity : ℕ) → HaveCapacity group capacity → HaveCapacity group (group 0).capacity
+same_capacity group capacity have slot few = have slot few ∙ sym (have 0 (omega arith))
+
+-- and so have those of its reports
+pub of_capacity : (group : ℕ → GroupId) (capacity workers : ℕ) (given : List Share) (text : List ℕ) → HaveCapacity group capacity → AreReports (group 0).capacity workers given text
+    → AreReports capacity workers given text
+of_capacity group capacity workers given text have reports = subst (λ n. AreReports n workers given text) (have 0 (omega arith)) reports

@@ -1,5 +1,5 @@
 -- What is written of the groups of a broker that has ended.
-use Rattle.std.specs.Prelude.{ℕ, ◌≡◌, List, map, All, Option, None, Result, Ok, zip, flat_map}
+use Rattle.std.specs.Prelude.{ℕ, ◌≡◌, ◌<◌, List, map, All, Option, None, Result, Ok, zip, flat_map}
 use Rattle.mqtt_topic.specs.Names.{Share}
 use Rattle.group_jobs.specs.Reports.{report_line}
 use Rattle.group_jobs.specs.Stamps.{Held}
@@ -30,10 +30,15 @@ Connection = SocketState TcpStream
 abbrev pub unknown : Connection → Option (List ℕ)
 unknown connection = None
 
--- A broker with so many workers kept the headline to its end, and these are the lines of its groups' reports, all of which it gave: of each slot to which a share is bound, as each
+-- in each group of a broker at most so many messages wait for their first hand-out
+abbrev pub HaveCapacity : (ℕ → GroupId) → ℕ → Type 0
+HaveCapacity group capacity = (slot : ℕ) → slot < 8 → (group slot).capacity ≡ capacity
+
+-- A broker with groups of this capacity and so many workers kept the headline to its end, and these are the lines of its groups' reports, all of which it gave: of each slot to which a share is bound, as each
 -- that was there from the start is, unless all eight slots are bound.
-pub record AreReports (workers : ℕ) (given : List Share) (text : List ℕ) : Type 0 where
+pub record AreReports (capacity workers : ℕ) (given : List Share) (text : List ℕ) : Type 0 where
   pub group : ℕ → GroupId
+  pub room : HaveCapacity group capacity
   pub answers : List (Result Report (Unfinished Nobody))
   pub strangers : List Held
   pub came : ℕ

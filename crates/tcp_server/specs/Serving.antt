@@ -14,15 +14,15 @@ abbrev pub listening_line : ℕ → List ℕ
 listening_line port = codes "listening " ++ decimal port ++ codes "\n"
 
 -- the line and the lines of the reports were written
-pub record WritesAll (line : List ℕ) (workers : ℕ) (given : List Share) (old new : Option (List ℕ)) : Type 0 where
+pub record WritesAll (line : List ℕ) (capacity workers : ℕ) (given : List Share) (old new : Option (List ℕ)) : Type 0 where
   pub text : List ℕ
-  pub reports : AreReports workers given text
+  pub reports : AreReports capacity workers given text
   pub written : Appends old new (line ++ text)
 
 -- a beginning of that was written
-pub record BeginsToWrite (line : List ℕ) (workers : ℕ) (given : List Share) (old new : Option (List ℕ)) : Type 0 where
+pub record BeginsToWrite (line : List ℕ) (capacity workers : ℕ) (given : List Share) (old new : Option (List ℕ)) : Type 0 where
   pub text : List ℕ
-  pub reports : AreReports workers given text
+  pub reports : AreReports capacity workers given text
   pub begun : Begins old new (line ++ text)
 
 -- why there are no reports, and what was written then: a beginning of the line; nothing, or the line; the line
@@ -36,17 +36,17 @@ EndsUnreported line Unfinished old new = Appends old new line
 EndsUnreported line (Line number) old new = ⊥
 
 -- what a broker whose first line is this has written, by how it ended
-abbrev pub IsServed : List ℕ → ℕ → List Share → Result (Unit {0}) RunError → Option (List ℕ) → Option (List ℕ) → Type 0
-IsServed line workers given (Ok done) old new = WritesAll line workers given old new
-IsServed line workers given (Err ReadFailed) old new = WritesAll line workers given old new
-IsServed line workers given (Err TooManyReads) old new = ⊥
-IsServed line workers given (Err WriteFailed) old new = Begins old new line ⊎ BeginsToWrite line workers given old new
-IsServed line workers given (Err Network) old new = Keeps old new ⊎ WritesAll line workers given old new
-IsServed line workers given (Err Memory) old new = Keeps old new ⊎ Appends old new line
-IsServed line workers given (Err Unfinished) old new = Appends old new line
-IsServed line workers given (Err (Line number)) old new = ⊥
+abbrev pub IsServed : List ℕ → ℕ → ℕ → List Share → Result (Unit {0}) RunError → Option (List ℕ) → Option (List ℕ) → Type 0
+IsServed line capacity workers given (Ok done) old new = WritesAll line capacity workers given old new
+IsServed line capacity workers given (Err ReadFailed) old new = WritesAll line capacity workers given old new
+IsServed line capacity workers given (Err TooManyReads) old new = ⊥
+IsServed line capacity workers given (Err WriteFailed) old new = Begins old new line ⊎ BeginsToWrite line capacity workers given old new
+IsServed line capacity workers given (Err Network) old new = Keeps old new ⊎ WritesAll line capacity workers given old new
+IsServed line capacity workers given (Err Memory) old new = Keeps old new ⊎ Appends old new line
+IsServed line capacity workers given (Err Unfinished) old new = Appends old new line
+IsServed line capacity workers given (Err (Line number)) old new = ⊥
 
 -- the same at the port that was asked for, or at any where that is 0; or it was not listened at, and nothing was written
-abbrev pub IsServedAt : ℕ → ℕ → List Share → Result (Unit {0}) RunError → Option (List ℕ) → Option (List ℕ) → Type 0
-IsServedAt asked workers given result old new =
-    ((port : ℕ) × IsPortFor asked port × IsServed (listening_line port) workers given result old new) ⊎ ((result ≡ Err Network) × Keeps old new)
+abbrev pub IsServedAt : ℕ → ℕ → ℕ → List Share → Result (Unit {0}) RunError → Option (List ℕ) → Option (List ℕ) → Type 0
+IsServedAt asked capacity workers given result old new =
+    ((port : ℕ) × IsPortFor asked port × IsServed (listening_line port) capacity workers given result old new) ⊎ ((result ≡ Err Network) × Keeps old new)

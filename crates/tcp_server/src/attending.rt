@@ -2,7 +2,7 @@
 ghost use Rattle.std.specs.Prelude.{◌≡◌, ◌≤◌, ◌⊎◌, true, [], length, vec_capacity, IfOk, IfErr};
 ghost use Rattle.std.specs.Io.KnownBytes.{IsAtEnd};
 ghost use Rattle.line_io.specs.declared.error.RunError.TheVariants.{Memory, Unfinished as NotKnown};
-ghost use Rattle.tcp_server.specs.Reporting.{AreLines, AreReports};
+ghost use Rattle.tcp_server.specs.Reporting.{AreLines, AreReports, HaveCapacity};
 
 use crate::crew::Crew;
 use crate::listening::Awaited;
@@ -51,10 +51,11 @@ pub(crate) fn attend<
     closers: Closers<'_, B>,
     input: &mut I,
 ) -> Result<(Vec<u8>, Served), RunError>
+    requires capacity { HaveCapacity B.group (B.group 0).capacity }
     requires hands { (1 ≤ length hands.items) × (length hands.items ≤ 64) }
     requires room { (room.items ≡ []) × (length hands.items ≤ vec_capacity room) }
     requires crew { length crew.gear.items ≡ length hands.items }
-    ensures told { IfOk result (λ told. AreReports (length hands.items) groups.now told.0.items) }
+    ensures told { IfOk result (λ told. AreReports (B.group 0).capacity (length hands.items) groups.now told.0.items) }
     ensures read { IfOk result (λ told. told.1 ≡ Served.Ended → IsAtEnd (I.remaining input.new)) }
     ensures cause { IfErr result (λ error. (error ≡ Memory) ⊎ (error ≡ NotKnown)) }
 {

@@ -1,7 +1,7 @@
 //! Serving, from the listener to the last line.
 ghost use Rattle.std.specs.Prelude.{◌≡◌, ◌+◌, ◌≤◌, ◌⊎◌, length, IfOk, IfErr};
 ghost use Rattle.std.specs.Io.KnownBytes.{Appends, IsAtEnd};
-ghost use Rattle.tcp_server.specs.Reporting.{AreReports};
+ghost use Rattle.tcp_server.specs.Reporting.{AreReports, HaveCapacity};
 ghost use Rattle.tcp_server.specs.Serving.{EndsUnreported, IsServed, IsServedAt, listening_line};
 ghost use Rattle.gate_word.specs.Seats.{AreSeatsOf};
 ghost use Rattle.broker_groups.specs.Naming.{IsOfBroker};
@@ -57,7 +57,7 @@ pub fn serve_at<R: Threads + Wait + Net + SystemClock + Sync, I: Read + Send, O:
 ) -> Result<(), RunError>
     requires capacity { (1 ≤ capacity) × (capacity ≤ 65536) }
     requires workers { (1 ≤ workers) × (workers ≤ 64) }
-    ensures written { IsServedAt port workers groups result (O.contents output.old) (O.contents output.new) }
+    ensures written { IsServedAt port capacity workers groups result (O.contents output.old) (O.contents output.new) }
     ensures read { IfOk result (λ _. IsAtEnd (I.remaining input.new)) }
 {
     match TcpSource::open(rt, address, port) {
@@ -79,7 +79,7 @@ pub fn serve_with<R: Threads + Wait + Net + SystemClock + Sync, I: Read + Send, 
 ) -> Result<(), RunError>
     requires capacity { (1 ≤ capacity) × (capacity ≤ 65536) }
     requires workers { (1 ≤ workers) × (workers ≤ 64) }
-    ensures written { IsServed (listening_line source.port) workers groups result (O.contents output.old) (O.contents output.new) }
+    ensures written { IsServed (listening_line source.port) capacity workers groups result (O.contents output.old) (O.contents output.new) }
     ensures read { IfOk result (λ _. IsAtEnd (I.remaining input.new)) }
 {
     let port = source.port();
@@ -148,7 +148,8 @@ fn live<
     requires workers { (1 ≤ workers) × (workers ≤ 64) }
     requires seats { AreSeatsOf gate.now seats.items × (length seats.items ≡ workers + 3) }
     requires opened { IsOfBroker B.gate B.group workers opened }
-    ensures told { IfOk result (λ told. AreReports workers groups.now told.0.items × Appends (O.contents output.old) (O.contents output.new) line.now) }
+    requires capacity { HaveCapacity B.group (B.group 0).capacity }
+    ensures told { IfOk result (λ told. AreReports (B.group 0).capacity workers groups.now told.0.items × Appends (O.contents output.old) (O.contents output.new) line.now) }
     ensures read { IfOk result (λ told. told.1 ≡ Served.Ended → IsAtEnd (I.remaining input.new)) }
     ensures failed { IfErr result (λ error. EndsUnreported line.now error (O.contents output.old) (O.contents output.new)) }
 {

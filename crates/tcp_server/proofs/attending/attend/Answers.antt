@@ -6,6 +6,7 @@ use Rattle.tcp_server.proofs.attending.attend.Goals as goal
 pub returns-clause-told : goal.returns-clause-told
 returns-clause-told g c = record {
   group = g.B.Broker.group;
+  room = c.requires.capacity;
   answers = c.in-Ok.outcome.ended.answers.items;
   strangers = c.in-Ok.outcome.ended.strangers.items;
   came = c.in-Ok.outcome.taken.came;

@@ -3,39 +3,51 @@ use Rattle.std.proofs.Common.{◌≡◌, Err, inr, sym, ap, subst, ◌∙◌}
 use Rattle.std.specs.Io.KnownBytes.{Appends}
 use Rattle.line_io.specs.Passing.{Begins}
 use Rattle.tcp_server.specs.Serving.{listening_line, IsServed}
-use Rattle.tcp_server.proofs.Served.{all, begun}
+use Rattle.broker_groups.specs.Openings.{named_by}
+use Rattle.tcp_server.proofs.Served.{all, begun, of_capacity, opened_with, same_capacity}
 use Rattle.tcp_server.proofs.serving.serve_with.Goals as goal
 
 pub returns-in-Err-write_all-clause-written : goal.returns-in-Err-write_all-clause-written
 returns-in-Err-write_all-clause-written g c =
     let line : c.as_bytes.result.now ≡ listening_line c.args.source.port = c.as_bytes.ensures.value ∙ c.in-Ok-line.ensures.ok ∙ ap listening_line c.port-port.ensures in
-    subst (λ error. IsServed (listening_line c.args.source.port) c.args.workers c.args.groups (Err error) (g.O.Write.contents c.args.output.now) (g.O.Write.contents c.write_all.new.writer))
+    let opened = opened_with c.gate-opened.gate c.args.capacity c.args.workers c.in-Ok-opened.opened c.in-Ok-opened.ensures.opened in
+    let reports = of_capacity (named_by c.in-Ok-opened.opened.groups.items) c.args.capacity c.args.workers c.args.groups c.in_ok-text-in-Ok-line.text.items opened c.in_ok-text-in-Ok-line.ensures.told.0 in
+    subst (λ error. IsServed (listening_line c.args.source.port) c.args.capacity c.args.workers c.args.groups (Err error) (g.O.Write.contents c.args.output.now) (g.O.Write.contents c.write_all.new.writer))
     (sym c.in-Err-write_all.ensures.cause)
-    (inr (begun (listening_line c.args.source.port) c.args.workers c.args.groups (g.O.Write.contents c.args.output.now) (g.O.Write.contents c.live.new.output) (g.O.Write.contents c.write_all.new.writer)
-    c.in_ok-text-in-Ok-line.text.items c.in_ok-text-in-Ok-line.ensures.told.0
+    (inr (begun (listening_line c.args.source.port) c.args.capacity c.args.workers c.args.groups (g.O.Write.contents c.args.output.now) (g.O.Write.contents c.live.new.output) (g.O.Write.contents c.write_all.new.writer)
+    c.in_ok-text-in-Ok-line.text.items reports
     (subst (λ text. Appends (g.O.Write.contents c.args.output.now) (g.O.Write.contents c.live.new.output) text) line c.in_ok-text-in-Ok-line.ensures.told.1)
     (subst (λ text. Begins (g.O.Write.contents c.live.new.output) (g.O.Write.contents c.write_all.new.writer) text) c.deref.ensures.value c.in-Err-write_all.ensures.err)))
 
 pub returns-in-Ended-clause-written : goal.returns-in-Ended-clause-written
 returns-in-Ended-clause-written g c =
     let line : c.as_bytes.result.now ≡ listening_line c.args.source.port = c.as_bytes.ensures.value ∙ c.in-Ok-line.ensures.ok ∙ ap listening_line c.port-port.ensures in
-    all (listening_line c.args.source.port) c.args.workers c.args.groups (g.O.Write.contents c.args.output.now) (g.O.Write.contents c.live.new.output) (g.O.Write.contents c.write_all.new.writer)
-    c.in_ok-text-in-Ok-line.text.items c.in_ok-text-in-Ok-line.ensures.told.0
+    let opened = opened_with c.gate-opened.gate c.args.capacity c.args.workers c.in-Ok-opened.opened c.in-Ok-opened.ensures.opened in
+    let reports = of_capacity (named_by c.in-Ok-opened.opened.groups.items) c.args.capacity c.args.workers c.args.groups c.in_ok-text-in-Ok-line.text.items opened c.in_ok-text-in-Ok-line.ensures.told.0 in
+    all (listening_line c.args.source.port) c.args.capacity c.args.workers c.args.groups (g.O.Write.contents c.args.output.now) (g.O.Write.contents c.live.new.output) (g.O.Write.contents c.write_all.new.writer)
+    c.in_ok-text-in-Ok-line.text.items reports
     (subst (λ text. Appends (g.O.Write.contents c.args.output.now) (g.O.Write.contents c.live.new.output) text) line c.in_ok-text-in-Ok-line.ensures.told.1)
     (subst (λ text. Appends (g.O.Write.contents c.live.new.output) (g.O.Write.contents c.write_all.new.writer) text) c.deref.ensures.value c.in-Ok-write_all.ensures.ok)
 
 pub returns-in-InputFailed-clause-written : goal.returns-in-InputFailed-clause-written
 returns-in-InputFailed-clause-written g c =
     let line : c.as_bytes.result.now ≡ listening_line c.args.source.port = c.as_bytes.ensures.value ∙ c.in-Ok-line.ensures.ok ∙ ap listening_line c.port-port.ensures in
-    all (listening_line c.args.source.port) c.args.workers c.args.groups (g.O.Write.contents c.args.output.now) (g.O.Write.contents c.live.new.output) (g.O.Write.contents c.write_all.new.writer)
-    c.in_ok-text-in-Ok-line.text.items c.in_ok-text-in-Ok-line.ensures.told.0
+    let opened = opened_with c.gate-opened.gate c.args.capacity c.args.workers c.in-Ok-opened.opened c.in-Ok-opened.ensures.opened in
+    let reports = of_capacity (named_by c.in-Ok-opened.opened.groups.items) c.args.capacity c.args.workers c.args.groups c.in_ok-text-in-Ok-line.text.items opened c.in_ok-text-in-Ok-line.ensures.told.0 in
+    all (listening_line c.args.source.port) c.args.capacity c.args.workers c.args.groups (g.O.Write.contents c.args.output.now) (g.O.Write.contents c.live.new.output) (g.O.Write.contents c.write_all.new.writer)
+    c.in_ok-text-in-Ok-line.text.items reports
     (subst (λ text. Appends (g.O.Write.contents c.args.output.now) (g.O.Write.contents c.live.new.output) text) line c.in_ok-text-in-Ok-line.ensures.told.1)
     (subst (λ text. Appends (g.O.Write.contents c.live.new.output) (g.O.Write.contents c.write_all.new.writer) text) c.deref.ensures.value c.in-Ok-write_all.ensures.ok)
 
 pub returns-clause-written : goal.returns-clause-written
 returns-clause-written g c = inr (
     let line : c.as_bytes.result.now ≡ listening_line c.args.source.port = c.as_bytes.ensures.value ∙ c.in-Ok-line.ensures.ok ∙ ap listening_line c.port-port.ensures in
-    all (listening_line c.args.source.port) c.args.workers c.args.groups (g.O.Write.contents c.args.output.now) (g.O.Write.contents c.live.new.output) (g.O.Write.contents c.write_all.new.writer)
-    c.in_ok-text-in-Ok-line.text.items c.in_ok-text-in-Ok-line.ensures.told.0
+    let opened = opened_with c.gate-opened.gate c.args.capacity c.args.workers c.in-Ok-opened.opened c.in-Ok-opened.ensures.opened in
+    let reports = of_capacity (named_by c.in-Ok-opened.opened.groups.items) c.args.capacity c.args.workers c.args.groups c.in_ok-text-in-Ok-line.text.items opened c.in_ok-text-in-Ok-line.ensures.told.0 in
+    all (listening_line c.args.source.port) c.args.capacity c.args.workers c.args.groups (g.O.Write.contents c.args.output.now) (g.O.Write.contents c.live.new.output) (g.O.Write.contents c.write_all.new.writer)
+    c.in_ok-text-in-Ok-line.text.items reports
     (subst (λ text. Appends (g.O.Write.contents c.args.output.now) (g.O.Write.contents c.live.new.output) text) line c.in_ok-text-in-Ok-line.ensures.told.1)
     (subst (λ text. Appends (g.O.Write.contents c.live.new.output) (g.O.Write.contents c.write_all.new.writer) text) c.deref.ensures.value c.in-Ok-write_all.ensures.ok))
+
+pub live-requires-clause-capacity : goal.live-requires-clause-capacity
+live-requires-clause-capacity g c = ?
