@@ -1,7 +1,7 @@
 -- The groups that are there from the start: each a pair NAME:FILTER of the command line (profile).
 use Rattle.std.specs.Prelude.{◌≡◌, ◌<◌, ◌⊎◌, ℕ, ◌==◌, ◌++◌, nat_lt, codes, length, Bool, if◌then◌else◌, List, ◌∷◌, [], Option, Some, None, Result, Ok, Err, IsSome}
 use Rattle.std.specs.List.{before_first, after_first, position_or_len}
-use Rattle.mqtt_wire.specs.Forms.{is_text}
+use Rattle.mqtt_packet.specs.Texts.{is_text}
 use Rattle.mqtt_topic.specs.Names.{Share, share_of}
 use Rattle.mqtt_topic.specs.Routes.{slot_of}
 use Rattle.mqtt_topic.specs.declared.error.TopicError.{TopicError}

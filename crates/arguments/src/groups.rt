@@ -3,8 +3,8 @@ ghost use Rattle.std.specs.Prelude.{◌≡◌, [], map, IfOk, MatchResult};
 ghost use Rattle.arguments.specs.Groups.{share_named, Adds, AddsEach, RefusesOne};
 
 use bytes::Bytes;
+use mqtt_packet::Text;
 use mqtt_topic::{Routes, Share, TopicError};
-use mqtt_wire::Text;
 use std::alloc::{AllocError, Global};
 
 /// Why a group is refused.

@@ -3,7 +3,7 @@
 use bytes::Bytes;
 use group_jobs::{Fate, Message, SharedMessage};
 use local_group::LocalGroup;
-use mqtt_wire::{RareProperties, Text};
+use mqtt_packet::{RareProperties, Text};
 use std::alloc::Global;
 
 /// How many of so many jobs were acknowledged; `None` where memory is refused.

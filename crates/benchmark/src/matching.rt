@@ -1,8 +1,8 @@
 //! Matching of topic names with a full table of routes: eight filters of eight levels.
 
 use bytes::Bytes;
+use mqtt_packet::Text;
 use mqtt_topic::{Routes, Share, TopicName};
-use mqtt_wire::Text;
 use std::alloc::Global;
 
 /// The shares that are bound, one a line.

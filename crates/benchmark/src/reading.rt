@@ -1,6 +1,7 @@
 //! Reading of PUBLISH packets of 32 bytes, from a stream that comes in pieces.
 
-use mqtt_wire::{Packet, Splitter};
+use mqtt_packet::Packet;
+use mqtt_wire::Splitter;
 use std::alloc::Global;
 
 /// A PUBLISH of 32 bytes: QoS 1, topic `plant/1/job`, no properties, 14 bytes of payload.

@@ -8,7 +8,7 @@ use bytes::Bytes;
 use conn_engine::OfferRefusal;
 use gate_word::{Gate, GateSeat, Turn};
 use group_jobs::{Envelope, Fate, Message, SharedMessage, Stamp};
-use mqtt_wire::{RareProperties, Text};
+use mqtt_packet::{RareProperties, Text};
 use std::alloc::Global;
 use std::marker::Brand;
 use std::sync::Wait;

@@ -1,6 +1,6 @@
 -- What is not written.
 use Rattle.std.proofs.Common.{◌≡◌, ℕ, List, refl, inl}
-use Rattle.mqtt_wire.specs.declared.packet.Packet.{Packet}
+use Rattle.mqtt_packet.specs.declared.packet.Packet.{Packet}
 use Rattle.conn_engine.specs.declared.input.Input.{Input}
 use Rattle.conn_engine.specs.declared.input.Then.{Then}
 use Rattle.conn_engine.specs.Facts.{Fact}

@@ -1,6 +1,6 @@
 -- A client: its connection, and the stream of its bytes.
 use Rattle.std.specs.Prelude.{◌≡◌, ℕ, ◌⊎◌, max, List, [], None}
-use Rattle.mqtt_wire.specs.declared.packet.Packet.{Packet}
+use Rattle.mqtt_packet.specs.declared.packet.Packet.{Packet}
 use Rattle.mqtt_wire.specs.Stream.{Unread}
 use Rattle.conn_engine.specs.declared.input.Input.{Input}
 use Rattle.conn_engine.specs.declared.input.Then.{Then}

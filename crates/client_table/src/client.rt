@@ -13,7 +13,8 @@ ghost use Rattle.client_table.specs.Streams.{fed, IsRead, IsInFront, FailsToRead
 mod reading;
 
 use conn_engine::{Conn, HoldingPlace, Input, NoMemory, Supply, Then};
-use mqtt_wire::{Fault, Packet, ReadFault, Splitter};
+use mqtt_packet::Packet;
+use mqtt_wire::{Fault, ReadFault, Splitter};
 use std::alloc::Global;
 use std::io::Read;
 use std::marker::Model;

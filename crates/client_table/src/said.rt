@@ -2,7 +2,7 @@
 ghost use Rattle.std.specs.Prelude.{◌≡◌};
 
 use conn_engine::Then;
-use mqtt_wire::Packet;
+use mqtt_packet::Packet;
 use std::marker::Model;
 
 /// What one step of a connection wrote, and what became of the connection.

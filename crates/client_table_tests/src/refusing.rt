@@ -9,8 +9,8 @@ ghost use Rattle.member_window.specs.Contents.{held_of};
 use conn_engine::{BindRefusal, NoMemory, OfferRefusal, Supply};
 use group_jobs::{Envelope, Fate, SharedMessage, Stamp};
 use local_broker::{LocalPlace, LocalSupply};
+use mqtt_packet::Text;
 use mqtt_topic::{Routes, Share, Slots, TopicName};
-use mqtt_wire::Text;
 use session_desk::{Attached, DeskError, Session};
 use std::alloc::Global;
 

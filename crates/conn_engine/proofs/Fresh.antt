@@ -1,6 +1,6 @@
 -- What is sent, one message after the other.
 use Rattle.std.proofs.Common.{◌≡◌, ℕ, List, [], ◌∷◌, ◌++◌, Some, refl, ap, subst, ◌∙◌, append_assoc, inl}
-use Rattle.mqtt_wire.specs.declared.packet.Packet.{Packet}
+use Rattle.mqtt_packet.specs.declared.packet.Packet.{Packet}
 use Rattle.group_jobs.specs.Stamps.{Held}
 use Rattle.member_window.specs.Identifiers.{identifiers, IsLeastFree}
 use Rattle.member_window.specs.Contents.{Contents, HasRoom, held_of, after_put}

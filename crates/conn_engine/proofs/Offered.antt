@@ -1,9 +1,9 @@
 -- A PUBLISH that is offered to groups neither expires nor has a Topic Alias.
 use Rattle.std.proofs.Common.{◌≡◌, ℕ, Bool, true, false, cond, Option, Some, None, refl, arith}
 use Rattle.std.specs.Prelude.{is_some}
-use Rattle.mqtt_wire.specs.declared.packet.Delivery.{Delivery}
-use Rattle.mqtt_wire.specs.declared.packet.Delivery.TheVariants.{AtMostOnce, AtLeastOnce, ExactlyOnce}
-use Rattle.mqtt_wire.specs.declared.packet.Publish.{Publish}
+use Rattle.mqtt_packet.specs.declared.packet.Delivery.{Delivery}
+use Rattle.mqtt_packet.specs.declared.packet.Delivery.TheVariants.{AtMostOnce, AtLeastOnce, ExactlyOnce}
+use Rattle.mqtt_packet.specs.declared.packet.Publish.{Publish}
 use Rattle.conn_rules.specs.declared.publishing.PublishAnswer.{PublishAnswer}
 use Rattle.conn_rules.specs.declared.publishing.PublishAnswer.TheVariants.{Refuse, Offer}
 use Rattle.conn_rules.specs.Publishing.{closing_code, identified_answer, delivery_answer, publish_answer}

@@ -1,8 +1,8 @@
 -- What a connection answers to a CONNECT, and to a Tick while it waits for a session (sections 3.1 and 3.2, profile).
 use Rattle.std.specs.Prelude.{◌≡◌, ℕ, ◌+◌, nat_lt, Bool, true, false, not, ◌&&◌, List, [], ◌∷◌, Option, Some, None, Result, Ok, Err}
-use Rattle.mqtt_wire.specs.Forms.{is_text}
-use Rattle.mqtt_wire.specs.declared.packet.ConnectRefusal.{ConnectRefusal}
-use Rattle.mqtt_wire.specs.declared.packet.ConnectRefusal.TheVariants as refusals
+use Rattle.mqtt_packet.specs.Texts.{is_text}
+use Rattle.mqtt_packet.specs.declared.packet.ConnectRefusal.{ConnectRefusal}
+use Rattle.mqtt_packet.specs.declared.packet.ConnectRefusal.TheVariants as refusals
 use Rattle.group_jobs.specs.Stamps.{Held}
 use Rattle.member_window.specs.Contents.{after_up}
 use Rattle.session_desk.specs.Sessions.{Who}

@@ -1,6 +1,6 @@
 -- What is handed out behind the reply (sections 4.4, 4.6, 4.8.2 and 4.9).
 use Rattle.std.specs.Prelude.{◌≡◌, ◌≢◌, ◌⊎◌, ℕ, ◌+◌, ◌<◌, length, true, false, List, [], ◌∷◌, ◌++◌, Option, Some, None, Ok, Err}
-use Rattle.mqtt_wire.specs.declared.packet.Packet.{Packet}
+use Rattle.mqtt_packet.specs.declared.packet.Packet.{Packet}
 use Rattle.group_jobs.specs.Stamps.{Held}
 use Rattle.member_window.specs.Identifiers.{identifiers, IsLeastFree}
 use Rattle.member_window.specs.Contents.{Contents, held_of, HasRoom, IsNextResend, after_put, after_resend}

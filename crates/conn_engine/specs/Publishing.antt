@@ -1,6 +1,6 @@
 -- What a connection answers to a PUBLISH, and whom it asks (section 3.3).
 use Rattle.std.specs.Prelude.{◌≡◌, ℕ, ◌+◌, List, [], ◌∷◌, length, ◌⊎◌, Result, Ok, Err}
-use Rattle.mqtt_wire.specs.declared.packet.Publish.{Publish}
+use Rattle.mqtt_packet.specs.declared.packet.Publish.{Publish}
 use Rattle.group_jobs.specs.declared.message.Message.{Message}
 use Rattle.group_jobs.specs.declared.stamp.Stamp.{Stamp}
 use Rattle.conn_rules.specs.declared.publishing.PublishAnswer.{PublishAnswer}

@@ -1,6 +1,6 @@
 -- Replies: what a connection answers to an input, before anything is handed out.
 use Rattle.std.specs.Prelude.{ℕ, Option, Some}
-use Rattle.mqtt_wire.specs.declared.packet.Packet.{Packet}
+use Rattle.mqtt_packet.specs.declared.packet.Packet.{Packet}
 use Rattle.conn_rules.specs.Packets.{disconnect, puback}
 use Rattle.conn_engine.specs.declared.input.Then.TheVariants.{Go, Close, Kicked}
 use Rattle.conn_engine.specs.declared.reply.Reply.{Reply}

@@ -8,7 +8,7 @@ use crate::supply::{HoldingPlace, Supply};
 use conn_rules::fate_of;
 use group_jobs::Envelope;
 use member_window::Window;
-use mqtt_wire::{PacketIdentifier, ReasonCode};
+use mqtt_packet::{PacketIdentifier, ReasonCode};
 use session_desk::{Membership, Session};
 
 /// A PUBACK settles the message under its identifier: it is acknowledged, or refused by a code from 80 hex on. A PUBACK whose

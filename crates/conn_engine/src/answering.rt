@@ -1,6 +1,6 @@
 //! The answers to the packets of a client that has its session (chapter 3).
 ghost use Rattle.std.specs.Prelude.{◌≡◌, MatchResult, true};
-ghost use Rattle.mqtt_wire.specs.declared.packet.Packet.TheVariants as packets;
+ghost use Rattle.mqtt_packet.specs.declared.packet.Packet.TheVariants as packets;
 ghost use Rattle.conn_engine.specs.Answering.{Disconnects, Answers, FailsToAnswer};
 ghost use Rattle.conn_engine.specs.Ready.{IsSoundSession};
 
@@ -10,7 +10,7 @@ use crate::reply::Reply;
 use crate::standing::Link;
 use crate::subscribing::{subscribe, unsubscribe};
 use crate::supply::{HoldingPlace, NoMemory, Supply};
-use mqtt_wire::{Packet, ReasonCode, Subscribe, Unsubscribe};
+use mqtt_packet::{Packet, ReasonCode, Subscribe, Unsubscribe};
 use std::alloc::Global;
 
 /// Answers a packet of the connection with this number, whose client has its session.

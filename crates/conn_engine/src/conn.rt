@@ -1,6 +1,6 @@
 //! A connection, step by step.
 ghost use Rattle.std.specs.Prelude.{◌≡◌, ◌<◌, ◌≤◌, ◌^◌, ◌↔◌, ◌++◌, [], true, ℕ, List, IsTrue, MatchOption, MatchResult, max, vec_capacity, vec_len};
-ghost use Rattle.mqtt_wire.specs.declared.packet.Packet.{Packet};
+ghost use Rattle.mqtt_packet.specs.declared.packet.Packet.{Packet};
 ghost use Rattle.conn_engine.specs.declared.standing.Standing.TheVariants as standings;
 ghost use Rattle.conn_engine.specs.Ready.{IsSoundSession};
 ghost use Rattle.conn_engine.specs.Standings.{IsSoundStanding, IsWaiting, IsConnected};
@@ -17,7 +17,7 @@ use crate::reacting::react;
 use crate::reply::Reply;
 use crate::standing::{Link, Standing};
 use crate::supply::{HoldingPlace, NoMemory, Supply};
-use mqtt_wire::Packet;
+use mqtt_packet::Packet;
 use std::alloc::Global;
 use std::marker::Model;
 

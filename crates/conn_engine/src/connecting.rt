@@ -13,7 +13,7 @@ use crate::standing::{ConnectRequest, Link, Standing};
 use crate::supply::{HoldingPlace, NoMemory, Supply};
 use conn_rules::{accepting, refusing};
 use group_jobs::Envelope;
-use mqtt_wire::{ConnectRefusal, Text};
+use mqtt_packet::{ConnectRefusal, Text};
 use session_desk::{Attached, DeskError, Identity, Membership, Session};
 
 /// For how many Ticks a connection waits for a session.

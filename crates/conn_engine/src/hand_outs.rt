@@ -1,6 +1,6 @@
 //! What is handed out behind the reply (sections 4.4, 4.6, 4.8.2 and 4.9).
 ghost use Rattle.std.specs.Prelude.{◌≡◌, ◌<◌, ◌∷◌, ◌++◌, [], true, false, ℕ, List, Some, None, Ok, OnOk, OnErr, IfOk, MatchOption, MatchResult};
-ghost use Rattle.mqtt_wire.specs.declared.packet.Packet.{Packet};
+ghost use Rattle.mqtt_packet.specs.declared.packet.Packet.{Packet};
 ghost use Rattle.group_jobs.specs.Stamps.{Held};
 ghost use Rattle.member_window.specs.Identifiers.{identifiers, IsLeastFree};
 ghost use Rattle.member_window.specs.Contents.{held_of, HasRoom, IsNextResend, after_put, after_resend};
@@ -13,7 +13,7 @@ use crate::supply::{HoldingPlace, NoMemory, Supply};
 use conn_rules::job;
 use group_jobs::Envelope;
 use member_window::Window;
-use mqtt_wire::{Packet, PacketIdentifier};
+use mqtt_packet::{Packet, PacketIdentifier};
 use session_desk::Membership;
 use std::mem;
 

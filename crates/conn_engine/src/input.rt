@@ -1,5 +1,6 @@
 //! What comes to a connection, and what becomes of it.
-use mqtt_wire::{Packet, StreamFault};
+use mqtt_packet::Packet;
+use mqtt_wire::StreamFault;
 
 /// What comes to a connection.
 #[derive(Debug, Drop)]

@@ -11,8 +11,8 @@ use crate::reply::Reply;
 use crate::supply::{HoldingPlace, NoMemory, OfferRefusal, Supply};
 use conn_rules::{PublishAnswer, answer_to_publish, message_of, puback_code};
 use group_jobs::{Message, SharedMessage};
+use mqtt_packet::{PacketIdentifier, Publish, Text};
 use mqtt_topic::{SlotIter, Slots, TopicName};
-use mqtt_wire::{PacketIdentifier, Publish, Text};
 use std::alloc::Global;
 
 /// Answers a PUBLISH of this connection.

@@ -21,7 +21,7 @@ use conn_rules::{
     FirstAnswer, answer_to_first, disconnect, fault_code, fault_refusal, is_late, is_overdue,
     terms_of,
 };
-use mqtt_wire::{Connect, Packet, ReasonCode};
+use mqtt_packet::{Connect, Packet, ReasonCode};
 use std::alloc::Global;
 use std::mem;
 

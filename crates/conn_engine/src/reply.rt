@@ -4,7 +4,7 @@ ghost use Rattle.conn_engine.specs.Replies.{going_on, closed, closing_with, ackn
 
 use crate::input::Then;
 use conn_rules::{disconnect, puback};
-use mqtt_wire::{Packet, PacketIdentifier, ReasonCode};
+use mqtt_packet::{Packet, PacketIdentifier, ReasonCode};
 use std::alloc::Global;
 
 /// What a connection answers to an input, before anything is handed out. The laws of its steps speak of it.

@@ -7,7 +7,7 @@ ghost use Rattle.conn_engine.specs.Standings.{IsConnected};
 
 use conn_rules::Terms;
 use group_jobs::Envelope;
-use mqtt_wire::Text;
+use mqtt_packet::Text;
 use session_desk::{Membership, Session};
 use std::mem;
 

@@ -14,10 +14,10 @@ use crate::supply::{BindRefusal, HoldingPlace, NoMemory, Supply};
 use conn_rules::{
     EntryAnswer, Terms, answer_to_entry, suback, subscribe_refusal, unsuback, unsubscribe_refusal,
 };
-use mqtt_topic::Share;
-use mqtt_wire::{
+use mqtt_packet::{
     NonEmpty, PacketIdentifier, ReasonCode, Subscribe, Subscription, Text, Unsubscribe,
 };
+use mqtt_topic::Share;
 use session_desk::{Membership, Place};
 use std::alloc::Global;
 use std::vec::IntoIter;

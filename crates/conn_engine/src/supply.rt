@@ -9,8 +9,8 @@ ghost use Rattle.member_window.specs.Contents.{held_of};
 ghost use Rattle.session_desk.specs.Attaching.{asked};
 
 use group_jobs::{Envelope, Fate, JobError, SharedMessage, Stamp};
+use mqtt_packet::Text;
 use mqtt_topic::{Share, Slots, TopicName};
-use mqtt_wire::Text;
 use session_desk::{Attached, DeskError, Place, Session};
 use std::alloc::{AllocError, AllocFailed};
 use thiserror::Error;

@@ -1,6 +1,6 @@
 -- Nothing is left to hand out behind a step.
 use Rattle.std.proofs.Common.{◌≡◌, ℕ, List, [], ◌∷◌, Some, None, sym, subst, inl, inr, ⊎_elim}
-use Rattle.mqtt_wire.specs.declared.packet.Packet.{Packet}
+use Rattle.mqtt_packet.specs.declared.packet.Packet.{Packet}
 use Rattle.group_jobs.specs.Stamps.{Held}
 use Rattle.member_window.specs.Contents.{Contents, IsNextResend, HasRoom, after_resend}
 use Rattle.session_desk.specs.declared.session.Membership.{Membership}

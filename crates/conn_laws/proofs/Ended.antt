@@ -1,7 +1,7 @@
 -- A connection is over exactly where its step says so.
 use Rattle.std.proofs.Common.{◌≡◌, ◌≢◌, ◌↔◌, ℕ, Bool, true, false, List, Option, Some, None, Result, Ok, Err, refl, sym, ap, subst, ◌∙◌, nat_lt, not, ◌&&◌}
-use Rattle.mqtt_wire.specs.declared.packet.Packet.{Packet}
-use Rattle.mqtt_wire.specs.declared.packet.ConnectRefusal.{ConnectRefusal}
+use Rattle.mqtt_packet.specs.declared.packet.Packet.{Packet}
+use Rattle.mqtt_packet.specs.declared.packet.ConnectRefusal.{ConnectRefusal}
 use Rattle.group_jobs.specs.Stamps.{Held}
 use Rattle.session_desk.specs.declared.attached.Attached.{Attached}
 use Rattle.session_desk.specs.declared.attached.Attached.TheVariants.{New, Resumed, Replace, Busy}

@@ -1,7 +1,7 @@
 -- A CONNECT has one answer, where each call has one.
 use Rattle.std.proofs.Common.{◌≡◌, ◌≢◌, ℕ, ◌+◌, nat_lt, Bool, true, false, not, ◌&&◌, Option, Some, None, Result, Ok, Err, sym, ◌∙◌, subst}
-use Rattle.mqtt_wire.specs.declared.packet.ConnectRefusal.{ConnectRefusal}
-use Rattle.mqtt_wire.specs.declared.packet.ConnectRefusal.TheVariants as refusals
+use Rattle.mqtt_packet.specs.declared.packet.ConnectRefusal.{ConnectRefusal}
+use Rattle.mqtt_packet.specs.declared.packet.ConnectRefusal.TheVariants as refusals
 use Rattle.group_jobs.specs.Stamps.{Held}
 use Rattle.session_desk.specs.Attaching.{asked}
 use Rattle.session_desk.specs.declared.attached.Attached.{Attached}

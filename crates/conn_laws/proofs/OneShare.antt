@@ -1,9 +1,9 @@
 -- A SUBSCRIBE and an UNSUBSCRIBE have one answer, where each call has one.
 use Rattle.std.proofs.Common.{◌≡◌, ◌≢◌, ℕ, Bool, List, [], ◌∷◌, Option, Some, None, Result, Ok, Err, sym, ap, ◌∙◌, subst, inl, inr, is_some}
 use Rattle.std.proofs.lemmas.Option.{same_Some}
-use Rattle.mqtt_wire.specs.declared.packet.Subscribe.{Subscribe}
-use Rattle.mqtt_wire.specs.declared.packet.Subscription.{Subscription}
-use Rattle.mqtt_wire.specs.declared.packet.Unsubscribe.{Unsubscribe}
+use Rattle.mqtt_packet.specs.declared.packet.Subscribe.{Subscribe}
+use Rattle.mqtt_packet.specs.declared.packet.Subscription.{Subscription}
+use Rattle.mqtt_packet.specs.declared.packet.Unsubscribe.{Unsubscribe}
 use Rattle.mqtt_topic.specs.declared.error.TopicError.{TopicError}
 use Rattle.mqtt_topic.specs.Names.{Share, share_of}
 use Rattle.conn_rules.specs.declared.subscribing.EntryAnswer.{EntryAnswer}

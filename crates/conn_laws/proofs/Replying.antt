@@ -2,9 +2,9 @@
 use Rattle.std.proofs.Common.{◌≡◌, ℕ, Bool, true, false, List, [], ◌++◌, Option, Some, None, Result, Ok, Err, refl, ap, ◌∙◌, nat_lt, not, ◌&&◌}
 use Rattle.std.proofs.lemmas.List.Elements.{filter_map-append}
 use Rattle.std.specs.Option.{option_to_list}
-use Rattle.mqtt_wire.specs.declared.packet.Packet.{Packet}
-use Rattle.mqtt_wire.specs.declared.packet.Packet.TheVariants as packets
-use Rattle.mqtt_wire.specs.declared.packet.ConnectRefusal.{ConnectRefusal}
+use Rattle.mqtt_packet.specs.declared.packet.Packet.{Packet}
+use Rattle.mqtt_packet.specs.declared.packet.Packet.TheVariants as packets
+use Rattle.mqtt_packet.specs.declared.packet.ConnectRefusal.{ConnectRefusal}
 use Rattle.group_jobs.specs.Stamps.{Held}
 use Rattle.group_jobs.specs.declared.message.Message.{Message}
 use Rattle.session_desk.specs.declared.attached.Attached.{Attached}
@@ -22,9 +22,9 @@ use Rattle.conn_rules.specs.Connecting.{first_answer}
 use Rattle.conn_rules.specs.Ending.{fault_refusal}
 use Rattle.conn_rules.specs.Publishing.{publish_answer}
 use Rattle.conn_rules.specs.Subscribing.{subscribe_refusal, unsubscribe_refusal}
-use Rattle.mqtt_wire.specs.declared.packet.Publish.{Publish}
-use Rattle.mqtt_wire.specs.declared.packet.Subscribe.{Subscribe}
-use Rattle.mqtt_wire.specs.declared.packet.Unsubscribe.{Unsubscribe}
+use Rattle.mqtt_packet.specs.declared.packet.Publish.{Publish}
+use Rattle.mqtt_packet.specs.declared.packet.Subscribe.{Subscribe}
+use Rattle.mqtt_packet.specs.declared.packet.Unsubscribe.{Unsubscribe}
 use Rattle.conn_engine.specs.declared.input.Input.{Input}
 use Rattle.conn_engine.specs.declared.input.Input.TheVariants as inputs
 use Rattle.conn_engine.specs.declared.reply.Reply.{Reply}

@@ -1,7 +1,7 @@
 -- What was given back is handed out first, among the calls of a step.
 use Rattle.std.proofs.Common.{◌≡◌, ℕ, List, [], ◌∷◌, ◌++◌, Option, Some, None, Ok, refl, inl, inr, ⊎_elim}
 use Rattle.std.specs.List.{cons_option}
-use Rattle.mqtt_wire.specs.declared.packet.Packet.{Packet}
+use Rattle.mqtt_packet.specs.declared.packet.Packet.{Packet}
 use Rattle.group_jobs.specs.Stamps.{Held}
 use Rattle.member_window.specs.Contents.{Contents, HasRoom}
 use Rattle.session_desk.specs.declared.session.Membership.{Membership}

@@ -1,8 +1,8 @@
 -- What was given back is handed out first, among the calls of a step that wants memory.
 use Rattle.std.proofs.Common.{◌≡◌, ℕ, false, List, [], ◌∷◌, Some, inl, inr, ⊎_elim, is_some}
-use Rattle.mqtt_wire.specs.declared.packet.Packet.{Packet}
-use Rattle.mqtt_wire.specs.declared.packet.Packet.TheVariants as packets
-use Rattle.mqtt_wire.specs.declared.packet.Publish.{Publish}
+use Rattle.mqtt_packet.specs.declared.packet.Packet.{Packet}
+use Rattle.mqtt_packet.specs.declared.packet.Packet.TheVariants as packets
+use Rattle.mqtt_packet.specs.declared.packet.Publish.{Publish}
 use Rattle.group_jobs.specs.declared.message.Message.{Message}
 use Rattle.group_jobs.specs.Stamps.{Held}
 use Rattle.member_window.specs.Contents.{Contents, HasRoom, after_put}

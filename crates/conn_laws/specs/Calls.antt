@@ -1,8 +1,8 @@
 -- The calls that a step makes, one after the other: what they offer, what they settle, and what they hand out.
 use Rattle.std.specs.Prelude.{◌≡◌, ◌⊎◌, ℕ, Bool, true, false, List, [], ◌∷◌, ◌++◌, map, filter_map, Option, Some, None, Ok, Contains, ⊤}
-use Rattle.mqtt_wire.specs.declared.packet.Packet.{Packet}
-use Rattle.mqtt_wire.specs.declared.packet.Packet.TheVariants as packets
-use Rattle.mqtt_wire.specs.declared.packet.Publish.{Publish}
+use Rattle.mqtt_packet.specs.declared.packet.Packet.{Packet}
+use Rattle.mqtt_packet.specs.declared.packet.Packet.TheVariants as packets
+use Rattle.mqtt_packet.specs.declared.packet.Publish.{Publish}
 use Rattle.group_jobs.specs.declared.fate.Fate.{Fate}
 use Rattle.group_jobs.specs.declared.message.Message.{Message}
 use Rattle.group_jobs.specs.Stamps.{Held}

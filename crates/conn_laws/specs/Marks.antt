@@ -1,7 +1,7 @@
 -- The marks of a transcript: which packets they stand for, and what they send and acknowledge (sections 3.3, 3.4 and 4.4).
 use Rattle.std.specs.Prelude.{◌≡◌, ℕ, Bool, true, false, List, filter_map, Option, Some, None, ⊤}
-use Rattle.mqtt_wire.specs.declared.packet.Packet.{Packet}
-use Rattle.mqtt_wire.specs.declared.packet.Packet.TheVariants as packets
+use Rattle.mqtt_packet.specs.declared.packet.Packet.{Packet}
+use Rattle.mqtt_packet.specs.declared.packet.Packet.TheVariants as packets
 use Rattle.group_jobs.specs.Stamps.{Held}
 use Rattle.member_window.specs.Marks.{Mark, Up, Sent, Acked, Down}
 use Rattle.conn_rules.specs.Packets.{job}

@@ -1,7 +1,7 @@
 -- What a step makes of the session of its connection, and what it adds to the transcript of that session (sections 4.4, 4.8.2 and 4.9).
 use Rattle.std.specs.Prelude.{◌≡◌, ◌⊎◌, ℕ, false, List, [], ◌∷◌, map, Option, Some, None, Result, Ok, Err, ⊤}
 use Rattle.std.specs.List.{AllByRecursion}
-use Rattle.mqtt_wire.specs.declared.packet.Packet.{Packet}
+use Rattle.mqtt_packet.specs.declared.packet.Packet.{Packet}
 use Rattle.group_jobs.specs.Stamps.{Held}
 use Rattle.member_window.specs.Contents.{after_up, after_down}
 use Rattle.member_window.specs.Marks.{Mark, Up, Down}

@@ -1,6 +1,6 @@
 //! The laws, each over every supply.
 ghost use Rattle.std.specs.Prelude.{◌≡◌, ◌≢◌, ◌↔◌, ℕ, List};
-ghost use Rattle.mqtt_wire.specs.declared.packet.Packet.{Packet};
+ghost use Rattle.mqtt_packet.specs.declared.packet.Packet.{Packet};
 ghost use Rattle.conn_engine.specs.declared.input.Input.{Input};
 ghost use Rattle.conn_engine.specs.declared.input.Then.{Then};
 ghost use Rattle.conn_engine.specs.declared.input.Then.TheVariants.{Go};

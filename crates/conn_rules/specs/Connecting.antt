@@ -1,11 +1,11 @@
 -- What a client asks for when it connects, and the answer to the first packet (sections 3.1 and 3.2).
 use Rattle.std.specs.Prelude.{ℕ, ◌==◌, ◌&&◌, nat_lt, Bool, false, not, if◌then◌else◌, length, Option, Some, None, is_some}
-use Rattle.mqtt_wire.specs.declared.offer.Offer.{Offer}
-use Rattle.mqtt_wire.specs.declared.packet.QoS.TheVariants.{AtLeastOnce}
-use Rattle.mqtt_wire.specs.declared.packet.Connect.{Connect}
-use Rattle.mqtt_wire.specs.declared.packet.ConnectRefusal.TheVariants.{ImplementationSpecificError, UnsupportedProtocolVersion, ClientIdentifierNotValid, BadAuthenticationMethod}
-use Rattle.mqtt_wire.specs.declared.packet.Packet.{Packet}
-use Rattle.mqtt_wire.specs.declared.packet.Packet.TheVariants as packets
+use Rattle.mqtt_packet.specs.declared.offer.Offer.{Offer}
+use Rattle.mqtt_packet.specs.declared.packet.QoS.TheVariants.{AtLeastOnce}
+use Rattle.mqtt_packet.specs.declared.packet.Connect.{Connect}
+use Rattle.mqtt_packet.specs.declared.packet.ConnectRefusal.TheVariants.{ImplementationSpecificError, UnsupportedProtocolVersion, ClientIdentifierNotValid, BadAuthenticationMethod}
+use Rattle.mqtt_packet.specs.declared.packet.Packet.{Packet}
+use Rattle.mqtt_packet.specs.declared.packet.Packet.TheVariants as packets
 use Rattle.conn_rules.specs.declared.connecting.FirstAnswer.{FirstAnswer}
 use Rattle.conn_rules.specs.declared.connecting.FirstAnswer.TheVariants.{Close, Refuse, Attach}
 use Rattle.conn_rules.specs.declared.terms.Terms.{Terms}

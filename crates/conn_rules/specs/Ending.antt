@@ -1,7 +1,7 @@
 -- When and how a connection is closed by a fault of its stream or by time (sections 3.1.2.10, 3.1.4 and 4.13).
 use Rattle.std.specs.Prelude.{ℕ, ◌*◌, nat_lt, nat_le, ◌&&◌, Bool, Option, Some, None}
-use Rattle.mqtt_wire.specs.declared.packet.ConnectRefusal.{ConnectRefusal}
-use Rattle.mqtt_wire.specs.declared.packet.ConnectRefusal.TheVariants.{ProtocolError}
+use Rattle.mqtt_packet.specs.declared.packet.ConnectRefusal.{ConnectRefusal}
+use Rattle.mqtt_packet.specs.declared.packet.ConnectRefusal.TheVariants.{ProtocolError}
 use Rattle.mqtt_wire.specs.declared.fault.StreamFault.{StreamFault}
 use Rattle.mqtt_wire.specs.declared.fault.StreamFault.TheVariants.{Malformed, Protocol, TooLarge}
 

@@ -1,10 +1,10 @@
 -- The packets that the broker sends (chapter 3).
 use Rattle.std.specs.Prelude.{ℕ, Bool, false, List, [], Option, None}
-use Rattle.mqtt_wire.specs.declared.packet.ConnectRefusal.{ConnectRefusal}
-use Rattle.mqtt_wire.specs.declared.packet.Connack.TheVariants.{Accepted, Refused}
-use Rattle.mqtt_wire.specs.declared.packet.Delivery.TheVariants.{AtLeastOnce}
-use Rattle.mqtt_wire.specs.declared.packet.Packet.{Packet}
-use Rattle.mqtt_wire.specs.declared.packet.Packet.TheVariants as packets
+use Rattle.mqtt_packet.specs.declared.packet.ConnectRefusal.{ConnectRefusal}
+use Rattle.mqtt_packet.specs.declared.packet.Connack.TheVariants.{Accepted, Refused}
+use Rattle.mqtt_packet.specs.declared.packet.Delivery.TheVariants.{AtLeastOnce}
+use Rattle.mqtt_packet.specs.declared.packet.Packet.{Packet}
+use Rattle.mqtt_packet.specs.declared.packet.Packet.TheVariants as packets
 use Rattle.group_jobs.specs.declared.message.Message.{Message}
 use Rattle.conn_rules.specs.Connecting.{offer}
 

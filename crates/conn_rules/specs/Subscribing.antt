@@ -1,11 +1,11 @@
 -- What becomes of a SUBSCRIBE and of an UNSUBSCRIBE before any session or group is asked (sections 3.8 to 3.11).
 use Rattle.std.specs.Prelude.{ℕ, nat_lt, nat_eq, ◌&&◌, codes, Bool, true, false, if◌then◌else◌, List, length, Option, Some, None, Result, Ok, Err}
 use Rattle.std.specs.List.{list_any, starts_with}
-use Rattle.mqtt_wire.specs.declared.packet.QoS.{QoS}
-use Rattle.mqtt_wire.specs.declared.packet.QoS.TheVariants.{AtMostOnce, AtLeastOnce, ExactlyOnce}
-use Rattle.mqtt_wire.specs.declared.packet.Subscribe.{Subscribe}
-use Rattle.mqtt_wire.specs.declared.packet.Subscription.{Subscription}
-use Rattle.mqtt_wire.specs.declared.packet.Unsubscribe.{Unsubscribe}
+use Rattle.mqtt_packet.specs.declared.packet.QoS.{QoS}
+use Rattle.mqtt_packet.specs.declared.packet.QoS.TheVariants.{AtMostOnce, AtLeastOnce, ExactlyOnce}
+use Rattle.mqtt_packet.specs.declared.packet.Subscribe.{Subscribe}
+use Rattle.mqtt_packet.specs.declared.packet.Subscription.{Subscription}
+use Rattle.mqtt_packet.specs.declared.packet.Unsubscribe.{Unsubscribe}
 use Rattle.mqtt_topic.specs.declared.error.TopicError.{TopicError}
 use Rattle.mqtt_topic.specs.declared.error.TopicError.TheVariants.{NotShared}
 use Rattle.mqtt_topic.specs.Names.{Share, share_of, filter_of}

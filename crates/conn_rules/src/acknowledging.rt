@@ -3,7 +3,7 @@ ghost use Rattle.std.specs.Prelude.{◌≡◌};
 ghost use Rattle.conn_rules.specs.Acknowledging.{fate_of};
 
 use group_jobs::Fate;
-use mqtt_wire::ReasonCode;
+use mqtt_packet::ReasonCode;
 
 /// What a PUBACK of this Reason Code settles a job as: a code below 80 hex acknowledges it, any other refuses it.
 pub fn fate_of(reason_code: ReasonCode) -> Fate

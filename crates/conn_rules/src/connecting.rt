@@ -3,7 +3,7 @@ ghost use Rattle.std.specs.Prelude.{◌≡◌};
 ghost use Rattle.conn_rules.specs.Connecting.{first_answer, connect_answer, offer};
 
 use crate::terms::is_size_under;
-use mqtt_wire::{Connect, ConnectRefusal, MaximumPacketSize, Offer, Packet, QoS};
+use mqtt_packet::{Connect, ConnectRefusal, MaximumPacketSize, Offer, Packet, QoS};
 
 /// The longest client identifier, in bytes.
 const LONGEST_CLIENT_IDENTIFIER: usize = 128;

@@ -5,7 +5,7 @@ ghost use Rattle.conn_rules.specs.Publishing.{message_of};
 
 use crate::connecting::offer;
 use group_jobs::Message;
-use mqtt_wire::{
+use mqtt_packet::{
     Acceptance, Connack, ConnectRefusal, Delivery, Disconnect, DisconnectProperties, NonEmpty,
     Packet, PacketIdentifier, Puback, PubackProperties, Publish, ReasonCode, Suback, Text,
     Unsuback,

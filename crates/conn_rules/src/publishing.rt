@@ -4,7 +4,7 @@ ghost use Rattle.std.specs.List.{list_any};
 ghost use Rattle.mqtt_topic.specs.Levels.{is_wildcard};
 ghost use Rattle.conn_rules.specs.Publishing.{closing_code, publish_answer, identified_answer, puback_code};
 
-use mqtt_wire::{Delivery, PacketIdentifier, Publish, ReasonCode};
+use mqtt_packet::{Delivery, PacketIdentifier, Publish, ReasonCode};
 
 /// What becomes of a PUBLISH before any group is asked.
 #[derive(Clone, Copy, Debug, PartialEq, Eq)]

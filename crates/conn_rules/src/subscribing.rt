@@ -5,8 +5,8 @@ ghost use Rattle.mqtt_topic.specs.Names.{share_of};
 ghost use Rattle.conn_rules.specs.Subscribing.{subscribe_refusal, unsubscribe_refusal, is_local_share, entry_answer, share_answer, refused_code};
 
 use crate::terms::Terms;
+use mqtt_packet::{QoS, ReasonCode, Subscribe, Subscription, Text, Unsubscribe};
 use mqtt_topic::{Filter, RefusedText, Share, TopicError};
-use mqtt_wire::{QoS, ReasonCode, Subscribe, Subscription, Text, Unsubscribe};
 
 /// How many entries a SUBSCRIBE or an UNSUBSCRIBE has at most.
 const MOST_ENTRIES: usize = 32;

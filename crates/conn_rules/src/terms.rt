@@ -2,7 +2,7 @@
 ghost use Rattle.std.specs.Prelude.{◌≡◌};
 ghost use Rattle.conn_rules.specs.Connecting.{is_under, terms_of, is_given_expiry};
 
-use mqtt_wire::{Connect, MaximumPacketSize};
+use mqtt_packet::{Connect, MaximumPacketSize};
 
 /// What a client asked for when it connected.
 #[derive(Clone, Copy, Debug, PartialEq, Eq)]

@@ -5,9 +5,8 @@ use conn_rules::{
     fault_refusal, is_late, is_overdue, puback_code,
 };
 use group_jobs::Fate;
-use mqtt_wire::{
-    ConnectRefusal, Fault, Packet, PacketIdentifier, ReasonCode, StreamFault, Subscribe,
-};
+use mqtt_packet::{ConnectRefusal, Packet, PacketIdentifier, ReasonCode, Subscribe};
+use mqtt_wire::{Fault, StreamFault};
 use std::alloc::Global;
 use std::test::Fail;
 

@@ -3,7 +3,8 @@ use conn_rules::{
     FirstAnswer, PublishAnswer, Terms, answer_to_first, answer_to_publish, subscribe_refusal,
     terms_of, unsubscribe_refusal,
 };
-use mqtt_wire::{Fault, Packet, ReasonCode, Splitter};
+use mqtt_packet::{Packet, ReasonCode};
+use mqtt_wire::{Fault, Splitter};
 use std::alloc::Global;
 
 /// What the rules say of a first packet.

@@ -3,9 +3,8 @@ use crate::reading::packet;
 use bytes::Bytes;
 use conn_rules::{accepting, disconnect, job, puback, refusing, suback, unsuback};
 use group_jobs::Message;
-use mqtt_wire::{
-    ConnectRefusal, Fault, NonEmpty, Packet, PacketIdentifier, ReasonCode, Text, encode,
-};
+use mqtt_packet::{ConnectRefusal, NonEmpty, Packet, PacketIdentifier, ReasonCode, Text};
+use mqtt_wire::{Fault, encode};
 use std::alloc::Global;
 use std::test::Fail;
 

@@ -1,6 +1,6 @@
 -- What a step makes of a connection: one act.
 use Rattle.std.proofs.Common.{◌≡◌, ◌≢◌, ℕ, ◌<◌, Bool, true, false, List, [], ◌++◌, length, Option, Some, None, Result, Ok, Err, MatchResult, refl, sym, ap, subst, ◌∙◌, inl, inr}
-use Rattle.mqtt_wire.specs.declared.packet.Packet.{Packet}
+use Rattle.mqtt_packet.specs.declared.packet.Packet.{Packet}
 use Rattle.mqtt_wire.specs.Stream.{Unread}
 use Rattle.transport.specs.declared.counts.Counts.{Counts}
 use Rattle.conn_engine.specs.declared.input.Input.{Input}

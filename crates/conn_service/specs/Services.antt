@@ -1,7 +1,7 @@
 -- A connection that is served: its client, its transport, and what is still to be written to it.
 use Rattle.std.specs.Prelude.{◌≡◌, ◌≢◌, ◌⊎◌, ℕ, ◌-◌, ◌<◌, ◌≤◌, Bool, true, false, List, [], Option, Some, None}
 use Rattle.std.specs.List.{flat_map}
-use Rattle.mqtt_wire.specs.declared.packet.Packet.{Packet}
+use Rattle.mqtt_packet.specs.declared.packet.Packet.{Packet}
 use Rattle.mqtt_wire.specs.Writing.{written}
 use Rattle.transport.specs.declared.counts.Counts.{Counts}
 use Rattle.conn_engine.specs.declared.standing.Standing.{Standing}

@@ -4,7 +4,8 @@ ghost use Rattle.conn_service.specs.Services.{bytes_of, write_room};
 ghost use Rattle.conn_service.specs.Moments.{since_step};
 
 use conn_engine::NoMemory;
-use mqtt_wire::{Packet, encode_into};
+use mqtt_packet::Packet;
+use mqtt_wire::encode_into;
 use std::alloc::{AllocError, Global};
 use std::marker::Model;
 

@@ -10,7 +10,7 @@ use crate::outgoing::Outgoing;
 use crate::served::Served;
 use client_table::Client;
 use conn_engine::{HoldingPlace, Supply};
-use mqtt_wire::Packet;
+use mqtt_packet::Packet;
 use std::alloc::Global;
 use std::marker::Model;
 use transport::Transport;

@@ -16,7 +16,8 @@ use conn_engine::Then;
 use itoa::Buffer;
 use line_io::RunError;
 use local_server::Server;
-use mqtt_wire::{Fault, Packet, encode_into};
+use mqtt_packet::Packet;
+use mqtt_wire::{Fault, encode_into};
 use std::alloc::Global;
 use std::marker::Model;
 

@@ -8,7 +8,7 @@ use bytes::Bytes;
 use final_report::{end_broker, end_groups};
 use gate_word::{Drained, Gate, GateSeat, Turn};
 use group_jobs::{Envelope, Message, SharedMessage};
-use mqtt_wire::{RareProperties, Text};
+use mqtt_packet::{RareProperties, Text};
 use shared_desk::SharedDesk;
 use shared_routes::SharedRoutes;
 use shared_supply::Hall;

@@ -1,6 +1,6 @@
 //! Messages: what a group passes on of a PUBLISH.
 use bytes::Bytes;
-use mqtt_wire::{RareProperties, Text};
+use mqtt_packet::{RareProperties, Text};
 
 /// A message on its way from a publisher to a member. Its topic, its properties and its payload are shared with the packet that it came in and
 /// with those in which it goes out.

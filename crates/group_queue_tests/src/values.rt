@@ -2,7 +2,7 @@
 use bytes::Bytes;
 use group_jobs::{JobError, Message, SharedMessage};
 use group_queue::{NotTaken, OfferError, Place, Port, SharedGroup};
-use mqtt_wire::{PublishProperties, RareProperties, Text};
+use mqtt_packet::{PublishProperties, RareProperties, Text};
 use std::alloc::Global;
 use std::fmt::Display;
 use std::process::Abort;

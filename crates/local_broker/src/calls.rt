@@ -15,8 +15,8 @@ use crate::place::LocalPlace;
 use crate::supply::LocalSupply;
 use conn_engine::{BindRefusal, NoMemory, OfferRefusal, Supply};
 use group_jobs::{Envelope, Fate, SharedMessage, Stamp};
+use mqtt_packet::Text;
 use mqtt_topic::{Share, Slots, TopicError, TopicName};
-use mqtt_wire::Text;
 use session_desk::{Attached, DeskError, Place, Session};
 
 /// How many ports a group has: one for each connection whose number is below this.

@@ -3,8 +3,8 @@
 use bytes::Bytes;
 use group_jobs::{Envelope, Fate, Message, SharedMessage, Stamp};
 use local_group::{LocalGroup, OfferError, TakeError};
+use mqtt_packet::{RareProperties, Text};
 use mqtt_topic::Share;
-use mqtt_wire::{RareProperties, Text};
 use std::alloc::Global;
 use std::test::Fail;
 

@@ -2,8 +2,8 @@
 use Rattle.std.proofs.Common.{◌≡◌, ◌≢◌, ◌⊎◌, ℕ, ◌+◌, Bool, true, false, List, [], ◌++◌, Option, Some, None, Contains, refl, sym, ap, subst, ◌∙◌, inl, inr, ⊎_elim, append-nil}
 use Rattle.std.proofs.lemmas.Bool.{cases_eq}
 use Rattle.std.proofs.lemmas.Option.{same_Some}
-use Rattle.mqtt_wire.specs.declared.packet.Packet.{Packet}
-use Rattle.mqtt_wire.specs.declared.packet.ConnectRefusal.{ConnectRefusal}
+use Rattle.mqtt_packet.specs.declared.packet.Packet.{Packet}
+use Rattle.mqtt_packet.specs.declared.packet.ConnectRefusal.{ConnectRefusal}
 use Rattle.group_jobs.specs.Stamps.{Held}
 use Rattle.member_window.specs.Contents.{held_of}
 use Rattle.session_desk.specs.Rows.{Rows}

@@ -1,6 +1,6 @@
 -- What a step sends is what was accepted, under its stamp.
 use Rattle.std.proofs.Common.{◌≡◌, ℕ, List, [], ◌∷◌, ◌++◌, filter_map, Option, Some, None, Contains, refl, sym, ap, subst, ◌∙◌, ⊎_elim}
-use Rattle.mqtt_wire.specs.declared.packet.Packet.{Packet}
+use Rattle.mqtt_packet.specs.declared.packet.Packet.{Packet}
 use Rattle.group_jobs.specs.Stamps.{Held}
 use Rattle.member_window.specs.Contents.{held_of}
 use Rattle.member_window.specs.Marks.{Mark, Standing as Led, standing_down, standing_after_all}

@@ -1,7 +1,7 @@
 -- What is settled in a run: as the `Acked` marks of the sessions' transcripts have it, and as the events of the groups do (sections 3.4 and 4.3.2).
 use Rattle.std.specs.Prelude.{◌≡◌, ◌≢◌, ℕ, nat_eq, if◌then◌else◌, List, [], ◌∷◌, ◌++◌, filter_map, Option, Some, None, slice_get, Contains, ⊤}
 use Rattle.std.specs.List.{list_any}
-use Rattle.mqtt_wire.specs.declared.packet.Packet.TheVariants as packets
+use Rattle.mqtt_packet.specs.declared.packet.Packet.TheVariants as packets
 use Rattle.dispatch_core.specs.declared.event.Event.{Event}
 use Rattle.dispatch_core.specs.declared.event.Event.TheVariants.{Accept, First, Ack, Refuse, Back, Again, Close}
 use Rattle.dispatch_core.specs.declared.event.Job.{Job}

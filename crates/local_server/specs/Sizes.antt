@@ -1,7 +1,7 @@
 -- How long the packets are that a run sends (section 2.1.4).
 use Rattle.std.specs.Prelude.{◌≤◌, List}
 use Rattle.std.specs.List.{AllByRecursion}
-use Rattle.mqtt_wire.specs.declared.packet.Packet.{Packet}
+use Rattle.mqtt_packet.specs.declared.packet.Packet.{Packet}
 use Rattle.mqtt_wire.specs.Writing.{remaining_length}
 use Rattle.packet_sizes.specs.Sizes.{IsShort}
 use Rattle.client_table.specs.Clients.{Said}

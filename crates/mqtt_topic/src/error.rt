@@ -4,7 +4,7 @@ ghost use Rattle.mqtt_topic.specs.declared.error.TopicError.TheVariants as error
 ghost use Rattle.std.specs.Prelude.{◌≡◌};
 ghost use Rattle.mqtt_topic.specs.Refusals.{number_of};
 
-use mqtt_wire::Text;
+use mqtt_packet::Text;
 use std::alloc::AllocFailed;
 use thiserror::Error;
 

@@ -8,7 +8,7 @@ ghost use Rattle.mqtt_topic.specs.Refusals.{ParseAnswers};
 use crate::error::{RefusedText, TopicError};
 use crate::levels::{has_wildcard, is_multi_level, matches, split_level};
 use crate::topic_name::TopicName;
-use mqtt_wire::Text;
+use mqtt_packet::Text;
 use std::marker::Model;
 
 /// A filter: a text of at least one character whose wildcards are whole levels, `#` only the last (section 4.7.1).

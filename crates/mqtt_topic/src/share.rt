@@ -9,7 +9,7 @@ use crate::error::{RefusedText, TopicError};
 use crate::filter::check_filter;
 use crate::levels::{has_wildcard, matches, separator_at};
 use crate::topic_name::TopicName;
-use mqtt_wire::Text;
+use mqtt_packet::Text;
 use std::marker::Model;
 
 /// How the text of a share begins.

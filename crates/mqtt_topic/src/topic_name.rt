@@ -6,7 +6,7 @@ ghost use Rattle.mqtt_topic.specs.Refusals.{ParseAnswers};
 
 use crate::error::{RefusedText, TopicError};
 use crate::levels::has_wildcard;
-use mqtt_wire::Text;
+use mqtt_packet::Text;
 use std::marker::Model;
 
 /// A topic name: a text of at least one character without wildcards (sections 4.7.3 and 3.3.2.1).

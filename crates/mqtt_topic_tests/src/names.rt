@@ -1,8 +1,8 @@
 //! Names, filters, shares and routes, by the standard's examples and the profile's.
 
 use bytes::Bytes;
+use mqtt_packet::Text;
 use mqtt_topic::{Filter, RefusedText, Routes, Share, TopicError, TopicName};
-use mqtt_wire::Text;
 use std::alloc::Global;
 use std::test::Fail;
 

@@ -6,11 +6,12 @@ use Rattle.std.proofs.lemmas.List.{append-nil}
 use Rattle.std.proofs.lemmas.Slice.Eq.{bytes_eq-Decides}
 use Rattle.std.specs.Str.{is_utf8, chars}
 use Rattle.mqtt_wire.specs.declared.fault.StreamFault.{StreamFault}
-use Rattle.mqtt_wire.specs.declared.packet.Connect.{Connect}
+use Rattle.mqtt_packet.specs.declared.packet.Connect.{Connect}
 use Rattle.mqtt_wire.specs.declared.bodies.ConnectPayload.{ConnectPayload}
-use Rattle.mqtt_wire.specs.declared.packet.Packet.{Packet}
-use Rattle.mqtt_wire.specs.declared.packet.Packet.TheVariants as packets
-use Rattle.mqtt_wire.specs.Forms.{u16_bytes, binary_data, utf8_string, is_text, IsText, IsBinary}
+use Rattle.mqtt_packet.specs.declared.packet.Packet.{Packet}
+use Rattle.mqtt_packet.specs.declared.packet.Packet.TheVariants as packets
+use Rattle.mqtt_packet.specs.Texts.{is_text, IsText, IsBinary}
+use Rattle.mqtt_wire.specs.Forms.{u16_bytes, binary_data, utf8_string}
 use Rattle.mqtt_wire.specs.Faults.{◌>>=◌}
 use Rattle.mqtt_wire.specs.Kinds.{bit}
 use Rattle.mqtt_wire.specs.Fields.{Field, byte_at, u16_at, binary_at, text_at, field_if, at_end}

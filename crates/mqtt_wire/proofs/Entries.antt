@@ -4,7 +4,7 @@ use Rattle.std.proofs.lemmas.List.{append-nil}
 use Rattle.mqtt_wire.specs.declared.fault.StreamFault.{StreamFault}
 use Rattle.mqtt_wire.specs.declared.fault.Fault.{Fault}
 use Rattle.mqtt_wire.specs.declared.fault.Fault.TheVariants as errors
-use Rattle.mqtt_wire.specs.declared.packet.Subscription.{Subscription}
+use Rattle.mqtt_packet.specs.declared.packet.Subscription.{Subscription}
 use Rattle.mqtt_wire.specs.Faults.{◌>>=◌, Fails}
 use Rattle.mqtt_wire.specs.Fields.{Field, byte_at, text_at}
 use Rattle.mqtt_wire.specs.Bodies.{options_at, subscription_at, entries_within, at_least_one}

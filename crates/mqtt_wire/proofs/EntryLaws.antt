@@ -3,9 +3,10 @@ use Rattle.std.proofs.Common.{◌≡◌, ℕ, zero, suc, ◌<◌, ◌≤◌, Lis
 use Rattle.std.specs.List.{flat_map, AllByRecursion}
 use Rattle.std.proofs.lemmas.List.Concat.{flat_map-cons}
 use Rattle.mqtt_wire.specs.declared.fault.StreamFault.{StreamFault}
-use Rattle.mqtt_wire.specs.declared.packet.Subscription.{Subscription}
+use Rattle.mqtt_packet.specs.declared.packet.Subscription.{Subscription}
 use Rattle.mqtt_wire.specs.Faults.{◌>>=◌}
-use Rattle.mqtt_wire.specs.Forms.{utf8_string, IsText}
+use Rattle.mqtt_packet.specs.Texts.{IsText}
+use Rattle.mqtt_wire.specs.Forms.{utf8_string}
 use Rattle.mqtt_wire.specs.Fields.{Field, byte_at, text_at}
 use Rattle.mqtt_wire.specs.Bodies.{options_at, subscription_at, entries_within, at_least_one, entries_at}
 use Rattle.mqtt_wire.specs.Writing.{options_byte, subscription_bytes}

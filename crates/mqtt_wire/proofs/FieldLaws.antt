@@ -3,7 +3,8 @@ use Rattle.std.proofs.Common.{◌≡◌, ℕ, ◌+◌, ◌*◌, ◌/◌, ◌%◌
 use Rattle.std.proofs.lemmas.List.{length-take-le}
 use Rattle.std.proofs.lemmas.Bool.{ltb-false, le-ltb, eqb-true, eqb-false, ne_eqb}
 use Rattle.std.proofs.lemmas.List.{take_at, drop_at, take-append-drop}
-use Rattle.mqtt_wire.specs.Forms.{u16_bytes, u32_bytes, binary_data, utf8_string, is_text, variable_byte_integer, IsText, IsBinary}
+use Rattle.mqtt_packet.specs.Texts.{is_text, IsText, IsBinary}
+use Rattle.mqtt_wire.specs.Forms.{u16_bytes, u32_bytes, binary_data, utf8_string, variable_byte_integer}
 use Rattle.mqtt_wire.specs.Fields.{Field, byte_at, u16_at, u32_at, binary_at, text_at, not_zero, identifier_at, flag_at, variable_at, whole, variable_field_at}
 use Rattle.mqtt_wire.specs.Kinds.{bit}
 use Rattle.mqtt_wire.specs.Ranges.{IsIdentifier}

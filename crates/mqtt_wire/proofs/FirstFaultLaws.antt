@@ -2,8 +2,8 @@
 use Rattle.std.proofs.Common.{◌≡◌, ℕ, ◌/◌, ◌%◌, ◌==◌, Bool, true, false, List, [], ◌∷◌, Result, Ok, Err, refl, sym, subst, inl, inr}
 use Rattle.std.specs.Prelude.{◌↔◌, MatchBool, if◌then◌else◌}
 use Rattle.mqtt_wire.specs.declared.fault.StreamFault.{StreamFault}
-use Rattle.mqtt_wire.specs.declared.packet.Packet.TheVariants as packets
-use Rattle.mqtt_wire.specs.declared.packet.Connect.{Connect as ConnectPacket}
+use Rattle.mqtt_packet.specs.declared.packet.Packet.TheVariants as packets
+use Rattle.mqtt_packet.specs.declared.packet.Connect.{Connect as ConnectPacket}
 use Rattle.mqtt_wire.specs.declared.property.Section.TheVariants as sections
 use Rattle.mqtt_wire.specs.declared.kind.PublishFlags.{PublishFlags}
 use Rattle.mqtt_wire.specs.declared.kind.Kind.{Kind}

@@ -6,11 +6,11 @@ use Rattle.mqtt_wire.specs.declared.property.Property.TheVariants.{PayloadFormat
 use Rattle.mqtt_wire.specs.declared.property.Section.{Section}
 use Rattle.mqtt_wire.specs.declared.property.Section.TheVariants as sections
 use Rattle.mqtt_wire.specs.declared.properties.Properties.{Properties}
-use Rattle.mqtt_wire.specs.declared.user_properties.UserProperty.{UserProperty as Pair}
-use Rattle.mqtt_wire.specs.declared.packet_properties.Authentication.{Authentication}
-use Rattle.mqtt_wire.specs.declared.packet_properties.ConnectProperties.{ConnectProperties}
-use Rattle.mqtt_wire.specs.declared.packet.Packet.{Packet}
-use Rattle.mqtt_wire.specs.declared.packet.Packet.TheVariants as packets
+use Rattle.mqtt_packet.specs.declared.user_properties.UserProperty.{UserProperty as Pair}
+use Rattle.mqtt_packet.specs.declared.packet_properties.Authentication.{Authentication}
+use Rattle.mqtt_packet.specs.declared.packet_properties.ConnectProperties.{ConnectProperties}
+use Rattle.mqtt_packet.specs.declared.packet.Packet.{Packet}
+use Rattle.mqtt_packet.specs.declared.packet.Packet.TheVariants as packets
 use Rattle.mqtt_wire.specs.Properties.{nothing, with_property}
 use Rattle.mqtt_wire.specs.Sections.{IsPair, IsProperty, AddUp, SpellsProperties}
 use Rattle.mqtt_wire.specs.PropertyLists.{authentication_of, connect_with, connect_from, connect_of, publish_of, puback_of, subscribe_of, unsubscribe_of, disconnect_of}

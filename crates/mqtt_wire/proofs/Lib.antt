@@ -1,4 +1,3 @@
-pub mod TextLaws
 pub mod Variable
 pub mod Steps
 pub mod FieldLaws

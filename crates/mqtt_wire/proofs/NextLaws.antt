@@ -5,7 +5,7 @@ use Rattle.std.proofs.lemmas.List.{length-take-le, take-append-drop, take_at, dr
 use Rattle.mqtt_wire.specs.declared.fault.StreamFault.{StreamFault}
 use Rattle.mqtt_wire.specs.declared.fault.Fault.{Fault}
 use Rattle.mqtt_wire.specs.declared.fault.Fault.TheVariants.{Stream, Memory}
-use Rattle.mqtt_wire.specs.declared.packet.Packet.{Packet}
+use Rattle.mqtt_packet.specs.declared.packet.Packet.{Packet}
 use Rattle.mqtt_wire.specs.declared.header.FixedHeader.{FixedHeader}
 use Rattle.mqtt_wire.specs.declared.frame.Frame.{Frame}
 use Rattle.mqtt_wire.specs.declared.splitter.InHand.{InHand}

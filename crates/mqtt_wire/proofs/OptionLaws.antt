@@ -1,11 +1,11 @@
 -- Subscription Options: what is read is spelled so, and what is spelled so is read.
 use Rattle.std.proofs.Common.{◌≡◌, ℕ, ◌/◌, ◌%◌, ◌<◌, ◌≤◌, Bool, true, false, cond, ltb, eqb, Option, Some, None, Ok, refl, sym, ap, ◌∙◌, arith, inl, inr}
 use Rattle.std.proofs.lemmas.Bool.{ltb-true, lt-ltb, eqb-true}
-use Rattle.mqtt_wire.specs.declared.packet.QoS.{QoS}
-use Rattle.mqtt_wire.specs.declared.packet.QoS.TheVariants.{AtMostOnce, AtLeastOnce, ExactlyOnce}
-use Rattle.mqtt_wire.specs.declared.packet.RetainHandling.{RetainHandling}
-use Rattle.mqtt_wire.specs.declared.packet.RetainHandling.TheVariants.{Send, SendIfNew, DoNotSend}
-use Rattle.mqtt_wire.specs.declared.packet.SubscriptionOptions.{SubscriptionOptions}
+use Rattle.mqtt_packet.specs.declared.packet.QoS.{QoS}
+use Rattle.mqtt_packet.specs.declared.packet.QoS.TheVariants.{AtMostOnce, AtLeastOnce, ExactlyOnce}
+use Rattle.mqtt_packet.specs.declared.packet.RetainHandling.{RetainHandling}
+use Rattle.mqtt_packet.specs.declared.packet.RetainHandling.TheVariants.{Send, SendIfNew, DoNotSend}
+use Rattle.mqtt_packet.specs.declared.packet.SubscriptionOptions.{SubscriptionOptions}
 use Rattle.mqtt_wire.specs.Kinds.{bit, qos_bits, qos_at}
 use Rattle.mqtt_wire.specs.Bodies.{retain_handling_at, options_from, options_at}
 use Rattle.mqtt_wire.specs.Writing.{retain_handling_bits, options_byte}

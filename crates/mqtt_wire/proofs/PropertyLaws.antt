@@ -4,7 +4,7 @@ use Rattle.mqtt_wire.specs.declared.property.PropertyName.{PropertyName}
 use Rattle.mqtt_wire.specs.declared.property.PropertyName.TheVariants as names
 use Rattle.mqtt_wire.specs.declared.property.Property.{Property}
 use Rattle.mqtt_wire.specs.declared.property.Property.TheVariants.{PayloadFormatIndicator, MessageExpiryInterval, ContentType, ResponseTopic, CorrelationData, SubscriptionIdentifier, SessionExpiryInterval, AuthenticationMethod, AuthenticationData, RequestProblemInformation, RequestResponseInformation, ReasonString, ReceiveMaximum, TopicAliasMaximum, TopicAlias, UserProperty, MaximumPacketSize}
-use Rattle.mqtt_wire.specs.declared.user_properties.UserProperty.{UserProperty as Pair}
+use Rattle.mqtt_packet.specs.declared.user_properties.UserProperty.{UserProperty as Pair}
 use Rattle.mqtt_wire.specs.Forms.{u16_bytes, u32_bytes, utf8_string, variable_byte_integer}
 use Rattle.mqtt_wire.specs.Fields.{Field, byte_at, u16_at, u32_at, binary_at, text_at, not_zero, flag_at, variable_field_at}
 use Rattle.mqtt_wire.specs.Properties.{name_of}

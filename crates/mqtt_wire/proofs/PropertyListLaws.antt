@@ -8,14 +8,14 @@ use Rattle.mqtt_wire.specs.declared.property.PropertyName.TheVariants as names
 use Rattle.mqtt_wire.specs.declared.property.Property.{Property}
 use Rattle.mqtt_wire.specs.declared.property.Property.TheVariants.{PayloadFormatIndicator, MessageExpiryInterval, ContentType, ResponseTopic, CorrelationData, SubscriptionIdentifier, SessionExpiryInterval, AuthenticationMethod, AuthenticationData, RequestProblemInformation, RequestResponseInformation, ReasonString, ReceiveMaximum, TopicAliasMaximum, TopicAlias, UserProperty, MaximumPacketSize}
 use Rattle.mqtt_wire.specs.declared.properties.Properties.{Properties}
-use Rattle.mqtt_wire.specs.declared.user_properties.UserProperty.{UserProperty as Pair}
-use Rattle.mqtt_wire.specs.declared.packet_properties.Authentication.{Authentication}
-use Rattle.mqtt_wire.specs.declared.packet_properties.ConnectProperties.{ConnectProperties}
-use Rattle.mqtt_wire.specs.declared.packet_properties.PublishProperties.{PublishProperties}
-use Rattle.mqtt_wire.specs.declared.packet_properties.PubackProperties.{PubackProperties}
-use Rattle.mqtt_wire.specs.declared.packet_properties.SubscribeProperties.{SubscribeProperties}
-use Rattle.mqtt_wire.specs.declared.packet_properties.UnsubscribeProperties.{UnsubscribeProperties}
-use Rattle.mqtt_wire.specs.declared.packet_properties.DisconnectProperties.{DisconnectProperties}
+use Rattle.mqtt_packet.specs.declared.user_properties.UserProperty.{UserProperty as Pair}
+use Rattle.mqtt_packet.specs.declared.packet_properties.Authentication.{Authentication}
+use Rattle.mqtt_packet.specs.declared.packet_properties.ConnectProperties.{ConnectProperties}
+use Rattle.mqtt_packet.specs.declared.packet_properties.PublishProperties.{PublishProperties}
+use Rattle.mqtt_packet.specs.declared.packet_properties.PubackProperties.{PubackProperties}
+use Rattle.mqtt_packet.specs.declared.packet_properties.SubscribeProperties.{SubscribeProperties}
+use Rattle.mqtt_packet.specs.declared.packet_properties.UnsubscribeProperties.{UnsubscribeProperties}
+use Rattle.mqtt_packet.specs.declared.packet_properties.DisconnectProperties.{DisconnectProperties}
 use Rattle.mqtt_wire.specs.Properties.{name_of, may_come, nothing, with_property}
 use Rattle.mqtt_wire.specs.Sections.{property_bytes, IsProperty, properties, SpellsProperties}
 use Rattle.mqtt_wire.specs.PropertyLists.{optional, user_bytes, authentication_bytes, authentication_of, connect_from, connect_of, connect_list, publish_of, publish_list, puback_of, puback_list, subscribe_of, subscribe_list, unsubscribe_of, unsubscribe_list, disconnect_of, disconnect_list}

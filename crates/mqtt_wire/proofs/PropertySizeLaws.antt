@@ -4,10 +4,10 @@ use Rattle.std.specs.Prelude.{min}
 use Rattle.std.proofs.Math.Nat.{min-eq_left, min_comm}
 use Rattle.std.proofs.lemmas.Bool.{cases_lt}
 use Rattle.mqtt_wire.specs.declared.property.Property.TheVariants.{PayloadFormatIndicator, MessageExpiryInterval, ContentType, ResponseTopic, CorrelationData, SessionExpiryInterval, RequestProblemInformation, RequestResponseInformation, ReasonString, ReceiveMaximum, TopicAliasMaximum, TopicAlias, MaximumPacketSize}
-use Rattle.mqtt_wire.specs.declared.packet_properties.ConnectProperties.{ConnectProperties}
-use Rattle.mqtt_wire.specs.declared.packet_properties.PublishProperties.{PublishProperties}
-use Rattle.mqtt_wire.specs.declared.packet_properties.PubackProperties.{PubackProperties}
-use Rattle.mqtt_wire.specs.declared.packet_properties.DisconnectProperties.{DisconnectProperties}
+use Rattle.mqtt_packet.specs.declared.packet_properties.ConnectProperties.{ConnectProperties}
+use Rattle.mqtt_packet.specs.declared.packet_properties.PublishProperties.{PublishProperties}
+use Rattle.mqtt_packet.specs.declared.packet_properties.PubackProperties.{PubackProperties}
+use Rattle.mqtt_packet.specs.declared.packet_properties.DisconnectProperties.{DisconnectProperties}
 use Rattle.mqtt_wire.specs.Sizes.{greatest}
 use Rattle.mqtt_wire.specs.PropertyLists.{optional, user_bytes, authentication_bytes, connect_list, publish_list, puback_list, disconnect_list}
 

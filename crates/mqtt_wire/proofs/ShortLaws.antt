@@ -1,7 +1,7 @@
 -- Packets without properties, as they stand on a stream.
 use Rattle.std.proofs.Common.{◌≡◌, ℕ, ◌+◌, ◌*◌, ◌/◌, ◌%◌, ◌<◌, ◌≤◌, List, [], ◌∷◌, ◌++◌, length, drop, get_or, Some, None, Ok, refl, subst, arith, le-ltb}
-use Rattle.mqtt_wire.specs.declared.packet.Packet.{Packet}
-use Rattle.mqtt_wire.specs.declared.packet.Packet.TheVariants as packets
+use Rattle.mqtt_packet.specs.declared.packet.Packet.{Packet}
+use Rattle.mqtt_packet.specs.declared.packet.Packet.TheVariants as packets
 use Rattle.mqtt_wire.specs.declared.property.Section.{Section}
 use Rattle.mqtt_wire.specs.declared.splitter.InHand.TheVariants.{Nothing}
 use Rattle.mqtt_wire.specs.Forms.{variable_bytes, u16_bytes}

@@ -4,13 +4,13 @@ use Rattle.std.specs.Prelude.{MatchOption, Vec}
 use Rattle.std.specs.declared.alloc.Global.{Global}
 use Rattle.std.specs.List.{flat_map}
 use Rattle.std.proofs.lemmas.List.Folds.{length-flat_map-take}
-use Rattle.mqtt_wire.specs.declared.packet.Connect.{Connect}
-use Rattle.mqtt_wire.specs.declared.packet.Connack.TheVariants.{Accepted, Refused}
-use Rattle.mqtt_wire.specs.declared.packet.Acceptance.{Acceptance}
-use Rattle.mqtt_wire.specs.declared.packet.ConnectRefusal.{ConnectRefusal}
-use Rattle.mqtt_wire.specs.declared.packet.Packet.{Packet}
-use Rattle.mqtt_wire.specs.declared.packet.Publish.{Publish}
-use Rattle.mqtt_wire.specs.declared.packet.Subscription.{Subscription}
+use Rattle.mqtt_packet.specs.declared.packet.Connect.{Connect}
+use Rattle.mqtt_packet.specs.declared.packet.Connack.TheVariants.{Accepted, Refused}
+use Rattle.mqtt_packet.specs.declared.packet.Acceptance.{Acceptance}
+use Rattle.mqtt_packet.specs.declared.packet.ConnectRefusal.{ConnectRefusal}
+use Rattle.mqtt_packet.specs.declared.packet.Packet.{Packet}
+use Rattle.mqtt_packet.specs.declared.packet.Publish.{Publish}
+use Rattle.mqtt_packet.specs.declared.packet.Subscription.{Subscription}
 use Rattle.mqtt_wire.specs.Forms.{u16_bytes, binary_data, utf8_string, variable_bytes, variable_limit, variable_byte_integer}
 use Rattle.mqtt_wire.specs.Buffers.{Appends}
 use Rattle.mqtt_wire.specs.Connacks.{connack_properties, connack_body}

@@ -2,21 +2,21 @@
 use Rattle.std.specs.Prelude.{ℕ, zero, suc, ◌/◌, ◌%◌, ◌==◌, nat_lt, if◌then◌else◌, List, [], ◌∷◌, length, Option, Some, None, Result, Ok, Err}
 use Rattle.mqtt_wire.specs.declared.fault.StreamFault.{StreamFault}
 use Rattle.mqtt_wire.specs.declared.fault.StreamFault.TheVariants.{Malformed, Protocol}
-use Rattle.mqtt_wire.specs.declared.packet.QoS.{QoS}
-use Rattle.mqtt_wire.specs.declared.packet.QoS.TheVariants as qos
-use Rattle.mqtt_wire.specs.declared.packet.RetainHandling.{RetainHandling}
-use Rattle.mqtt_wire.specs.declared.packet.RetainHandling.TheVariants.{Send, SendIfNew, DoNotSend}
-use Rattle.mqtt_wire.specs.declared.packet.Delivery.{Delivery}
-use Rattle.mqtt_wire.specs.declared.packet.Delivery.TheVariants.{AtMostOnce, AtLeastOnce, ExactlyOnce}
-use Rattle.mqtt_wire.specs.declared.packet.Disconnect.{Disconnect}
-use Rattle.mqtt_wire.specs.declared.packet.Publish.{Publish}
-use Rattle.mqtt_wire.specs.declared.packet.Puback.{Puback}
-use Rattle.mqtt_wire.specs.declared.packet.Subscribe.{Subscribe}
-use Rattle.mqtt_wire.specs.declared.packet.Subscription.{Subscription}
-use Rattle.mqtt_wire.specs.declared.packet.Unsubscribe.{Unsubscribe}
-use Rattle.mqtt_wire.specs.declared.packet.SubscriptionOptions.{SubscriptionOptions}
-use Rattle.mqtt_wire.specs.declared.packet.Packet.{Packet}
-use Rattle.mqtt_wire.specs.declared.packet.Packet.TheVariants as packets
+use Rattle.mqtt_packet.specs.declared.packet.QoS.{QoS}
+use Rattle.mqtt_packet.specs.declared.packet.QoS.TheVariants as qos
+use Rattle.mqtt_packet.specs.declared.packet.RetainHandling.{RetainHandling}
+use Rattle.mqtt_packet.specs.declared.packet.RetainHandling.TheVariants.{Send, SendIfNew, DoNotSend}
+use Rattle.mqtt_packet.specs.declared.packet.Delivery.{Delivery}
+use Rattle.mqtt_packet.specs.declared.packet.Delivery.TheVariants.{AtMostOnce, AtLeastOnce, ExactlyOnce}
+use Rattle.mqtt_packet.specs.declared.packet.Disconnect.{Disconnect}
+use Rattle.mqtt_packet.specs.declared.packet.Publish.{Publish}
+use Rattle.mqtt_packet.specs.declared.packet.Puback.{Puback}
+use Rattle.mqtt_packet.specs.declared.packet.Subscribe.{Subscribe}
+use Rattle.mqtt_packet.specs.declared.packet.Subscription.{Subscription}
+use Rattle.mqtt_packet.specs.declared.packet.Unsubscribe.{Unsubscribe}
+use Rattle.mqtt_packet.specs.declared.packet.SubscriptionOptions.{SubscriptionOptions}
+use Rattle.mqtt_packet.specs.declared.packet.Packet.{Packet}
+use Rattle.mqtt_packet.specs.declared.packet.Packet.TheVariants as packets
 use Rattle.mqtt_wire.specs.declared.kind.Kind.{Kind}
 use Rattle.mqtt_wire.specs.declared.kind.Kind.TheVariants as kinds
 use Rattle.mqtt_wire.specs.declared.kind.PublishFlags.{PublishFlags}

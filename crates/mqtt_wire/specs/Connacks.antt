@@ -1,13 +1,13 @@
 -- The written form of a CONNACK: what the server offers, or why it refuses (section 3.2).
 use Rattle.std.specs.Prelude.{ℕ, Bool, true, false, List, [], ◌∷◌, ◌++◌}
-use Rattle.mqtt_wire.specs.declared.packet.QoS.{QoS}
-use Rattle.mqtt_wire.specs.declared.packet.QoS.TheVariants.{AtMostOnce, AtLeastOnce, ExactlyOnce}
-use Rattle.mqtt_wire.specs.declared.packet.Connack.{Connack}
-use Rattle.mqtt_wire.specs.declared.packet.Connack.TheVariants.{Accepted, Refused}
-use Rattle.mqtt_wire.specs.declared.packet.Acceptance.{Acceptance}
-use Rattle.mqtt_wire.specs.declared.packet.ConnectRefusal.{ConnectRefusal}
-use Rattle.mqtt_wire.specs.declared.packet.ConnectRefusal.TheVariants as refusals
-use Rattle.mqtt_wire.specs.declared.offer.Offer.{Offer}
+use Rattle.mqtt_packet.specs.declared.packet.QoS.{QoS}
+use Rattle.mqtt_packet.specs.declared.packet.QoS.TheVariants.{AtMostOnce, AtLeastOnce, ExactlyOnce}
+use Rattle.mqtt_packet.specs.declared.packet.Connack.{Connack}
+use Rattle.mqtt_packet.specs.declared.packet.Connack.TheVariants.{Accepted, Refused}
+use Rattle.mqtt_packet.specs.declared.packet.Acceptance.{Acceptance}
+use Rattle.mqtt_packet.specs.declared.packet.ConnectRefusal.{ConnectRefusal}
+use Rattle.mqtt_packet.specs.declared.packet.ConnectRefusal.TheVariants as refusals
+use Rattle.mqtt_packet.specs.declared.offer.Offer.{Offer}
 use Rattle.mqtt_wire.specs.Forms.{u32_bytes, utf8_string}
 use Rattle.mqtt_wire.specs.Sections.{properties}
 use Rattle.mqtt_wire.specs.PropertyLists.{bytes_if}

@@ -2,10 +2,10 @@
 use Rattle.std.specs.Prelude.{ℕ, ◌/◌, ◌%◌, ◌==◌, if◌then◌else◌, Bool, List, Result, Ok, Err}
 use Rattle.mqtt_wire.specs.declared.fault.StreamFault.{StreamFault}
 use Rattle.mqtt_wire.specs.declared.fault.StreamFault.TheVariants.{Malformed}
-use Rattle.mqtt_wire.specs.declared.packet.Connect.{Connect}
+use Rattle.mqtt_packet.specs.declared.packet.Connect.{Connect}
 use Rattle.mqtt_wire.specs.declared.bodies.ConnectPayload.{ConnectPayload}
-use Rattle.mqtt_wire.specs.declared.packet.Packet.{Packet}
-use Rattle.mqtt_wire.specs.declared.packet.Packet.TheVariants as packets
+use Rattle.mqtt_packet.specs.declared.packet.Packet.{Packet}
+use Rattle.mqtt_packet.specs.declared.packet.Packet.TheVariants as packets
 use Rattle.mqtt_wire.specs.declared.property.Section.TheVariants as sections
 use Rattle.mqtt_wire.specs.Faults.{◌>>=◌}
 use Rattle.mqtt_wire.specs.Protocol.{is_mqtt_5, are_connect_flags, has_will}

@@ -3,7 +3,7 @@ use Rattle.std.specs.Prelude.{ℕ, zero, suc, ◌+◌, ◌-◌, ◌*◌, ◌==�
 use Rattle.mqtt_wire.specs.declared.fault.StreamFault.{StreamFault}
 use Rattle.mqtt_wire.specs.declared.fault.StreamFault.TheVariants.{Malformed, Protocol}
 use Rattle.mqtt_wire.specs.Faults.{◌>>=◌}
-use Rattle.mqtt_wire.specs.Forms.{is_text}
+use Rattle.mqtt_packet.specs.Texts.{is_text}
 
 -- a field's value and the bytes behind it
 abbrev pub Field : Type 0 → Type 0

@@ -1,7 +1,5 @@
 -- The data representations that packets are made of (section 1.5).
-use Rattle.std.specs.Prelude.{IsTrue, ◌<◌, ◌^◌, ℕ, zero, suc, ◌+◌, ◌*◌, ◌/◌, ◌%◌, ◌==◌, nat_lt, Bool, not, ◌&&◌, if◌then◌else◌, List, [], ◌∷◌, ◌++◌, length}
-use Rattle.std.specs.List.{list_any}
-use Rattle.std.specs.Str.{is_utf8}
+use Rattle.std.specs.Prelude.{ℕ, zero, suc, ◌+◌, ◌*◌, ◌/◌, ◌%◌, nat_lt, if◌then◌else◌, List, [], ◌∷◌, ◌++◌, length}
 
 -- 1.5.2 Two Byte Integer: the most significant byte first
 abbrev pub u16_bytes : ℕ → List ℕ
@@ -30,18 +28,6 @@ variable_byte_integer n = variable_bytes 3 n
 abbrev pub binary_data : List ℕ → List ℕ
 binary_data bytes = u16_bytes (length bytes) ++ bytes
 
--- 1.5.4 UTF-8 Encoded String: well-formed UTF-8 without U+0000, of at most 65,535 bytes ..
-unfoldable pub is_text : List ℕ → Bool
-is_text bytes = nat_lt (length bytes) 65536 && not (list_any (λ b. b == 0) bytes) && is_utf8 bytes
-
--- .. written as binary data
+-- 1.5.4 UTF-8 Encoded String: a text, written as binary data
 abbrev pub utf8_string : List ℕ → List ℕ
 utf8_string text = binary_data text
-
--- the bytes are a text ..
-abbrev pub IsText : List ℕ → Type 0
-IsText bytes = IsTrue (is_text bytes)
-
--- .. or Binary Data
-abbrev pub IsBinary : List ℕ → Type 0
-IsBinary bytes = length bytes < 2 ^ 16

@@ -6,7 +6,6 @@ pub mod Kinds
 pub mod Protocol
 pub mod Fields
 pub mod Properties
-pub mod RareProperties
 pub mod Sections
 pub mod PropertyLists
 pub mod Orders

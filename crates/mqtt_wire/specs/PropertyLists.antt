@@ -6,14 +6,14 @@ use Rattle.mqtt_wire.specs.declared.fault.StreamFault.TheVariants.{Protocol}
 use Rattle.mqtt_wire.specs.declared.property.Property.{Property}
 use Rattle.mqtt_wire.specs.declared.property.Property.TheVariants.{PayloadFormatIndicator, MessageExpiryInterval, ContentType, ResponseTopic, CorrelationData, SubscriptionIdentifier, SessionExpiryInterval, AuthenticationMethod, AuthenticationData, RequestProblemInformation, RequestResponseInformation, ReasonString, ReceiveMaximum, TopicAliasMaximum, TopicAlias, UserProperty, MaximumPacketSize}
 use Rattle.mqtt_wire.specs.declared.properties.Properties.{Properties}
-use Rattle.mqtt_wire.specs.declared.user_properties.UserProperty.{UserProperty as Pair}
-use Rattle.mqtt_wire.specs.declared.packet_properties.Authentication.{Authentication}
-use Rattle.mqtt_wire.specs.declared.packet_properties.ConnectProperties.{ConnectProperties}
-use Rattle.mqtt_wire.specs.declared.packet_properties.PublishProperties.{PublishProperties}
-use Rattle.mqtt_wire.specs.declared.packet_properties.PubackProperties.{PubackProperties}
-use Rattle.mqtt_wire.specs.declared.packet_properties.SubscribeProperties.{SubscribeProperties}
-use Rattle.mqtt_wire.specs.declared.packet_properties.UnsubscribeProperties.{UnsubscribeProperties}
-use Rattle.mqtt_wire.specs.declared.packet_properties.DisconnectProperties.{DisconnectProperties}
+use Rattle.mqtt_packet.specs.declared.user_properties.UserProperty.{UserProperty as Pair}
+use Rattle.mqtt_packet.specs.declared.packet_properties.Authentication.{Authentication}
+use Rattle.mqtt_packet.specs.declared.packet_properties.ConnectProperties.{ConnectProperties}
+use Rattle.mqtt_packet.specs.declared.packet_properties.PublishProperties.{PublishProperties}
+use Rattle.mqtt_packet.specs.declared.packet_properties.PubackProperties.{PubackProperties}
+use Rattle.mqtt_packet.specs.declared.packet_properties.SubscribeProperties.{SubscribeProperties}
+use Rattle.mqtt_packet.specs.declared.packet_properties.UnsubscribeProperties.{UnsubscribeProperties}
+use Rattle.mqtt_packet.specs.declared.packet_properties.DisconnectProperties.{DisconnectProperties}
 use Rattle.mqtt_wire.specs.declared.fault.Fault.{Fault}
 use Rattle.mqtt_wire.specs.Faults.{Fails}
 use Rattle.mqtt_wire.specs.Sections.{property_bytes}

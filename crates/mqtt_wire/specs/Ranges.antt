@@ -3,20 +3,20 @@ use Rattle.std.specs.Prelude.{ℕ, ◌<◌, ◌^◌, List, length, Option, Some,
 use Rattle.std.specs.List.{AllByRecursion}
 use Rattle.mqtt_wire.specs.declared.property.Property.{Property}
 use Rattle.mqtt_wire.specs.declared.property.Property.TheVariants.{PayloadFormatIndicator, MessageExpiryInterval, ContentType, ResponseTopic, CorrelationData, SubscriptionIdentifier, SessionExpiryInterval, AuthenticationData, RequestProblemInformation, RequestResponseInformation, ReasonString, ReceiveMaximum, TopicAliasMaximum, TopicAlias, MaximumPacketSize}
-use Rattle.mqtt_wire.specs.declared.user_properties.UserProperty.{UserProperty as Pair}
-use Rattle.mqtt_wire.specs.declared.packet_properties.Authentication.{Authentication}
-use Rattle.mqtt_wire.specs.declared.packet_properties.ConnectProperties.{ConnectProperties}
-use Rattle.mqtt_wire.specs.declared.packet_properties.PublishProperties.{PublishProperties}
-use Rattle.mqtt_wire.specs.declared.packet_properties.PubackProperties.{PubackProperties}
-use Rattle.mqtt_wire.specs.declared.packet_properties.SubscribeProperties.{SubscribeProperties}
-use Rattle.mqtt_wire.specs.declared.packet_properties.UnsubscribeProperties.{UnsubscribeProperties}
-use Rattle.mqtt_wire.specs.declared.packet_properties.DisconnectProperties.{DisconnectProperties}
-use Rattle.mqtt_wire.specs.declared.packet.Delivery.{Delivery}
-use Rattle.mqtt_wire.specs.declared.packet.Delivery.TheVariants.{AtMostOnce, AtLeastOnce, ExactlyOnce}
-use Rattle.mqtt_wire.specs.declared.packet.Subscription.{Subscription}
-use Rattle.mqtt_wire.specs.declared.packet.Packet.{Packet}
-use Rattle.mqtt_wire.specs.declared.packet.Packet.TheVariants as packets
-use Rattle.mqtt_wire.specs.Forms.{IsText, IsBinary}
+use Rattle.mqtt_packet.specs.declared.user_properties.UserProperty.{UserProperty as Pair}
+use Rattle.mqtt_packet.specs.declared.packet_properties.Authentication.{Authentication}
+use Rattle.mqtt_packet.specs.declared.packet_properties.ConnectProperties.{ConnectProperties}
+use Rattle.mqtt_packet.specs.declared.packet_properties.PublishProperties.{PublishProperties}
+use Rattle.mqtt_packet.specs.declared.packet_properties.PubackProperties.{PubackProperties}
+use Rattle.mqtt_packet.specs.declared.packet_properties.SubscribeProperties.{SubscribeProperties}
+use Rattle.mqtt_packet.specs.declared.packet_properties.UnsubscribeProperties.{UnsubscribeProperties}
+use Rattle.mqtt_packet.specs.declared.packet_properties.DisconnectProperties.{DisconnectProperties}
+use Rattle.mqtt_packet.specs.declared.packet.Delivery.{Delivery}
+use Rattle.mqtt_packet.specs.declared.packet.Delivery.TheVariants.{AtMostOnce, AtLeastOnce, ExactlyOnce}
+use Rattle.mqtt_packet.specs.declared.packet.Subscription.{Subscription}
+use Rattle.mqtt_packet.specs.declared.packet.Packet.{Packet}
+use Rattle.mqtt_packet.specs.declared.packet.Packet.TheVariants as packets
+use Rattle.mqtt_packet.specs.Texts.{IsText, IsBinary}
 use Rattle.mqtt_wire.specs.Sections.{IsPair, IsProperty}
 
 -- a property that is there is in the range of its type

@@ -9,9 +9,10 @@ use Rattle.mqtt_wire.specs.declared.property.PropertyName.TheVariants as names
 use Rattle.mqtt_wire.specs.declared.property.Property.{Property}
 use Rattle.mqtt_wire.specs.declared.property.Property.TheVariants.{PayloadFormatIndicator, MessageExpiryInterval, ContentType, ResponseTopic, CorrelationData, SubscriptionIdentifier, SessionExpiryInterval, AuthenticationMethod, AuthenticationData, RequestProblemInformation, RequestResponseInformation, ReasonString, ReceiveMaximum, TopicAliasMaximum, TopicAlias, UserProperty, MaximumPacketSize}
 use Rattle.mqtt_wire.specs.declared.properties.Properties.{Properties}
-use Rattle.mqtt_wire.specs.declared.user_properties.UserProperty.{UserProperty as Pair}
+use Rattle.mqtt_packet.specs.declared.user_properties.UserProperty.{UserProperty as Pair}
 use Rattle.mqtt_wire.specs.Faults.{◌>>=◌}
-use Rattle.mqtt_wire.specs.Forms.{u16_bytes, u32_bytes, variable_byte_integer, binary_data, utf8_string, IsText, IsBinary}
+use Rattle.mqtt_packet.specs.Texts.{IsText, IsBinary}
+use Rattle.mqtt_wire.specs.Forms.{u16_bytes, u32_bytes, variable_byte_integer, binary_data, utf8_string}
 use Rattle.mqtt_wire.specs.Kinds.{bit}
 use Rattle.mqtt_wire.specs.Fields.{Field, byte_at, u16_at, u32_at, binary_at, text_at, not_zero, flag_at, variable_field_at}
 use Rattle.mqtt_wire.specs.Properties.{identifier_of, name_in, name_of, is_forbidden, is_there, may_come, nothing, with_property}

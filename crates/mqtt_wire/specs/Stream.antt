@@ -7,7 +7,7 @@ use Rattle.mqtt_wire.specs.declared.fault.Fault.{Fault}
 use Rattle.mqtt_wire.specs.declared.fault.Fault.TheVariants.{Stream, Memory}
 use Rattle.mqtt_wire.specs.declared.fault.ReadFault.{ReadFault}
 use Rattle.mqtt_wire.specs.declared.fault.ReadFault.TheVariants.{Refused, Device}
-use Rattle.mqtt_wire.specs.declared.packet.Packet.{Packet}
+use Rattle.mqtt_packet.specs.declared.packet.Packet.{Packet}
 use Rattle.mqtt_wire.specs.declared.kind.Kind.{Kind}
 use Rattle.mqtt_wire.specs.Faults.{◌>>=◌}
 use Rattle.mqtt_wire.specs.Kinds.{kind_at}

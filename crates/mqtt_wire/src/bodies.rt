@@ -10,25 +10,20 @@ ghost use Rattle.mqtt_wire.specs.Protocol.{are_connect_flags};
 ghost use Rattle.mqtt_wire.specs.Bodies.{delivery_at, publish_body_at, last_properties_at, reason_at, puback_at, disconnect_at, retain_handling_at, options_at, subscription_at, entries_within, at_least_one, entries_at, subscribe_at, unsubscribe_at, body_at};
 ghost use Rattle.mqtt_wire.specs.ConnectBody.{expect, connect_payload_at, connect_fields_at, connect_5_at, connect_at};
 
-use crate::binary::Binary;
-use crate::boxed::Boxed;
 use crate::fault::{Fault, StreamFault};
 use crate::fields::{
     read_binary_if, read_byte, read_identifier, read_text, read_text_if, read_u16,
 };
 use crate::kind::{Kind, PublishFlags, qos_of};
-use crate::non_empty::NonEmpty;
-use crate::packet::{
-    Connect, Delivery, Disconnect, Packet, Puback, Publish, QoS, RetainHandling, Subscribe,
-    Subscription, SubscriptionOptions, Unsubscribe,
-};
 use crate::properties::Properties;
 use crate::property::Section;
-use crate::rare_properties::RareProperties;
-use crate::reason_code::ReasonCode;
 use crate::sections::read_properties;
-use crate::text::Text;
 use bytes::Bytes;
+use mqtt_packet::{
+    Binary, Boxed, Connect, Delivery, Disconnect, NonEmpty, Packet, Puback, Publish, QoS,
+    RareProperties, ReasonCode, RetainHandling, Subscribe, Subscription, SubscriptionOptions, Text,
+    Unsubscribe,
+};
 use std::alloc::Global;
 
 /// The Protocol Version of MQTT 5.0 (section 3.1.2.2).

@@ -3,26 +3,24 @@
 ghost use Rattle.std.specs.Prelude.{◌≡◌, ◌<◌, ◌++◌, ◌∷◌, [], length, IfSome};
 ghost use Rattle.std.specs.List.{flat_map, AllByRecursion};
 ghost use Rattle.mqtt_wire.specs.Buffers.{HasRoom, Appends};
-ghost use Rattle.mqtt_wire.specs.Forms.{binary_data, utf8_string, IsText, IsBinary};
+ghost use Rattle.mqtt_packet.specs.Texts.{IsText, IsBinary};
+ghost use Rattle.mqtt_wire.specs.Forms.{binary_data, utf8_string};
 ghost use Rattle.mqtt_wire.specs.Sections.{properties};
 ghost use Rattle.mqtt_wire.specs.Ranges.{IsDelivery, IsFiltered, IsFromClient, IsClientKind, PropertiesFit, ConnectFits, PublishFits, PubackFits, SubscribeFits, UnsubscribeFits};
 ghost use Rattle.mqtt_wire.specs.PropertyLists.{bytes_if};
 ghost use Rattle.mqtt_wire.specs.Connacks.{refusal_code, connack_body};
 ghost use Rattle.mqtt_wire.specs.Writing.{connect_flags, connect_payload, delivery_bytes, options_byte, subscription_bytes, connect_body, publish_body, puback_body, subscribe_body, unsubscribe_body, codes_body, written_body};
 
-use crate::binary::Binary;
 use crate::field_writing::{put_binary, put_byte, put_bytes, put_identifier, put_text, put_u16};
-use crate::identifier::PacketIdentifier;
-use crate::packet::{
-    Connack, Connect, ConnectRefusal, Delivery, Packet, Puback, Publish, QoS, RetainHandling,
-    Subscribe, Subscription, SubscriptionOptions, Unsubscribe,
-};
 use crate::property_writing::{
     put_connack_properties, put_connect_properties, put_disconnect_reason, put_puback_reason,
     put_publish_properties, put_subscribe_properties, put_unsubscribe_properties,
 };
-use crate::reason_code::ReasonCode;
-use crate::text::Text;
+use mqtt_packet::{
+    Binary, Connack, Connect, ConnectRefusal, Delivery, Packet, PacketIdentifier, Puback, Publish,
+    QoS, ReasonCode, RetainHandling, Subscribe, Subscription, SubscriptionOptions, Text,
+    Unsubscribe,
+};
 
 /// Writes the body of the packet.
 pub(crate) fn put_body(out: &mut Vec<u8>, packet: &Packet)

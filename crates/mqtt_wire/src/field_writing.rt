@@ -2,12 +2,11 @@
 
 ghost use Rattle.std.specs.Prelude.{◌≡◌, ◌<◌, ◌∷◌, ◌++◌, []};
 ghost use Rattle.mqtt_wire.specs.Buffers.{HasRoom, Appends};
-ghost use Rattle.mqtt_wire.specs.Forms.{u16_bytes, u32_bytes, binary_data, utf8_string, variable_limit, variable_bytes, IsText, IsBinary};
+ghost use Rattle.mqtt_packet.specs.Texts.{IsText, IsBinary};
+ghost use Rattle.mqtt_wire.specs.Forms.{u16_bytes, u32_bytes, binary_data, utf8_string, variable_limit, variable_bytes};
 ghost use Rattle.mqtt_wire.specs.Ranges.{IsIdentifier};
 
-use crate::binary::Binary;
-use crate::identifier::PacketIdentifier;
-use crate::text::Text;
+use mqtt_packet::{Binary, PacketIdentifier, Text};
 
 /// Writes a byte.
 pub(crate) fn put_byte(out: &mut Vec<u8>, byte: u8)

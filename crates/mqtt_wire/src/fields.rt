@@ -6,13 +6,12 @@ ghost use Rattle.mqtt_wire.specs.Forms.{variable_limit};
 ghost use Rattle.mqtt_wire.specs.Sections.{pair_at};
 ghost use Rattle.mqtt_wire.specs.Fields.{byte_at, u16_at, u32_at, binary_at, text_at, not_zero, identifier_at, flag_at, field_if, variable_at, variable_field_at};
 
-use crate::binary::Binary;
 use crate::fault::{Fault, StreamFault};
-use crate::identifier::PacketIdentifier;
-use crate::text::Text;
-use crate::user_properties::UserProperty;
-use crate::values::{MaximumPacketSize, ReceiveMaximum, SubscriptionIdentifier};
 use bytes::Bytes;
+use mqtt_packet::{
+    Binary, MaximumPacketSize, PacketIdentifier, ReceiveMaximum, SubscriptionIdentifier, Text,
+    UserProperty,
+};
 
 /// Takes a byte.
 #[tactic(auto, unfolding(crate::specs::Fields::byte_at))]

@@ -10,8 +10,8 @@ use crate::body_room::BodyRoom;
 use crate::fault::{Fault, StreamFault};
 use crate::header::{FixedHeader, read_header};
 use crate::kind::Kind;
-use crate::packet::Packet;
 use bytes::{Bytes, BytesMut};
+use mqtt_packet::Packet;
 use std::alloc::{AllocError, Global};
 
 /// A whole packet: its kind and its body.

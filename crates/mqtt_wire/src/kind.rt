@@ -3,7 +3,7 @@
 ghost use Rattle.std.specs.Prelude.{◌≡◌};
 ghost use Rattle.mqtt_wire.specs.Kinds.{kind_at, publish_at, qos_at};
 
-use crate::packet::{ForeignKind, QoS};
+use mqtt_packet::{ForeignKind, QoS};
 
 /// The kinds of packet that are read, with the flags of a PUBLISH.
 #[derive(Clone, Copy)]

@@ -2,13 +2,13 @@
 
 ghost use Rattle.std.specs.Prelude.{◌≡◌, ◌≤◌, ◌↔◌, List, ℕ, ◌∷◌, ◌++◌, length, Option, Some, None, Err};
 ghost use Rattle.mqtt_wire.specs.declared.fault.StreamFault.{StreamFault};
-ghost use Rattle.mqtt_wire.specs.declared.packet.Packet.{Packet as AnyPacket};
-ghost use Rattle.mqtt_wire.specs.declared.packet_properties.ConnectProperties.{ConnectProperties};
-ghost use Rattle.mqtt_wire.specs.declared.packet_properties.PublishProperties.{PublishProperties};
-ghost use Rattle.mqtt_wire.specs.declared.packet_properties.PubackProperties.{PubackProperties};
-ghost use Rattle.mqtt_wire.specs.declared.packet_properties.SubscribeProperties.{SubscribeProperties};
-ghost use Rattle.mqtt_wire.specs.declared.packet_properties.UnsubscribeProperties.{UnsubscribeProperties};
-ghost use Rattle.mqtt_wire.specs.declared.packet_properties.DisconnectProperties.{DisconnectProperties};
+ghost use Rattle.mqtt_packet.specs.declared.packet.Packet.{Packet as AnyPacket};
+ghost use Rattle.mqtt_packet.specs.declared.packet_properties.ConnectProperties.{ConnectProperties};
+ghost use Rattle.mqtt_packet.specs.declared.packet_properties.PublishProperties.{PublishProperties};
+ghost use Rattle.mqtt_packet.specs.declared.packet_properties.PubackProperties.{PubackProperties};
+ghost use Rattle.mqtt_packet.specs.declared.packet_properties.SubscribeProperties.{SubscribeProperties};
+ghost use Rattle.mqtt_packet.specs.declared.packet_properties.UnsubscribeProperties.{UnsubscribeProperties};
+ghost use Rattle.mqtt_packet.specs.declared.packet_properties.DisconnectProperties.{DisconnectProperties};
 ghost use Rattle.mqtt_wire.specs.Orders.{AreRising};
 ghost use Rattle.mqtt_wire.specs.declared.kind.Kind.{Kind};
 ghost use Rattle.mqtt_wire.specs.Bodies.{body_at};

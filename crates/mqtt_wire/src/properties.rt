@@ -4,16 +4,13 @@ ghost use Rattle.std.specs.Prelude.{◌≡◌, ◌<◌, ◌↔◌, List, ℕ, le
 ghost use Rattle.mqtt_wire.specs.Properties.{nothing, with_property, is_there};
 ghost use Rattle.mqtt_wire.specs.PropertyLists.{authentication_of, publish_of, connect_of, puback_of, subscribe_of, unsubscribe_of, disconnect_of};
 
-use crate::binary::Binary;
 use crate::fault::StreamFault;
-use crate::packet_properties::{
-    Authentication, ConnectProperties, DisconnectProperties, PubackProperties, PublishProperties,
-    SubscribeProperties, UnsubscribeProperties,
-};
 use crate::property::{Property, PropertyName};
-use crate::text::Text;
-use crate::user_properties::UserProperties;
-use crate::values::{MaximumPacketSize, ReceiveMaximum, SubscriptionIdentifier};
+use mqtt_packet::{
+    Authentication, Binary, ConnectProperties, DisconnectProperties, MaximumPacketSize,
+    PubackProperties, PublishProperties, ReceiveMaximum, SubscribeProperties,
+    SubscriptionIdentifier, Text, UnsubscribeProperties, UserProperties,
+};
 use std::alloc::{AllocError, Global};
 
 /// What the properties of a section say. Which of them a packet may have is its section's matter.

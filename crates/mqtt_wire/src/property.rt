@@ -3,10 +3,9 @@
 ghost use Rattle.std.specs.Prelude.{◌≡◌};
 ghost use Rattle.mqtt_wire.specs.Properties.{name_in, connect_names, publish_names, puback_names, subscribe_names, unsubscribe_names, disconnect_names, name_among};
 
-use crate::binary::Binary;
-use crate::text::Text;
-use crate::user_properties::UserProperty;
-use crate::values::{MaximumPacketSize, ReceiveMaximum, SubscriptionIdentifier};
+use mqtt_packet::{
+    Binary, MaximumPacketSize, ReceiveMaximum, SubscriptionIdentifier, Text, UserProperty,
+};
 
 /// In which packet a section of properties stands.
 #[derive(Clone, Copy)]

@@ -7,15 +7,11 @@ ghost use Rattle.mqtt_wire.specs.Kinds.{bit};
 ghost use Rattle.mqtt_wire.specs.PropertyLists.{bytes_if, user_bytes, authentication_bytes, connect_list, publish_list, puback_list, subscribe_list, unsubscribe_list, disconnect_list};
 ghost use Rattle.mqtt_wire.specs.Sizes.{greatest};
 
-use crate::binary::Binary;
-use crate::packet_properties::{
-    Authentication, ConnectProperties, DisconnectProperties, PubackProperties, PublishProperties,
-    SubscribeProperties, UnsubscribeProperties,
+use mqtt_packet::{
+    Authentication, Binary, ConnectProperties, DisconnectProperties, MaximumPacketSize,
+    PubackProperties, PublishProperties, RareProperties, ReceiveMaximum, SubscribeProperties,
+    SubscriptionIdentifier, Text, UnsubscribeProperties, UserProperty,
 };
-use crate::rare_properties::RareProperties;
-use crate::text::Text;
-use crate::user_properties::UserProperty;
-use crate::values::{MaximumPacketSize, ReceiveMaximum, SubscriptionIdentifier};
 
 /// Those of a CONNECT.
 pub(crate) fn connect_list_size(properties: &ConnectProperties) -> usize

@@ -12,24 +12,19 @@ ghost use Rattle.mqtt_wire.specs.PropertyLists.{bytes_if, user_bytes, authentica
 use crate::field_writing::{
     put_byte, put_bytes, put_text, put_u16, put_u32, put_variable_byte_integer,
 };
-use crate::offer::Offer;
-use crate::packet::{Acceptance, QoS};
-use crate::packet_properties::{
-    Authentication, ConnectProperties, DisconnectProperties, PubackProperties, PublishProperties,
-    SubscribeProperties, UnsubscribeProperties,
-};
 use crate::property_sizes::{
     connect_list_size, disconnect_list_size, puback_list_size, publish_properties_size,
     subscribe_list_size, unsubscribe_list_size,
 };
-use crate::rare_properties::RareProperties;
-use crate::reason_code::ReasonCode;
 use crate::single_properties::{
     put_binary_if, put_byte_if, put_flag_if, put_text_if, put_u16_if, put_u32_if,
 };
 use crate::sizes::connack_properties_size;
-use crate::user_properties::UserProperty;
-use crate::values::{MaximumPacketSize, ReceiveMaximum, SubscriptionIdentifier};
+use mqtt_packet::{
+    Acceptance, Authentication, ConnectProperties, DisconnectProperties, MaximumPacketSize, Offer,
+    PubackProperties, PublishProperties, QoS, RareProperties, ReasonCode, ReceiveMaximum,
+    SubscribeProperties, SubscriptionIdentifier, UnsubscribeProperties, UserProperty,
+};
 
 /// Property Identifiers (table 2-4).
 const PAYLOAD_FORMAT_INDICATOR: u8 = 0x01;

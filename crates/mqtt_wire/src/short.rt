@@ -7,11 +7,11 @@ ghost use Rattle.mqtt_wire.specs.Frame.{TakesShort};
 use crate::bodies::read_body;
 use crate::body_room::BodyRoom;
 use crate::header::read_header;
-use crate::identifier::PacketIdentifier;
-use crate::packet::{Disconnect, Packet, Puback};
-use crate::packet_properties::{DisconnectProperties, PubackProperties};
-use crate::reason_code::ReasonCode;
 use bytes::BytesMut;
+use mqtt_packet::{
+    Disconnect, DisconnectProperties, Packet, PacketIdentifier, Puback, PubackProperties,
+    ReasonCode,
+};
 use std::alloc::Global;
 
 /// Takes a PUBACK or a DISCONNECT of Reason Code 00 without properties, or a packet with a small body that is copied, off the stream, where one

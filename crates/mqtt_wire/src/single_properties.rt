@@ -2,13 +2,13 @@
 
 ghost use Rattle.std.specs.Prelude.{◌<◌, ◌^◌, ◌∷◌, [], IfSome};
 ghost use Rattle.mqtt_wire.specs.Buffers.{HasRoom, Appends};
-ghost use Rattle.mqtt_wire.specs.Forms.{u16_bytes, u32_bytes, binary_data, utf8_string, IsText, IsBinary};
+ghost use Rattle.mqtt_packet.specs.Texts.{IsText, IsBinary};
+ghost use Rattle.mqtt_wire.specs.Forms.{u16_bytes, u32_bytes, binary_data, utf8_string};
 ghost use Rattle.mqtt_wire.specs.Kinds.{bit};
 ghost use Rattle.mqtt_wire.specs.PropertyLists.{bytes_if};
 
-use crate::binary::Binary;
 use crate::field_writing::{put_binary, put_byte, put_text, put_u16, put_u32};
-use crate::text::Text;
+use mqtt_packet::{Binary, Text};
 
 /// Writes a property that is a byte, where it is there.
 pub(crate) fn put_byte_if(out: &mut Vec<u8>, identifier: u8, value: Option<u8>)

@@ -8,15 +8,14 @@ ghost use Rattle.mqtt_wire.specs.Connacks.{connack_properties, connack_body, off
 ghost use Rattle.mqtt_wire.specs.Writing.{subscription_bytes, delivery_bytes, reason_bytes, connect_payload, remaining_length};
 ghost use Rattle.mqtt_wire.specs.Forms.{utf8_string, binary_data};
 
-use crate::binary::Binary;
-use crate::offer::Offer;
-use crate::packet::{Acceptance, Connack, Connect, Delivery, Packet, QoS, Subscription};
 use crate::property_sizes::{
     connect_list_size, disconnect_list_size, puback_list_size, publish_properties_size,
     section_size, subscribe_list_size, unsubscribe_list_size, variable_size,
 };
-use crate::reason_code::ReasonCode;
-use crate::text::Text;
+use mqtt_packet::{
+    Acceptance, Binary, Connack, Connect, Delivery, Offer, Packet, QoS, ReasonCode, Subscription,
+    Text,
+};
 
 /// The greatest number that a Variable Byte Integer can say, and so the greatest Remaining Length (section 1.5.5).
 const MAXIMUM_VARIABLE_BYTE_INTEGER: usize = 268_435_455;

@@ -11,9 +11,9 @@ ghost use Rattle.mqtt_wire.specs.Spelling.{Spells, maximum_packet_size};
 use crate::body_writing::put_body;
 use crate::fault::{Fault, StreamFault};
 use crate::field_writing::{put_byte, put_variable_byte_integer};
-use crate::packet::{Delivery, ForeignKind, Packet};
 use crate::property_sizes::variable_size;
 use crate::sizes::body_size;
+use mqtt_packet::{Delivery, ForeignKind, Packet};
 use std::alloc::Global;
 
 /// The bytes of the packet, in its one written form, as [`encode_into`] writes them.

@@ -9,7 +9,8 @@ mod streams;
 mod values;
 
 #[cfg(test)]
-use mqtt_wire::{Fault, Packet, Splitter, encode};
+use mqtt_packet::Packet;
+use mqtt_wire::{Fault, Splitter, encode};
 #[cfg(test)]
 use std::alloc::Global;
 

@@ -2,12 +2,12 @@
 
 use crate::written;
 use bytes::Bytes;
-use mqtt_wire::{
-    Acceptance, Binary, Connack, ConnectRefusal, Delivery, Fault, MaximumPacketSize, NonEmpty,
-    Offer, Packet, PacketIdentifier, Publish, PublishProperties, QoS, RareProperties, ReasonCode,
-    ReceiveMaximum, StreamFault, Suback, SubscriptionIdentifier, Text, Unsuback, UserProperties,
-    UserProperty, encode_into, encoded_size,
+use mqtt_packet::{
+    Acceptance, Binary, Connack, ConnectRefusal, Delivery, MaximumPacketSize, NonEmpty, Offer,
+    Packet, PacketIdentifier, Publish, PublishProperties, QoS, RareProperties, ReasonCode,
+    ReceiveMaximum, Suback, SubscriptionIdentifier, Text, Unsuback, UserProperties, UserProperty,
 };
+use mqtt_wire::{Fault, StreamFault, encode_into, encoded_size};
 use std::alloc::Global;
 use std::test::Fail;
 

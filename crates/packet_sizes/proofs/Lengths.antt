@@ -1,7 +1,7 @@
 -- How many bytes a packet is written in, by its Remaining Length.
 use Rattle.std.proofs.Common.{◌≡◌, ℕ, ◌+◌, ◌<◌, ◌≤◌, length, refl, arith, inl, inr, le-ltb}
 use Rattle.std.proofs.lemmas.Bool.{cases_lt}
-use Rattle.mqtt_wire.specs.declared.packet.Packet.{Packet}
+use Rattle.mqtt_packet.specs.declared.packet.Packet.{Packet}
 use Rattle.mqtt_wire.specs.Forms.{variable_byte_integer}
 use Rattle.mqtt_wire.specs.Writing.{written, written_body, written_size, remaining_length}
 use Rattle.mqtt_wire.proofs.Variable.{at_most_three, at_least_three, is_one_byte, is_two_bytes}

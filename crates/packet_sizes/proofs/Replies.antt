@@ -3,12 +3,13 @@ use Rattle.std.proofs.Common.{◌≡◌, ℕ, ◌+◌, ◌<◌, ◌≤◌, ◌==
 use Rattle.std.specs.List.{list_any}
 use Rattle.std.specs.Str.{is_utf8}
 use Rattle.std.proofs.lemmas.Bool.{and_parts}
-use Rattle.mqtt_wire.specs.declared.packet.Acceptance.{Acceptance}
-use Rattle.mqtt_wire.specs.declared.packet.ConnectRefusal.{ConnectRefusal}
-use Rattle.mqtt_wire.specs.declared.packet.Packet.{Packet}
-use Rattle.mqtt_wire.specs.declared.packet.Packet.TheVariants as packets
+use Rattle.mqtt_packet.specs.declared.packet.Acceptance.{Acceptance}
+use Rattle.mqtt_packet.specs.declared.packet.ConnectRefusal.{ConnectRefusal}
+use Rattle.mqtt_packet.specs.declared.packet.Packet.{Packet}
+use Rattle.mqtt_packet.specs.declared.packet.Packet.TheVariants as packets
 use Rattle.mqtt_wire.specs.Connacks.{assigned, offer_bytes}
-use Rattle.mqtt_wire.specs.Forms.{is_text, IsText, variable_bytes}
+use Rattle.mqtt_packet.specs.Texts.{is_text, IsText}
+use Rattle.mqtt_wire.specs.Forms.{variable_bytes}
 use Rattle.mqtt_wire.specs.Writing.{written, written_body, remaining_length}
 use Rattle.mqtt_wire.proofs.Variable.{at_most_three}
 use Rattle.mqtt_wire.proofs.WritingLaws.{connack_size, refused_size, codes_size}

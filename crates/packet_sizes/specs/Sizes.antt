@@ -1,7 +1,7 @@
 -- How long the packets are that the broker sends (sections 2.1.4, 3.1.2.11.4, 3.2.2.3.7 and 3.3).
 use Rattle.std.specs.Prelude.{◌≡◌, ◌⊎◌, ℕ, ◌≤◌, Bool, List, length, Some}
-use Rattle.mqtt_wire.specs.declared.packet.Packet.{Packet}
-use Rattle.mqtt_wire.specs.Forms.{IsText}
+use Rattle.mqtt_packet.specs.declared.packet.Packet.{Packet}
+use Rattle.mqtt_packet.specs.Texts.{IsText}
 use Rattle.mqtt_wire.specs.Writing.{written}
 use Rattle.group_jobs.specs.declared.message.Message.{Message}
 use Rattle.conn_rules.specs.Packets.{accepting, job}

@@ -1,12 +1,12 @@
 //! The laws: of single packets, and of every step over every supply.
 ghost use Rattle.std.specs.Prelude.{◌≡◌, ◌≢◌, ◌+◌, ◌≤◌, ℕ, Bool, List, length, Some, None};
 ghost use Rattle.std.specs.List.{AllByRecursion};
-ghost use Rattle.mqtt_wire.specs.declared.packet.ConnectRefusal.{ConnectRefusal};
-ghost use Rattle.mqtt_wire.specs.declared.packet.Delivery.TheVariants.{AtMostOnce};
-ghost use Rattle.mqtt_wire.specs.declared.packet.Packet.{Packet};
-ghost use Rattle.mqtt_wire.specs.declared.packet.Packet.TheVariants as packets;
-ghost use Rattle.mqtt_wire.specs.declared.packet.Publish.{Publish};
-ghost use Rattle.mqtt_wire.specs.Forms.{IsText};
+ghost use Rattle.mqtt_packet.specs.declared.packet.ConnectRefusal.{ConnectRefusal};
+ghost use Rattle.mqtt_packet.specs.declared.packet.Delivery.TheVariants.{AtMostOnce};
+ghost use Rattle.mqtt_packet.specs.declared.packet.Packet.{Packet};
+ghost use Rattle.mqtt_packet.specs.declared.packet.Packet.TheVariants as packets;
+ghost use Rattle.mqtt_packet.specs.declared.packet.Publish.{Publish};
+ghost use Rattle.mqtt_packet.specs.Texts.{IsText};
 ghost use Rattle.mqtt_wire.specs.Spelling.{Spells};
 ghost use Rattle.mqtt_wire.specs.Writing.{written, written_size, remaining_length};
 ghost use Rattle.session_desk.specs.Names.{assigned_name};

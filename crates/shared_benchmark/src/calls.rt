@@ -8,7 +8,7 @@ use bytes::Bytes;
 use gate_word::{Gate, GateSeat, Turn};
 use group_jobs::{Fate, Message, SharedMessage};
 use group_queue::{NotTaken, OfferError, Place, Port, SharedGroup};
-use mqtt_wire::{RareProperties, Text};
+use mqtt_packet::{RareProperties, Text};
 use std::alloc::Global;
 use std::sync::Wait;
 

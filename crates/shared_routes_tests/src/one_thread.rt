@@ -1,7 +1,7 @@
 //! Two workers on one thread: what the one binds the other learns, and the ninth share finds no slot.
 use bytes::Bytes;
+use mqtt_packet::Text;
 use mqtt_topic::{Share, Slots, TopicName};
-use mqtt_wire::Text;
 use shared_routes::{KnownRoutes, NoSlot, SharedRoutes};
 use std::sync::Wait;
 use std::test::Fail;

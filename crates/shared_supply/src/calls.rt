@@ -15,8 +15,8 @@ use broker_groups::{Broker, BrokerPlace};
 use conn_engine::{BindRefusal, NoMemory, OfferRefusal, Supply};
 use gate_word::Visitor;
 use group_jobs::{Envelope, Fate, SharedMessage, Stamp};
+use mqtt_packet::Text;
 use mqtt_topic::{Share, Slots, TopicName};
-use mqtt_wire::Text;
 use session_desk::{Attached, DeskError, Place, Session};
 use std::sync::Wait;
 

@@ -2,7 +2,8 @@
 
 use client_table::Said;
 use conn_engine::Then;
-use mqtt_wire::{Packet, encode_into};
+use mqtt_packet::Packet;
+use mqtt_wire::encode_into;
 use std::alloc::Global;
 
 /// Adds the lines of what was said.

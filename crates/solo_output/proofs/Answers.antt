@@ -1,10 +1,10 @@
 -- The answer to a packet of a client that has its session is that of the story.
 use Rattle.std.proofs.Common.{◌≡◌, ◌⊎◌, ℕ, Bool, true, false, cond, List, [], length, Contains, Option, Some, None, is_some, refl, sym, ap, ◌∙◌, subst, inl, inr}
-use Rattle.mqtt_wire.specs.declared.packet.Packet.{Packet}
-use Rattle.mqtt_wire.specs.declared.packet.Packet.TheVariants as packets
-use Rattle.mqtt_wire.specs.declared.packet.Publish.{Publish}
-use Rattle.mqtt_wire.specs.declared.packet.Subscribe.{Subscribe}
-use Rattle.mqtt_wire.specs.declared.packet.Unsubscribe.{Unsubscribe}
+use Rattle.mqtt_packet.specs.declared.packet.Packet.{Packet}
+use Rattle.mqtt_packet.specs.declared.packet.Packet.TheVariants as packets
+use Rattle.mqtt_packet.specs.declared.packet.Publish.{Publish}
+use Rattle.mqtt_packet.specs.declared.packet.Subscribe.{Subscribe}
+use Rattle.mqtt_packet.specs.declared.packet.Unsubscribe.{Unsubscribe}
 use Rattle.mqtt_topic.specs.Names.{Share}
 use Rattle.mqtt_topic.specs.Routes.{routed, places_of}
 use Rattle.group_jobs.specs.Stamps.{Held}

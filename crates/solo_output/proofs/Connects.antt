@@ -7,8 +7,8 @@ use Rattle.std.proofs.lemmas.Bool.{cases_lt}
 use Rattle.std.proofs.lemmas.List.{length-replicate}
 use Rattle.std.proofs.lemmas.Option.{none-some}
 use Rattle.dispatch_core.proofs.Spots.{slice_get-set_same}
-use Rattle.mqtt_wire.specs.declared.packet.Connect.{Connect}
-use Rattle.mqtt_wire.specs.Forms.{is_text}
+use Rattle.mqtt_packet.specs.declared.packet.Connect.{Connect}
+use Rattle.mqtt_packet.specs.Texts.{is_text}
 use Rattle.mqtt_topic.specs.Names.{Share}
 use Rattle.group_jobs.specs.Stamps.{Held}
 use Rattle.session_desk.specs.declared.attached.Attached.{Attached}

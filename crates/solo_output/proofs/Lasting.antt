@@ -7,7 +7,7 @@ use Rattle.std.proofs.lemmas.Option.{none-some, same_Some, slice_get-map, slice_
 use Rattle.dispatch_core.proofs.Spots.{slice_get-push_same, slice_get-push_other}
 use Rattle.group_jobs.specs.declared.message.Message.{Message}
 use Rattle.session_desk.specs.declared.session.Membership.TheVariants.{Member}
-use Rattle.mqtt_wire.specs.declared.packet.Packet.{Packet}
+use Rattle.mqtt_packet.specs.declared.packet.Packet.{Packet}
 use Rattle.solo_output.specs.Groups.{Story, HandOut, settled, unacknowledged, waiting_in, with_puback, with_hand_out}
 use Rattle.solo_output.specs.Groups.Phase.{Connected}
 use Rattle.solo_output.specs.HandOuts.{quota, least_free, due, hand_out, deliver}

@@ -5,10 +5,10 @@ use Rattle.std.proofs.lemmas.List.{append-nil, append_assoc}
 use Rattle.std.proofs.lemmas.Option.{none-some, same_Some}
 use Rattle.std.proofs.lemmas.List.Elements.{filter-append}
 use Rattle.mqtt_wire.specs.declared.fault.StreamFault.{StreamFault}
-use Rattle.mqtt_wire.specs.declared.packet.Connect.{Connect}
-use Rattle.mqtt_wire.specs.declared.packet.Packet.{Packet}
-use Rattle.mqtt_wire.specs.declared.packet.Packet.TheVariants as kinds
-use Rattle.mqtt_wire.specs.declared.packet.Puback.{Puback}
+use Rattle.mqtt_packet.specs.declared.packet.Connect.{Connect}
+use Rattle.mqtt_packet.specs.declared.packet.Packet.{Packet}
+use Rattle.mqtt_packet.specs.declared.packet.Packet.TheVariants as kinds
+use Rattle.mqtt_packet.specs.declared.packet.Puback.{Puback}
 use Rattle.group_jobs.specs.declared.message.Message.{Message}
 use Rattle.session_desk.specs.declared.session.Membership.{Membership}
 use Rattle.session_desk.specs.declared.session.Membership.TheVariants.{NotMember, Member, Leaving}

@@ -4,7 +4,7 @@ use Rattle.std.specs.List.{position, position_or_len}
 use Rattle.std.proofs.lemmas.Bool.{ltb-true, lt-ltb, le-ltb}
 use Rattle.std.proofs.lemmas.List.{map-append, length_push}
 use Rattle.std.proofs.lemmas.Option.{cond_some}
-use Rattle.mqtt_wire.specs.declared.packet.Subscription.{Subscription}
+use Rattle.mqtt_packet.specs.declared.packet.Subscription.{Subscription}
 use Rattle.mqtt_topic.specs.declared.error.TopicError.{TopicError}
 use Rattle.mqtt_topic.specs.Names.{Share, share_of}
 use Rattle.mqtt_topic.specs.Routes.{most_routes, slot_of}

@@ -3,8 +3,8 @@ use Rattle.std.proofs.Common.{◌≡◌, ◌≢◌, ℕ, zero, suc, ◌+◌, ◌
 use Rattle.std.specs.List.{filter, list_any}
 use Rattle.std.proofs.lemmas.Bool.{cond_both}
 use Rattle.std.proofs.lemmas.List.{append-nil, length-map}
-use Rattle.mqtt_wire.specs.declared.packet.Packet.TheVariants as kinds
-use Rattle.mqtt_wire.specs.declared.packet.Publish.{Publish}
+use Rattle.mqtt_packet.specs.declared.packet.Packet.TheVariants as kinds
+use Rattle.mqtt_packet.specs.declared.packet.Publish.{Publish}
 use Rattle.mqtt_topic.specs.Routes.{routed, places_of}
 use Rattle.group_jobs.specs.declared.message.Message.{Message}
 use Rattle.local_group.specs.Groups.{life}

@@ -4,7 +4,7 @@ use Rattle.std.specs.List.{filter, zip}
 use Rattle.std.proofs.lemmas.Bool.{cases_eq}
 use Rattle.std.proofs.lemmas.List.{append-nil, append_assoc, length-map, length_push, map-append}
 use Rattle.std.proofs.lemmas.List.Elements.{filter-append}
-use Rattle.mqtt_wire.specs.declared.packet.Packet.{Packet}
+use Rattle.mqtt_packet.specs.declared.packet.Packet.{Packet}
 use Rattle.group_jobs.specs.declared.message.Message.{Message}
 use Rattle.session_desk.specs.declared.session.Membership.{Membership}
 use Rattle.session_desk.specs.declared.session.Membership.TheVariants.{NotMember, Member, Leaving}

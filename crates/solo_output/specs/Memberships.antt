@@ -1,10 +1,10 @@
 -- How a client comes into a group, and out of it (sections 3.8 to 3.11).
 use Rattle.std.specs.Prelude.{◌≡◌, ℕ, List, map, slice_get, Some, None, is_some, Ok}
-use Rattle.mqtt_wire.specs.declared.packet.Packet.{Packet}
-use Rattle.mqtt_wire.specs.declared.packet.Packet.TheVariants as kinds
-use Rattle.mqtt_wire.specs.declared.packet.Subscribe.{Subscribe}
-use Rattle.mqtt_wire.specs.declared.packet.Subscription.{Subscription}
-use Rattle.mqtt_wire.specs.declared.packet.Unsubscribe.{Unsubscribe}
+use Rattle.mqtt_packet.specs.declared.packet.Packet.{Packet}
+use Rattle.mqtt_packet.specs.declared.packet.Packet.TheVariants as kinds
+use Rattle.mqtt_packet.specs.declared.packet.Subscribe.{Subscribe}
+use Rattle.mqtt_packet.specs.declared.packet.Subscription.{Subscription}
+use Rattle.mqtt_packet.specs.declared.packet.Unsubscribe.{Unsubscribe}
 use Rattle.mqtt_topic.specs.Names.{Share, share_of}
 use Rattle.mqtt_topic.specs.Routes.{slot_of}
 use Rattle.conn_rules.specs.declared.subscribing.EntryAnswer.TheVariants.{Join}

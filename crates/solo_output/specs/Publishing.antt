@@ -1,7 +1,7 @@
 -- The reply to a PUBLISH (sections 3.3 and 3.4).
 use Rattle.std.specs.Prelude.{ℕ, ◌+◌, ◌||◌, nat_le, Bool, if◌then◌else◌, List, [], ◌∷◌, length, Option, Some}
-use Rattle.mqtt_wire.specs.declared.packet.Packet.{Packet}
-use Rattle.mqtt_wire.specs.declared.packet.Publish.{Publish}
+use Rattle.mqtt_packet.specs.declared.packet.Packet.{Packet}
+use Rattle.mqtt_packet.specs.declared.packet.Publish.{Publish}
 use Rattle.mqtt_topic.specs.Routes.{routed, places_of}
 use Rattle.group_jobs.specs.declared.message.Message.{Message}
 use Rattle.local_group.specs.Groups.{life}

@@ -2,10 +2,10 @@
 use Rattle.std.specs.Prelude.{ℕ, false, if◌then◌else◌, List, [], ◌∷◌, ◌++◌, codes, Option, Some, None}
 use Rattle.std.specs.Option.{option_to_list}
 use Rattle.mqtt_wire.specs.declared.fault.StreamFault.{StreamFault}
-use Rattle.mqtt_wire.specs.declared.packet.Connect.{Connect}
-use Rattle.mqtt_wire.specs.declared.packet.ConnectRefusal.{ConnectRefusal}
-use Rattle.mqtt_wire.specs.declared.packet.Packet.{Packet}
-use Rattle.mqtt_wire.specs.declared.packet.Packet.TheVariants as packets
+use Rattle.mqtt_packet.specs.declared.packet.Connect.{Connect}
+use Rattle.mqtt_packet.specs.declared.packet.ConnectRefusal.{ConnectRefusal}
+use Rattle.mqtt_packet.specs.declared.packet.Packet.{Packet}
+use Rattle.mqtt_packet.specs.declared.packet.Packet.TheVariants as packets
 use Rattle.conn_rules.specs.declared.connecting.FirstAnswer.{FirstAnswer}
 use Rattle.conn_rules.specs.declared.connecting.FirstAnswer.TheVariants as first
 use Rattle.conn_rules.specs.Connecting.{first_answer, terms_of, is_given_expiry}

@@ -1,8 +1,8 @@
 -- The replies to a SUBSCRIBE and to an UNSUBSCRIBE (sections 3.8 to 3.11).
 use Rattle.std.specs.Prelude.{ℕ, ◌==◌, nat_lt, Bool, if◌then◌else◌, List, [], ◌∷◌, length, Option, Some, None, Result, Ok, Err, is_some}
-use Rattle.mqtt_wire.specs.declared.packet.Subscribe.{Subscribe}
-use Rattle.mqtt_wire.specs.declared.packet.Subscription.{Subscription}
-use Rattle.mqtt_wire.specs.declared.packet.Unsubscribe.{Unsubscribe}
+use Rattle.mqtt_packet.specs.declared.packet.Subscribe.{Subscribe}
+use Rattle.mqtt_packet.specs.declared.packet.Subscription.{Subscription}
+use Rattle.mqtt_packet.specs.declared.packet.Unsubscribe.{Unsubscribe}
 use Rattle.mqtt_topic.specs.declared.error.TopicError.{TopicError}
 use Rattle.mqtt_topic.specs.Names.{Share, share_of}
 use Rattle.mqtt_topic.specs.Routes.{most_routes, slot_of}

@@ -4,7 +4,7 @@ ghost use Rattle.std.specs.Prelude.{◌≡◌, ◌∷◌, [], true, MatchOption}
 use bytes::Bytes;
 use conn_engine::{HoldingPlace, Supply};
 use group_jobs::{Envelope, Fate, Message, SharedMessage};
-use mqtt_wire::{RareProperties, Text};
+use mqtt_packet::{RareProperties, Text};
 use std::alloc::Global;
 
 /// A message on the topic `job`.

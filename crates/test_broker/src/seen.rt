@@ -1,7 +1,7 @@
 //! What the clients of a worker see.
 
 use client_table::Said;
-use mqtt_wire::{Delivery, Packet, ReasonCode};
+use mqtt_packet::{Delivery, Packet, ReasonCode};
 
 /// What the clients of a worker saw: how many jobs were accepted, acknowledged and refused.
 #[derive(Clone, Copy, Debug, PartialEq, Eq)]

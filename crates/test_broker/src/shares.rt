@@ -2,8 +2,8 @@
 
 use bytes::Bytes;
 use conn_engine::{HoldingPlace, Supply};
+use mqtt_packet::Text;
 use mqtt_topic::Share;
-use mqtt_wire::Text;
 use std::alloc::Global;
 
 /// The share of this text.

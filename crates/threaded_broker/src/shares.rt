@@ -5,8 +5,8 @@ ghost use Rattle.threaded_broker.specs.Shares.{IsBoundIn};
 
 use bytes::Bytes;
 use conn_engine::NoMemory;
+use mqtt_packet::Text;
 use mqtt_topic::Share;
-use mqtt_wire::Text;
 use shared_routes::KnownRoutes;
 use std::alloc::Global;
 use std::sync::Wait;

@@ -8,7 +8,8 @@ ghost use Rattle.client_table.specs.Streams.{fed, reading_behind, ReadsAs, Fails
 use crate::client::Client;
 use crate::said::Said;
 use conn_engine::{HoldingPlace, Input, NoMemory, Supply, Then};
-use mqtt_wire::{Fault, Packet};
+use mqtt_packet::Packet;
+use mqtt_wire::Fault;
 use std::alloc::Global;
 use std::mem;
 

@@ -1,6 +1,6 @@
 use Rattle.std.proofs.Common.{◌+◌, length, ap, arith}
 use Rattle.mqtt_wire.specs.Writing.{written_body, remaining_length}
-use Rattle.mqtt_wire.specs.declared.packet.Packet.TheVariants.{Suback, Unsuback}
+use Rattle.mqtt_packet.specs.declared.packet.Packet.TheVariants.{Suback, Unsuback}
 use Rattle.mqtt_wire.proofs.WritingLaws.{codes_size, sized}
 use Rattle.mqtt_wire.proofs.sizes.body_size.Goals as goal
 

@@ -1,6 +1,6 @@
 -- One step.
 use Rattle.std.proofs.Common.{List, ◌<◌, ◌++◌, length, sym, ap, subst, ◌∙◌}
-use Rattle.mqtt_wire.specs.declared.packet.Packet.{Packet}
+use Rattle.mqtt_packet.specs.declared.packet.Packet.{Packet}
 use Rattle.conn_service.specs.Services.{bytes_of, write_room}
 use Rattle.conn_laws.proofs.Ended.{ends_by}
 use Rattle.client_table.specs.Clients.{moment_of}

@@ -1,6 +1,6 @@
 -- What stands in front is stepped.
 use Rattle.std.proofs.Common.{List, ◌<◌, ◌++◌, length, ap, subst, ◌∙◌, inr}
-use Rattle.mqtt_wire.specs.declared.packet.Packet.{Packet}
+use Rattle.mqtt_packet.specs.declared.packet.Packet.{Packet}
 use Rattle.conn_service.specs.Services.{ServiceState, bytes_of, write_room}
 use Rattle.conn_service.proofs.OneStep.{stepped_front, lost_front, failed_front}
 use Rattle.conn_service.proofs.Fronts.{front_goes, front_stops, ok_is}

@@ -1,7 +1,7 @@
 //! The properties of each packet (chapter 3), as plain values. What is left out is `None`.
 
 ghost use Rattle.std.specs.Prelude.{◌≡◌, ◌↔◌, [], None, IfOk, IsTrue};
-ghost use Rattle.mqtt_wire.specs.RareProperties.{no_properties};
+ghost use Rattle.mqtt_packet.specs.RareProperties.{no_properties};
 
 use crate::binary::Binary;
 use crate::text::Text;

@@ -1,6 +1,6 @@
 use Rattle.std.proofs.Common.{◌∙◌, sym}
-use Rattle.mqtt_wire.proofs.TextLaws.{decided, is_text-short}
-use Rattle.mqtt_wire.proofs.text.is_valid.Goals as goal
+use Rattle.mqtt_packet.proofs.TextLaws.{decided, is_text-short}
+use Rattle.mqtt_packet.proofs.text.is_valid.Goals as goal
 
 pub returns-clause-text : goal.returns-clause-text
 returns-clause-text c =

@@ -1,7 +1,7 @@
 //! Texts: UTF-8 Encoded Strings (section 1.5.4).
 
 ghost use Rattle.std.specs.Prelude.{◌≡◌, ◌<◌, ◌^◌, ◌↔◌, length, IsSome, IfSome, IfOk, IsTrue, IsUtf8};
-ghost use Rattle.mqtt_wire.specs.Forms.{is_text};
+ghost use Rattle.mqtt_packet.specs.Texts.{is_text};
 
 use bytes::{ByteStr, Bytes};
 use std::alloc::AllocError;
@@ -17,7 +17,7 @@ pub struct Text {
 
 impl Model for Text {
     ghost use Rattle.std.specs.Prelude.{List, ℕ, IsTrue};
-    ghost use Rattle.mqtt_wire.specs.Forms.{is_text};
+    ghost use Rattle.mqtt_packet.specs.Texts.{is_text};
 
     ghost Value = { List ℕ };
 
@@ -77,7 +77,7 @@ impl Text {
 }
 
 /// Whether the bytes are a text.
-#[tactic(auto, unfolding(crate::specs::Forms::is_text))]
+#[tactic(auto, unfolding(crate::specs::Texts::is_text))]
 fn is_valid(bytes: &[u8]) -> bool
     ensures text { result ≡ is_text bytes.now }
     ensures utf8 { IsTrue result → IsUtf8 bytes.now }

@@ -1,6 +1,6 @@
 -- The properties of a PUBLISH that has none, and those that stand apart from it.
 use Rattle.std.specs.Prelude.{[], Option, Some, None}
-use Rattle.mqtt_wire.specs.declared.packet_properties.PublishProperties.{PublishProperties}
+use Rattle.mqtt_packet.specs.declared.packet_properties.PublishProperties.{PublishProperties}
 
 abbrev pub no_properties : PublishProperties
 no_properties = record {

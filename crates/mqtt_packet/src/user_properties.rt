@@ -35,7 +35,7 @@ pub struct UserProperties {
 
 impl Model for UserProperties {
     ghost use Rattle.std.specs.Prelude.{List};
-    ghost use Rattle.mqtt_wire.specs.declared.user_properties.UserProperty.{UserProperty};
+    ghost use Rattle.mqtt_packet.specs.declared.user_properties.UserProperty.{UserProperty};
 
     ghost Value = { List UserProperty };
 

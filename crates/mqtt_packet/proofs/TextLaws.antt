@@ -4,7 +4,7 @@ use Rattle.std.specs.Prelude.{IsTrue, ◌↔◌, not, ◌&&◌}
 use Rattle.std.proofs.lemmas.Bool.{and_parts, ltb-true}
 use Rattle.std.specs.Str.{is_utf8, IsUtf8}
 use Rattle.std.specs.List.{list_any}
-use Rattle.mqtt_wire.specs.Forms.{is_text}
+use Rattle.mqtt_packet.specs.Texts.{is_text}
 use Rattle.std.proofs.lemmas.Str.{IsUtf8-from_is_utf8, is_utf8-from_IsUtf8}
 
 same : (a b : Bool) → (a ≡ true → b ≡ true) → (b ≡ true → a ≡ true) → a ≡ b

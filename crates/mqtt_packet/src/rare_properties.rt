@@ -1,8 +1,8 @@
 //! The properties of a PUBLISH, which has most often none.
 
 ghost use Rattle.std.specs.Prelude.{◌≡◌, ◌↔◌, IsTrue, IfOk, MatchOption};
-ghost use Rattle.mqtt_wire.specs.RareProperties.{no_properties};
-ghost use Rattle.mqtt_wire.specs.contracts.packet_properties.PublishPropertiesPartialEq.TheImpl.Laws.{laws-law};
+ghost use Rattle.mqtt_packet.specs.RareProperties.{no_properties};
+ghost use Rattle.mqtt_packet.specs.contracts.packet_properties.PublishPropertiesPartialEq.TheImpl.Laws.{laws-law};
 
 use crate::packet_properties::PublishProperties;
 use crate::shared::Shared;
@@ -18,8 +18,8 @@ pub struct RareProperties {
 }
 
 impl Model for RareProperties {
-    ghost use Rattle.mqtt_wire.specs.declared.packet_properties.PublishProperties.{PublishProperties};
-    ghost use Rattle.mqtt_wire.specs.RareProperties.{listed_or_none};
+    ghost use Rattle.mqtt_packet.specs.declared.packet_properties.PublishProperties.{PublishProperties};
+    ghost use Rattle.mqtt_packet.specs.RareProperties.{listed_or_none};
 
     ghost Value = { PublishProperties };
 
