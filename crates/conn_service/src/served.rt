@@ -41,7 +41,7 @@ impl Served {
 pub enum Direction {
     /// Both: what comes is read, and what is said is written.
     Both,
-    /// What comes is read. What that says waits to be written.
+    /// What waits is written first, and what comes is read. What that says waits to be written.
     Inbound,
     /// What waits is written, and what a Tick says. Nothing is read.
     Outbound,

@@ -7,12 +7,9 @@ use Rattle.std.proofs.lemmas.Bool.{cases_eq}
 use Rattle.bell.specs.Handles.{BellId}
 use Rattle.worker_bells.specs.Ringing.{EarState, HandState, OutfitState}
 use Rattle.worker_bells.specs.Joining.{Reaches, AreJoined, IsEarAt, AreJoinedBut, HaveHandsAt, HasEarMore, HasHandMore}
-use Rattle.worker_bells.proofs.Places.{others_stay, put_there}
+use Rattle.worker_bells.proofs.Places.{others_stay, put_there, some_is}
 
 module _ {X : Type 0} where
-  one_is : (x y : X) → Some x ≡ Some y → x ≡ y
-  one_is x y same = cc
-
   -- what stood in a list stands in it with one more, which stands behind it
   still_there : (xs : List X) (x y : X) (k : ℕ) → slice_get xs k ≡ Some y → slice_get (xs ++ x ∷ []) k ≡ Some y
   still_there [] x y k has = absurd (cc has)
@@ -25,7 +22,7 @@ module _ {X : Type 0} where
 
   -- what stands in a list with one more stood in it, or is that one
   in_more : (xs : List X) (x y : X) (k : ℕ) → slice_get (xs ++ x ∷ []) k ≡ Some y → (slice_get xs k ≡ Some y) ⊎ (x ≡ y)
-  in_more [] x y zero has = inr (one_is x y has)
+  in_more [] x y zero has = inr (some_is x y has)
   in_more [] x y (suc k) has = absurd (cc has)
   in_more (z ∷ xs) x y zero has = inl has
   in_more (z ∷ xs) x y (suc k) has = in_more xs x y k has
@@ -33,7 +30,7 @@ module _ {X : Type 0} where
   -- what stands in a list in which one was put was put there, or stood there before
   in_set : (xs : List X) (at : ℕ) (x y : X) (k : ℕ) → at < length xs → slice_get (slice_set xs at x) k ≡ Some y → ((k ≡ at) × (x ≡ y)) ⊎ ((k ≢ at) × (slice_get xs k ≡ Some y))
   in_set xs at x y k within has = ⊎_elim
-      (λ (is : k ≡ at). inl (is, one_is x y (sym (put_there xs at x within) ∙ subst (λ n. slice_get (slice_set xs at x) n ≡ Some y) is has)))
+      (λ (is : k ≡ at). inl (is, some_is x y (sym (put_there xs at x within) ∙ subst (λ n. slice_get (slice_set xs at x) n ≡ Some y) is has)))
       (λ (other : k ≢ at). inr (other, sym (others_stay xs at k x other) ∙ has))
       (cases_eq k at)
 

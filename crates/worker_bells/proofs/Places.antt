@@ -1,4 +1,4 @@
--- What is put at a place of a list is there, and the others stay.
+-- Places of a list: what stands at one is one, what is put at one is there, and the others stay.
 use Rattle.std.proofs.Common.{◌≡◌, ◌≢◌, ◌<◌, ◌≤◌, ℕ, List, length, slice_get, get_or, Some, None, sym, ap, ◌∙◌, ⊎_elim, arith}
 use Rattle.std.specs.List.{slice_set}
 use Rattle.std.proofs.Math.ListN.{length-set}
@@ -6,6 +6,9 @@ use Rattle.std.proofs.lemmas.Option.{slice_get_cases, slice_get-get_or, slice_ge
 use Rattle.std.proofs.lemmas.List.{get_or-set_same, get_or-set_other}
 
 module _ {X : Type 0} where
+  pub some_is : (x y : X) → Some x ≡ Some y → x ≡ y
+  some_is x y same = cc
+
   pub put_there : (xs : List X) (at : ℕ) (x : X) → at < length xs → slice_get (slice_set xs at x) at ≡ Some x
   put_there xs at x within =
       slice_get-get_or (slice_set xs at x) at x (omega (arith, within, length-set {A = X})) ∙ ap (λ (y : X). Some y) (get_or-set_same xs at x x within)

@@ -11,7 +11,7 @@ use Rattle.bell.specs.History.{wakes}
 use Rattle.bell.specs.Calls.{CalledBelow, Rings}
 use Rattle.worker_bells.specs.declared.members.Wish.{Wish}
 use Rattle.worker_bells.specs.Wishing.{IsWished}
-use Rattle.worker_bells.proofs.Places.{others_stay, put_there}
+use Rattle.worker_bells.proofs.Places.{others_stay, put_there, some_is}
 use Rattle.worker_bells.specs.Ringing.{AreRung, CallsAll, EarState, HandState, HasSettledAt, IsAtSame, IsRung, RingsAt, RingsFor, woken}
 
 -- calls that found their workers idle stay
@@ -54,9 +54,6 @@ none_rung slot wanted hands = record {
   same = λ k hand has. (hand, has, record { slot = refl; workers = refl; bell = refl }, λ _. refl);
   each = inr (λ k hand hand' below has has' here. absurd (omega (arith, below)));
 }
-
-some_is : {X : Type 0} (x y : X) → Some x ≡ Some y → x ≡ y
-some_is x y same = cc
 
 -- one bell more
 pub one_more : (bound slot wanted left left' : ℕ) (old mid new : List HandState) → IsRungBelow bound slot wanted left old mid → RingsAt bound slot left left' mid new
