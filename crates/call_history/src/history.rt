@@ -112,21 +112,16 @@ impl<E, N: HistoryName> Model for Known<E, N> {
 }
 
 impl<E, N: HistoryName> Keeper<E, N> {
-    /// Adds to the history, and tells somebody all of it: what was known before is a beginning of it.
-    pub fn add<J: Entries<E>>(
-        &mut self,
-        history: &CallHistory<E, N>,
-        known: Known<E, N>,
-    ) -> Known<E, N>
+    /// Adds to the history, and lets somebody know all of it, whose knowledge was a beginning of what it was before.
+    pub fn add<J: Entries<E>>(&mut self, history: &CallHistory<E, N>, known: &mut Known<E, N>)
         ensures added { self.new ≡ self.old ++ J.added }
-        ensures told { result ≡ self.new }
-        ensures before { IsPrefix known self.old }
+        ensures told { known.new ≡ self.new }
+        ensures before { IsPrefix known.old self.old }
     {
-        let Known { pass, of } = known;
-        word::show(&history.word, &mut self.pass, pass);
+        let told = word::tell(&history.word, &mut known.pass);
+        word::show(&history.word, &mut self.pass, told);
         word::add::<E, J>(&history.word, &mut self.pass);
-        let pass = word::tell(&history.word, &mut self.pass);
-        Known { pass, of }
+        known.pass = word::tell(&history.word, &mut self.pass);
     }
 
     /// One more who knows all of it.
@@ -143,6 +138,18 @@ impl<E, N: HistoryName> Keeper<E, N> {
 }
 
 impl<E, N: HistoryName> Known<E, N> {
+    /// One more who knows the same.
+    pub fn tell(&mut self, history: &CallHistory<E, N>) -> Known<E, N>
+        ensures same { self.new ≡ self.old }
+        ensures told { result ≡ self.new }
+    {
+        let pass = word::tell(&history.word, &mut self.pass);
+        Known {
+            pass,
+            of: PhantomData,
+        }
+    }
+
     /// Takes in another: the longer of two beginnings, which the other begins.
     pub fn meet(&mut self, history: &CallHistory<E, N>, other: Known<E, N>)
         ensures mine { IsPrefix self.old self.new }
