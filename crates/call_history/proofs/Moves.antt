@@ -1,5 +1,5 @@
 -- What each call owes the table.
-use Rattle.std.proofs.Common.{◌≡◌, ◌≢◌, ℕ, zero, suc, Bool, true, false, true≢false, List, [], ◌∷◌, ◌++◌, set, length, ◌≤◌, nat_lt, refl, sym, ap, ◌∙◌, subst, ⊎_elim, append_assoc, arith}
+use Rattle.std.proofs.Common.{◌≡◌, ◌≢◌, ◌⊎◌, inl, inr, ℕ, zero, suc, Bool, true, false, true≢false, List, [], ◌∷◌, ◌++◌, set, length, ◌≤◌, nat_lt, refl, sym, ap, ◌∙◌, subst, ⊎_elim, append_assoc, arith}
 use Rattle.std.proofs.lemmas.List.{append-nil}
 use mathlib.Core.List.{IsPrefix}
 use mathlib.Core.Option.{some, some-injective, some-ne-none}
@@ -134,3 +134,10 @@ module _ {E : Type 0} where
   pub both : (v w : View E) → (length (met v w).other ≤ length (met v w).calls → IsPrefix (met v w).other (met v w).calls)
       → IsPrefix v.calls (met v w).calls × IsPrefix w.calls (met v w).calls
   both v w is = both_if v w _ (is (begins_if v w _ refl))
+
+  one_if : (v w : View E) (less : Bool) → ((met_if less v w).calls ≡ v.calls) ⊎ ((met_if less v w).calls ≡ w.calls)
+  one_if v w true = inr refl
+  one_if v w false = inl refl
+
+  pub one_of : (v w : View E) → ((met v w).calls ≡ v.calls) ⊎ ((met v w).calls ≡ w.calls)
+  one_of v w = one_if v w _

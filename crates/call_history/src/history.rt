@@ -1,5 +1,5 @@
 //! A history, its keeper, and those who know beginnings of it.
-ghost use Rattle.std.specs.Prelude.{◌≡◌, ◌++◌, [], IfOk};
+ghost use Rattle.std.specs.Prelude.{◌≡◌, ◌++◌, ◌⊎◌, [], IfOk};
 ghost use mathlib.Core.List.{IsPrefix};
 
 use crate::names::{Entries, HistoryName};
@@ -152,6 +152,7 @@ impl<E, N: HistoryName> Known<E, N> {
 
     /// Takes in another: the longer of two beginnings, which the other begins.
     pub fn meet(&mut self, history: &CallHistory<E, N>, other: Known<E, N>)
+        ensures one { (self.new ≡ self.old) ⊎ (self.new ≡ other) }
         ensures mine { IsPrefix self.old self.new }
         ensures others { IsPrefix other self.new }
     {

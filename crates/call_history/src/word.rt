@@ -1,5 +1,5 @@
 //! The table of a history: one word that never changes, under a rule on what its passes know; and the steps on it.
-ghost use Rattle.std.specs.Prelude.{◌≡◌, ◌++◌, [], true, false};
+ghost use Rattle.std.specs.Prelude.{◌≡◌, ◌++◌, ◌⊎◌, [], true, false};
 ghost use mathlib.Core.List.{IsPrefix};
 ghost use Rattle.call_history.specs.Rule.{IsPassOf, keeper, knower, met, shown};
 
@@ -129,6 +129,7 @@ pub fn meet<E>(word: &Word<E>, pass: &mut Pass<E>, other: Pass<E>)
     requires other { (other.table_id ≡ word.now.shared.table_id) × (other.me.1 ≡ []) }
     ensures same { pass.new.table_id ≡ pass.old.table_id }
     ensures known { pass.new.me ≡ (knower (met pass.old.me.0 other.me.0).calls, pass.old.me.1) }
+    ensures one { (pass.new.me.0.calls ≡ pass.old.me.0.calls) ⊎ (pass.new.me.0.calls ≡ other.me.0.calls) }
     ensures mine { IsPrefix pass.old.me.0.calls pass.new.me.0.calls }
     ensures others { IsPrefix other.me.0.calls pass.new.me.0.calls }
 {

@@ -1,9 +1,9 @@
-use Rattle.std.proofs.Common.{◌≤◌, length, arith, sym, ap, ◌∙◌, subst}
+use Rattle.std.proofs.Common.{◌≡◌, ◌⊎◌, ◌≤◌, length, arith, sym, ap, ◌∙◌, subst}
 use mathlib.Core.List.{IsPrefix}
 use Rattle.atomic_table.specs.Table.{Me}
 use Rattle.call_history.specs.declared.word.View.{View}
 use Rattle.call_history.specs.Rule.{knower}
-use Rattle.call_history.proofs.Moves.{meets, compares, both}
+use Rattle.call_history.proofs.Moves.{meets, compares, both, one_of}
 use Rattle.call_history.proofs.word.meet.Goals as goal
 
 pub join_seat-requires : goal.join_seat-requires
@@ -25,6 +25,7 @@ returns g c =
     record {
       same = c.load.ensures.0 ∙ c.join_seat.ensures.0;
       known = known;
+      one = subst (λ l. (l ≡ v.calls) ⊎ (l ≡ w.calls)) calls (one_of v w);
       mine = subst (IsPrefix v.calls) calls begin.0;
       others = subst (IsPrefix w.calls) calls begin.1;
     }
