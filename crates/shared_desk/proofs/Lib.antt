@@ -1,1 +1,4 @@
 pub mod Desks
+pub mod Parts
+pub mod Histories
+pub mod Pasts

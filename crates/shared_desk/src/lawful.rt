@@ -1,34 +1,40 @@
-//! A desk whose sessions have out at their places what they hold.
-ghost use Rattle.std.specs.Prelude.{◌≡◌, ◌<◌, ◌≤◌, [], true, length, IfOk, IfSome};
+//! A desk whose sessions have out at their places what they hold, and whose keeper knows all calls that were made of it.
+ghost use Rattle.std.specs.Prelude.{◌≡◌, ◌<◌, ◌≤◌, ◌++◌, ◌↔◌, ℕ, [], ◌∷◌, true, length, IfOk, IfSome, IsTrue};
+ghost use mathlib.Core.List.{IsPrefix};
 ghost use Rattle.group_jobs.specs.Stamps.{Held};
-ghost use Rattle.session_desk.specs.Attaching.{asked};
-ghost use Rattle.session_desk.specs.Books.{Books, IsKicked};
-ghost use Rattle.session_desk.specs.Calls.{Attach, Withdraw, Park, ParkAsIs, Keep, Bury, Sweep, LendPlace, TakePlace};
+ghost use Rattle.session_desk.specs.Attaching.{Request, asked};
+ghost use Rattle.session_desk.specs.Books.{Books, IsKicked, new_books};
+ghost use Rattle.session_desk.specs.Calls.{Attach, Withdraw, Kicked, Park, ParkAsIs, Keep, Bury, Sweep, LendPlace, TakePlace};
 ghost use Rattle.session_desk.specs.Places.{IsOfSlot};
+ghost use Rattle.session_desk.specs.declared.session.Session as Sessions;
 ghost use Rattle.conn_engine.specs.Holding.{IsOutAtPlace};
 ghost use Rattle.conn_engine.specs.Ready.{IsReady, IsSoundSession};
 ghost use Rattle.shared_desk.specs.Books.{IsLawful, IsMade};
+ghost use Rattle.shared_desk.specs.Histories.{IsTold, Leads};
 
+use crate::told::{DeskHistory, DeskPass, Told};
 use bytes::Bytes;
+use call_history::{Entries, HistoryName, Keeper, Known};
 use conn_engine::HoldingPlace;
 use group_jobs::Envelope;
 use session_desk::{Attached, Desk, DeskError, Session};
-use std::alloc::Global;
-use std::marker::Model;
+use std::marker::{Brand, Model};
 
-/// A desk that keeps the desk law, in which each session has out at its place just what it holds, and at each free place nothing is out.
+/// A desk, with the keeper of its history, which has led to what the desk knows. So it keeps the desk law, each session in it has out at its place just what
+/// it holds, and at each free place nothing is out.
 ///
 /// Contracts see it as its books.
-pub(crate) struct LawfulDesk<P: HoldingPlace> {
+pub(crate) struct LawfulDesk<P: HoldingPlace, D: HistoryName> {
     desk: Desk<Envelope, P>,
+    keeper: Keeper<Told<P>, D>,
 }
 
-impl<P: HoldingPlace> Model for LawfulDesk<P> {
+impl<P: HoldingPlace, D: HistoryName> Model for LawfulDesk<P, D> {
     ghost use Rattle.std.specs.Coded.{codes};
     ghost use Rattle.group_jobs.specs.Stamps.{Held};
     ghost use Rattle.session_desk.specs.Books.{Books};
     ghost use Rattle.session_desk.specs.Layout.{books_code};
-    ghost use Rattle.shared_desk.specs.Books.{IsLawful};
+    ghost use Rattle.shared_desk.specs.Histories.{Leads};
 
     ghost Value = { Books Held P };
 
@@ -36,106 +42,262 @@ impl<P: HoldingPlace> Model for LawfulDesk<P> {
 
     ghost view = { λ d. d.desk };
 
-    ghost invariant = { λ d. IsLawful P.has_out d.desk };
+    ghost invariant = { λ d. Leads P.has_out P.slot_of P.number_of d.keeper d.desk };
 }
 
-impl<P: HoldingPlace> LawfulDesk<P> {
-    /// A desk without sessions and without free places.
-    pub fn new(alloc: Global) -> Result<LawfulDesk<P>, DeskError> {
-        let desk = Desk::new(alloc)?;
-        Ok(LawfulDesk { desk })
+/// Notes a call, with what was asked and answered, which the proof of a call of this one says, and lets a thread know all calls so far.
+fn note<P: HoldingPlace, D: HistoryName, A, B, J: Entries<Told<P>>>(
+    keeper: &mut Keeper<Told<P>, D>,
+    history: &DeskHistory<P, D>,
+    known: &mut Known<Told<P>, D>,
+    _asked: &A,
+    _answer: &B,
+)
+    ensures added { keeper.new ≡ keeper.old ++ J.added }
+    ensures told { known.new ≡ keeper.new }
+    ensures before { IsPrefix known.old keeper.old }
+{
+    keeper.add::<J>(history, known);
+}
+
+impl<P: HoldingPlace, D: HistoryName> LawfulDesk<P, D> {
+    /// A new desk, with the keeper of its empty history.
+    pub fn new(desk: Desk<Envelope, P>, keeper: Keeper<Told<P>, D>) -> LawfulDesk<P, D>
+        requires desk { desk ≡ new_books }
+        requires keeper { keeper ≡ [] }
+    {
+        LawfulDesk { desk, keeper }
     }
 
     pub fn attach(
         &mut self,
+        history: &DeskHistory<P, D>,
+        me: &mut DeskPass<P, D>,
         connection: u16,
         client: &Bytes,
         clean: bool,
         now: u64,
     ) -> Result<Attached<Envelope, P>, DeskError>
+        ghost request: { Request }
+        requires asked { request ≡ asked connection client.now clean now }
         requires known { connection < 1024 }
         requires short { length client.now ≤ 128 }
         ensures ready { IfOk result (IsReady P.has_out) }
-        ensures made { IsMade P.has_out P.slot_of P.number_of (Attach (asked connection client.now clean now) result) }
+        ensures made { IsMade P.has_out P.slot_of P.number_of (Attach request result) }
+        ensures told { IsTold P.has_out P.slot_of P.number_of me.old (Attach request result) me.new }
     {
-        self.desk.attach(connection, client, clean, now)
+        let answer = self.desk.attach(connection, client, clean, now);
+        note::<P, D, (), Result<Attached<Envelope, P>, DeskError>, Brand>(
+            &mut self.keeper,
+            history,
+            &mut me.known,
+            &(),
+            &answer,
+        );
+        answer
     }
 
-    pub fn withdraw(&mut self, connection: u16)
-        ensures { IsMade P.has_out P.slot_of P.number_of (Withdraw connection) }
+    pub fn withdraw(
+        &mut self,
+        history: &DeskHistory<P, D>,
+        me: &mut DeskPass<P, D>,
+        connection: u16,
+    )
+        ensures made { IsMade P.has_out P.slot_of P.number_of (Withdraw connection) }
+        ensures told { IsTold P.has_out P.slot_of P.number_of me.old (Withdraw connection) me.new }
     {
         self.desk.withdraw(connection);
+        note::<P, D, u16, (), Brand>(&mut self.keeper, history, &mut me.known, &connection, &());
     }
 
-    pub fn kicked(&self, connection: u16) -> bool
-        ensures { result ≡ true → (books : Books Held P) × IsLawful P.has_out books × IsKicked books connection }
+    pub fn kicked(
+        &mut self,
+        history: &DeskHistory<P, D>,
+        me: &mut DeskPass<P, D>,
+        connection: u16,
+    ) -> bool
+        ensures yes { result ≡ true → (books : Books Held P) × IsLawful P.has_out books × IsKicked books connection }
+        ensures told { IsTold P.has_out P.slot_of P.number_of me.old (Kicked connection result) me.new }
     {
-        self.desk.kicked(connection)
+        let is_kicked = self.desk.kicked(connection);
+        note::<P, D, u16, bool, Brand>(
+            &mut self.keeper,
+            history,
+            &mut me.known,
+            &connection,
+            &is_kicked,
+        );
+        is_kicked
     }
 
-    pub fn park(&mut self, session: Session<Envelope, P>, now: u64) -> Option<Session<Envelope, P>>
-        requires { IsSoundSession P.has_out session }
+    pub fn park(
+        &mut self,
+        history: &DeskHistory<P, D>,
+        me: &mut DeskPass<P, D>,
+        session: Session<Envelope, P>,
+        now: u64,
+    ) -> Option<Session<Envelope, P>>
+        ghost before: { Sessions.Session Held P }
+        requires before { before ≡ session }
+        requires sound { IsSoundSession P.has_out session }
         ensures same { IfSome result (λ back. back ≡ session) }
         ensures made { IsMade P.has_out P.slot_of P.number_of (Park session now result) }
+        ensures told { IsTold P.has_out P.slot_of P.number_of me.old (Park session now result) me.new }
     {
-        self.desk.park(session, now)
+        let back = self.desk.park(session, now);
+        note::<P, D, u64, Option<Session<Envelope, P>>, Brand>(
+            &mut self.keeper,
+            history,
+            &mut me.known,
+            &now,
+            &back,
+        );
+        back
     }
 
-    pub fn park_as_is(&mut self, session: Session<Envelope, P>) -> Option<Session<Envelope, P>>
-        requires { IsSoundSession P.has_out session }
+    pub fn park_as_is(
+        &mut self,
+        history: &DeskHistory<P, D>,
+        me: &mut DeskPass<P, D>,
+        session: Session<Envelope, P>,
+    ) -> Option<Session<Envelope, P>>
+        ghost before: { Sessions.Session Held P }
+        requires before { before ≡ session }
+        requires sound { IsSoundSession P.has_out session }
         ensures same { IfSome result (λ back. back ≡ session) }
         ensures made { IsMade P.has_out P.slot_of P.number_of (ParkAsIs session result) }
+        ensures told { IsTold P.has_out P.slot_of P.number_of me.old (ParkAsIs session result) me.new }
     {
-        self.desk.park_as_is(session)
+        let back = self.desk.park_as_is(session);
+        note::<P, D, (), Option<Session<Envelope, P>>, Brand>(
+            &mut self.keeper,
+            history,
+            &mut me.known,
+            &(),
+            &back,
+        );
+        back
     }
 
-    pub fn keep(&mut self, session: Session<Envelope, P>) -> Option<Session<Envelope, P>>
-        requires { IsOutAtPlace P.has_out session }
+    pub fn keep(
+        &mut self,
+        history: &DeskHistory<P, D>,
+        me: &mut DeskPass<P, D>,
+        session: Session<Envelope, P>,
+    ) -> Option<Session<Envelope, P>>
+        ghost before: { Sessions.Session Held P }
+        requires before { before ≡ session }
+        requires out { IsOutAtPlace P.has_out session }
         ensures same { IfSome result (λ back. back ≡ session) }
         ensures made { IsMade P.has_out P.slot_of P.number_of (Keep session result) }
+        ensures told { IsTold P.has_out P.slot_of P.number_of me.old (Keep session result) me.new }
     {
-        self.desk.keep(session)
+        let back = self.desk.keep(session);
+        note::<P, D, (), Option<Session<Envelope, P>>, Brand>(
+            &mut self.keeper,
+            history,
+            &mut me.known,
+            &(),
+            &back,
+        );
+        back
     }
 
-    pub fn bury(&mut self, session: Session<Envelope, P>) -> Option<Session<Envelope, P>>
-        requires { IsOutAtPlace P.has_out session }
+    pub fn bury(
+        &mut self,
+        history: &DeskHistory<P, D>,
+        me: &mut DeskPass<P, D>,
+        session: Session<Envelope, P>,
+    ) -> Option<Session<Envelope, P>>
+        ghost before: { Sessions.Session Held P }
+        requires before { before ≡ session }
+        requires out { IsOutAtPlace P.has_out session }
         ensures same { IfSome result (λ back. back ≡ session) }
         ensures made { IsMade P.has_out P.slot_of P.number_of (Bury session result) }
+        ensures told { IsTold P.has_out P.slot_of P.number_of me.old (Bury session result) me.new }
     {
-        self.desk.bury(session)
+        let back = self.desk.bury(session);
+        note::<P, D, (), Option<Session<Envelope, P>>, Brand>(
+            &mut self.keeper,
+            history,
+            &mut me.known,
+            &(),
+            &back,
+        );
+        back
     }
 
-    pub fn sweep(&mut self, now: u64) -> Option<Session<Envelope, P>>
+    pub fn sweep(
+        &mut self,
+        history: &DeskHistory<P, D>,
+        me: &mut DeskPass<P, D>,
+        now: u64,
+    ) -> Option<Session<Envelope, P>>
         ensures out { IfSome result (IsOutAtPlace P.has_out) }
         ensures made { IsMade P.has_out P.slot_of P.number_of (Sweep now result) }
+        ensures told { IsTold P.has_out P.slot_of P.number_of me.old (Sweep now result) me.new }
     {
-        self.desk.sweep(now)
+        let session = self.desk.sweep(now);
+        note::<P, D, u64, Option<Session<Envelope, P>>, Brand>(
+            &mut self.keeper,
+            history,
+            &mut me.known,
+            &now,
+            &session,
+        );
+        session
     }
 
-    pub fn lend_place(&mut self, slot: u8) -> Option<P>
+    pub fn lend_place(
+        &mut self,
+        history: &DeskHistory<P, D>,
+        me: &mut DeskPass<P, D>,
+        slot: u8,
+    ) -> Option<P>
         ensures own { IfSome result (IsOfSlot P.slot_of P.number_of slot) }
         ensures out { IfSome result (λ place. P.has_out place []) }
         ensures made { IsMade P.has_out P.slot_of P.number_of (LendPlace slot result) }
+        ensures told { IsTold P.has_out P.slot_of P.number_of me.old (LendPlace slot result) me.new }
     {
-        self.desk.lend_place(slot)
+        let place = self.desk.lend_place(slot);
+        note::<P, D, u8, Option<P>, Brand>(&mut self.keeper, history, &mut me.known, &slot, &place);
+        place
     }
 
-    pub fn take_place(&mut self, place: P) -> Option<P>
-        requires { P.has_out place [] }
+    pub fn take_place(
+        &mut self,
+        history: &DeskHistory<P, D>,
+        me: &mut DeskPass<P, D>,
+        place: P,
+    ) -> Option<P>
+        ghost before: { P }
+        requires before { before ≡ place }
+        requires out { P.has_out place [] }
         ensures same { IfSome result (λ back. back ≡ place) }
         ensures made { IsMade P.has_out P.slot_of P.number_of (TakePlace place result) }
+        ensures told { IsTold P.has_out P.slot_of P.number_of me.old (TakePlace place result) me.new }
     {
-        self.desk.take_place(place)
+        let back = self.desk.take_place(place);
+        note::<P, D, (), Option<P>, Brand>(&mut self.keeper, history, &mut me.known, &(), &back);
+        back
     }
 
     pub fn soonest(&self) -> u64 {
         self.desk.soonest()
     }
 
-    pub fn into_desk(self) -> Desk<Envelope, P>
-        ensures { IsLawful P.has_out result }
+    /// The desk, and all calls that were made of it.
+    pub fn into_desk(
+        self,
+        history: &DeskHistory<P, D>,
+        me: &mut DeskPass<P, D>,
+    ) -> Desk<Envelope, P>
+        ensures lawful { IsLawful P.has_out result }
+        ensures before { IsPrefix me.old me.new }
+        ensures all { Leads P.has_out P.slot_of P.number_of me.new result }
     {
-        let LawfulDesk { desk } = self;
+        let LawfulDesk { desk, mut keeper } = self;
+        note::<P, D, (), (), Brand>(&mut keeper, history, &mut me.known, &(), &());
         desk
     }
 }

@@ -6,6 +6,9 @@
 #![tactic(auto)]
 
 mod lawful;
+pub mod laws;
 mod shared;
+mod told;
 
-pub use shared::SharedDesk;
+pub use shared::{OpenedDesk, SharedDesk};
+pub use told::{DeskPass, Told};

@@ -1,54 +1,124 @@
-//! The desk behind a lock.
-ghost use Rattle.std.specs.Prelude.{◌≡◌, ◌<◌, ◌≤◌, [], true, ℕ, length, Some, IfOk, IfSome};
+//! The desk behind a lock, and how it is opened.
+ghost use Rattle.std.specs.Prelude.{◌≡◌, ◌<◌, ◌≤◌, ◌⊎◌, [], true, false, ℕ, length, Some, None, IfOk, IfSome};
+ghost use mathlib.Core.List.{IsPrefix};
 ghost use Rattle.group_jobs.specs.Stamps.{Held};
 ghost use Rattle.session_desk.specs.Attaching.{asked};
-ghost use Rattle.session_desk.specs.Books.{Books, IsKicked};
-ghost use Rattle.session_desk.specs.Calls.{Attach, Withdraw, Park, ParkAsIs, Keep, Bury, Sweep, LendPlace, TakePlace};
+ghost use Rattle.session_desk.specs.Books.{Books, IsKicked, new_books};
+ghost use Rattle.session_desk.specs.Calls.{Attach, Withdraw, Kicked, Park, ParkAsIs, Keep, Bury, Sweep, LendPlace, TakePlace};
 ghost use Rattle.session_desk.specs.Places.{IsOfSlot};
 ghost use Rattle.conn_engine.specs.Holding.{IsOutAtPlace};
 ghost use Rattle.conn_engine.specs.Ready.{IsReady, IsSoundSession};
 ghost use Rattle.shared_desk.specs.Books.{IsLawful, IsMade};
+ghost use Rattle.shared_desk.specs.Histories.{IsHistory, IsTold, Leads};
 
 use crate::lawful::LawfulDesk;
+use crate::told::{DeskHistory, DeskPass, Told};
 use bytes::Bytes;
+use call_history::{HistoryName, Opened};
 use conn_engine::HoldingPlace;
 use group_jobs::Envelope;
 use session_desk::{Attached, CONNECTIONS, Desk, DeskError, Session};
 use std::alloc::Global;
+use std::marker::Model;
 use std::sync::atomic::Ordering::SeqCst;
 use std::sync::atomic::{AtomicBool, AtomicU64};
 use std::sync::{Mutex, Wait};
 
-/// Every session of a broker, with the free places of its groups, which threads share by reference.
+/// A new desk, which has no name yet. Contracts see it as the table of its history.
+pub struct OpenedDesk<P: HoldingPlace> {
+    desk: Desk<Envelope, P>,
+    opened: Opened<Told<P>>,
+    soonest: AtomicU64,
+    marks: Vec<AtomicBool>,
+}
+
+impl<P: HoldingPlace> Model for OpenedDesk<P> {
+    ghost use Rattle.std.specs.Prelude.{◌≡◌};
+    ghost use Rattle.atomic_table.specs.Seated.{TableId};
+    ghost use Rattle.session_desk.specs.Books.{new_books};
+
+    ghost Value = { TableId };
+
+    ghost view = { λ o. o.opened };
+
+    ghost invariant = { λ o. o.desk ≡ new_books };
+}
+
+impl<P: HoldingPlace> OpenedDesk<P> {
+    /// A desk without sessions and without free places. No other call takes memory, but for [`SharedDesk::attach`].
+    ///
+    /// # Errors
+    ///
+    /// 703 [`DeskError::Memory`].
+    pub fn open(alloc: Global) -> Result<OpenedDesk<P>, DeskError> {
+        let marks = no_marks(alloc)?;
+        let opened = Opened::open(alloc).map_err(|_| DeskError::Memory)?;
+        let desk = Desk::new(alloc)?;
+        let soonest = AtomicU64::new(desk.soonest());
+        Ok(OpenedDesk {
+            desk,
+            opened,
+            soonest,
+            marks,
+        })
+    }
+
+    /// The desk under a name, and a pass that knows of no call.
+    pub fn name<D: HistoryName>(self) -> (SharedDesk<P, D>, DeskPass<P, D>)
+        requires { self ≡ D.history }
+        ensures { result.1 ≡ [] }
+    {
+        let OpenedDesk {
+            desk,
+            opened,
+            soonest,
+            marks,
+        } = self;
+        let (history, mut keeper) = opened.name::<D>();
+        let known = keeper.tell(&history);
+        let desk = Mutex::new(LawfulDesk::new(desk, keeper));
+        (
+            SharedDesk {
+                desk,
+                history,
+                soonest,
+                marks,
+            },
+            DeskPass { known },
+        )
+    }
+
+    /// The desk, which nobody shared.
+    pub fn into_desk(self) -> Desk<Envelope, P>
+        ensures { result ≡ new_books }
+    {
+        let OpenedDesk {
+            desk,
+            opened: _,
+            soonest: _,
+            marks: _,
+        } = self;
+        desk
+    }
+}
+
+/// Every session of a broker, with the free places of its groups, which threads share by reference. `D` is the name of its history.
 ///
-/// A call takes the lock for its own length, and waits for another thread's call. So a call's clause says what it made of a desk that was lawful before
-/// it and is behind it (`IsMade`); what the books were then is not known to anybody else. What comes out has out at its place what it holds, by what lies
-/// behind the lock.
-pub struct SharedDesk<P: HoldingPlace> {
-    desk: Mutex<LawfulDesk<P>>,
+/// A call takes the lock for its own length, and waits for another thread's call. There is one history of calls, in the order of the lock; each call that
+/// takes the lock is the last one of what its thread knows of it from then on (`IsTold`), and all that other threads know are beginnings of the same history. What
+/// the books are behind the lock then, nobody else knows; a clause says what the call made of books that were lawful before it and are behind it
+/// (`IsMade`). What comes out has out at its place what it holds, by what lies behind the lock.
+pub struct SharedDesk<P: HoldingPlace, D: HistoryName> {
+    desk: Mutex<LawfulDesk<P, D>>,
+    // Its calls.
+    history: DeskHistory<P, D>,
     // The moment from which on a sweep may find something, as the desk told it last.
     soonest: AtomicU64,
     // For each connection, whether its session may have been asked for: where it was not, `kicked` asks nobody.
     marks: Vec<AtomicBool>,
 }
 
-impl<P: HoldingPlace> SharedDesk<P> {
-    /// A desk without sessions and without free places. No other call takes memory, but for [`SharedDesk::attach`].
-    ///
-    /// # Errors
-    ///
-    /// 703 [`DeskError::Memory`].
-    pub fn new(alloc: Global) -> Result<SharedDesk<P>, DeskError> {
-        let marks = no_marks(alloc)?;
-        let desk = LawfulDesk::new(alloc)?;
-        let soonest = AtomicU64::new(desk.soonest());
-        Ok(SharedDesk {
-            desk: Mutex::new(desk),
-            soonest,
-            marks,
-        })
-    }
-
+impl<P: HoldingPlace, D: HistoryName> SharedDesk<P, D> {
     /// A session for a connection, as [`Desk::attach`] has it.
     ///
     /// # Errors
@@ -57,6 +127,7 @@ impl<P: HoldingPlace> SharedDesk<P> {
     pub fn attach<R: Wait>(
         &self,
         rt: &R,
+        me: &mut DeskPass<P, D>,
         connection: u16,
         client: &Bytes,
         clean: bool,
@@ -66,9 +137,10 @@ impl<P: HoldingPlace> SharedDesk<P> {
         requires short { length client.now ≤ 128 }
         ensures ready { IfOk result (IsReady P.has_out) }
         ensures made { IsMade P.has_out P.slot_of P.number_of (Attach (asked connection client.now clean now) result) }
+        ensures told { IsTold P.has_out P.slot_of P.number_of me.old (Attach (asked connection client.now clean now) result) me.new }
     {
         let mut desk = self.desk.lock(rt);
-        let attached = desk.attach(connection, client, clean, now);
+        let attached = desk.attach(&self.history, me, connection, client, clean, now);
         match &attached {
             Ok(Attached::Replace(holder)) => self.mark(*holder, true),
             Ok(Attached::New { .. } | Attached::Resumed(_)) => self.mark(connection, false),
@@ -85,21 +157,26 @@ impl<P: HoldingPlace> SharedDesk<P> {
     }
 
     /// The connection waits for no session from now on.
-    pub fn withdraw<R: Wait>(&self, rt: &R, connection: u16)
-        ensures { IsMade P.has_out P.slot_of P.number_of (Withdraw connection) }
+    pub fn withdraw<R: Wait>(&self, rt: &R, me: &mut DeskPass<P, D>, connection: u16)
+        ensures made { IsMade P.has_out P.slot_of P.number_of (Withdraw connection) }
+        ensures told { IsTold P.has_out P.slot_of P.number_of me.old (Withdraw connection) me.new }
     {
-        self.desk.lock(rt).withdraw(connection);
+        self.desk.lock(rt).withdraw(&self.history, me, connection);
     }
 
     /// Whether another connection asked for this connection's session since it was lent. The lock is taken only where one may have.
-    pub fn kicked<R: Wait>(&self, rt: &R, connection: u16) -> bool
-        ensures { result ≡ true → (books : Books Held P) × IsLawful P.has_out books × IsKicked books connection }
+    pub fn kicked<R: Wait>(&self, rt: &R, me: &mut DeskPass<P, D>, connection: u16) -> bool
+        ensures yes { result ≡ true → (books : Books Held P) × IsLawful P.has_out books × IsKicked books connection }
+        ensures told { ((result ≡ false) × (me.new ≡ me.old)) ⊎ IsTold P.has_out P.slot_of P.number_of me.old (Kicked connection result) me.new }
     {
         let is_marked = match self.marks.get(usize::from(connection)) {
             Some(mark) => mark.load(SeqCst),
             None => false,
         };
-        is_marked && self.desk.lock(rt).kicked(connection)
+        if !is_marked {
+            return false;
+        }
+        self.desk.lock(rt).kicked(&self.history, me, connection)
     }
 
     /// A session goes back to the desk, as [`Desk::park`] has it. Handed back are one that ends with its connection, and one that the desk does not know
@@ -107,15 +184,17 @@ impl<P: HoldingPlace> SharedDesk<P> {
     pub fn park<R: Wait>(
         &self,
         rt: &R,
+        me: &mut DeskPass<P, D>,
         session: Session<Envelope, P>,
         now: u64,
     ) -> Option<Session<Envelope, P>>
         requires { IsSoundSession P.has_out session }
         ensures same { IfSome result (λ back. back ≡ session) }
         ensures made { IsMade P.has_out P.slot_of P.number_of (Park session now result) }
+        ensures told { IsTold P.has_out P.slot_of P.number_of me.old (Park session now result) me.new }
     {
         let mut desk = self.desk.lock(rt);
-        let back = desk.park(session, now);
+        let back = desk.park(&self.history, me, session, now);
         self.soonest.store(desk.soonest(), SeqCst);
         back
     }
@@ -124,14 +203,16 @@ impl<P: HoldingPlace> SharedDesk<P> {
     pub fn park_as_is<R: Wait>(
         &self,
         rt: &R,
+        me: &mut DeskPass<P, D>,
         session: Session<Envelope, P>,
     ) -> Option<Session<Envelope, P>>
         requires { IsSoundSession P.has_out session }
         ensures same { IfSome result (λ back. back ≡ session) }
         ensures made { IsMade P.has_out P.slot_of P.number_of (ParkAsIs session result) }
+        ensures told { IsTold P.has_out P.slot_of P.number_of me.old (ParkAsIs session result) me.new }
     {
         let mut desk = self.desk.lock(rt);
-        let back = desk.park_as_is(session);
+        let back = desk.park_as_is(&self.history, me, session);
         self.soonest.store(desk.soonest(), SeqCst);
         back
     }
@@ -140,14 +221,16 @@ impl<P: HoldingPlace> SharedDesk<P> {
     pub fn keep<R: Wait>(
         &self,
         rt: &R,
+        me: &mut DeskPass<P, D>,
         session: Session<Envelope, P>,
     ) -> Option<Session<Envelope, P>>
         requires { IsOutAtPlace P.has_out session }
         ensures same { IfSome result (λ back. back ≡ session) }
         ensures made { IsMade P.has_out P.slot_of P.number_of (Keep session result) }
+        ensures told { IsTold P.has_out P.slot_of P.number_of me.old (Keep session result) me.new }
     {
         let mut desk = self.desk.lock(rt);
-        let back = desk.keep(session);
+        let back = desk.keep(&self.history, me, session);
         self.soonest.store(desk.soonest(), SeqCst);
         back
     }
@@ -156,57 +239,89 @@ impl<P: HoldingPlace> SharedDesk<P> {
     pub fn bury<R: Wait>(
         &self,
         rt: &R,
+        me: &mut DeskPass<P, D>,
         session: Session<Envelope, P>,
     ) -> Option<Session<Envelope, P>>
         requires { IsOutAtPlace P.has_out session }
         ensures same { IfSome result (λ back. back ≡ session) }
         ensures made { IsMade P.has_out P.slot_of P.number_of (Bury session result) }
+        ensures told { IsTold P.has_out P.slot_of P.number_of me.old (Bury session result) me.new }
     {
-        self.desk.lock(rt).bury(session)
+        self.desk.lock(rt).bury(&self.history, me, session)
     }
 
     /// A session that is to be retired at this moment. The lock is taken only where there may be one: before the moment that the desk told last it is not.
-    pub fn sweep<R: Wait>(&self, rt: &R, now: u64) -> Option<Session<Envelope, P>>
+    pub fn sweep<R: Wait>(
+        &self,
+        rt: &R,
+        me: &mut DeskPass<P, D>,
+        now: u64,
+    ) -> Option<Session<Envelope, P>>
         ensures out { IfSome result (IsOutAtPlace P.has_out) }
         ensures made { IfSome result (λ session. IsMade P.has_out P.slot_of P.number_of (Sweep now (Some session))) }
+        ensures told { ((result ≡ None) × (me.new ≡ me.old)) ⊎ IsTold P.has_out P.slot_of P.number_of me.old (Sweep now result) me.new }
     {
         if now < self.soonest.load(SeqCst) {
             return None;
         }
         let mut desk = self.desk.lock(rt);
-        let session = desk.sweep(now);
+        let session = desk.sweep(&self.history, me, now);
         self.soonest.store(desk.soonest(), SeqCst);
         session
     }
 
     /// Lends the least free place of the group of this slot.
-    pub fn lend_place<R: Wait>(&self, rt: &R, slot: u8) -> Option<P>
+    pub fn lend_place<R: Wait>(&self, rt: &R, me: &mut DeskPass<P, D>, slot: u8) -> Option<P>
         ensures own { IfSome result (IsOfSlot P.slot_of P.number_of slot) }
         ensures out { IfSome result (λ place. P.has_out place []) }
         ensures made { IsMade P.has_out P.slot_of P.number_of (LendPlace slot result) }
+        ensures told { IsTold P.has_out P.slot_of P.number_of me.old (LendPlace slot result) me.new }
     {
-        self.desk.lock(rt).lend_place(slot)
+        self.desk.lock(rt).lend_place(&self.history, me, slot)
     }
 
     /// A place is free from now on. It is handed back where a place of the same group with the same number is free already.
-    pub fn take_place<R: Wait>(&self, rt: &R, place: P) -> Option<P>
+    pub fn take_place<R: Wait>(&self, rt: &R, me: &mut DeskPass<P, D>, place: P) -> Option<P>
         requires { P.has_out place [] }
         ensures same { IfSome result (λ back. back ≡ place) }
         ensures made { IsMade P.has_out P.slot_of P.number_of (TakePlace place result) }
+        ensures told { IsTold P.has_out P.slot_of P.number_of me.old (TakePlace place result) me.new }
     {
-        self.desk.lock(rt).take_place(place)
+        self.desk.lock(rt).take_place(&self.history, me, place)
     }
 
-    /// The desk, once no other thread has it.
-    pub fn into_desk(self) -> Desk<Envelope, P>
-        ensures { IsLawful P.has_out result }
+    /// One more pass that knows what this one does.
+    pub fn pass(&self, me: &mut DeskPass<P, D>) -> DeskPass<P, D>
+        ensures same { me.new ≡ me.old }
+        ensures new { result ≡ me.old }
+    {
+        let known = me.known.tell(&self.history);
+        DeskPass { known }
+    }
+
+    /// Two passes become one, which knows the longer of what they knew: it goes on from either.
+    pub fn meet(&self, me: &mut DeskPass<P, D>, other: DeskPass<P, D>)
+        ensures mine { IsPrefix me.old me.new }
+        ensures others { IsPrefix other me.new }
+        ensures legal { IsHistory P.has_out P.slot_of P.number_of me.new }
+    {
+        let DeskPass { known } = other;
+        me.known.meet(&self.history, known);
+    }
+
+    /// The desk, once no other thread has it, and all calls that were made of it.
+    pub fn into_desk(self, me: &mut DeskPass<P, D>) -> Desk<Envelope, P>
+        ensures lawful { IsLawful P.has_out result }
+        ensures before { IsPrefix me.old me.new }
+        ensures all { Leads P.has_out P.slot_of P.number_of me.new result }
     {
         let SharedDesk {
             desk,
+            history,
             soonest: _,
             marks: _,
         } = self;
-        desk.into_inner().into_desk()
+        desk.into_inner().into_desk(&history, me)
     }
 }
 

@@ -1,0 +1,71 @@
+-- Each call leads on.
+use Rattle.std.proofs.Common.{◌≡◌, ℕ, List, [], ◌∷◌, ◌++◌, refl, sym, ap, ◌∙◌, subst}
+use Rattle.std.proofs.lemmas.List.{append-nil}
+use mathlib.Core.List.{IsPrefix}
+use Rattle.group_jobs.specs.Stamps.{Held}
+use Rattle.session_desk.specs.Books.{Books, new_books}
+use Rattle.session_desk.specs.Calls.{Call, IsAllowed, Makes, MakesAll}
+use Rattle.session_desk.specs.Everywhere.{GoesIn, AllGoIn}
+use Rattle.session_desk.specs.Places.{cell_at}
+use Rattle.conn_engine.specs.Holding.{IsOutAtPlace}
+use Rattle.shared_desk.specs.Books.{IsLawful}
+use Rattle.shared_desk.specs.Histories.{Leads, IsHistory, IsTold}
+use Rattle.shared_desk.proofs.Desks.{new_is_lawful, kept}
+
+module _ {P : Type 0} (HasOut : P → List Held → Type 0) (slot_of number_of : P → ℕ) where
+  abbrev cell : P → ℕ
+  cell place = cell_at (slot_of place) (number_of place)
+
+  abbrev Fits : P → Type 0
+  Fits place = HasOut place []
+
+  makes_next : (calls : List (Call Held P)) (old mid new : Books Held P) (call : Call Held P) → MakesAll cell old calls mid → IsAllowed call → Makes cell mid call new
+      → MakesAll cell old (calls ++ call ∷ []) new
+  makes_next [] old mid new call all allowed makes = (allowed, (new, subst (λ b. Makes cell b call new) all makes, refl))
+  makes_next (first ∷ calls) old mid new call all allowed makes = (all.0, (all.1.0, all.1.1, makes_next calls all.1.0 mid new call all.1.2 allowed makes))
+
+  go_next : (calls : List (Call Held P)) (call : Call Held P) → AllGoIn (IsOutAtPlace HasOut) Fits calls → GoesIn (IsOutAtPlace HasOut) Fits call
+      → AllGoIn (IsOutAtPlace HasOut) Fits (calls ++ call ∷ [])
+  go_next [] call all goes = (goes, tt)
+  go_next (first ∷ calls) call all goes = (all.0, go_next calls call all.1 goes)
+
+  lawful_from : (calls : List (Call Held P)) (old new : Books Held P) → IsLawful HasOut old → MakesAll cell old calls new → AllGoIn (IsOutAtPlace HasOut) Fits calls → IsLawful HasOut new
+  lawful_from [] old new law all going = subst (IsLawful HasOut) (sym all) law
+  lawful_from (call ∷ calls) old new law all going =
+      lawful_from calls all.1.0 new (kept HasOut cell old all.1.0 call law all.0 going.0 all.1.1) all.1.2 going.1
+
+  pub lawful : (calls : List (Call Held P)) (books : Books Held P) → Leads HasOut slot_of number_of calls books → IsLawful HasOut books
+  lawful calls books leads = lawful_from calls new_books books (new_is_lawful HasOut new_books refl) leads.made leads.going
+
+  pub starts : (calls : List (Call Held P)) (books : Books Held P) → calls ≡ [] → books ≡ new_books → Leads HasOut slot_of number_of calls books
+  starts calls books none is = rw (none, is) (record { made = refl; going = tt })
+
+  pub leads_on : (calls after : List (Call Held P)) (old new : Books Held P) (call : Call Held P) → Leads HasOut slot_of number_of calls old
+      → IsAllowed call → GoesIn (IsOutAtPlace HasOut) Fits call → Makes cell old call new → after ≡ calls ++ call ∷ [] → Leads HasOut slot_of number_of after new
+  leads_on calls after old new call leads allowed goes makes is =
+      subst (λ l. Leads HasOut slot_of number_of l new) (sym is)
+      (record { made = makes_next calls new_books old new call leads.made allowed makes; going = go_next calls call leads.going goes })
+
+  pub is_told : (known calls after now : List (Call Held P)) (new : Books Held P) (call : Call Held P) → Leads HasOut slot_of number_of after new
+      → after ≡ calls ++ call ∷ [] → now ≡ after → IsPrefix known calls → IsTold HasOut slot_of number_of known call now
+  is_told known calls after now new call leads is told before = record {
+    since = before.0;
+    is = told ∙ is ∙ ap (λ l. l ++ call ∷ []) (sym before.1);
+    legal = (new, subst (λ l. Leads HasOut slot_of number_of l new) (sym told) leads);
+  }
+
+  -- a call that is noted leads on, and the thread is told it
+  pub noted : (calls after known now : List (Call Held P)) (old new : Books Held P) (call : Call Held P) → Leads HasOut slot_of number_of calls old
+      → IsAllowed call → GoesIn (IsOutAtPlace HasOut) Fits call → Makes cell old call new
+      → after ≡ calls ++ call ∷ [] → now ≡ after → IsPrefix known calls
+      → Leads HasOut slot_of number_of after new × IsTold HasOut slot_of number_of known call now
+  noted calls after known now old new call leads allowed goes makes is told before =
+      let next = leads_on calls after old new call leads allowed goes makes is in
+      (next, is_told known calls after now new call next is told before)
+
+  pub not_yet : (calls : List (Call Held P)) → calls ≡ [] → IsHistory HasOut slot_of number_of calls
+  not_yet calls none = (new_books, starts calls new_books none refl)
+
+  -- what all calls led to, they lead to where they are known in full
+  pub in_full : (calls after now : List (Call Held P)) (books : Books Held P) → Leads HasOut slot_of number_of calls books → after ≡ calls ++ [] → now ≡ after → Leads HasOut slot_of number_of now books
+  in_full calls after now books leads is told = subst (λ l. Leads HasOut slot_of number_of l books) (sym (told ∙ is ∙ append-nil calls)) leads

@@ -1,0 +1,10 @@
+-- Both know what the one knew.
+use Rattle.std.proofs.Common.{sym, subst, ◌∙◌}
+use Rattle.shared_desk.specs.Histories.{IsHistory}
+use Rattle.shared_desk.proofs.shared.SharedDesk.pass.Goals as goal
+
+pub invariant_of-me : goal.invariant_of-me
+invariant_of-me g c = subst (IsHistory g.P.HoldingPlace.has_out g.P.Place.slot_of g.P.Place.number_of) (sym c.tell-known.ensures.same) c.me.invariant
+
+pub invariant_of-result : goal.invariant_of-result
+invariant_of-result g c = subst (IsHistory g.P.HoldingPlace.has_out g.P.Place.slot_of g.P.Place.number_of) (sym (c.tell-known.ensures.told ∙ c.tell-known.ensures.same)) c.me.invariant

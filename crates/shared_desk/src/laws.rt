@@ -1,0 +1,49 @@
+//! Laws of a history: what holds of all calls that a thread knows of, whoever made them. Each is the contract of a function that does nothing, over the definitions
+//! that the contracts of [`SharedDesk`](crate::SharedDesk) cite.
+ghost use Rattle.std.specs.Prelude.{◌≡◌, ℕ, ◌+◌, ◌<◌, ◌≤◌, true, List, [], ◌∷◌, ◌++◌, Some};
+ghost use mathlib.Core.List.{IsPrefix};
+ghost use Rattle.group_jobs.specs.Stamps.{Held};
+ghost use Rattle.session_desk.specs.AskedBack.{IsAskedBack};
+ghost use Rattle.session_desk.specs.Calls.{Call, Kicked};
+ghost use Rattle.session_desk.specs.Hands.{handed_in, handed_out, total};
+ghost use Rattle.session_desk.specs.Stored.{TakesOut, last_in};
+ghost use Rattle.session_desk.specs.declared.session.Session.{Session};
+ghost use Rattle.shared_desk.specs.Books.{IsMade};
+ghost use Rattle.shared_desk.specs.Histories.{IsHistory, IsTold};
+
+use conn_engine::HoldingPlace;
+
+/// **A beginning of a history is one**, and each call in it was made of a lawful desk, which was lawful after it.
+pub fn histories<P: HoldingPlace>()
+    ensures begins { (calls more : List (Call Held P)) → IsHistory P.has_out P.slot_of P.number_of (calls ++ more) → IsHistory P.has_out P.slot_of P.number_of calls }
+    ensures made { (before after : List (Call Held P)) (call : Call Held P) →
+        IsHistory P.has_out P.slot_of P.number_of (before ++ call ∷ after) → IsMade P.has_out P.slot_of P.number_of call }
+    ensures told { (known now : List (Call Held P)) (call : Call Held P) →
+        IsTold P.has_out P.slot_of P.number_of known call now → IsMade P.has_out P.slot_of P.number_of call × IsPrefix known now }
+{}
+
+/// **A session is in one pair of hands**, whichever threads call. It was handed out as often as it was handed in, or once more (`hands`). Between a call that
+/// hands it out, and did not take it in itself, and another that hands it out, it was handed in (`between`): so it is lent to one connection at a time.
+pub fn one_pair_of_hands<P: HoldingPlace>()
+    ensures hands { (calls : List (Call Held P)) (number : ℕ) → IsHistory P.has_out P.slot_of P.number_of calls →
+        (total (handed_in number) calls ≤ total (handed_out number) calls) × (total (handed_out number) calls ≤ total (handed_in number) calls + 1) }
+    ensures between { (before within after : List (Call Held P)) (one other : Call Held P) (number : ℕ) →
+        IsHistory P.has_out P.slot_of P.number_of (before ++ one ∷ (within ++ other ∷ after)) →
+        handed_in number one ≡ 0 → 0 < handed_out number one → 0 < handed_out number other →
+        0 < total (handed_in number) (within ++ other ∷ []) }
+{}
+
+/// **What comes out is the very session that went in last**, whichever threads call: a session that is resumed, ends for a new one, or is handed out to be retired is, in
+/// all its parts, the one that was parked or kept last under its number.
+pub fn very_session<P: HoldingPlace>()
+    ensures { (before after : List (Call Held P)) (next : Call Held P) (session : Session Held P) →
+        IsHistory P.has_out P.slot_of P.number_of (before ++ next ∷ after) → TakesOut next session →
+        last_in session.identity.number before ≡ Some session }
+{}
+
+/// **Who is kicked was asked**, whichever threads call: one of the calls before answered Replace with this connection as the holder, and none behind that lent a
+/// session to it.
+pub fn kicked_was_asked<P: HoldingPlace>()
+    ensures { (before after : List (Call Held P)) (connection : ℕ) → connection < 1024 →
+        IsHistory P.has_out P.slot_of P.number_of (before ++ Kicked connection true ∷ after) → IsAskedBack connection before }
+{}
