@@ -69,6 +69,14 @@ impl<P: HoldingPlace, D: HistoryName> LawfulDesk<P, D> {
         LawfulDesk { desk, keeper }
     }
 
+    /// A pass that knows all calls so far.
+    pub fn pass(&mut self, history: &DeskHistory<P, D>) -> DeskPass<P, D>
+        ensures { self.new ≡ self.old }
+    {
+        let known = self.keeper.tell(history);
+        DeskPass { known }
+    }
+
     pub fn attach(
         &mut self,
         history: &DeskHistory<P, D>,

@@ -1,10 +1,10 @@
 //! The desk behind a lock, and how it is opened.
-ghost use Rattle.std.specs.Prelude.{◌≡◌, ◌<◌, ◌≤◌, ◌⊎◌, [], true, false, ℕ, length, Some, None, IfOk, IfSome};
+ghost use Rattle.std.specs.Prelude.{◌≡◌, ◌<◌, ◌≤◌, ◌⊎◌, ◌++◌, ◌∷◌, [], true, ℕ, List, length, Some, None, IfOk, IfSome};
 ghost use mathlib.Core.List.{IsPrefix};
 ghost use Rattle.group_jobs.specs.Stamps.{Held};
 ghost use Rattle.session_desk.specs.Attaching.{asked};
 ghost use Rattle.session_desk.specs.Books.{Books, IsKicked, new_books};
-ghost use Rattle.session_desk.specs.Calls.{Attach, Withdraw, Kicked, Park, ParkAsIs, Keep, Bury, Sweep, LendPlace, TakePlace};
+ghost use Rattle.session_desk.specs.Calls.{Call, Attach, Withdraw, Kicked, Park, ParkAsIs, Keep, Bury, Sweep, LendPlace, TakePlace};
 ghost use Rattle.session_desk.specs.Places.{IsOfSlot};
 ghost use Rattle.conn_engine.specs.Holding.{IsOutAtPlace};
 ghost use Rattle.conn_engine.specs.Ready.{IsReady, IsSoundSession};
@@ -164,19 +164,30 @@ impl<P: HoldingPlace, D: HistoryName> SharedDesk<P, D> {
         self.desk.lock(rt).withdraw(&self.history, me, connection);
     }
 
-    /// Whether another connection asked for this connection's session since it was lent. The lock is taken only where one may have.
-    pub fn kicked<R: Wait>(&self, rt: &R, me: &mut DeskPass<P, D>, connection: u16) -> bool
-        ensures yes { result ≡ true → (books : Books Held P) × IsLawful P.has_out books × IsKicked books connection }
-        ensures told { ((result ≡ false) × (me.new ≡ me.old)) ⊎ IsTold P.has_out P.slot_of P.number_of me.old (Kicked connection result) me.new }
+    /// Whether another connection asked for this connection's session since it was lent; a pass that knows so, where one did. The lock is taken only where
+    /// one may have.
+    pub fn kicked<R: Wait>(&self, rt: &R, connection: u16) -> Option<DeskPass<P, D>>
+        ensures yes { IfSome result (λ _. (books : Books Held P) × IsLawful P.has_out books × IsKicked books connection) }
+        ensures told { IfSome result (λ told. (before : List (Call Held P)) × (told ≡ before ++ Kicked connection true ∷ [])) }
     {
-        let is_marked = match self.marks.get(usize::from(connection)) {
+        if !self.is_marked(connection) {
+            return None;
+        }
+        let mut desk = self.desk.lock(rt);
+        let mut told = desk.pass(&self.history);
+        if desk.kicked(&self.history, &mut told, connection) {
+            Some(told)
+        } else {
+            None
+        }
+    }
+
+    /// Whether a connection's session may have been asked for.
+    fn is_marked(&self, connection: u16) -> bool {
+        match self.marks.get(usize::from(connection)) {
             Some(mark) => mark.load(SeqCst),
             None => false,
-        };
-        if !is_marked {
-            return false;
         }
-        self.desk.lock(rt).kicked(&self.history, me, connection)
     }
 
     /// A session goes back to the desk, as [`Desk::park`] has it. Handed back are one that ends with its connection, and one that the desk does not know
