@@ -1,1 +1,3 @@
 pub mod Shares
+pub mod Told
+pub mod Learning

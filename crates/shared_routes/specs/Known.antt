@@ -1,33 +1,35 @@
--- What a worker knows of the table of routes that threads share.
-use Rattle.std.specs.Prelude.{◌≡◌, ℕ, ◌≤◌, ◌⊎◌, length, map, slice_get, List, [], ◌∷◌, ◌++◌, Some, None, Result, Ok, Err}
+-- What a worker knows of the table of routes that threads share, and what it was told of.
+use Rattle.std.specs.Prelude.{◌≡◌, ℕ, ◌⊎◌, length, List, [], ◌∷◌, ◌++◌, Option, Some, None, Result, Ok, Err}
 use Rattle.mqtt_topic.specs.Names.{Share}
 use Rattle.mqtt_topic.specs.Routes.{most_routes, slot_of}
-use Rattle.shared_routes.specs.declared.error.NoSlot.{NoSlot}
+use Rattle.shared_routes.specs.declared.error.BindError.{BindError}
+use Rattle.shared_routes.specs.declared.error.BindError.TheVariants as error
 
--- a share that was seen in the cell of this name
-pub record SeenState : Type 0 where
-  pub cell : ℕ
-  pub share : Share
-
--- what is known of a table with cells of these names: the share of slot n at place n
+-- of a table with cells of these names: what is known, the share of slot n at place n, and what the worker was told of or has seen
 pub record KnownState : Type 0 where
   pub table : List ℕ
   pub shares : List Share
+  pub told : List Share
 
--- what was seen is what stands in the first cells of the table
-abbrev pub AreFirst : List ℕ → List SeenState → Type 0
-AreFirst table seen = (slot : ℕ) (one : SeenState) → slice_get seen slot ≡ Some one → slice_get table slot ≡ Some one.cell
+-- these are the first of all
+abbrev pub AreFirst : List Share → List Share → Type 0
+AreFirst ones all = (others : List Share) × (all ≡ ones ++ others)
 
-abbrev pub shares_of : List SeenState → List Share
-shares_of seen = map (λ one. one.share) seen
-
--- of the same table all that was known, and these behind
-abbrev pub learning : KnownState → List Share → KnownState
-learning known more = record known { shares = known.shares ++ more }
+-- of the same table all that was known, and these behind; all that the worker was told of stays told
+pub record Learns (old : KnownState) (more : List Share) (new : KnownState) : Type 0 where
+  pub table : new.table ≡ old.table
+  pub shares : new.shares ≡ old.shares ++ more
+  pub kept : AreFirst old.told new.told
 
 -- what is known stays, and more may be
 abbrev pub Grows : KnownState → KnownState → Type 0
-Grows old new = (more : List Share) × (new ≡ learning old more)
+Grows old new = (more : List Share) × Learns old more new
+
+-- of the same table what was known; all that the worker was told of stays told, and these are told as well
+pub record IsTold (old : KnownState) (shares : List Share) (new : KnownState) : Type 0 where
+  pub same : new ≡ record old { told = new.told }
+  pub kept : AreFirst old.told new.told
+  pub told : AreFirst shares new.told
 
 -- a share that is not known, once it is bound: behind what is known others stand that have another text, and then one of its text, whoever bound it
 pub record IsBound (old : KnownState) (share : Share) (slot : ℕ) (new : KnownState) : Type 0 where
@@ -36,25 +38,23 @@ pub record IsBound (old : KnownState) (share : Share) (slot : ℕ) (new : KnownS
   pub unknown : slot_of share.text (old.shares ++ others) ≡ None
   pub same : bound.text ≡ share.text
   pub slot_is : slot ≡ length (old.shares ++ others)
-  pub grown : new ≡ learning old (others ++ bound ∷ [])
+  pub grown : Learns old (others ++ bound ∷ []) new
 
 -- all slots are bound, and none to a share of this text
 pub record HasNoSlot (old : KnownState) (share : Share) (new : KnownState) : Type 0 where
   pub others : List Share
-  pub grown : new ≡ learning old others
+  pub grown : Learns old others new
   pub full : length new.shares ≡ most_routes
   pub unknown : slot_of share.text new.shares ≡ None
 
 -- the slot of a share that is not known, or that there is none
-abbrev pub IsBoundBehind : KnownState → Share → Result ℕ NoSlot → KnownState → Type 0
-IsBoundBehind old share (Ok slot) new = IsBound old share slot new
-IsBoundBehind old share (Err refusal) new = HasNoSlot old share new
+abbrev pub IsBoundBehind : KnownState → Share → Option ℕ → KnownState → Type 0
+IsBoundBehind old share (Some slot) new = IsBound old share slot new
+IsBoundBehind old share None new = HasNoSlot old share new
 
--- what `bind` answers: the slot that is known; or the least free one, which another may have bound to this share in the meantime; or that there is none
-abbrev pub BindAnswers : KnownState → Share → Result ℕ NoSlot → KnownState → Type 0
+-- what `bind` answers: the slot that is known; or the least free one, which another may have bound to this share in the meantime; or that there is none;
+-- or that memory was refused for a share that is not known, and then nothing has changed
+abbrev pub BindAnswers : KnownState → Share → Result ℕ BindError → KnownState → Type 0
 BindAnswers old share (Ok slot) new = ((slot_of share.text old.shares ≡ Some slot) × (new ≡ old)) ⊎ IsBound old share slot new
-BindAnswers old share (Err refusal) new = HasNoSlot old share new
-
--- what both know of a slot is one share
-abbrev pub AgreeFrom : ℕ → List Share → List Share → Type 0
-AgreeFrom first ones others = (slot : ℕ) (one other : Share) → first ≤ slot → slice_get ones slot ≡ Some one → slice_get others slot ≡ Some other → one ≡ other
+BindAnswers old share (Err error.NoSlot) new = HasNoSlot old share new
+BindAnswers old share (Err error.Memory) new = (slot_of share.text old.shares ≡ None) × (new ≡ old)

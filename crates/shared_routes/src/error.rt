@@ -1,18 +1,38 @@
 //! Why a share is not bound.
+ghost use Rattle.shared_routes.specs.declared.error.BindError.TheVariants as error;
 ghost use Rattle.std.specs.Prelude.{◌≡◌};
+ghost use Rattle.shared_routes.specs.Refusals.{number_of};
 
+use std::alloc::AllocFailed;
 use thiserror::Error;
 
-/// 205: all eight slots are bound to other shares.
+/// Why [`KnownRoutes::bind`](crate::KnownRoutes::bind) is refused.
 #[derive(Clone, Copy, Debug, PartialEq, Eq, Error)]
-#[error("no slot is free")]
-pub struct NoSlot;
+pub enum BindError {
+    /// 205: all eight slots are bound to other shares.
+    #[error("no slot is free")]
+    NoSlot,
+    /// 206: memory was wanted and refused.
+    #[error("out of memory")]
+    Memory,
+}
 
-impl NoSlot {
-    /// The number of the refusal.
+impl BindError {
+    /// The number of the refusal, 205 or 206.
     pub fn number(&self) -> u16
-        ensures { result ≡ 205 }
+        ensures { result ≡ number_of self.now }
     {
-        205
+        match self {
+            BindError::NoSlot => 205,
+            BindError::Memory => 206,
+        }
+    }
+}
+
+impl<T: Drop> From<AllocFailed<T>> for BindError {
+    ghost from_gives = { λ _ result. result ≡ error.Memory };
+
+    fn from(_error: AllocFailed<T>) -> BindError {
+        BindError::Memory
     }
 }

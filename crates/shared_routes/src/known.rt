@@ -1,71 +1,63 @@
 //! What a worker knows of the table.
-ghost use Rattle.std.specs.Prelude.{◌≡◌, ◌<◌, ◌≤◌, ◌+◌, ◌∷◌, [], true, false, bytes_eq, length, slice_get, position, All, Some, None, IfOk, IfSome, MatchOption, MatchResult};
+ghost use Rattle.std.specs.Prelude.{◌≡◌, ◌<◌, ◌≤◌, ◌+◌, ◌∷◌, ◌++◌, [], true, false, bytes_eq, length, map, take, slice_get, position, All, Some, None, IfOk, IfSome, MatchOption, MatchResult};
 ghost use Rattle.mqtt_topic.specs.Names.{Share as share_type};
 ghost use Rattle.mqtt_topic.specs.Routes.{slot_of, routed, byte_of, sets_of, places_of};
-ghost use Rattle.shared_routes.specs.Known.{SeenState, shares_of, learning, Grows, IsBoundBehind, BindAnswers, AgreeFrom};
+ghost use Rattle.shared_routes.specs.Known.{AreFirst, Learns, Grows, IsTold, IsBoundBehind, BindAnswers};
 
-use crate::error::NoSlot;
+use crate::cell::KnownCell;
+use crate::error::BindError;
 use crate::table::{MOST_ROUTES, SharedRoutes};
 use mqtt_topic::{Share, Slots, TopicName};
 use std::alloc::{AllocError, Global};
 use std::marker::Model;
-use std::sync::{OnceToken, Wait};
 
-/// A share that was seen in its cell.
-#[derive(Drop)]
-struct Seen<'a> {
-    share: &'a Share,
-    token: OnceToken<'a, Share>,
-}
-
-impl<'a> Model for Seen<'a> {
-    ghost use Rattle.std.specs.Prelude.{◌≡◌};
-    ghost use Rattle.shared_routes.specs.Known.{SeenState};
-
-    ghost Value = { SeenState };
-
-    ghost view = { λ seen. record { cell = seen.token.of; share = seen.share.now } };
-
-    ghost invariant = { λ seen. seen.share.now ≡ seen.token.value };
-}
-
-/// What a worker has seen of the table: the shares of the first slots. It only grows. Whoever binds a share sees it; what others bound, a worker
-/// knows from its next [`KnownRoutes::learn`] on.
+/// What a worker has seen of the table: the shares of the first slots. It only grows. Whoever binds a share knows it; what others bound, a worker
+/// knows from its next [`KnownRoutes::learn`] on, and so what it was told of.
 ///
 /// Contracts see it as a `KnownState`.
 #[derive(Drop)]
 pub struct KnownRoutes<'a> {
-    routes: &'a SharedRoutes,
-    seen: Vec<Seen<'a>>,
+    cells: Vec<KnownCell<'a>>,
+    seen: Vec<&'a Share>,
 }
 
 impl<'a> Model for KnownRoutes<'a> {
-    ghost use Rattle.std.specs.Prelude.{◌≤◌, length, vec_capacity};
-    ghost use Rattle.shared_routes.specs.Known.{KnownState, AreFirst, shares_of};
+    ghost use Rattle.std.specs.Prelude.{◌≡◌, ◌≤◌, length, map, vec_capacity};
+    ghost use Rattle.shared_routes.specs.Cells.{names_of, known_of};
+    ghost use Rattle.shared_routes.specs.Known.{KnownState, AreFirst};
 
     ghost Value = { KnownState };
 
-    ghost view = { λ known. record { table = known.routes.now; shares = shares_of known.seen.items } };
+    ghost view = { λ known. record {
+      table = names_of known.cells.items;
+      shares = map (λ share. share.now) known.seen.items;
+      told = known_of known.cells.items;
+    } };
 
-    ghost invariant = { λ known. AreFirst known.routes.now known.seen.items × (length known.seen.items ≤ 8) × (8 ≤ vec_capacity known.seen) };
+    ghost invariant = { λ known. AreFirst (map (λ share. share.now) known.seen.items) (known_of known.cells.items)
+        × (length known.cells.items ≡ 8) × (length known.seen.items ≤ 8) × (8 ≤ vec_capacity known.seen) };
 }
 
 impl<'a> KnownRoutes<'a> {
-    /// Nothing is known of the table.
+    /// Nothing is known of the table, and nothing was told.
     ///
     /// # Errors
     ///
-    /// Want of memory. No other call takes any.
+    /// Want of memory. Of the other calls only [`bind`](KnownRoutes::bind) takes any.
     pub fn new(alloc: Global, routes: &'a SharedRoutes) -> Result<KnownRoutes<'a>, AllocError>
-        ensures { IfOk result (λ known. known ≡ record { table = routes.now; shares = [] }) }
+        ensures { IfOk result (λ known. known ≡ record { table = routes.now; shares = []; told = [] }) }
     {
-        let seen = Vec::with_capacity(alloc, MOST_ROUTES)?;
-        Ok(KnownRoutes { routes, seen })
+        Ok(KnownRoutes {
+            cells: routes.cells(alloc)?,
+            seen: Vec::with_capacity(alloc, MOST_ROUTES)?,
+        })
     }
 
-    /// Learns what was bound since.
+    /// Learns what was bound since: all that it was told of, and what else it finds. It takes no memory.
     pub fn learn(&mut self)
-        ensures { Grows self.old self.new }
+        ensures grows { Grows self.old self.new }
+        ensures told { AreFirst self.old.told self.new.shares }
+        ensures all { self.new.told ≡ self.new.shares }
     {
         if self.learn_one() {
             self.learn();
@@ -76,31 +68,58 @@ impl<'a> KnownRoutes<'a> {
     fn learn_one(&mut self) -> bool
         ensures grows { Grows self.old self.new }
         ensures more { result ≡ true → length self.new.shares ≡ length self.old.shares + 1 }
+        ensures all { result ≡ false → self.new.told ≡ self.new.shares }
         ensures few { length self.new.shares ≤ 8 }
     {
-        let slot = self.seen.len();
-        if slot == MOST_ROUTES {
+        if self.seen.len() == MOST_ROUTES {
             return false;
         }
-        match self.routes.cell(slot).witness() {
-            Some(token) => {
-                self.see(token);
-                true
-            }
-            None => false,
+        self.see_next().is_some()
+    }
+
+    /// Sees the share that stands in the next cell. It finds none only where it was told of none.
+    fn see_next(&mut self) -> Option<&'a Share>
+        requires { length self.old.shares < MOST_ROUTES }
+        ensures { MatchOption result ((self.new ≡ self.old) × (self.old.told ≡ self.old.shares))
+            (λ share. Learns self.old (share.now ∷ []) self.new × AreFirst self.new.shares self.new.told) }
+    {
+        let slot = self.seen.len();
+        let share = self.cells[slot].look()?;
+        self.seen.push_reserved(share);
+        Some(share)
+    }
+
+    /// Tells another worker of all that this one knows: that knows it from its next [`learn`](KnownRoutes::learn) on. It looks at no cell.
+    pub fn tell(&mut self, other: &mut KnownRoutes<'_>)
+        requires { other.old.table ≡ self.old.table }
+        ensures same { self.new ≡ self.old }
+        ensures told { IsTold other.old self.old.shares other.new }
+    {
+        self.tell_from(other, 0);
+    }
+
+    /// Tells another worker, which was told of the shares before this slot, of the others.
+    fn tell_from(&mut self, other: &mut KnownRoutes<'_>, slot: usize)
+        requires table { other.old.table ≡ self.old.table }
+        requires told { AreFirst (take slot self.old.shares) other.old.told }
+        ensures same { self.new ≡ self.old }
+        ensures told { IsTold other.old self.old.shares other.new }
+    {
+        if slot < self.seen.len() {
+            self.tell_one(other, slot);
+            self.tell_from(other, slot + 1);
         }
     }
 
-    /// Keeps the share that stands in the next cell, and gives it.
-    fn see(&mut self, token: OnceToken<'a, Share>) -> &'a Share
-        requires room { length self.old.shares < MOST_ROUTES }
-        requires next { slice_get self.old.table (length self.old.shares) ≡ Some token.of }
-        ensures kept { self.new ≡ learning self.old (token.entry.value ∷ []) }
-        ensures share { result.now ≡ token.entry.value }
+    /// Tells another worker, which was told of the shares before this slot, of that of the slot.
+    fn tell_one(&mut self, other: &mut KnownRoutes<'_>, slot: usize)
+        requires table { other.old.table ≡ self.old.table }
+        requires told { AreFirst (take slot self.old.shares) other.old.told }
+        requires known { slot < length self.old.shares }
+        ensures same { self.new ≡ self.old }
+        ensures told { IsTold other.old (take (slot + 1) self.old.shares) other.new }
     {
-        let share = self.routes.cell(self.seen.len()).value(&token);
-        self.seen.push_reserved(Seen { share, token });
-        share
+        self.cells[slot].tell(&mut other.cells[slot]);
     }
 
     /// The slot that the share is bound to, as far as is known.
@@ -124,119 +143,87 @@ impl<'a> KnownRoutes<'a> {
     pub fn share(&self, slot: u8) -> Option<&'a Share>
         ensures { MatchOption result (slice_get self.now.shares slot ≡ None) (λ share. slice_get self.now.shares slot ≡ Some share.now) }
     {
-        let place = usize::from(slot);
-        if place >= self.seen.len() {
-            return None;
-        }
-        Some(self.share_at(place))
+        self.seen.get(usize::from(slot)).copied()
     }
 
     /// Binds the share: the slot that it is bound to already, or the least free one. Of two workers that bind it at once the one is given the slot
-    /// that the other bound. It takes no memory, and may wait for a thread that writes a cell.
+    /// that the other bound. It never waits. For a share that is not known it takes the memory of a box.
     ///
     /// # Errors
     ///
-    /// 205 [`NoSlot`]: all eight slots are bound to other shares.
-    pub fn bind<R: Wait>(&mut self, rt: &R, share: Share) -> Result<u8, NoSlot>
+    /// 205 [`BindError::NoSlot`]: all eight slots are bound to other shares. 206 [`BindError::Memory`]: nothing has changed.
+    pub fn bind(&mut self, alloc: Global, share: Share) -> Result<u8, BindError>
         ensures answer { BindAnswers self.old share result self.new }
+        ensures grows { Grows self.old self.new }
         ensures small { IfOk result (λ slot. slot < 8) }
     {
         if let Some(slot) = self.find(&share) {
             return Ok(slot);
         }
-        self.bind_behind(rt, share)
+        let share = Box::new(alloc, share)?;
+        self.bind_behind(share).ok_or(BindError::NoSlot)
     }
 
     /// Binds a share that is not known.
-    fn bind_behind<R: Wait>(&mut self, rt: &R, share: Share) -> Result<u8, NoSlot>
-        requires unknown { slot_of share.text self.old.shares ≡ None }
-        ensures answer { IsBoundBehind self.old share result self.new }
-        ensures small { IfOk result (λ slot. slot < 8) }
+    fn bind_behind(&mut self, share: Box<Share>) -> Option<u8>
+        requires { slot_of share.value.text self.old.shares ≡ None }
+        ensures answer { IsBoundBehind self.old share.value result self.new }
+        ensures grows { Grows self.old self.new }
+        ensures small { IfSome result (λ slot. slot < 8) }
     {
         let slot = self.seen.len();
         if slot == MOST_ROUTES {
-            return Err(NoSlot);
+            return None;
         }
-        match self.write(rt, share) {
-            Ok(()) => Ok(slot as u8),
-            Err(share) => self.bind_behind(rt, share),
+        match self.write(share) {
+            None => Some(slot as u8),
+            Some(share) => self.bind_behind(share),
         }
     }
 
     /// Binds the share to the next slot, unless another share is bound to that: then it comes back. What stands there is known then.
-    fn write<R: Wait>(&mut self, rt: &R, share: Share) -> Result<(), Share>
+    fn write(&mut self, share: Box<Share>) -> Option<Box<Share>>
         requires room { length self.old.shares < MOST_ROUTES }
-        ensures { (bound : share_type) × (self.new ≡ learning self.old (bound ∷ []))
-            × MatchResult result (λ _. bound.text ≡ share.text) (λ back. (back ≡ share) × (bytes_eq bound.text share.text ≡ false)) }
+        ensures { (bound : share_type) × Learns self.old (bound ∷ []) self.new
+            × MatchOption result (bound.text ≡ share.value.text) (λ back. (back.value ≡ share.value) × (bytes_eq bound.text share.value.text ≡ false)) }
     {
-        match self.routes.cell(self.seen.len()).try_insert(rt, share) {
-            Ok(token) => {
-                self.see(token);
-                Ok(())
-            }
-            Err((token, share)) => {
-                if self.see(token).text() == share.text() {
-                    drop(share);
-                    Ok(())
-                } else {
-                    Err(share)
-                }
-            }
+        let offered = self.offer(share);
+        let Some(bound) = self.see_next() else {
+            unreachable!()
+        };
+        let share = offered?;
+        if bound.text() == share.text() {
+            return None;
         }
+        Some(share)
     }
 
-    /// Two workers' knowledge of one table agrees: what both know of a slot is one share. It does nothing else.
-    pub fn agree(&self, other: &KnownRoutes<'a>)
-        requires { self.now.table ≡ other.now.table }
-        ensures { AgreeFrom 0 self.now.shares other.now.shares }
+    /// Writes the share to the next cell, unless a share stands there: then it comes back. The worker has not seen what stands there, but was told of it.
+    fn offer(&mut self, share: Box<Share>) -> Option<Box<Share>>
+        requires room { length self.old.shares < MOST_ROUTES }
+        ensures { (bound : share_type) × IsTold self.old (self.old.shares ++ bound ∷ []) self.new
+            × MatchOption result (bound ≡ share.value) (λ back. back.value ≡ share.value) }
     {
-        self.agree_from(other, 0);
-    }
-
-    fn agree_from(&self, other: &KnownRoutes<'a>, slot: usize)
-        requires { self.now.table ≡ other.now.table }
-        ensures { AgreeFrom slot self.now.shares other.now.shares }
-    {
-        if slot >= self.seen.len() || slot >= other.seen.len() {
-            return;
-        }
-        self.token(slot).agrees(other.token(slot));
-        self.agree_from(other, slot + 1);
-    }
-
-    /// The share of a slot that is known.
-    fn share_at(&self, slot: usize) -> &'a Share
-        requires { slot < length self.now.shares }
-        ensures { slice_get self.now.shares slot ≡ Some result.now }
-    {
-        self.seen[slot].share
-    }
-
-    /// What shows the share of a slot that is known.
-    fn token(&self, slot: usize) -> &OnceToken<'a, Share>
-        requires { slot < length self.now.shares }
-        ensures cell { slice_get self.now.table slot ≡ Some result.now.of }
-        ensures share { slice_get self.now.shares slot ≡ Some result.now.value }
-    {
-        &self.seen[slot].token
+        let slot = self.seen.len();
+        self.cells[slot].write(share)
     }
 }
 
 /// Where the share of that text stands.
-fn place_of(seen: &[Seen<'_>], text: &[u8]) -> Option<usize>
-    ensures { result ≡ position (λ one. bytes_eq one.share.text text.now) seen.now }
+fn place_of(seen: &[&Share], text: &[u8]) -> Option<usize>
+    ensures { result ≡ position (λ one. bytes_eq one.now.text text.now) seen.now }
 {
-    seen.iter().position(|one| one.share.text() == text)
+    seen.iter().position(|one| one.text() == text)
 }
 
 /// The set of the slots whose share's filter matches the name, as a byte.
-fn byte_of(seen: &[Seen<'_>], name: &TopicName) -> u8
+fn byte_of(seen: &[&Share], name: &TopicName) -> u8
     requires { length seen.now ≤ 8 }
-    ensures value { result ≡ byte_of (routed name.now (shares_of seen.now)) }
+    ensures value { result ≡ byte_of (routed name.now (map (λ share. share.now) seen.now)) }
     ensures bound { result < sets_of (length seen.now) }
 {
     match seen {
         [] => 0,
-        [one, others @ ..] => u8::from(one.share.matches(name)) + 2 * byte_of(others, name),
+        [one, others @ ..] => u8::from(one.matches(name)) + 2 * byte_of(others, name),
     }
 }

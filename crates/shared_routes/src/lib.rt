@@ -5,18 +5,19 @@
 //! without a look at what other workers write.
 //!
 //! ```
-//! let routes = SharedRoutes::new();
+//! let routes = SharedRoutes::new(alloc);
 //! let mut known = KnownRoutes::new(alloc, &routes)?;
-//! let slot = known.bind(rt, share)?; // the slot that the share is bound to, by whomever
+//! let slot = known.bind(alloc, share)?; // the slot that the share is bound to, by whomever
 //! known.learn();
 //! let slots = known.matching(&topic);
 //! ```
 #![tactic(auto)]
 
+mod cell;
 mod error;
 mod known;
 mod table;
 
-pub use error::NoSlot;
+pub use error::BindError;
 pub use known::KnownRoutes;
 pub use table::SharedRoutes;

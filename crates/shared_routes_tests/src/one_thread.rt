@@ -1,9 +1,11 @@
-//! Two workers on one thread: what the one binds the other learns, and the ninth share finds no slot.
+//! Two workers on one thread: what the one binds the other learns, what it is told of it knows, and the ninth share finds no slot.
+ghost use Rattle.std.specs.Prelude.{◌≡◌};
+
 use bytes::Bytes;
 use mqtt_packet::Text;
 use mqtt_topic::{Share, Slots, TopicName};
-use shared_routes::{KnownRoutes, NoSlot, SharedRoutes};
-use std::sync::Wait;
+use shared_routes::{BindError, KnownRoutes, SharedRoutes};
+use std::alloc::Global;
 use std::test::Fail;
 
 /// Nine shares, each of a topic of its own, but for the last, which has all topics.
@@ -25,12 +27,14 @@ pub(crate) fn share(text: &'static str) -> Option<Share> {
 }
 
 /// The slot at which a worker binds the share of this text.
-pub(crate) fn bound<R: Wait>(
-    rt: &R,
+pub(crate) fn bound(
+    alloc: Global,
     known: &mut KnownRoutes<'_>,
     text: &'static str,
-) -> Option<Result<u8, NoSlot>> {
-    Some(known.bind(rt, share(text)?))
+) -> Option<Result<u8, BindError>>
+    ensures { known.new.table ≡ known.old.table }
+{
+    Some(known.bind(alloc, share(text)?))
 }
 
 /// The slot that a worker knows for the share of this text.
@@ -46,11 +50,11 @@ fn routed(known: &KnownRoutes<'_>, name: &'static str) -> Option<Slots> {
 
 #[test]
 fn what_one_binds_another_learns(rt: HostRuntime) -> Result<(), Fail> {
-    let routes = SharedRoutes::new();
+    let routes = SharedRoutes::new(rt.alloc());
     let mut one = KnownRoutes::new(rt.alloc(), &routes)?;
     let mut other = KnownRoutes::new(rt.alloc(), &routes)?;
     for (slot, text) in SHARES.iter().take(8).enumerate() {
-        assert_eq!(rt; bound(&rt, &mut one, *text), Some(Ok(slot as u8)));
+        assert_eq!(rt; bound(rt.alloc(), &mut one, *text), Some(Ok(slot as u8)));
     }
     assert_eq!(rt; found(&other, SHARES[7]), None);
     other.learn();
@@ -61,27 +65,57 @@ fn what_one_binds_another_learns(rt: HostRuntime) -> Result<(), Fail> {
 }
 
 #[test]
-fn a_share_has_one_slot(rt: HostRuntime) -> Result<(), Fail> {
-    let routes = SharedRoutes::new();
+fn what_it_was_told_of_it_knows(rt: HostRuntime) -> Result<(), Fail> {
+    let routes = SharedRoutes::new(rt.alloc());
     let mut one = KnownRoutes::new(rt.alloc(), &routes)?;
     let mut other = KnownRoutes::new(rt.alloc(), &routes)?;
-    assert_eq!(rt; bound(&rt, &mut one, SHARES[3]), Some(Ok(0)));
-    assert_eq!(rt; bound(&rt, &mut other, SHARES[4]), Some(Ok(1)));
-    assert_eq!(rt; bound(&rt, &mut other, SHARES[3]), Some(Ok(0)));
-    assert_eq!(rt; bound(&rt, &mut one, SHARES[4]), Some(Ok(1)));
+    assert_eq!(rt; bound(rt.alloc(), &mut one, SHARES[0]), Some(Ok(0)));
+    assert_eq!(rt; bound(rt.alloc(), &mut one, SHARES[1]), Some(Ok(1)));
+    one.tell(&mut other);
+    assert_eq!(rt; found(&other, SHARES[1]), None);
+    other.learn();
+    assert_eq!(rt; found(&other, SHARES[1]), Some(1));
+    other.tell(&mut one);
+    assert_eq!(rt; bound(rt.alloc(), &mut other, SHARES[2]), Some(Ok(2)));
+    Ok(())
+}
+
+#[test]
+fn a_share_has_one_slot(rt: HostRuntime) -> Result<(), Fail> {
+    let routes = SharedRoutes::new(rt.alloc());
+    let mut one = KnownRoutes::new(rt.alloc(), &routes)?;
+    let mut other = KnownRoutes::new(rt.alloc(), &routes)?;
+    assert_eq!(rt; bound(rt.alloc(), &mut one, SHARES[3]), Some(Ok(0)));
+    assert_eq!(rt; bound(rt.alloc(), &mut other, SHARES[4]), Some(Ok(1)));
+    assert_eq!(rt; bound(rt.alloc(), &mut other, SHARES[3]), Some(Ok(0)));
+    assert_eq!(rt; bound(rt.alloc(), &mut one, SHARES[4]), Some(Ok(1)));
     Ok(())
 }
 
 #[test]
 fn the_ninth_share_finds_no_slot(rt: HostRuntime) -> Result<(), Fail> {
-    let routes = SharedRoutes::new();
+    let routes = SharedRoutes::new(rt.alloc());
     let mut one = KnownRoutes::new(rt.alloc(), &routes)?;
     let mut other = KnownRoutes::new(rt.alloc(), &routes)?;
     for text in SHARES.iter().take(8) {
-        let _ = bound(&rt, &mut one, *text);
+        let _ = bound(rt.alloc(), &mut one, *text);
     }
-    assert_eq!(rt; bound(&rt, &mut other, SHARES[8]), Some(Err(NoSlot)));
-    assert_eq!(rt; bound(&rt, &mut other, SHARES[0]), Some(Ok(0)));
-    assert_eq!(rt; NoSlot.number(), 205);
+    assert_eq!(rt;
+        bound(rt.alloc(), &mut other, SHARES[8]),
+        Some(Err(BindError::NoSlot))
+    );
+    assert_eq!(rt; bound(rt.alloc(), &mut other, SHARES[0]), Some(Ok(0)));
+    Ok(())
+}
+
+#[test]
+fn a_refusal_says_why(rt: HostRuntime) -> Result<(), Fail> {
+    for (refusal, text, number) in [
+        (BindError::NoSlot, "no slot is free", 205),
+        (BindError::Memory, "out of memory", 206),
+    ] {
+        let told = format!(in rt.alloc(); "{refusal}")?;
+        assert!(rt; told.as_str() == text && refusal.number() == number);
+    }
     Ok(())
 }

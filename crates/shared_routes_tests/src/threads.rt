@@ -2,31 +2,25 @@
 use crate::one_thread::{SHARES, bound};
 use shared_routes::{KnownRoutes, SharedRoutes};
 use std::alloc::Global;
-use std::sync::Wait;
 use std::thread::{Threads, join};
 
 /// A worker that bound eight shares, the first one first or the last one first.
-fn worker<'a, R: Wait>(
-    rt: &R,
-    alloc: Global,
-    routes: &'a SharedRoutes,
-    is_backwards: bool,
-) -> Option<KnownRoutes<'a>> {
+fn worker(alloc: Global, routes: &SharedRoutes, is_backwards: bool) -> Option<KnownRoutes<'_>> {
     let mut known = KnownRoutes::new(alloc, routes).ok()?;
     for place in 0..8usize {
         let at = if is_backwards { 7 - place } else { place };
-        bound(rt, &mut known, SHARES[at])?.ok()?;
+        bound(alloc, &mut known, SHARES[at])?.ok()?;
     }
     Some(known)
 }
 
 /// How many shares the two workers know alike.
-fn alike<R: Threads + Wait + Sync>(rt: &R, alloc: Global) -> Option<usize> {
-    let routes = SharedRoutes::new();
+fn alike<R: Threads + Sync>(rt: &R, alloc: Global) -> Option<usize> {
+    let routes = SharedRoutes::new(alloc);
     let (one, other) = join(
         rt,
-        || worker(rt, alloc, &routes, false),
-        || worker(rt, alloc, &routes, true),
+        || worker(alloc, &routes, false),
+        || worker(alloc, &routes, true),
     );
     let (one, other) = (one?, other?);
     let mut count = 0usize;
