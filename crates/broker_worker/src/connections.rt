@@ -19,6 +19,7 @@ use crate::poller::Poller;
 use crate::served::ServedCounts;
 use crate::sweeps::Sweeps;
 use broker_groups::{Broker, BrokerPlace};
+use call_history::HistoryName;
 use conn_channel::{Received, Receiver};
 use conn_service::{Direction, Round, Served};
 use service_table::{ServiceTable, Turned};
@@ -32,16 +33,17 @@ use worker_bells::{Members, SLOTS, Wish};
 ///
 /// Contracts see it as a `ConnectionsState`: what was received of the channel, which connections are open and when they went on, and how many have ended in
 /// which way. Each of them lived as a connection is served, from its opening on.
-pub(crate) struct Connections<'a, 'g, B: Broker, T: Transport + Drop, R: Wait> {
+pub(crate) struct Connections<'a, 'g, B: Broker, N: HistoryName, T: Transport + Drop, R: Wait> {
     receiver: Receiver<Arrived<T>>,
     table: ServiceTable<BrokerPlace<B>, T>,
-    supply: SharedSupply<'a, 'g, B, R>,
+    supply: SharedSupply<'a, 'g, B, N, R>,
     served: ServedCounts,
     sweeps: Sweeps,
     members: Members,
 }
 
-impl<'a, 'g, B: Broker, T: Transport + Drop, R: Wait> Model for Connections<'a, 'g, B, T, R> {
+impl<'a, 'g, B: Broker, N: HistoryName, T: Transport + Drop, R: Wait> Model
+    for Connections<'a, 'g, B, N, T, R> {
     ghost use Rattle.std.specs.Prelude.{◌≡◌, length};
     ghost use Rattle.broker_worker.specs.Serving.{ConnectionsState, IsAccounted};
     ghost use Rattle.broker_worker.specs.Sweeping.{AreSwept};
@@ -77,14 +79,21 @@ pub(crate) enum Went {
     ToItsEnd,
 }
 
-impl<'a, 'g, B: Broker, T: Transport + Drop, R: Wait> Connections<'a, 'g, B, T, R> {
+impl<'a, 'g, B: Broker, N: HistoryName, T: Transport + Drop, R: Wait> Connections<
+    'a,
+    'g,
+    B,
+    N,
+    T,
+    R,
+> {
     /// None yet, of those that this end of the channel will receive; this table is for them, these are their wishes, and this supply is what they ask.
     pub(crate) fn new(
         receiver: Receiver<Arrived<T>>,
         table: ServiceTable<BrokerPlace<B>, T>,
-        supply: SharedSupply<'a, 'g, B, R>,
+        supply: SharedSupply<'a, 'g, B, N, R>,
         members: Members,
-    ) -> Connections<'a, 'g, B, T, R>
+    ) -> Connections<'a, 'g, B, N, T, R>
         requires receiver { receiver.received ≡ [] }
         requires table { table ≡ replicate (length members) None }
         requires supply { supply.wakes ≡ no_wakes }
@@ -298,9 +307,9 @@ impl<'a, 'g, B: Broker, T: Transport + Drop, R: Wait> Connections<'a, 'g, B, T, 
 }
 
 /// The connection in a cell goes on by a round this way, at this moment.
-fn turn<'a, 'g, B: Broker, T: Transport, R: Wait, X: Crossing>(
+fn turn<'a, 'g, B: Broker, N: HistoryName, T: Transport, R: Wait, X: Crossing>(
     table: &mut ServiceTable<BrokerPlace<B>, T>,
-    supply: &mut SharedSupply<'a, 'g, B, R>,
+    supply: &mut SharedSupply<'a, 'g, B, N, R>,
     cell: usize,
     crossing: &X,
     worker: u32,
@@ -318,9 +327,9 @@ fn turn<'a, 'g, B: Broker, T: Transport, R: Wait, X: Crossing>(
 }
 
 /// Lets go of the connections that are still open.
-fn abandon<'a, 'g, B: Broker, T: Transport + Drop, R: Wait>(
+fn abandon<'a, 'g, B: Broker, N: HistoryName, T: Transport + Drop, R: Wait>(
     table: ServiceTable<BrokerPlace<B>, T>,
-    supply: &mut SharedSupply<'a, 'g, B, R>,
+    supply: &mut SharedSupply<'a, 'g, B, N, R>,
 ) {
     table.abandon(supply, 0);
 }

@@ -9,6 +9,7 @@ use crate::poller::Poller;
 use crate::worker::{READ_SIZE, Worker};
 use bell::Wake;
 use broker_groups::Broker;
+use call_history::HistoryName;
 use conn_service::{Direction, Round};
 use std::sync::Wait;
 use transport::{Clock, Crossing, Transport};
@@ -18,13 +19,14 @@ impl<
     'a,
     'g,
     B: Broker,
+    N: HistoryName,
     T: Transport + Drop,
     Q: Poller<T> + Drop,
     W: Wake + Drop,
     X: Crossing,
     C: Clock + Drop,
     R: Wait,
-> Worker<'a, 'g, B, T, Q, W, X, C, R> {
+> Worker<'a, 'g, B, N, T, Q, W, X, C, R> {
     /// Reads of each connection that is due, once; or of all of them, where a sweep has begun. What is to be written to them is due then.
     pub(crate) fn serve_due(&mut self, all: bool, buffer: &mut [u8; READ_SIZE])
         requires late { all ≡ true → HasGone 0 (length self.old.connections.cells) self.old.connections.sweeps }

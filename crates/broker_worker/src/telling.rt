@@ -9,6 +9,7 @@ use crate::poller::Poller;
 use crate::worker::{END_PAUSE, Worker};
 use bell::Wake;
 use broker_groups::Broker;
+use call_history::HistoryName;
 use shared_supply::AskedBack;
 use std::sync::Wait;
 use transport::{Clock, Crossing, Transport};
@@ -18,13 +19,14 @@ impl<
     'a,
     'g,
     B: Broker,
+    N: HistoryName,
     T: Transport + Drop,
     Q: Poller<T> + Drop,
     W: Wake + Drop,
     X: Crossing,
     C: Clock + Drop,
     R: Wait,
-> Worker<'a, 'g, B, T, Q, W, X, C, R> {
+> Worker<'a, 'g, B, N, T, Q, W, X, C, R> {
     /// Tells the others of the messages of each group that are more than this worker has members for: it rings for as many workers. The others it keeps, since it goes
     /// on to hand them out.
     pub(crate) fn tell_beyond(&mut self)

@@ -14,6 +14,7 @@ use crate::rounds::mark_ready;
 use crate::served::ServedCounts;
 use bell::Wake;
 use broker_groups::{Broker, BrokerPlace};
+use call_history::HistoryName;
 use conn_channel::Receiver;
 use conn_engine::NoMemory;
 use service_table::ServiceTable;
@@ -33,9 +34,9 @@ pub(crate) const END_PAUSE: u64 = 1;
 /// What a worker has: where it waits, its connections, what it asks of the broker, and how it calls others and is called.
 ///
 /// Contracts see it as a `WorkerState`: its connections, and what it has of the bells.
-pub struct Worker<'a, 'g, B: Broker, T: Transport + Drop, Q, W, X, C, R: Wait> {
+pub struct Worker<'a, 'g, B: Broker, N: HistoryName, T: Transport + Drop, Q, W, X, C, R: Wait> {
     pub(crate) number: usize,
-    pub(crate) connections: Connections<'a, 'g, B, T, R>,
+    pub(crate) connections: Connections<'a, 'g, B, N, T, R>,
     pub(crate) poller: Q,
     pub(crate) outfit: Outfit<W>,
     pub(crate) roster: &'a Roster<W>,
@@ -48,8 +49,8 @@ pub struct Worker<'a, 'g, B: Broker, T: Transport + Drop, Q, W, X, C, R: Wait> {
     pub(crate) waits: bool,
 }
 
-impl<'a, 'g, B: Broker, T: Transport + Drop, Q, W, X, C, R: Wait> Model
-    for Worker<'a, 'g, B, T, Q, W, X, C, R> {
+impl<'a, 'g, B: Broker, N: HistoryName, T: Transport + Drop, Q, W, X, C, R: Wait> Model
+    for Worker<'a, 'g, B, N, T, Q, W, X, C, R> {
     ghost use Rattle.broker_worker.specs.Resting.{WorkerState};
 
     ghost Value = { WorkerState T };
@@ -61,13 +62,14 @@ impl<
     'a,
     'g,
     B: Broker,
+    N: HistoryName,
     T: Transport + Drop,
     Q: Poller<T> + Drop,
     W: Wake + Drop,
     X: Crossing,
     C: Clock + Drop,
     R: Wait,
-> Worker<'a, 'g, B, T, Q, W, X, C, R> {
+> Worker<'a, 'g, B, N, T, Q, W, X, C, R> {
     /// A worker that has no connection yet. It receives through the channel of its kit.
     ///
     /// # Errors
@@ -76,12 +78,12 @@ impl<
     pub fn begin(
         rt: &'a R,
         alloc: Global,
-        hall: &'a Hall<'g, B>,
+        hall: &'a Hall<'g, B, N>,
         hand: Hand<B>,
         kit: Kit<T, Q, W, C>,
         roster: &'a Roster<W>,
         crossing: &'a X,
-    ) -> Result<Worker<'a, 'g, B, T, Q, W, X, C, R>, Hand<B>>
+    ) -> Result<Worker<'a, 'g, B, N, T, Q, W, X, C, R>, Hand<B>>
         requires { kit.received ≡ [] }
         ensures { IfOk result (λ worker. AreFresh kit worker.connections) }
     {
@@ -112,13 +114,13 @@ impl<
     /// A worker of a number, which has these connections.
     fn of(
         number: usize,
-        connections: Connections<'a, 'g, B, T, R>,
+        connections: Connections<'a, 'g, B, N, T, R>,
         gear: Gear<Q, C>,
         outfit: Outfit<W>,
         due: Marks,
         roster: &'a Roster<W>,
         crossing: &'a X,
-    ) -> Worker<'a, 'g, B, T, Q, W, X, C, R>
+    ) -> Worker<'a, 'g, B, N, T, Q, W, X, C, R>
         ensures { result.connections ≡ connections.entry }
     {
         let Gear { poller, clock } = gear;

@@ -7,6 +7,7 @@ ghost use Rattle.final_report.specs.Promises.{IsFirstHandedOnce, KeepsOrder, Ref
 ghost use Rattle.final_report.specs.Brokers.{OfEachReport, KeptItsPromises};
 
 use broker_groups::{Broker, BrokerGroups, BrokerPlace, Ended, Ports, Unended};
+use call_history::HistoryName;
 use gate_word::{Drained, Turn};
 use group_jobs::Envelope;
 use group_jobs::laws::{lawful_end_law, one_fate_law};
@@ -64,11 +65,11 @@ pub fn end_groups<'g, B: Broker, R: Wait>(
 /// # Errors
 ///
 /// [`StillOpen`]: memory was wanted and refused. All that was given comes back.
-pub fn end_broker<'g, B: Broker, R: Wait>(
+pub fn end_broker<'g, B: Broker, N: HistoryName, R: Wait>(
     rt: &R,
     alloc: Global,
     drained: &Drained,
-    hall: Hall<'g, B>,
+    hall: Hall<'g, B, N>,
     ports: Vec<Ports<B>>,
 ) -> Result<Ended<'g>, StillOpen<'g, B>>
     requires drained { drained.now ≡ B.gate }

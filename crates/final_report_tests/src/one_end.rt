@@ -5,11 +5,12 @@ ghost use Rattle.broker_groups.specs.Naming.{HasNoneOut, IsOfBroker};
 
 use broker_groups::{Broker, BrokerGroups, BrokerPlace, Ended, Key, Named, Opened, Ports};
 use bytes::Bytes;
+use call_history::HistoryName;
 use final_report::{end_broker, end_groups};
 use gate_word::{Drained, Gate, GateSeat, Turn};
 use group_jobs::{Envelope, Message, SharedMessage};
 use mqtt_packet::{RareProperties, Text};
-use shared_desk::SharedDesk;
+use shared_desk::{DeskPass, OpenedDesk, SharedDesk};
 use shared_routes::SharedRoutes;
 use shared_supply::Hall;
 use std::alloc::Global;
@@ -82,24 +83,30 @@ fn count(ended: Ended<'_>) -> (usize, u64, usize) {
 }
 
 /// Gives the desk all places.
-fn furnish<B: Broker, R: Wait>(
+fn furnish<B: Broker, N: HistoryName, R: Wait>(
     rt: &R,
-    desk: &SharedDesk<BrokerPlace<B>>,
+    desk: &SharedDesk<BrokerPlace<B>, N>,
+    pass: &mut DeskPass<BrokerPlace<B>, N>,
     places: Vec<BrokerPlace<B>>,
 )
     requires { All HasNoneOut places.items }
 {
     let mut places = places;
     'places: while let Some(place) = places.pop() {
-        give_place(rt, desk, place);
+        give_place(rt, desk, pass, place);
     }
 }
 
 /// Gives the desk a place.
-fn give_place<B: Broker, R: Wait>(rt: &R, desk: &SharedDesk<BrokerPlace<B>>, place: BrokerPlace<B>)
+fn give_place<B: Broker, N: HistoryName, R: Wait>(
+    rt: &R,
+    desk: &SharedDesk<BrokerPlace<B>, N>,
+    pass: &mut DeskPass<BrokerPlace<B>, N>,
+    place: BrokerPlace<B>,
+)
     requires { HasNoneOut place }
 {
-    let _back = desk.take_place(rt, place);
+    let _back = desk.take_place(rt, pass, place);
 }
 
 /// Shuts the gate, and looks whether it is drained.
@@ -113,11 +120,11 @@ fn close<B: Broker>(gate: &Gate, key: Key<B>) -> Option<Drained>
 }
 
 /// Ends a broker that was drained.
-fn end<B: Broker, R: Wait>(
+fn end<B: Broker, N: HistoryName, R: Wait>(
     rt: &R,
     alloc: Global,
     drained: &Drained,
-    hall: Hall<'_, B>,
+    hall: Hall<'_, B, N>,
     ports: Vec<Ports<B>>,
 ) -> Option<(usize, u64, usize)>
     requires { drained.now ≡ B.gate }
@@ -165,17 +172,35 @@ fn end_with_desk<B: Broker, R: Wait>(
     requires drained { drained.now ≡ B.gate }
     requires places { All HasNoneOut places.items }
 {
-    match SharedDesk::new(alloc) {
-        Ok(desk) => {
-            furnish(rt, &desk, places);
-            let hall = Hall::new(gate, groups, desk, SharedRoutes::new());
-            end(rt, alloc, drained, hall, ports)
-        }
+    match OpenedDesk::open(alloc) {
+        Ok(desk) => end_with::<B, Brand, R>(rt, alloc, gate, drained, groups, desk, ports, places),
         Err(_) => {
             groups.abandon();
             None
         }
     }
+}
+
+/// The same, with a desk that is named by what it is.
+fn end_with<B: Broker, N: HistoryName, R: Wait>(
+    rt: &R,
+    alloc: Global,
+    gate: &Gate,
+    drained: &Drained,
+    groups: BrokerGroups<'_, B>,
+    desk: OpenedDesk<BrokerPlace<B>>,
+    ports: Vec<Ports<B>>,
+    places: Vec<BrokerPlace<B>>,
+) -> Option<(usize, u64, usize)>
+    requires gate { gate.now ≡ B.gate }
+    requires drained { drained.now ≡ B.gate }
+    requires desk { desk ≡ N.history }
+    requires places { All HasNoneOut places.items }
+{
+    let (desk, mut pass) = desk.name::<N>();
+    furnish(rt, &desk, &mut pass, places);
+    let hall = Hall::new(gate, groups, desk, SharedRoutes::new(alloc));
+    end(rt, alloc, drained, hall, ports)
 }
 
 /// The day of a broker with one worker, who offers a message.

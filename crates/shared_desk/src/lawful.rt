@@ -294,12 +294,15 @@ impl<P: HoldingPlace, D: HistoryName> LawfulDesk<P, D> {
         self.desk.soonest()
     }
 
-    /// The desk, and all calls that were made of it.
-    pub fn into_desk(
-        self,
-        history: &DeskHistory<P, D>,
-        me: &mut DeskPass<P, D>,
-    ) -> Desk<Envelope, P>
+    pub fn into_desk(self) -> Desk<Envelope, P>
+        ensures { IsLawful P.has_out result }
+    {
+        let LawfulDesk { desk, keeper: _ } = self;
+        desk
+    }
+
+    /// The desk, and lets a thread know all calls that were made of it.
+    pub fn finish(self, history: &DeskHistory<P, D>, me: &mut DeskPass<P, D>) -> Desk<Envelope, P>
         ensures lawful { IsLawful P.has_out result }
         ensures before { IsPrefix me.old me.new }
         ensures all { Leads P.has_out P.slot_of P.number_of me.new result }

@@ -87,19 +87,24 @@ impl<P: HoldingPlace> OpenedDesk<P> {
             DeskPass { known },
         )
     }
+}
 
-    /// The desk, which nobody shared.
-    pub fn into_desk(self) -> Desk<Envelope, P>
-        ensures { result ≡ new_books }
-    {
+impl<P: HoldingPlace + Drop> OpenedDesk<P> {
+    /// Gives up a desk that nobody shared.
+    pub fn abandon(self) {
         let OpenedDesk {
             desk,
             opened: _,
             soonest: _,
             marks: _,
         } = self;
-        desk
+        desk.abandon_with(&let_go);
     }
+}
+
+/// Lets go of a message.
+fn let_go(envelope: Envelope) {
+    let _parts = envelope.open();
 }
 
 /// Every session of a broker, with the free places of its groups, which threads share by reference. `D` is the name of its history.
@@ -320,8 +325,26 @@ impl<P: HoldingPlace, D: HistoryName> SharedDesk<P, D> {
         me.known.meet(&self.history, known);
     }
 
-    /// The desk, once no other thread has it, and all calls that were made of it.
-    pub fn into_desk(self, me: &mut DeskPass<P, D>) -> Desk<Envelope, P>
+    /// A pass that knows all calls so far.
+    pub fn know<R: Wait>(&self, rt: &R) -> DeskPass<P, D> {
+        self.desk.lock(rt).pass(&self.history)
+    }
+
+    /// The desk, once no other thread has it.
+    pub fn into_desk(self) -> Desk<Envelope, P>
+        ensures { IsLawful P.has_out result }
+    {
+        let SharedDesk {
+            desk,
+            history: _,
+            soonest: _,
+            marks: _,
+        } = self;
+        desk.into_inner().into_desk()
+    }
+
+    /// The desk, once no other thread has it, and lets a thread know all calls that were made of it: what the thread knew is the beginning of them.
+    pub fn finish(self, me: &mut DeskPass<P, D>) -> Desk<Envelope, P>
         ensures lawful { IsLawful P.has_out result }
         ensures before { IsPrefix me.old me.new }
         ensures all { Leads P.has_out P.slot_of P.number_of me.new result }
@@ -332,7 +355,7 @@ impl<P: HoldingPlace, D: HistoryName> SharedDesk<P, D> {
             soonest: _,
             marks: _,
         } = self;
-        desk.into_inner().into_desk(&history, me)
+        desk.into_inner().finish(&history, me)
     }
 }
 

@@ -27,7 +27,7 @@ fn dissolve(session: Option<Session<Envelope, Spot>>) {
 
 /// Lets go of a desk with all that it has.
 pub(crate) fn end<D: HistoryName>(desk: SharedDesk<Spot, D>, mut me: DeskPass<Spot, D>) {
-    desk.into_desk(&mut me).abandon_with(&let_go);
+    desk.finish(&mut me).abandon_with(&let_go);
 }
 
 /// The session that a connection was lent; one that ended for it is let go.
@@ -156,8 +156,6 @@ fn the_least_free_place_is_lent(rt: HostRuntime) -> Result<(), Fail> {
 
 #[test]
 fn a_desk_that_nobody_shared(rt: HostRuntime) -> Result<(), Fail> {
-    OpenedDesk::<Spot>::open(rt.alloc())?
-        .into_desk()
-        .abandon_with(&let_go);
+    OpenedDesk::<Spot>::open(rt.alloc())?.abandon();
     Ok(())
 }

@@ -1,5 +1,5 @@
 -- What each call of a connection makes of its worker, and what it answers.
-use Rattle.std.specs.Prelude.{◌≡◌, ℕ, true, Option, Some, Result, Ok, Err, IfSome}
+use Rattle.std.specs.Prelude.{◌≡◌, ℕ, true, Option, Some, None, Result, Ok, Err, IfSome}
 use Rattle.mqtt_topic.specs.Names.{Share}
 use Rattle.mqtt_topic.specs.Routes.{slot_of, routed, places_of}
 use Rattle.group_jobs.specs.Stamps.{Held}
@@ -47,11 +47,11 @@ HandsInPlace old place new = (back : Option PlaceState) × AsksDesk old (desk.Ta
 abbrev pub IsKickedSomewhere : ℕ → Type 0
 IsKickedSomewhere connection = (books : Books Held PlaceState) × IsLawful HasOut books × IsKicked books connection
 
--- a share is bound: 205 as the routes have it. No memory is wanted
+-- a share is bound: 205 and 206 as the routes have them
 abbrev pub Binds : KnownState → Share → Result ℕ BindRefusal → KnownState → Type 0
 Binds old share (Ok slot) new = BindAnswers old share (Ok slot) new
 Binds old share (Err bind.NoSlot) new = HasNoSlot old share new
-Binds old share (Err bind.Memory) new = ⊥
+Binds old share (Err bind.Memory) new = (slot_of share.text old.shares ≡ None) × (new ≡ old)
 
 module _ (group : ℕ → GroupId) where
   -- what each call makes, with its answer, in a broker with these groups

@@ -5,7 +5,7 @@ use Rattle.gate_word.specs.declared.visitor.Visitor.TheVariants.{Outside, Inside
 use Rattle.gate_word.specs.Seats.{GateId, Seat, new_seat}
 use Rattle.gate_word.specs.Visits.{seat_in, Tries, Ends}
 use Rattle.group_queue.specs.Ports.{PortState}
-use Rattle.shared_routes.specs.Known.{KnownState, Grows}
+use Rattle.shared_routes.specs.Known.{KnownState, AreFirst, Grows}
 use Rattle.broker_groups.specs.Brokers.{no_gate}
 use Rattle.shared_supply.specs.declared.wakes.Wakes.{Wakes}
 
@@ -33,11 +33,12 @@ abbrev pub IsVisitorOf : GateId → Option Visitor → Type 0
 IsVisitorOf gate (Some visitor) = (seat_in visitor).gate ≡ gate
 IsVisitorOf gate None = ⊥
 
--- the worker enters, or is refused as the gate was shut, and learns of the routes what others bound
+-- the worker enters, or is refused as the gate was shut, and learns of the routes what others bound: all that it was told of, it knows then
 pub record Begins (old new : Worker) : Type 0 where
   pub tried : Tries old.visitor new.visitor
   pub ports : new.ports ≡ old.ports
   pub known : Grows old.known new.known
+  pub told : AreFirst old.known.told new.known.shares
   pub wakes : new.wakes ≡ old.wakes
 
 -- the worker leaves

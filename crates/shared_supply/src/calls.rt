@@ -12,15 +12,18 @@ use crate::letting_go::dissolve;
 use crate::settling::settle;
 use crate::supply::{SharedSupply, turn_of};
 use broker_groups::{Broker, BrokerPlace};
+use call_history::HistoryName;
 use conn_engine::{BindRefusal, NoMemory, OfferRefusal, Supply};
 use gate_word::Visitor;
 use group_jobs::{Envelope, Fate, SharedMessage, Stamp};
 use mqtt_packet::Text;
 use mqtt_topic::{Share, Slots, TopicName};
 use session_desk::{Attached, DeskError, Place, Session};
+use shared_routes::BindError;
 use std::sync::Wait;
 
-impl<'a, 'g, B: Broker, R: Wait> Supply<BrokerPlace<B>> for SharedSupply<'a, 'g, B, R> {
+impl<'a, 'g, B: Broker, N: HistoryName, R: Wait> Supply<BrokerPlace<B>>
+    for SharedSupply<'a, 'g, B, N, R> {
     ghost call = { Calls B.group };
 
     ghost visiting = { is_visiting };
@@ -57,21 +60,26 @@ impl<'a, 'g, B: Broker, R: Wait> Supply<BrokerPlace<B>> for SharedSupply<'a, 'g,
         now: u64,
     ) -> Result<Attached<Envelope, BrokerPlace<B>>, DeskError> {
         let hall = self.hall;
-        let attached = hall
-            .desk
-            .attach(self.rt, connection, client.shared_bytes(), clean, now);
+        let attached = hall.desk.attach(
+            self.rt,
+            &mut self.desk,
+            connection,
+            client.shared_bytes(),
+            clean,
+            now,
+        );
         self.wakes.note(&attached);
         attached
     }
 
     fn withdraw(&mut self, connection: u16) {
         let hall = self.hall;
-        hall.desk.withdraw(self.rt, connection);
+        hall.desk.withdraw(self.rt, &mut self.desk, connection);
     }
 
     fn kicked(&self, connection: u16) -> bool {
         let hall = self.hall;
-        hall.desk.kicked(self.rt, connection)
+        hall.desk.kicked(self.rt, connection).is_some()
     }
 
     fn park(
@@ -86,7 +94,7 @@ impl<'a, 'g, B: Broker, R: Wait> Supply<BrokerPlace<B>> for SharedSupply<'a, 'g,
     {
         self.wakes.free_session();
         let hall = self.hall;
-        hall.desk.park(self.rt, session, now)
+        hall.desk.park(self.rt, &mut self.desk, session, now)
     }
 
     fn park_as_is(&mut self, session: Session<Envelope, BrokerPlace<B>>)
@@ -96,7 +104,7 @@ impl<'a, 'g, B: Broker, R: Wait> Supply<BrokerPlace<B>> for SharedSupply<'a, 'g,
     {
         self.wakes.free_session();
         let hall = self.hall;
-        dissolve(hall.desk.park_as_is(self.rt, session));
+        dissolve(hall.desk.park_as_is(self.rt, &mut self.desk, session));
     }
 
     fn keep(&mut self, session: Session<Envelope, BrokerPlace<B>>)
@@ -105,7 +113,7 @@ impl<'a, 'g, B: Broker, R: Wait> Supply<BrokerPlace<B>> for SharedSupply<'a, 'g,
         ensures visiting { is_visiting self.new ≡ is_visiting self.old }
     {
         let hall = self.hall;
-        dissolve(hall.desk.keep(self.rt, session));
+        dissolve(hall.desk.keep(self.rt, &mut self.desk, session));
     }
 
     fn bury(&mut self, session: Session<Envelope, BrokerPlace<B>>)
@@ -115,28 +123,29 @@ impl<'a, 'g, B: Broker, R: Wait> Supply<BrokerPlace<B>> for SharedSupply<'a, 'g,
         ensures visiting { is_visiting self.new ≡ is_visiting self.old }
     {
         let hall = self.hall;
-        dissolve(hall.desk.bury(self.rt, session));
+        dissolve(hall.desk.bury(self.rt, &mut self.desk, session));
     }
 
     fn sweep(&mut self, now: u64) -> Option<Session<Envelope, BrokerPlace<B>>> {
         let hall = self.hall;
-        hall.desk.sweep(self.rt, now)
+        hall.desk.sweep(self.rt, &mut self.desk, now)
     }
 
     fn lend_place(&mut self, slot: u8) -> Option<BrokerPlace<B>> {
         let hall = self.hall;
-        hall.desk.lend_place(self.rt, slot)
+        hall.desk.lend_place(self.rt, &mut self.desk, slot)
     }
 
     fn take_place(&mut self, place: BrokerPlace<B>) {
         let hall = self.hall;
-        let _back = hall.desk.take_place(self.rt, place);
+        let _back = hall.desk.take_place(self.rt, &mut self.desk, place);
     }
 
     fn bind(&mut self, share: Share) -> Result<u8, BindRefusal> {
-        match self.known.bind(self.rt, share) {
+        match self.known.bind(self.alloc, share) {
             Ok(slot) => Ok(slot),
-            Err(_) => Err(BindRefusal::NoSlot),
+            Err(BindError::NoSlot) => Err(BindRefusal::NoSlot),
+            Err(BindError::Memory) => Err(BindRefusal::Memory),
         }
     }
 

@@ -5,6 +5,7 @@ ghost use Rattle.shared_supply.specs.Endings.{IsEnded, IsLeft};
 use crate::hall::Hall;
 use crate::letting_go::let_go;
 use broker_groups::{Broker, BrokerGroups, BrokerPlace, Ended, Ports, Unended};
+use call_history::HistoryName;
 use group_jobs::Envelope;
 use session_desk::{All, Desk};
 use std::alloc::Global;
@@ -39,7 +40,7 @@ impl<'g, B: Broker> StillOpen<'g, B> {
     }
 }
 
-impl<'g, B: Broker> Hall<'g, B> {
+impl<'g, B: Broker, N: HistoryName> Hall<'g, B, N> {
     /// Ends the broker: its desk gives all places, and the messages that its sessions held, and each group ends with what is its own, as
     /// [`BrokerGroups::finish`] says. A step of a queue may wait for another thread's.
     ///

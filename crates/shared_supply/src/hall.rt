@@ -2,6 +2,7 @@
 ghost use Rattle.std.specs.Prelude.{◌≡◌, [], IfOk};
 
 use broker_groups::{Broker, BrokerGroups, BrokerPlace};
+use call_history::HistoryName;
 use gate_word::Gate;
 use shared_desk::SharedDesk;
 use shared_routes::{KnownRoutes, SharedRoutes};
@@ -11,14 +12,14 @@ use std::marker::Model;
 /// The gate, the groups, the desk and the routes of a broker, which its workers share by reference.
 ///
 /// Contracts see it as the names of its routes' cells.
-pub struct Hall<'g, B: Broker> {
+pub struct Hall<'g, B: Broker, N: HistoryName> {
     pub(crate) gate: &'g Gate,
     pub(crate) groups: BrokerGroups<'g, B>,
-    pub(crate) desk: SharedDesk<BrokerPlace<B>>,
+    pub(crate) desk: SharedDesk<BrokerPlace<B>, N>,
     pub(crate) routes: SharedRoutes,
 }
 
-impl<'g, B: Broker> Model for Hall<'g, B> {
+impl<'g, B: Broker, N: HistoryName> Model for Hall<'g, B, N> {
     ghost use Rattle.std.specs.Prelude.{◌≡◌, List, ℕ};
 
     ghost Value = { List ℕ };
@@ -28,14 +29,14 @@ impl<'g, B: Broker> Model for Hall<'g, B> {
     ghost invariant = { λ h. h.gate.now ≡ B.gate };
 }
 
-impl<'g, B: Broker> Hall<'g, B> {
+impl<'g, B: Broker, N: HistoryName> Hall<'g, B, N> {
     /// What the workers of a broker share from now on.
     pub fn new(
         gate: &'g Gate,
         groups: BrokerGroups<'g, B>,
-        desk: SharedDesk<BrokerPlace<B>>,
+        desk: SharedDesk<BrokerPlace<B>, N>,
         routes: SharedRoutes,
-    ) -> Hall<'g, B>
+    ) -> Hall<'g, B, N>
         requires { gate.now ≡ B.gate }
         ensures { result ≡ routes }
     {
@@ -53,7 +54,7 @@ impl<'g, B: Broker> Hall<'g, B> {
     ///
     /// Want of memory.
     pub fn know_routes(&self, alloc: Global) -> Result<KnownRoutes<'_>, AllocError>
-        ensures { IfOk result (λ known. known ≡ record { table = self.now; shares = [] }) }
+        ensures { IfOk result (λ known. known ≡ record { table = self.now; shares = []; told = [] }) }
     {
         KnownRoutes::new(alloc, &self.routes)
     }
@@ -63,7 +64,7 @@ impl<'g, B: Broker> Hall<'g, B> {
         self,
     ) -> (
         BrokerGroups<'g, B>,
-        SharedDesk<BrokerPlace<B>>,
+        SharedDesk<BrokerPlace<B>, N>,
         SharedRoutes,
     )
         ensures { result.2 ≡ self.entry }

@@ -7,30 +7,33 @@ ghost use Rattle.shared_supply.specs.Workers.{Begins, Leaves, standing, is_insid
 
 use crate::hall::Hall;
 use crate::wakes::Wakes;
-use broker_groups::{Broker, Key, Ports};
+use broker_groups::{Broker, BrokerPlace, Key, Ports};
+use call_history::HistoryName;
 use gate_word::{Turn, Visitor};
+use shared_desk::DeskPass;
 use shared_routes::KnownRoutes;
 use std::alloc::Global;
 use std::marker::Model;
 use std::mem;
 use std::sync::Wait;
 
-/// What a worker asks: the hall that it shares with the others, and what it has for itself, a visitor of the broker's gate, a port of each group, and
-/// what it knows of the routes, and what it did that others may wait for.
+/// What a worker asks: the hall that it shares with the others, and what it has for itself, a visitor of the broker's gate, a port of each group,
+/// what it knows of the routes and of the calls of the desk, and what it did that others may wait for.
 ///
 /// Contracts see it as a `Worker`.
-pub struct SharedSupply<'a, 'g, B: Broker, R: Wait> {
+pub struct SharedSupply<'a, 'g, B: Broker, N: HistoryName, R: Wait> {
     pub(crate) rt: &'a R,
-    pub(crate) hall: &'a Hall<'g, B>,
+    pub(crate) hall: &'a Hall<'g, B, N>,
     // There always is one.
     pub(crate) visitor: Option<Visitor>,
     pub(crate) ports: Ports<B>,
     pub(crate) known: KnownRoutes<'a>,
+    pub(crate) desk: DeskPass<BrokerPlace<B>, N>,
     pub(crate) alloc: Global,
     pub(crate) wakes: Wakes,
 }
 
-impl<'a, 'g, B: Broker, R: Wait> Model for SharedSupply<'a, 'g, B, R> {
+impl<'a, 'g, B: Broker, N: HistoryName, R: Wait> Model for SharedSupply<'a, 'g, B, N, R> {
     ghost use Rattle.std.specs.Prelude.{◌≡◌};
     ghost use Rattle.shared_supply.specs.Workers.{Worker, standing, IsVisitorOf};
 
@@ -41,16 +44,16 @@ impl<'a, 'g, B: Broker, R: Wait> Model for SharedSupply<'a, 'g, B, R> {
     ghost invariant = { λ s. IsVisitorOf B.gate s.visitor × (s.known.table ≡ s.hall.now) };
 }
 
-impl<'a, 'g, B: Broker, R: Wait> SharedSupply<'a, 'g, B, R> {
-    /// A worker's, which is outside the gate. Its places gather with this memory.
+impl<'a, 'g, B: Broker, N: HistoryName, R: Wait> SharedSupply<'a, 'g, B, N, R> {
+    /// A worker's, which is outside the gate. Its places gather with this memory, and so does what it binds. It waits while another thread is in the desk.
     pub fn new(
         rt: &'a R,
         alloc: Global,
-        hall: &'a Hall<'g, B>,
+        hall: &'a Hall<'g, B, N>,
         key: Key<B>,
         ports: Ports<B>,
         known: KnownRoutes<'a>,
-    ) -> SharedSupply<'a, 'g, B, R>
+    ) -> SharedSupply<'a, 'g, B, N, R>
         requires { known.table ≡ hall.now }
         ensures { result ≡ record { visitor = Outside key; ports = ports; known = known.entry; wakes = no_wakes } }
     {
@@ -60,13 +63,14 @@ impl<'a, 'g, B: Broker, R: Wait> SharedSupply<'a, 'g, B, R> {
             visitor: Some(key.into_visitor()),
             ports,
             known,
+            desk: hall.desk.know(rt),
             alloc,
             wakes: Wakes::none(),
         }
     }
 
     /// The hall that it asks, of whose routes it knows.
-    pub fn hall(&self) -> &'a Hall<'g, B>
+    pub fn hall(&self) -> &'a Hall<'g, B, N>
         ensures { self.now.known.table ≡ result.now }
     {
         self.hall
@@ -115,6 +119,7 @@ impl<'a, 'g, B: Broker, R: Wait> SharedSupply<'a, 'g, B, R> {
             visitor,
             ports,
             known: _,
+            desk: _,
             alloc: _,
             wakes: _,
         } = self;

@@ -3,6 +3,7 @@ ghost use Rattle.std.specs.Prelude.{◌≡◌, true};
 
 use crate::telling::tell;
 use broker_groups::{Broker, BrokerPlace, Key};
+use call_history::HistoryName;
 use client_table::{CLIENTS, ClientTable, Said};
 use conn_engine::{HoldingPlace, NoMemory, Supply};
 use drive::drive_lines;
@@ -164,12 +165,12 @@ impl<'t> Shift for Stage<'t> {
 impl<'t> Day for Stage<'t> {
     type Told = Vec<Counts>;
 
-    fn pass<B: Broker, R: Wait>(
+    fn pass<B: Broker, N: HistoryName, R: Wait>(
         &mut self,
         rt: &R,
         alloc: Global,
         gate: &Gate,
-        built: Built<'_, B>,
+        built: Built<'_, B, N>,
     ) -> Option<Vec<Counts>> {
         work_alone(rt, alloc, gate, built, self)
     }

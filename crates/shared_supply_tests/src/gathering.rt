@@ -3,6 +3,7 @@ ghost use Rattle.std.specs.Prelude.{◌≡◌, [], true};
 ghost use Rattle.broker_groups.specs.Outs.{HasOut};
 
 use broker_groups::{Broker, BrokerPlace, Key};
+use call_history::HistoryName;
 use conn_engine::Supply;
 use gate_word::Gate;
 use std::alloc::Global;
@@ -79,12 +80,12 @@ impl Shift for Runs {
 impl Day for Runs {
     type Told = Vec<Counts>;
 
-    fn pass<B: Broker, R: Wait>(
+    fn pass<B: Broker, N: HistoryName, R: Wait>(
         &mut self,
         rt: &R,
         alloc: Global,
         gate: &Gate,
-        built: Built<'_, B>,
+        built: Built<'_, B, N>,
     ) -> Option<Vec<Counts>> {
         work_alone(rt, alloc, gate, built, self)
     }

@@ -3,6 +3,7 @@ ghost use Rattle.std.specs.Prelude.{◌≡◌};
 
 use crate::clients::{WRITTEN, two_clients};
 use broker_groups::{Broker, BrokerPlace, Key};
+use call_history::HistoryName;
 use conn_engine::Supply;
 use gate_word::Gate;
 use shared_supply::Hall;
@@ -39,12 +40,12 @@ impl Shift for TwoClients {
 impl Day for TwoClients {
     type Told = Vec<Counts>;
 
-    fn pass<B: Broker, R: Wait>(
+    fn pass<B: Broker, N: HistoryName, R: Wait>(
         &mut self,
         rt: &R,
         alloc: Global,
         gate: &Gate,
-        built: Built<'_, B>,
+        built: Built<'_, B, N>,
     ) -> Option<Vec<Counts>> {
         work_alone(rt, alloc, gate, built, self)
     }
@@ -88,7 +89,7 @@ fn a_shut_gate(rt: HostRuntime) -> Result<(), Fail> {
 fn is_shared_by_threads<T: Sync>() {}
 
 fn may_be_threaded<B: Broker + Send + Sync>() {
-    is_shared_by_threads::<Hall<'static, B>>();
+    is_shared_by_threads::<Hall<'static, B, N>>();
 }
 
 #[test]

@@ -2,6 +2,7 @@
 ghost use Rattle.std.specs.Prelude.{◌≡◌};
 
 use broker_groups::{Broker, BrokerPlace, Key};
+use call_history::HistoryName;
 use conn_engine::Supply;
 use gate_word::Gate;
 use scripted_jobs::{close, open, serve};
@@ -41,12 +42,12 @@ impl Shift for Jobs {
 impl Day for Jobs {
     type Told = Vec<Counts>;
 
-    fn pass<B: Broker, R: Wait>(
+    fn pass<B: Broker, N: HistoryName, R: Wait>(
         &mut self,
         rt: &R,
         alloc: Global,
         gate: &Gate,
-        built: Built<'_, B>,
+        built: Built<'_, B, N>,
     ) -> Option<Vec<Counts>> {
         work_alone(rt, alloc, gate, built, self)
     }

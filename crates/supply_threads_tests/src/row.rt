@@ -6,6 +6,7 @@ ghost use Rattle.broker_groups.specs.Outs.{HasOut};
 
 use crate::row_end::{Ending, Out, abandon, end};
 use broker_groups::{Broker, BrokerPlace, Key, Ports};
+use call_history::HistoryName;
 use conn_engine::Supply;
 use gate_word::Gate;
 use group_jobs::Envelope;
@@ -90,11 +91,11 @@ fn work<B: Broker, S: Supply<BrokerPlace<B>>>(
 }
 
 /// The calls of a worker, whose ports come back, before the gate is shut and behind that.
-fn act<B: Broker, R: Wait>(
+fn act<B: Broker, N: HistoryName, R: Wait>(
     rt: &R,
     alloc: Global,
     gate: &Gate,
-    hall: &Hall<'_, B>,
+    hall: &Hall<'_, B, N>,
     hand: Hand<B>,
     spare: Key<B>,
     told: &mut Told,
@@ -122,12 +123,12 @@ struct Row {
 impl Day for Row {
     type Told = (Told, Result<Counts, u16>);
 
-    fn pass<B: Broker, R: Wait>(
+    fn pass<B: Broker, N: HistoryName, R: Wait>(
         &mut self,
         rt: &R,
         alloc: Global,
         gate: &Gate,
-        built: Built<'_, B>,
+        built: Built<'_, B, N>,
     ) -> Option<(Told, Result<Counts, u16>)> {
         let Built {
             hall,

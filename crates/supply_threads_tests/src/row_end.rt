@@ -1,6 +1,7 @@
 //! How the broker of the row ends.
 
 use broker_groups::{Broker, BrokerGroups, BrokerPlace, Ended, Ports, Unended};
+use call_history::HistoryName;
 use group_jobs::{Envelope, Stamp};
 use session_desk::{All, Desk};
 use shared_supply::Hall;
@@ -153,10 +154,10 @@ fn let_go_of_out<B: Broker>(out: Out<B>) {
 }
 
 /// Ends the broker.
-pub(crate) fn end<B: Broker, R: Wait>(
+pub(crate) fn end<B: Broker, N: HistoryName, R: Wait>(
     rt: &R,
     alloc: Global,
-    hall: Hall<'_, B>,
+    hall: Hall<'_, B, N>,
     ports: Ports<B>,
     out: Out<B>,
     ending: Ending,
@@ -184,7 +185,7 @@ pub(crate) fn end<B: Broker, R: Wait>(
 }
 
 /// Gives a broker up.
-pub(crate) fn abandon<B: Broker>(hall: Hall<'_, B>) {
+pub(crate) fn abandon<B: Broker, N: HistoryName>(hall: Hall<'_, B, N>) {
     let (groups, desk, _routes) = hall.into_parts();
     desk.into_desk().abandon_with(&let_go);
     groups.abandon();

@@ -11,6 +11,7 @@ use crate::serving::Served;
 use crate::watching::Watching;
 use broker_groups::{Broker, Ended, Ports};
 use broker_worker::Hand;
+use call_history::HistoryName;
 use line_io::RunError;
 use mqtt_topic::Routes;
 use shared_supply::Hall;
@@ -37,12 +38,13 @@ pub(crate) struct Closers<'a, B: Broker> {
 /// Serves the connections of a source until the input ends. The lines of the reports, and how the broker came to its end.
 pub(crate) fn attend<
     B: Broker + Send + Sync,
+    N: HistoryName + Send + Sync,
     R: Threads + Wait + Net + SystemClock + Sync,
     I: Read + Send,
 >(
     rt: &R,
     alloc: Global,
-    hall: Hall<'_, B>,
+    hall: Hall<'_, B, N>,
     groups: &Routes,
     hands: Vec<Hand<B>>,
     room: Vec<Ports<B>>,

@@ -6,31 +6,34 @@ ghost use Rattle.broker_groups.specs.Naming.{HasNoneOut, IsOfBroker};
 
 use broker_groups::{Broker, BrokerPlace, Key, Named, Opened, Ports};
 use broker_worker::Hand;
+use call_history::HistoryName;
 use gate_word::{Gate, GateSeat};
 use line_io::RunError;
-use shared_desk::SharedDesk;
+use shared_desk::{DeskPass, OpenedDesk, SharedDesk};
 use shared_routes::SharedRoutes;
 use shared_supply::Hall;
 use std::alloc::Global;
 use std::sync::Wait;
 
 /// A broker that is open: what its workers share, what each of them has, and room for the ports of all.
-pub(crate) struct OpenBroker<'g, B: Broker> {
-    pub(crate) hall: Hall<'g, B>,
+pub(crate) struct OpenBroker<'g, B: Broker, N: HistoryName> {
+    pub(crate) hall: Hall<'g, B, N>,
     pub(crate) hands: Vec<Hand<B>>,
     pub(crate) room: Vec<Ports<B>>,
 }
 
-/// Names what was opened, and furnishes the desk.
-pub(crate) fn open<'g, B: Broker, R: Wait>(
+/// Names what was opened, the groups and the desk, and furnishes the desk.
+pub(crate) fn open<'g, B: Broker, N: HistoryName, R: Wait>(
     rt: &R,
     alloc: Global,
     gate: &'g Gate,
     seats: &mut Vec<GateSeat>,
     opened: Opened<'g>,
+    desk: OpenedDesk<BrokerPlace<B>>,
     workers: u8,
-) -> Result<OpenBroker<'g, B>, RunError>
+) -> Result<OpenBroker<'g, B, N>, RunError>
     requires gate { gate.now ≡ B.gate }
+    requires desk { desk ≡ N.history }
     requires seats { AreSeatsOf gate.now seats.old.items × (length seats.old.items ≡ workers + 3) }
     requires opened { IsOfBroker B.gate B.group workers opened }
     ensures seats { IfOk result (λ _. AreSeatsOf gate.now seats.new.items × (length seats.new.items ≡ 3)) }
@@ -44,6 +47,7 @@ pub(crate) fn open<'g, B: Broker, R: Wait>(
         Vec::with_capacity(alloc, count),
     ) else {
         opened.abandon();
+        desk.abandon();
         return Err(RunError::Memory);
     };
     let Ok(
@@ -54,37 +58,41 @@ pub(crate) fn open<'g, B: Broker, R: Wait>(
         },
     ) = opened.name::<B>(alloc, workers)
     else {
+        desk.abandon();
         return Err(RunError::Memory);
     };
-    let Ok(desk) = SharedDesk::new(alloc) else {
-        groups.abandon();
-        return Err(RunError::Memory);
-    };
-    furnish(rt, &desk, places);
+    let (desk, mut pass) = desk.name::<N>();
+    furnish(rt, &desk, &mut pass, places);
     let hands = deal(gate, seats, ports, hands);
-    let hall = Hall::new(gate, groups, desk, SharedRoutes::new());
+    let hall = Hall::new(gate, groups, desk, SharedRoutes::new(alloc));
     Ok(OpenBroker { hall, hands, room })
 }
 
 /// Gives the desk all places.
-fn furnish<B: Broker, R: Wait>(
+fn furnish<B: Broker, N: HistoryName, R: Wait>(
     rt: &R,
-    desk: &SharedDesk<BrokerPlace<B>>,
+    desk: &SharedDesk<BrokerPlace<B>, N>,
+    pass: &mut DeskPass<BrokerPlace<B>, N>,
     places: Vec<BrokerPlace<B>>,
 )
     requires { All HasNoneOut places.items }
 {
     let mut places = places;
     'places: while let Some(place) = places.pop() {
-        give_place(rt, desk, place);
+        give_place(rt, desk, pass, place);
     }
 }
 
 /// Gives the desk a place.
-fn give_place<B: Broker, R: Wait>(rt: &R, desk: &SharedDesk<BrokerPlace<B>>, place: BrokerPlace<B>)
+fn give_place<B: Broker, N: HistoryName, R: Wait>(
+    rt: &R,
+    desk: &SharedDesk<BrokerPlace<B>, N>,
+    pass: &mut DeskPass<BrokerPlace<B>, N>,
+    place: BrokerPlace<B>,
+)
     requires { HasNoneOut place }
 {
-    let _back = desk.take_place(rt, place);
+    let _back = desk.take_place(rt, pass, place);
 }
 
 /// The last seat.

@@ -10,10 +10,12 @@ use crate::attending::{Closers, attend};
 use crate::broker::{OpenBroker, open, take_seat};
 use crate::crew::crew_of;
 use crate::listening::Awaited;
-use broker_groups::{Broker, Opened};
+use broker_groups::{Broker, BrokerPlace, Opened};
+use call_history::HistoryName;
 use gate_word::{Gate, GateSeat};
 use line_io::{RunError, write_all};
 use mqtt_topic::Routes;
+use shared_desk::OpenedDesk;
 use std::alloc::Global;
 use std::io::{Read, Write};
 use std::marker::Brand;
@@ -125,7 +127,7 @@ pub fn serve_with<R: Threads + Wait + Net + SystemClock + Sync, I: Read + Send, 
     }
 }
 
-/// Opens a broker, serves, and ends it. The lines of its reports, and how it came to its end.
+/// Opens the desk of a broker, serves, and ends it. The lines of its reports, and how it came to its end.
 fn live<
     B: Broker + Send + Sync,
     R: Threads + Wait + Net + SystemClock + Sync,
@@ -153,9 +155,51 @@ fn live<
     ensures read { IfOk result (λ told. told.1 ≡ Served.Ended → IsAtEnd (I.remaining input.new)) }
     ensures failed { IfErr result (λ error. EndsUnreported line.now error (O.contents output.old) (O.contents output.new)) }
 {
+    match OpenedDesk::open(alloc) {
+        Ok(desk) => live_with::<B, Brand, R, I, O>(
+            rt, alloc, gate, seats, opened, desk, workers, groups, source, line, input, output,
+        ),
+        Err(_) => {
+            opened.abandon();
+            Err(RunError::Memory)
+        }
+    }
+}
+
+/// Names a broker's groups and its desk, serves, and ends it, as [`live`].
+fn live_with<
+    B: Broker + Send + Sync,
+    N: HistoryName + Send + Sync,
+    R: Threads + Wait + Net + SystemClock + Sync,
+    I: Read + Send,
+    O: Write,
+>(
+    rt: &R,
+    alloc: Global,
+    gate: &Gate,
+    seats: Vec<GateSeat>,
+    opened: Opened<'_>,
+    desk: OpenedDesk<BrokerPlace<B>>,
+    workers: u8,
+    groups: &Routes,
+    source: Awaited<TcpSource>,
+    line: &[u8],
+    input: &mut I,
+    output: &mut O,
+) -> Result<(Vec<u8>, Served), RunError>
+    requires gate { gate.now ≡ B.gate }
+    requires desk { desk ≡ N.history }
+    requires workers { (1 ≤ workers) × (workers ≤ 64) }
+    requires seats { AreSeatsOf gate.now seats.items × (length seats.items ≡ workers + 3) }
+    requires opened { IsOfBroker B.gate B.group workers opened }
+    requires capacity { HaveCapacity B.group (B.group 0).capacity }
+    ensures told { IfOk result (λ told. AreReports (B.group 0).capacity workers groups.now told.0.items × Appends (O.contents output.old) (O.contents output.new) line.now) }
+    ensures read { IfOk result (λ told. told.1 ≡ Served.Ended → IsAtEnd (I.remaining input.new)) }
+    ensures failed { IfErr result (λ error. EndsUnreported line.now error (O.contents output.old) (O.contents output.new)) }
+{
     let mut seats = seats;
-    let OpenBroker { hall, hands, room } = open::<B, R>(
-        rt, alloc, gate, &mut seats, opened, workers,
+    let OpenBroker { hall, hands, room } = open::<B, N, R>(
+        rt, alloc, gate, &mut seats, opened, desk, workers,
     )?;
     let closers = closers_of(gate, &mut seats);
     let Some(crew) = crew_of(rt, alloc, hands.len()) else {

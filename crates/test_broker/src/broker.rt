@@ -4,8 +4,9 @@ ghost use Rattle.gate_word.specs.Seats.{AreSeatsOf};
 ghost use Rattle.broker_groups.specs.Naming.{HasNoneOut, IsOfBroker};
 
 use broker_groups::{Broker, BrokerPlace, Key, Named, Opened, Ports};
+use call_history::HistoryName;
 use gate_word::{Gate, GateSeat};
-use shared_desk::SharedDesk;
+use shared_desk::{DeskPass, OpenedDesk, SharedDesk};
 use shared_routes::SharedRoutes;
 use shared_supply::Hall;
 use std::alloc::Global;
@@ -20,8 +21,8 @@ pub struct Hand<B: Broker> {
 }
 
 /// A broker that is open: its hall, what each worker has, and a key for who shuts the gate.
-pub struct Built<'g, B: Broker> {
-    pub hall: Hall<'g, B>,
+pub struct Built<'g, B: Broker, N: HistoryName> {
+    pub hall: Hall<'g, B, N>,
     pub hands: Vec<Hand<B>>,
     pub spare: Key<B>,
 }
@@ -32,35 +33,41 @@ pub trait Day {
     type Told;
 
     /// Does it, and ends the broker. Where memory was wanted for that, nothing is told.
-    fn pass<B: Broker, R: Wait>(
+    fn pass<B: Broker, N: HistoryName, R: Wait>(
         &mut self,
         rt: &R,
         alloc: Global,
         gate: &Gate,
-        built: Built<'_, B>,
+        built: Built<'_, B, N>,
     ) -> Option<Self::Told>
         requires { gate.now ≡ B.gate };
 }
 
 /// Gives the desk all places.
-fn furnish<B: Broker, R: Wait>(
+fn furnish<B: Broker, N: HistoryName, R: Wait>(
     rt: &R,
-    desk: &SharedDesk<BrokerPlace<B>>,
+    desk: &SharedDesk<BrokerPlace<B>, N>,
+    pass: &mut DeskPass<BrokerPlace<B>, N>,
     places: Vec<BrokerPlace<B>>,
 )
     requires { All HasNoneOut places.items }
 {
     let mut places = places;
     'places: while let Some(place) = places.pop() {
-        give_place(rt, desk, place);
+        give_place(rt, desk, pass, place);
     }
 }
 
 /// Gives the desk a place.
-fn give_place<B: Broker, R: Wait>(rt: &R, desk: &SharedDesk<BrokerPlace<B>>, place: BrokerPlace<B>)
+fn give_place<B: Broker, N: HistoryName, R: Wait>(
+    rt: &R,
+    desk: &SharedDesk<BrokerPlace<B>, N>,
+    pass: &mut DeskPass<BrokerPlace<B>, N>,
+    place: BrokerPlace<B>,
+)
     requires { HasNoneOut place }
 {
-    let _back = desk.take_place(rt, place);
+    let _back = desk.take_place(rt, pass, place);
 }
 
 /// Shuts the gate, and says whether it was drained then.
@@ -108,15 +115,17 @@ fn deal<B: Broker>(
 }
 
 /// Names what was opened, and furnishes the desk. Where memory is wanted, the groups are given up.
-pub fn build<'g, B: Broker, R: Wait>(
+pub fn build<'g, B: Broker, N: HistoryName, R: Wait>(
     rt: &R,
     alloc: Global,
     gate: &'g Gate,
     seats: Vec<GateSeat>,
     opened: Opened<'g>,
+    desk: OpenedDesk<BrokerPlace<B>>,
     workers: u8,
-) -> Option<Built<'g, B>>
+) -> Option<Built<'g, B, N>>
     requires gate { gate.now ≡ B.gate }
+    requires desk { desk ≡ N.history }
     requires seats { AreSeatsOf gate.now seats.items }
     requires opened { IsOfBroker B.gate B.group workers opened }
 {
@@ -126,20 +135,21 @@ pub fn build<'g, B: Broker, R: Wait>(
         places,
     } = match opened.name::<B>(alloc, workers) {
         Ok(named) => named,
-        Err(_) => return None,
+        Err(_) => {
+            desk.abandon();
+            return None;
+        }
     };
     let mut seats = seats;
     let Some(spare) = take_key(gate, &mut seats) else {
         groups.abandon();
+        desk.abandon();
         return None;
     };
-    let Ok(desk) = SharedDesk::new(alloc) else {
-        groups.abandon();
-        return None;
-    };
-    furnish(rt, &desk, places);
+    let (desk, mut pass) = desk.name::<N>();
+    furnish(rt, &desk, &mut pass, places);
     let hands = deal(alloc, gate, &mut seats, ports);
-    let hall = Hall::new(gate, groups, desk, SharedRoutes::new());
+    let hall = Hall::new(gate, groups, desk, SharedRoutes::new(alloc));
     Some(Built { hall, hands, spare })
 }
 
@@ -157,7 +167,32 @@ fn live<B: Broker, D: Day, R: Wait>(
     requires seats { AreSeatsOf gate.now seats.items }
     requires opened { IsOfBroker B.gate B.group workers opened }
 {
-    match build::<B, R>(rt, alloc, gate, seats, opened, workers) {
+    match OpenedDesk::open(alloc) {
+        Ok(desk) => live_with::<B, Brand, D, R>(rt, alloc, gate, seats, opened, desk, workers, day),
+        Err(_) => {
+            opened.abandon();
+            None
+        }
+    }
+}
+
+/// The same, with a desk that is named by what it is.
+fn live_with<B: Broker, N: HistoryName, D: Day, R: Wait>(
+    rt: &R,
+    alloc: Global,
+    gate: &Gate,
+    seats: Vec<GateSeat>,
+    opened: Opened<'_>,
+    desk: OpenedDesk<BrokerPlace<B>>,
+    workers: u8,
+    day: &mut D,
+) -> Option<D::Told>
+    requires gate { gate.now ≡ B.gate }
+    requires seats { AreSeatsOf gate.now seats.items }
+    requires opened { IsOfBroker B.gate B.group workers opened }
+    requires desk { desk ≡ N.history }
+{
+    match build::<B, N, R>(rt, alloc, gate, seats, opened, desk, workers) {
         Some(built) => day.pass(rt, alloc, gate, built),
         None => None,
     }

@@ -8,8 +8,10 @@ use crate::ending::{Counts, end};
 use crate::seen::Seen;
 use crate::worker::{keep, supply_of};
 use broker_groups::{Broker, BrokerPlace, Opened, Ports};
+use call_history::HistoryName;
 use conn_engine::Supply;
 use gate_word::{Gate, GateSeat};
+use shared_desk::OpenedDesk;
 use shared_supply::Hall;
 use std::alloc::Global;
 use std::marker::Brand;
@@ -62,10 +64,10 @@ struct OneBack<B: Broker> {
 }
 
 /// A worker works.
-fn work<B: Broker, C: Crew, R: Wait>(
+fn work<B: Broker, N: HistoryName, C: Crew, R: Wait>(
     rt: &R,
     alloc: Global,
-    hall: &Hall<'_, B>,
+    hall: &Hall<'_, B, N>,
     crew: &C,
     job: Job<B>,
 ) -> OneBack<B> {
@@ -113,13 +115,12 @@ fn together<B: Broker>(alloc: Global, backs: Vec<OneBack<B>>) -> Back<B> {
 }
 
 /// All workers work, each in a thread of its own; where memory is wanted for the threads, no ports come back.
-fn work_all<B: Broker + Send + Sync, C: Crew + Sync, R: Threads + Wait + Sync>(
-    rt: &R,
-    alloc: Global,
-    hall: &Hall<'_, B>,
-    hands: Vec<Hand<B>>,
-    crew: &C,
-) -> Back<B> {
+fn work_all<
+    B: Broker + Send + Sync,
+    N: HistoryName + Send + Sync,
+    C: Crew + Sync,
+    R: Threads + Wait + Sync,
+>(rt: &R, alloc: Global, hall: &Hall<'_, B, N>, hands: Vec<Hand<B>>, crew: &C) -> Back<B> {
     match thread::map_vec(
         rt,
         jobs_of(alloc, hands),
@@ -147,11 +148,43 @@ fn live<B: Broker + Send + Sync, C: Crew + Sync, R: Threads + Wait + Clock + Syn
     requires seats { AreSeatsOf gate.now seats.items }
     requires opened { IsOfBroker B.gate B.group workers opened }
 {
+    match OpenedDesk::open(alloc) {
+        Ok(desk) => live_with::<B, Brand, C, R>(
+            rt, alloc, gate, seats, opened, desk, workers, crew,
+        ),
+        Err(_) => {
+            opened.abandon();
+            None
+        }
+    }
+}
+
+/// The same, with a desk that is named by what it is.
+fn live_with<
+    B: Broker + Send + Sync,
+    N: HistoryName + Send + Sync,
+    C: Crew + Sync,
+    R: Threads + Wait + Clock + Sync,
+>(
+    rt: &R,
+    alloc: Global,
+    gate: &Gate,
+    seats: Vec<GateSeat>,
+    opened: Opened<'_>,
+    desk: OpenedDesk<BrokerPlace<B>>,
+    workers: u8,
+    crew: &C,
+) -> Option<Worked>
+    requires gate { gate.now ≡ B.gate }
+    requires seats { AreSeatsOf gate.now seats.items }
+    requires opened { IsOfBroker B.gate B.group workers opened }
+    requires desk { desk ≡ N.history }
+{
     let Built {
         hall,
         hands,
         spare: _,
-    } = build::<B, R>(rt, alloc, gate, seats, opened, workers)?;
+    } = build::<B, N, R>(rt, alloc, gate, seats, opened, desk, workers)?;
     let start = Instant::now(rt).ok();
     let Back { seen, ports } = work_all(rt, alloc, &hall, hands, crew);
     let took = since(rt, start);

@@ -1,6 +1,7 @@
 //! How a broker ends, and what its groups' reports count.
 
 use broker_groups::{Broker, Ended, Ports};
+use call_history::HistoryName;
 use group_jobs::{Envelope, Report};
 use group_queue::Unfinished;
 use shared_supply::Hall;
@@ -74,10 +75,10 @@ fn count(alloc: Global, ended: Ended<'_>) -> Vec<Counts> {
 }
 
 /// Ends a broker, and counts its groups' messages; where memory was wanted for that, nothing is told.
-pub fn end<B: Broker, R: Wait>(
+pub fn end<B: Broker, N: HistoryName, R: Wait>(
     rt: &R,
     alloc: Global,
-    hall: Hall<'_, B>,
+    hall: Hall<'_, B, N>,
     ports: Vec<Ports<B>>,
 ) -> Option<Vec<Counts>> {
     match hall.finish(rt, alloc, ports) {

@@ -4,6 +4,7 @@ ghost use Rattle.std.specs.Prelude.{◌≡◌};
 use crate::broker::{Built, Hand};
 use crate::ending::{Counts, end};
 use broker_groups::{Broker, BrokerPlace, Key, Ports};
+use call_history::HistoryName;
 use conn_engine::Supply;
 use gate_word::Gate;
 use shared_supply::{Hall, SharedSupply};
@@ -24,12 +25,12 @@ pub trait Shift {
 }
 
 /// The supply of a worker. Where memory is wanted for it, its ports come back.
-pub fn supply_of<'a, 'g, B: Broker, R: Wait>(
+pub fn supply_of<'a, 'g, B: Broker, N: HistoryName, R: Wait>(
     rt: &'a R,
     alloc: Global,
-    hall: &'a Hall<'g, B>,
+    hall: &'a Hall<'g, B, N>,
     hand: Hand<B>,
-) -> Result<SharedSupply<'a, 'g, B, R>, Ports<B>> {
+) -> Result<SharedSupply<'a, 'g, B, N, R>, Ports<B>> {
     let Hand { key, ports } = hand;
     match hall.know_routes(alloc) {
         Ok(known) => Ok(SharedSupply::new(rt, alloc, hall, key, ports, known)),
@@ -38,11 +39,11 @@ pub fn supply_of<'a, 'g, B: Broker, R: Wait>(
 }
 
 /// A worker works; its ports come back.
-fn work<B: Broker, H: Shift, R: Wait>(
+fn work<B: Broker, N: HistoryName, H: Shift, R: Wait>(
     rt: &R,
     alloc: Global,
     gate: &Gate,
-    hall: &Hall<'_, B>,
+    hall: &Hall<'_, B, N>,
     hand: Hand<B>,
     spare: Key<B>,
     shift: &mut H,
@@ -61,11 +62,11 @@ fn work<B: Broker, H: Shift, R: Wait>(
 }
 
 /// One worker of a broker works, and the broker ends.
-pub fn work_alone<B: Broker, H: Shift, R: Wait>(
+pub fn work_alone<B: Broker, N: HistoryName, H: Shift, R: Wait>(
     rt: &R,
     alloc: Global,
     gate: &Gate,
-    built: Built<'_, B>,
+    built: Built<'_, B, N>,
     shift: &mut H,
 ) -> Option<Vec<Counts>>
     requires { gate.now ≡ B.gate }

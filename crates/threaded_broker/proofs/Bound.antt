@@ -6,8 +6,9 @@ use Rattle.std.proofs.lemmas.List.Quantifiers.{position-Some}
 use Rattle.std.proofs.lemmas.Option.{slice_get-get_or}
 use Rattle.std.proofs.lemmas.Slice.Eq.{bytes_eq-Decides}
 use Rattle.mqtt_topic.specs.Names.{Share}
-use Rattle.shared_routes.specs.declared.error.NoSlot.{NoSlot}
-use Rattle.shared_routes.specs.Known.{KnownState, BindAnswers, Grows, IsBound, HasNoSlot, learning}
+use Rattle.mqtt_topic.specs.Routes.{slot_of}
+use Rattle.shared_routes.specs.Known.{KnownState, Grows, IsBound}
+use Rattle.shared_routes.proofs.Learning.{learns_none, learns_both}
 use Rattle.threaded_broker.specs.Shares.{IsAmong, IsBoundIn}
 
 pub in_more : (xs ys : List Share) (k : ℕ) (x : Share) → slice_get xs k ≡ Some x → slice_get (xs ++ ys) k ≡ Some x
@@ -67,15 +68,16 @@ at_end (y ∷ xs) x = at_end xs x
 bytes_same : (xs ys : List ℕ) → bytes_eq xs ys ≡ true → xs ≡ ys
 bytes_same xs ys test = (bytes_eq-Decides xs ys).0 test
 
--- who binds a share sees it bound, or all slots
-pub sees : (old new : KnownState) (share : Share) (result : Result ℕ NoSlot) → BindAnswers old share result new → IfOk result (λ slot. slot < 8) → IsBoundIn new.shares share
-sees old new share (Ok slot) (inl found) few =
+-- who binds a share sees it bound
+pub sees : (old new : KnownState) (share : Share) (slot : ℕ) → ((slot_of share.text old.shares ≡ Some slot) × (new ≡ old)) ⊎ IsBound old share slot new → slot < 8
+    → IsBoundIn new.shares share
+sees old new share slot (inl found) few =
     let at : slot < length old.shares = (position-Some (λ (one : Share). bytes_eq one.text share.text) old.shares slot share found.0).0 in
     let test : bytes_eq (get_or old.shares slot share).text share.text ≡ true = (position-Some (λ (one : Share). bytes_eq one.text share.text) old.shares slot share found.0).1 in
     subst (λ (known : KnownState). IsBoundIn known.shares share) (sym found.1)
     (inl (record { slot = slot; share = get_or old.shares slot share; few = few; there = slice_get-get_or old.shares slot share at; same = bytes_same _ _ test }))
-sees old new share (Ok slot) (inr bound) few =
-    let ends : new.shares ≡ (old.shares ++ bound.others) ++ bound.bound ∷ [] = ap (λ (known : KnownState). known.shares) bound.grown ∙ sym (append_assoc old.shares bound.others (bound.bound ∷ [])) in
+sees old new share slot (inr bound) few =
+    let ends : new.shares ≡ (old.shares ++ bound.others) ++ bound.bound ∷ [] = bound.grown.shares ∙ sym (append_assoc old.shares bound.others (bound.bound ∷ [])) in
     inl (record {
       slot = slot;
       share = bound.bound;
@@ -84,31 +86,21 @@ sees old new share (Ok slot) (inr bound) few =
           (subst (λ n. slice_get ((old.shares ++ bound.others) ++ bound.bound ∷ []) n ≡ Some bound.bound) (sym bound.slot_is) (at_end (old.shares ++ bound.others) bound.bound));
       same = bound.same;
     })
-sees old new share (Err refusal) none few = inr (omega (arith, none.full))
 
 grown : (old new : KnownState) (shares : List Share) → Grows old new → All (IsBoundIn old.shares) shares → All (IsBoundIn new.shares) shares
-grown old new shares grows bound = subst (λ (known : KnownState). All (IsBoundIn known.shares) shares) (sym grows.1) (all_stay old.shares grows.0 shares bound)
+grown old new shares grows bound = subst (λ (all : List Share). All (IsBoundIn all) shares) (sym grows.1.shares) (all_stay old.shares grows.0 shares bound)
 
 -- a share that is bound before others stays bound
 pub with_others : (mid new : KnownState) (share : Share) (others : List Share) → IsBoundIn mid.shares share → Grows mid new → All (IsBoundIn new.shares) others
     → All (IsBoundIn new.shares) (share ∷ others)
 with_others mid new share others bound grows rest =
-    All-cons (IsBoundIn new.shares) share others (subst (λ (known : KnownState). IsBoundIn known.shares share) (sym grows.1) (stays mid.shares grows.0 share bound)) rest
+    All-cons (IsBoundIn new.shares) share others (subst (λ (all : List Share). IsBoundIn all share) (sym grows.1.shares) (stays mid.shares grows.0 share bound)) rest
 
 pub grows_on : (old mid new : KnownState) → Grows old mid → Grows mid new → Grows old new
-grows_on old mid new first second = (
-  first.0 ++ second.0,
-  second.1 ∙ ap (λ (known : KnownState). learning known second.0) first.1 ∙ ap (λ shares. let it : KnownState = record { table = old.table; shares = shares } in it) (append_assoc old.shares first.0 second.0),
-)
+grows_on old mid new first second = (first.0 ++ second.0, learns_both old mid new first.0 second.0 first.1 second.1)
 
 pub grows_not : (known : KnownState) → Grows known known
-grows_not known = ([], ap (λ shares. let it : KnownState = record { table = known.table; shares = shares } in it) (sym (append-nil known.shares)))
-
--- what bind says of what is known grows it
-pub binding : (old new : KnownState) (share : Share) (result : Result ℕ NoSlot) → BindAnswers old share result new → Grows old new
-binding old new share (Ok slot) (inl found) = subst (λ (known : KnownState). Grows old known) (sym found.1) (grows_not old)
-binding old new share (Ok slot) (inr bound) = (bound.others ++ bound.bound ∷ [], bound.grown)
-binding old new share (Err refusal) none = (none.others, none.grown)
+grows_not known = ([], learns_none known)
 
 -- what is copied at the end has all that were bound
 pub at_the_end : (old new : KnownState) (shares copies : List Share) → All (IsBoundIn old.shares) shares → Grows old new → copies ≡ take 8 new.shares → All (IsBoundIn copies) shares

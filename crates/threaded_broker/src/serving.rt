@@ -10,6 +10,7 @@ use crate::shares::{bind_all, copy_all};
 use bell::Wake;
 use broker_groups::{Broker, BrokerPlace, Ended, Ports};
 use broker_worker::{Gear, Hand, Poller, ServedCounts};
+use call_history::HistoryName;
 use conn_engine::NoMemory;
 use conn_service::laws::quota_law;
 use final_report::end_broker;
@@ -60,6 +61,7 @@ pub struct Outcome<'g, S> {
 pub fn serve<
     'g,
     B: Broker + Send + Sync,
+    N: HistoryName + Send + Sync,
     T: Transport + Drop + Send,
     S: Source<T> + Drop + Send,
     Q: Poller<T> + Drop + Send,
@@ -72,7 +74,7 @@ pub fn serve<
 >(
     rt: &R,
     alloc: Global,
-    hall: Hall<'g, B>,
+    hall: Hall<'g, B, N>,
     shares: &[Share],
     hands: Vec<Hand<B>>,
     room: Vec<Ports<B>>,
@@ -94,7 +96,7 @@ pub fn serve<
     ensures watched { IfOk result (λ _. D.has_watched watch.old watch.new input.old input.new) }
     ensures shares { IfOk result (λ outcome. All (IsBoundIn outcome.shares.items) shares.now) }
 {
-    quota_law::<BrokerPlace<B>, T, SharedSupply<'_, '_, B, R>>();
+    quota_law::<BrokerPlace<B>, T, SharedSupply<'_, '_, B, N, R>>();
     let mut stopper = stopper;
     let ran = run_bound(
         rt, alloc, &hall, shares, hands, gear, alarms, source, crossing, closer, watch, input,
@@ -132,6 +134,7 @@ struct Ran<B: Broker, S> {
 /// Binds the shares, and runs the pool. Where memory is wanted, what its workers had of the broker comes back.
 fn run_bound<
     B: Broker + Send + Sync,
+    N: HistoryName + Send + Sync,
     T: Transport + Drop + Send,
     S: Source<T> + Drop + Send,
     Q: Poller<T> + Drop + Send,
@@ -144,7 +147,7 @@ fn run_bound<
 >(
     rt: &R,
     alloc: Global,
-    hall: &Hall<'_, B>,
+    hall: &Hall<'_, B, N>,
     shares: &[Share],
     hands: Vec<Hand<B>>,
     gear: Vec<Gear<Q, C>>,
@@ -166,7 +169,7 @@ fn run_bound<
     let Ok(mut known) = hall.know_routes(alloc) else {
         return Err(hands);
     };
-    let Ok(()) = bind_all(rt, alloc, &mut known, shares) else {
+    let Ok(()) = bind_all(alloc, &mut known, shares) else {
         return Err(hands);
     };
     match run(
@@ -184,11 +187,11 @@ fn run_bound<
 }
 
 /// Ends the groups of a broker that is drained.
-fn end<'g, B: Broker, R: Wait>(
+fn end<'g, B: Broker, N: HistoryName, R: Wait>(
     rt: &R,
     alloc: Global,
     drained: &Drained,
-    hall: Hall<'g, B>,
+    hall: Hall<'g, B, N>,
     ports: Vec<Ports<B>>,
 ) -> Result<Ended<'g>, NoMemory>
     requires { drained.now ≡ B.gate }
@@ -204,7 +207,7 @@ fn end<'g, B: Broker, R: Wait>(
 }
 
 /// Gives a broker up, without a word of what became of its messages.
-pub fn give_up<B: Broker>(hall: Hall<'_, B>, ports: Vec<Ports<B>>) {
+pub fn give_up<B: Broker, N: HistoryName>(hall: Hall<'_, B, N>, ports: Vec<Ports<B>>) {
     let (groups, desk, _routes) = hall.into_parts();
     let left = StillOpen::Desk {
         desk: desk.into_desk(),

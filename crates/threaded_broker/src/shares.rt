@@ -7,13 +7,11 @@ use bytes::Bytes;
 use conn_engine::NoMemory;
 use mqtt_packet::Text;
 use mqtt_topic::Share;
-use shared_routes::KnownRoutes;
+use shared_routes::{BindError, KnownRoutes};
 use std::alloc::Global;
-use std::sync::Wait;
 
 /// Binds shares, each to the least slot that is free; where none is, those that are left are not bound.
-pub(crate) fn bind_all<R: Wait>(
-    rt: &R,
+pub(crate) fn bind_all(
     alloc: Global,
     known: &mut KnownRoutes<'_>,
     shares: &[Share],
@@ -25,18 +23,22 @@ pub(crate) fn bind_all<R: Wait>(
         [] => Ok(()),
         [share, others @ ..] => {
             let copy = copy_of(alloc, share)?;
-            bind(rt, known, copy);
-            bind_all(rt, alloc, known, others)
+            bind(alloc, known, copy)?;
+            bind_all(alloc, known, others)
         }
     }
 }
 
 /// Binds a share, where a slot is free.
-fn bind<R: Wait>(rt: &R, known: &mut KnownRoutes<'_>, share: Share)
+fn bind(alloc: Global, known: &mut KnownRoutes<'_>, share: Share) -> Result<(), NoMemory>
     ensures grows { Grows known.old known.new }
-    ensures bound { IsBoundIn known.new.shares share }
+    ensures bound { OnOk result (IsBoundIn known.new.shares share) }
 {
-    let _slot = known.bind(rt, share);
+    match known.bind(alloc, share) {
+        Ok(_) => Ok(()),
+        Err(BindError::NoSlot) => Ok(()),
+        Err(BindError::Memory) => Err(NoMemory),
+    }
 }
 
 /// Copies of the shares that are bound, in the order of their slots.

@@ -6,9 +6,10 @@ ghost use Rattle.broker_groups.specs.Naming.{HasNoneOut, IsOfBroker};
 use crate::in_memory::{AlwaysReady, Meeting, NothingToWatch, Silent};
 use broker_groups::{Broker, BrokerPlace, Ended, Key, Named, Opened, Ports};
 use broker_worker::{Gear, Hand};
+use call_history::HistoryName;
 use gate_word::{Gate, GateSeat};
 use group_jobs::Envelope;
-use shared_desk::SharedDesk;
+use shared_desk::{DeskPass, OpenedDesk, SharedDesk};
 use shared_routes::SharedRoutes;
 use shared_supply::Hall;
 use std::alloc::{AllocError, Global};
@@ -90,24 +91,30 @@ fn told_of<S: Drop>(outcome: Outcome<'_, S>) -> Told {
 }
 
 /// Gives the desk all places.
-fn furnish<B: Broker, R: Wait>(
+fn furnish<B: Broker, N: HistoryName, R: Wait>(
     rt: &R,
-    desk: &SharedDesk<BrokerPlace<B>>,
+    desk: &SharedDesk<BrokerPlace<B>, N>,
+    pass: &mut DeskPass<BrokerPlace<B>, N>,
     places: Vec<BrokerPlace<B>>,
 )
     requires { All HasNoneOut places.items }
 {
     let mut places = places;
     'places: while let Some(place) = places.pop() {
-        give_place(rt, desk, place);
+        give_place(rt, desk, pass, place);
     }
 }
 
 /// Gives the desk a place.
-fn give_place<B: Broker, R: Wait>(rt: &R, desk: &SharedDesk<BrokerPlace<B>>, place: BrokerPlace<B>)
+fn give_place<B: Broker, N: HistoryName, R: Wait>(
+    rt: &R,
+    desk: &SharedDesk<BrokerPlace<B>, N>,
+    pass: &mut DeskPass<BrokerPlace<B>, N>,
+    place: BrokerPlace<B>,
+)
     requires { HasNoneOut place }
 {
-    let _back = desk.take_place(rt, place);
+    let _back = desk.take_place(rt, pass, place);
 }
 
 /// The last seat.
@@ -183,12 +190,13 @@ fn closers<'a, B: Broker>(
 /// Serves what comes from a source with all workers of a broker, who meet before each write.
 fn attend<
     B: Broker + Send + Sync,
+    N: HistoryName + Send + Sync,
     S: Source<Scripted> + Drop + Send,
     R: Threads + Wait + Clock + Sync,
 >(
     rt: &R,
     alloc: Global,
-    hall: Hall<'_, B>,
+    hall: Hall<'_, B, N>,
     hands: Vec<Hand<B>>,
     workers: u8,
     source: S,
@@ -226,7 +234,7 @@ fn attend<
     Some(told_of(served.ok()?))
 }
 
-/// Names what was opened, and serves.
+/// Opens the desk, names what was opened, and serves.
 fn live<
     B: Broker + Send + Sync,
     S: Source<Scripted> + Drop + Send,
@@ -244,20 +252,52 @@ fn live<
     requires seats { AreSeatsOf gate.now seats.old.items }
     requires opened { IsOfBroker B.gate B.group workers opened }
 {
+    match OpenedDesk::open(alloc) {
+        Ok(desk) => live_with::<B, Brand, S, R>(
+            rt, alloc, gate, seats, opened, desk, workers, source,
+        ),
+        Err(_) => {
+            opened.abandon();
+            None
+        }
+    }
+}
+
+/// The same, with a desk that is named by what it is.
+fn live_with<
+    B: Broker + Send + Sync,
+    N: HistoryName + Send + Sync,
+    S: Source<Scripted> + Drop + Send,
+    R: Threads + Wait + Clock + Sync,
+>(
+    rt: &R,
+    alloc: Global,
+    gate: &Gate,
+    seats: &mut Vec<GateSeat>,
+    opened: Opened<'_>,
+    desk: OpenedDesk<BrokerPlace<B>>,
+    workers: u8,
+    source: S,
+) -> Option<Told>
+    requires gate { gate.now ≡ B.gate }
+    requires seats { AreSeatsOf gate.now seats.old.items }
+    requires opened { IsOfBroker B.gate B.group workers opened }
+    requires desk { desk ≡ N.history }
+{
     let Named {
         groups,
         ports,
         places,
     } = match opened.name::<B>(alloc, workers) {
         Ok(named) => named,
-        Err(_) => return None,
+        Err(_) => {
+            desk.abandon();
+            return None;
+        }
     };
-    let Ok(desk) = SharedDesk::new(alloc) else {
-        groups.abandon();
-        return None;
-    };
-    furnish(rt, &desk, places);
-    let hall = Hall::new(gate, groups, desk, SharedRoutes::new());
+    let (desk, mut pass) = desk.name::<N>();
+    furnish(rt, &desk, &mut pass, places);
+    let hall = Hall::new(gate, groups, desk, SharedRoutes::new(alloc));
     let (Some(hands), Some((accepting, ending))) = (
         deal(alloc, gate, seats, ports),
         closers(gate, seats),

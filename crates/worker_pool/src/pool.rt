@@ -11,6 +11,7 @@ use crate::watching::Watch;
 use bell::Wake;
 use broker_groups::Broker;
 use broker_worker::{Arrived, Gear, Hand, Kit, Poller, Roster, ServedCounts, Worker};
+use call_history::HistoryName;
 use conn_channel::{Receiver, Sender};
 use shared_supply::Hall;
 use std::alloc::Global;
@@ -48,6 +49,7 @@ pub struct Unbegun<B: Broker, S> {
 /// 906 [`Unbegun`].
 pub fn run<
     B: Broker + Send + Sync,
+    N: HistoryName + Send + Sync,
     T: Transport + Drop + Send,
     S: Source<T> + Drop + Send,
     Q: Poller<T> + Drop + Send,
@@ -60,7 +62,7 @@ pub fn run<
 >(
     rt: &R,
     alloc: Global,
-    hall: &Hall<'_, B>,
+    hall: &Hall<'_, B, N>,
     hands: Vec<Hand<B>>,
     gear: Vec<Gear<Q, C>>,
     alarms: Vec<W>,
@@ -106,6 +108,7 @@ fn hire<
     'a,
     'g,
     B: Broker,
+    N: HistoryName,
     T: Transport + Drop,
     Q: Poller<T> + Drop,
     W: Wake + Drop,
@@ -115,13 +118,13 @@ fn hire<
 >(
     rt: &'a R,
     alloc: Global,
-    hall: &'a Hall<'g, B>,
+    hall: &'a Hall<'g, B, N>,
     hands: Vec<Hand<B>>,
     kits: Vec<Kit<T, Q, W, C>>,
     roster: &'a Roster<W>,
     crossing: &'a X,
     sender: &Sender<Arrived<T>>,
-) -> Result<(Vec<Worker<'a, 'g, B, T, Q, W, X, C, R>>, Vec<Hand<B>>), Vec<Hand<B>>>
+) -> Result<(Vec<Worker<'a, 'g, B, N, T, Q, W, X, C, R>>, Vec<Hand<B>>), Vec<Hand<B>>>
     requires count { length hands.items ≤ 64 }
     requires kits { length kits.items ≡ length hands.items }
     requires each { All (λ kit. kit ≡ new_receiver sender.now.channel) kits.items }
@@ -155,13 +158,14 @@ fn let_go<
     'a,
     'g,
     B: Broker,
+    N: HistoryName,
     T: Transport + Drop,
     Q: Poller<T> + Drop,
     W: Wake + Drop,
     X: Crossing,
     C: Clock + Drop,
     R: Wait,
->(workers: Vec<Worker<'a, 'g, B, T, Q, W, X, C, R>>, hands: &mut Vec<Hand<B>>)
+>(workers: Vec<Worker<'a, 'g, B, N, T, Q, W, X, C, R>>, hands: &mut Vec<Hand<B>>)
     requires { length hands.old.items + length workers.items ≤ vec_capacity hands.old }
     ensures { length hands.new.items ≡ length hands.old.items + length workers.entry.items }
 {
@@ -178,6 +182,7 @@ fn retire<
     'a,
     'g,
     B: Broker,
+    N: HistoryName,
     T: Transport + Drop,
     S: Source<T> + Drop,
     Q: Poller<T> + Drop,
@@ -187,7 +192,7 @@ fn retire<
     R: Wait,
 >(
     acceptor: Acceptor<'a, B, T, S, W>,
-    workers: Vec<Worker<'a, 'g, B, T, Q, W, X, C, R>>,
+    workers: Vec<Worker<'a, 'g, B, N, T, Q, W, X, C, R>>,
     hands: Vec<Hand<B>>,
     receivers: Vec<Receiver<Arrived<T>>>,
     served: Vec<ServedCounts>,
@@ -226,6 +231,7 @@ fn gather<
     'a,
     'g,
     B: Broker,
+    N: HistoryName,
     T: Transport + Drop,
     Q: Poller<T> + Drop,
     W: Wake + Drop,
@@ -233,7 +239,7 @@ fn gather<
     C: Clock + Drop,
     R: Wait,
 >(
-    workers: Vec<Worker<'a, 'g, B, T, Q, W, X, C, R>>,
+    workers: Vec<Worker<'a, 'g, B, N, T, Q, W, X, C, R>>,
     sender: &Sender<Arrived<T>>,
     hands: &mut Vec<Hand<B>>,
     receivers: &mut Vec<Receiver<Arrived<T>>>,

@@ -8,6 +8,7 @@ use crate::watching::Watch;
 use bell::Wake;
 use broker_groups::Broker;
 use broker_worker::{Poller, Worker};
+use call_history::HistoryName;
 use std::rt::Clock as SystemClock;
 use std::sync::Wait;
 use std::thread;
@@ -39,13 +40,14 @@ impl<
     'a,
     'g,
     B: Broker,
+    N: HistoryName,
     T: Transport + Drop,
     Q: Poller<T> + Drop,
     W: Wake + Drop,
     X: Crossing,
     C: Clock + Drop,
     R: Wait,
-> Labour<R> for Worker<'a, 'g, B, T, Q, W, X, C, R> {
+> Labour<R> for Worker<'a, 'g, B, N, T, Q, W, X, C, R> {
     ghost use Rattle.worker_pool.specs.Workers.{HasRun};
 
     ghost has_run = { λ old new. HasRun old new };
@@ -64,6 +66,7 @@ pub(crate) fn run_all<
     'a,
     'g,
     B: Broker + Send + Sync,
+    N: HistoryName + Send + Sync,
     T: Transport + Drop + Send,
     S: Source<T> + Send,
     Q: Poller<T> + Drop + Send,
@@ -78,7 +81,7 @@ pub(crate) fn run_all<
     acceptor: &mut Acceptor<'a, B, T, S, W>,
     watch: &mut D,
     input: &mut I,
-    workers: &mut Vec<Worker<'a, 'g, B, T, Q, W, X, C, R>>,
+    workers: &mut Vec<Worker<'a, 'g, B, N, T, Q, W, X, C, R>>,
 )
     ensures accepted { HasAccepted S.tally acceptor.old acceptor.new }
     ensures watched { D.has_watched watch.old watch.new input.old input.new }

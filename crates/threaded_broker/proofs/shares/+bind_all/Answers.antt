@@ -4,7 +4,7 @@ use Rattle.threaded_broker.specs.Shares.{IsBoundIn}
 use Rattle.threaded_broker.proofs.Bound.{with_first, whole_of}
 use Rattle.threaded_broker.proofs.shares.+bind_all.Goals as goal
 
-pub returns-in_ok-copy-in-len1-up-clause-bound : goal.returns-in_ok-copy-in-len1-up-clause-bound
-returns-in_ok-copy-in-len1-up-clause-bound g t c =
+pub returns-in_ok-bind-in-len1-up-clause-bound : goal.returns-in_ok-bind-in-len1-up-clause-bound
+returns-in_ok-bind-in-len1-up-clause-bound t c =
     subst (λ all. OnOk c.bind_all.result (All (IsBoundIn c.bind_all.new.known.shares) all)) (whole_of c.args.shares.now c.share-item.result _ (omega arith) (sym c.share-item.is))
-    (with_first c.bind_all.result c.bind.new.known c.bind_all.new.known c.share-item.result _ (subst (λ one. IsBoundIn c.bind.new.known.shares one) c.in_ok-copy-in-len1-up.ensures c.bind.ensures.bound) c.bind_all.ensures.grows c.bind_all.ensures.bound)
+    (with_first c.bind_all.result c.bind.new.known c.bind_all.new.known c.share-item.result _ (subst (λ one. IsBoundIn c.bind.new.known.shares one) c.in_ok-copy-in-len1-up.ensures c.in_ok-bind-in-len1-up.ensures.bound) c.bind_all.ensures.grows c.bind_all.ensures.bound)
