@@ -66,13 +66,22 @@ impl<E> Opened<E> {
     }
 }
 
-/// A history, which threads share by reference.
+/// A history, which threads share by reference. Contracts see it as its table.
 #[derive(Drop)]
 pub struct CallHistory<E, N: HistoryName> {
     word: Word<E>,
     of: PhantomData<N>,
-    ghost word_is: { word.shared.table_id ≡ N.history },
-    ghost has_word: { word.shared.table_id.words ≡ 1 },
+}
+
+impl<E, N: HistoryName> Model for CallHistory<E, N> {
+    ghost use Rattle.std.specs.Prelude.{◌≡◌};
+    ghost use Rattle.atomic_table.specs.Seated.{TableId};
+
+    ghost Value = { TableId };
+
+    ghost view = { λ h. h.word.shared.table_id };
+
+    ghost invariant = { λ h. (h.word.shared.table_id ≡ N.history) × (h.word.shared.table_id.words ≡ 1) };
 }
 
 /// Who writes a history, and knows all of it. Contracts see it as the history, in the order of its calls.
