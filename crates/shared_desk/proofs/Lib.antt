@@ -1,4 +1,5 @@
 pub mod Desks
 pub mod Parts
+pub mod Holders
 pub mod Histories
 pub mod Pasts

@@ -35,7 +35,7 @@ module _ {E P : Type 0} (cell : P → ℕ) where
       let few = few_outs (map.get books.rows number) in
       (omega arith, omega arith)
 
-  total_on : (count : Call E P → ℕ) (calls more : List (Call E P)) → total count (calls ++ more) ≡ total count calls + total count more
+  pub total_on : (count : Call E P → ℕ) (calls more : List (Call E P)) → total count (calls ++ more) ≡ total count calls + total count more
   total_on count [] more = omega arith
   total_on count (call ∷ calls) more = (let rest = total_on count calls more in omega arith)
 

@@ -10,6 +10,7 @@ ghost use Rattle.session_desk.specs.Stored.{TakesOut, last_in};
 ghost use Rattle.session_desk.specs.declared.session.Session.{Session};
 ghost use Rattle.shared_desk.specs.Books.{IsMade};
 ghost use Rattle.shared_desk.specs.Histories.{IsHistory, IsTold};
+ghost use Rattle.shared_desk.specs.Holders.{IsHolder};
 
 use conn_engine::HoldingPlace;
 
@@ -23,7 +24,7 @@ pub fn histories<P: HoldingPlace>()
 {}
 
 /// **A session is in one pair of hands**, whichever threads call. It was handed out as often as it was handed in, or once more (`hands`). Between a call that
-/// hands it out, and did not take it in itself, and another that hands it out, it was handed in (`between`): so it is lent to one connection at a time.
+/// hands it out, and did not take it in itself, and another that hands it out, it was handed in (`between`).
 pub fn one_pair_of_hands<P: HoldingPlace>()
     ensures hands { (calls : List (Call Held P)) (number : ℕ) → IsHistory P.has_out P.slot_of P.number_of calls →
         (total (handed_in number) calls ≤ total (handed_out number) calls) × (total (handed_out number) calls ≤ total (handed_in number) calls + 1) }
@@ -31,6 +32,12 @@ pub fn one_pair_of_hands<P: HoldingPlace>()
         IsHistory P.has_out P.slot_of P.number_of (before ++ one ∷ (within ++ other ∷ after)) →
         handed_in number one ≡ 0 → 0 < handed_out number one → 0 < handed_out number other →
         0 < total (handed_in number) (within ++ other ∷ []) }
+{}
+
+/// **A session is lent to one connection at a time**, whichever threads call: where it was lent to two, and handed in since neither loan, both are one connection.
+pub fn one_holder<P: HoldingPlace>()
+    ensures { (calls : List (Call Held P)) (number one other : ℕ) → IsHistory P.has_out P.slot_of P.number_of calls →
+        IsHolder calls number one → IsHolder calls number other → one ≡ other }
 {}
 
 /// **What comes out is the very session that went in last**, whichever threads call: a session that is resumed, ends for a new one, or is handed out to be retired is, in

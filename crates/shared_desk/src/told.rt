@@ -1,6 +1,4 @@
 //! The history of a desk, and what a thread knows of it.
-ghost use Rattle.std.specs.Prelude.{◌≡◌, ◌++◌, List};
-ghost use mathlib.Core.List.{IsPrefix};
 ghost use Rattle.shared_desk.specs.Histories.{IsHistory};
 
 use call_history::{CallHistory, HistoryName, Known};
@@ -44,4 +42,13 @@ impl<P: HoldingPlace, D: HistoryName> Model for DeskPass<P, D> {
     ghost view = { λ d. d.known };
 
     ghost invariant = { λ d. IsHistory P.has_out P.slot_of P.number_of d.known };
+}
+
+impl<P: HoldingPlace, D: HistoryName> DeskPass<P, D> {
+    /// What it knows is a history of a desk.
+    pub fn is_history(&self)
+        ensures { IsHistory P.has_out P.slot_of P.number_of self.now }
+    {
+        let _known = &self.known;
+    }
 }
