@@ -1,5 +1,5 @@
 -- What each call of a connection makes of its worker, and what it answers.
-use Rattle.std.specs.Prelude.{◌≡◌, ℕ, true, Option, Some, None, Result, Ok, Err, IfSome}
+use Rattle.std.specs.Prelude.{◌≡◌, ◌⊎◌, ℕ, true, List, Option, None, Result, Ok, Err}
 use Rattle.mqtt_topic.specs.Names.{Share}
 use Rattle.mqtt_topic.specs.Routes.{slot_of, routed, places_of}
 use Rattle.group_jobs.specs.Stamps.{Held}
@@ -7,7 +7,8 @@ use Rattle.session_desk.specs.declared.session.Session.{Session}
 use Rattle.session_desk.specs.Books.{Books, IsKicked}
 use Rattle.session_desk.specs.Calls.{Call}
 use Rattle.session_desk.specs.Calls as desk
-use Rattle.shared_desk.specs.Books.{IsLawful, IsMade}
+use Rattle.shared_desk.specs.Books.{IsLawful}
+use Rattle.shared_desk.specs.Histories.{IsTold}
 use Rattle.conn_engine.specs.declared.supply.BindRefusal.{BindRefusal}
 use Rattle.conn_engine.specs.declared.supply.BindRefusal.TheVariants as bind
 use Rattle.conn_engine.specs.Facts.{Fact}
@@ -23,17 +24,17 @@ use Rattle.shared_supply.specs.Waking.{asking_back, freeing, one_more_if, one_ta
 use Rattle.shared_supply.specs.Workers.{Worker}
 use Rattle.shared_supply.specs.Settling.{SettlesAndGathers}
 
--- the call was made of the desk, as it stood between other workers' calls
-abbrev pub IsMadeOfDesk : Call Held PlaceState → Type 0
-IsMadeOfDesk call = IsMade HasOut (λ (p : PlaceState). p.group) (λ (p : PlaceState). p.number) call
+-- the desk was called behind what was known of its calls and what others did since, in the one history of its calls
+abbrev pub IsToldOfDesk : List (Call Held PlaceState) → Call Held PlaceState → List (Call Held PlaceState) → Type 0
+IsToldOfDesk known call now = IsTold HasOut (λ (p : PlaceState). p.group) (λ (p : PlaceState). p.number) known call now
 
 -- the same worker, who has these to wake
 abbrev pub waking : Worker → Wakes → Worker
 waking worker wakes = record worker { wakes = wakes }
 
--- a call of the desk; the worker is as it was
+-- a call of the desk, which the worker knows of from then on; the rest of the worker is as it was
 abbrev pub AsksDesk : Worker → Call Held PlaceState → Worker → Type 0
-AsksDesk old call new = IsMadeOfDesk call × (new ≡ old)
+AsksDesk old call new = IsToldOfDesk old.desk call new.desk × (new ≡ record old { desk = new.desk })
 
 -- a session goes back to the desk; where it is none of the desk's, it is let go
 abbrev pub HandsIn : Worker → (Option (Session Held PlaceState) → Call Held PlaceState) → Worker → Type 0
@@ -63,7 +64,7 @@ module _ (group : ℕ → GroupId) where
   Calls old (ParkAsIs session) new = HandsIn (waking old (freeing old.wakes)) (λ back. desk.ParkAsIs session back) new
   Calls old (Keep session) new = HandsIn old (λ back. desk.Keep session back) new
   Calls old (Bury session) new = HandsIn old (λ back. desk.Bury session back) new
-  Calls old (Sweep now answer) new = IfSome answer (λ session. IsMadeOfDesk (desk.Sweep now (Some session))) × (new ≡ old)
+  Calls old (Sweep now answer) new = ((answer ≡ None) × (new ≡ old)) ⊎ AsksDesk old (desk.Sweep now answer) new
   Calls old (LendPlace slot answer) new = AsksDesk old (desk.LendPlace slot answer) new
   Calls old (TakePlace place) new = HandsInPlace old place new
   Calls old (Bind share answer) new = Binds old.known share answer new.known × (new ≡ record old { known = new.known })

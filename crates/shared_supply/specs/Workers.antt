@@ -1,10 +1,13 @@
--- What a worker of a broker has: where it stands at the gate, what it publishes through, what it knows of the routes, and whom it has to wake.
+-- What a worker of a broker has: where it stands at the gate, what it publishes through, what it knows of the routes and of the calls of the desk, and whom it has to wake.
 use Rattle.std.specs.Prelude.{◌≡◌, ◌⊎◌, Bool, true, false, List, Option, Some, None}
 use Rattle.gate_word.specs.declared.visitor.Visitor.{Visitor}
 use Rattle.gate_word.specs.declared.visitor.Visitor.TheVariants.{Outside, Inside}
 use Rattle.gate_word.specs.Seats.{GateId, Seat, new_seat}
 use Rattle.gate_word.specs.Visits.{seat_in, Tries, Ends}
+use Rattle.group_jobs.specs.Stamps.{Held}
+use Rattle.session_desk.specs.Calls.{Call}
 use Rattle.group_queue.specs.Ports.{PortState}
+use Rattle.group_queue.specs.Places.{PlaceState}
 use Rattle.shared_routes.specs.Known.{KnownState, AreFirst, Grows}
 use Rattle.broker_groups.specs.Brokers.{no_gate}
 use Rattle.shared_supply.specs.declared.wakes.Wakes.{Wakes}
@@ -13,6 +16,8 @@ pub record Worker : Type 0 where
   pub visitor : Visitor
   pub ports : List PortState
   pub known : KnownState
+  -- in the order of the desk's lock, up to the worker's own last one
+  pub desk : List (Call Held PlaceState)
   pub wakes : Wakes
 
 -- a visit is going on
@@ -39,6 +44,7 @@ pub record Begins (old new : Worker) : Type 0 where
   pub ports : new.ports ≡ old.ports
   pub known : Grows old.known new.known
   pub told : AreFirst old.known.told new.known.shares
+  pub desk : new.desk ≡ old.desk
   pub wakes : new.wakes ≡ old.wakes
 
 -- the worker leaves

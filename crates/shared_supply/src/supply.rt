@@ -39,7 +39,7 @@ impl<'a, 'g, B: Broker, N: HistoryName, R: Wait> Model for SharedSupply<'a, 'g, 
 
     ghost Value = { Worker };
 
-    ghost view = { λ s. record { visitor = standing s.visitor; ports = s.ports; known = s.known; wakes = s.wakes } };
+    ghost view = { λ s. record { visitor = standing s.visitor; ports = s.ports; known = s.known; desk = s.desk; wakes = s.wakes } };
 
     ghost invariant = { λ s. IsVisitorOf B.gate s.visitor × (s.known.table ≡ s.hall.now) };
 }
@@ -55,7 +55,7 @@ impl<'a, 'g, B: Broker, N: HistoryName, R: Wait> SharedSupply<'a, 'g, B, N, R> {
         known: KnownRoutes<'a>,
     ) -> SharedSupply<'a, 'g, B, N, R>
         requires { known.table ≡ hall.now }
-        ensures { result ≡ record { visitor = Outside key; ports = ports; known = known.entry; wakes = no_wakes } }
+        ensures { result ≡ record { visitor = Outside key; ports = ports; known = known.entry; desk = result.desk; wakes = no_wakes } }
     {
         SharedSupply {
             rt,

@@ -1,5 +1,5 @@
 -- A share that is bound stays bound as more is learnt, and among the first eight.
-use Rattle.std.proofs.Common.{◌≡◌, ◌⊎◌, ◌<◌, ◌≤◌, ◌+◌, ℕ, zero, suc, List, [], ◌∷◌, ◌++◌, length, take, Option, Some, None, All, refl, sym, ap, subst, ◌∙◌, inl, inr, arith, length-append, Result, Ok, Err, IfOk, OnOk, append_assoc, append-nil, true, get_or, add-one, drop, ◌-◌}
+use Rattle.std.proofs.Common.{◌≡◌, ◌⊎◌, ◌<◌, ◌≤◌, ◌+◌, ℕ, zero, suc, List, [], ◌∷◌, ◌++◌, length, take, Some, None, All, refl, sym, ap, subst, ◌∙◌, inl, inr, arith, length-append, Result, Ok, Err, OnOk, append_assoc, true, get_or, add-one, drop, ◌-◌}
 use Rattle.std.specs.Prelude.{slice_get, bytes_eq}
 use Rattle.std.proofs.lemmas.List.Elements.{All-cons, All-weaker}
 use Rattle.std.proofs.lemmas.List.Quantifiers.{position-Some}
@@ -8,8 +8,7 @@ use Rattle.std.proofs.lemmas.Slice.Eq.{bytes_eq-Decides}
 use Rattle.mqtt_topic.specs.Names.{Share}
 use Rattle.mqtt_topic.specs.Routes.{slot_of}
 use Rattle.shared_routes.specs.Known.{KnownState, Grows, IsBound}
-use Rattle.shared_routes.proofs.Learning.{learns_none, learns_both}
-use Rattle.threaded_broker.specs.Shares.{IsAmong, IsBoundIn}
+use Rattle.threaded_broker.specs.Shares.{IsBoundIn}
 
 pub in_more : (xs ys : List Share) (k : ℕ) (x : Share) → slice_get xs k ≡ Some x → slice_get (xs ++ ys) k ≡ Some x
 in_more [] ys k x there = cc
@@ -95,12 +94,6 @@ pub with_others : (mid new : KnownState) (share : Share) (others : List Share) �
     → All (IsBoundIn new.shares) (share ∷ others)
 with_others mid new share others bound grows rest =
     All-cons (IsBoundIn new.shares) share others (subst (λ (all : List Share). IsBoundIn all share) (sym grows.1.shares) (stays mid.shares grows.0 share bound)) rest
-
-pub grows_on : (old mid new : KnownState) → Grows old mid → Grows mid new → Grows old new
-grows_on old mid new first second = (first.0 ++ second.0, learns_both old mid new first.0 second.0 first.1 second.1)
-
-pub grows_not : (known : KnownState) → Grows known known
-grows_not known = ([], learns_none known)
 
 -- what is copied at the end has all that were bound
 pub at_the_end : (old new : KnownState) (shares copies : List Share) → All (IsBoundIn old.shares) shares → Grows old new → copies ≡ take 8 new.shares → All (IsBoundIn copies) shares

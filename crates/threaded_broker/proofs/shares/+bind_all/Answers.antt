@@ -1,5 +1,5 @@
 -- A share that is bound before the others stays bound.
-use Rattle.std.proofs.Common.{◌≡◌, ◌<◌, length, get_or, subst, sym, arith, OnOk, All}
+use Rattle.std.proofs.Common.{subst, sym, arith, OnOk, All}
 use Rattle.threaded_broker.specs.Shares.{IsBoundIn}
 use Rattle.threaded_broker.proofs.Bound.{with_first, whole_of}
 use Rattle.threaded_broker.proofs.shares.+bind_all.Goals as goal

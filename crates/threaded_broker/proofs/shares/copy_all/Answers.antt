@@ -1,5 +1,4 @@
 -- The share of the next slot is copied, if there is one.
-use Rattle.std.proofs.Common.{◌≡◌, take, ◌+◌}
 use Rattle.threaded_broker.proofs.Bound.{one_more, none_more}
 use Rattle.threaded_broker.proofs.shares.copy_all.Goals as goal
 use Rattle.threaded_broker.proofs.shares.copy_all.Goals.{in-Some+in_ok-copy_of+in_ok-push, in_default}
