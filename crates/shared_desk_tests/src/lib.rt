@@ -3,6 +3,7 @@
 
 #[cfg(test)]
 mod calls;
-mod spot;
+pub mod one_history;
+pub mod spot;
 #[cfg(test)]
 mod threads;

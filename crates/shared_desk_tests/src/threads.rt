@@ -2,6 +2,7 @@
 ghost use Rattle.std.specs.Prelude.{◌≡◌};
 
 use crate::calls::{comes_and_goes, end};
+use crate::one_history::both_withdraw;
 use crate::spot::Spot;
 use bytes::Bytes;
 use call_history::HistoryName;
@@ -45,7 +46,7 @@ fn both<D: HistoryName + Send + Sync, R: Threads + Wait + Sync>(
         || visits(rt, &desk, &mut one, 0, b"a"),
         || visits(rt, &desk, &mut other, 1, b"b"),
     );
-    desk.meet(&mut one, other);
+    let one = both_withdraw(rt, &desk, one, other);
     end(desk, one);
     counts
 }
