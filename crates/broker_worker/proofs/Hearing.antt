@@ -2,7 +2,8 @@
 use Rattle.std.proofs.Common.{◌≡◌, ℕ, ◌+◌, Bool, List, [], ◌∷◌, ◌++◌, length, refl, ap, subst, arith}
 use Rattle.shared_supply.specs.declared.wakes.Wakes.{Wakes}
 use Rattle.worker_bells.specs.Ringing.{EarState, HearsAt}
-use Rattle.broker_worker.specs.Resting.{CountsCalls, one_called_if}
+use Rattle.worker_connections.specs.Members.{one_called_if}
+use Rattle.broker_worker.specs.Resting.{CountsCalls}
 
 -- one group more
 pub call_more : (slot : ℕ) (heard : Bool) (before : List Bool) (ears ears' ears'' : List EarState) (wakes wakes' : Wakes) → CountsCalls slot before ears wakes ears' wakes'

@@ -2,7 +2,6 @@
 ghost use Rattle.std.specs.Prelude.{◌≡◌, ◌≤◌, ◌++◌, [], ◌∷◌, All, length, IfOk, OnOk};
 ghost use Rattle.conn_channel.specs.Ends.{AreReceivers, new_receiver};
 
-use crate::arrived::Arrived;
 use crate::marks::Marks;
 use bell::Wake;
 use conn_channel::{Receiver, Sender};
@@ -11,6 +10,7 @@ use std::alloc::Global;
 use std::marker::Model;
 use transport::Transport;
 use worker_bells::{Members, Outfit, Roster, Wish, outfits, share_of};
+use worker_connections::Arrived;
 
 /// Where a worker waits, and its clock.
 #[derive(Drop)]

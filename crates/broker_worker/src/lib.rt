@@ -1,26 +1,16 @@
 //! A worker of a broker: it serves many connections, each by rounds, and calls other workers and is called by them.
 //!
-//! A [`Worker`] waits at one place, its [`Poller`], for what may be read or written and for a call of the others. It receives its connections through a channel
-//! (`conn_channel`), serves them by rounds (`conn_service`), and rings for whoever waits for what they did: a bell for each group tells members of other workers
+//! A [`Worker`] waits at one place, its [`Poller`](worker_connections::Poller), for what may be read or written and for a call of the others. It receives its
+//! connections and goes on with them (`worker_connections`), and rings for whoever waits for what they did: a bell for each group tells members of other workers
 //! of jobs that came or came back, and a call tells of a session that was asked for or is free. Its [`Roster`] has all workers.
 #![tactic(auto)]
 
-mod arrived;
-mod connections;
-mod hand;
 mod kit;
 mod marks;
-mod poller;
 mod rounds;
-mod served;
-mod sweeps;
 mod telling;
 mod worker;
 
-pub use arrived::Arrived;
-pub use hand::Hand;
 pub use kit::{Gear, Kit, kits};
-pub use poller::Poller;
-pub use served::ServedCounts;
 pub use worker::Worker;
 pub use worker_bells::Roster;

@@ -1,11 +1,9 @@
 //! The rounds of a worker's connections: which are to go on in its turn, and who is handed a job.
 ghost use Rattle.std.specs.Prelude.{◌≡◌, ◌<◌, ◌+◌, true, false, length};
-ghost use Rattle.broker_worker.specs.Serving.{Rounds};
-ghost use Rattle.broker_worker.specs.Sweeping.{HasGone, IsInTime, Notes};
+ghost use Rattle.worker_connections.specs.Serving.{Rounds};
+ghost use Rattle.worker_connections.specs.Sweeping.{HasGone, IsInTime, Notes};
 
-use crate::connections::Went;
 use crate::marks::Marks;
-use crate::poller::Poller;
 use crate::worker::{READ_SIZE, Worker};
 use bell::Wake;
 use broker_groups::Broker;
@@ -14,6 +12,7 @@ use conn_service::{Direction, Round};
 use std::sync::Wait;
 use transport::{Clock, Crossing, Transport};
 use worker_bells::{Roster, SLOTS};
+use worker_connections::{Poller, Went};
 
 impl<
     'a,

@@ -3,9 +3,8 @@ ghost use Rattle.std.specs.Prelude.{◌≡◌, List, ℕ};
 ghost use Rattle.shared_supply.specs.Waking.{KeepsAtMost, no_wakes};
 ghost use Rattle.broker_worker.specs.Resting.{HearsCalls, MayWait};
 ghost use Rattle.worker_bells.specs.Ringing.{AreRung};
-ghost use Rattle.broker_worker.specs.Sweeping.{AreTicked, IsInTime, WaitsInTime};
+ghost use Rattle.worker_connections.specs.Sweeping.{AreTicked, IsInTime, WaitsInTime};
 
-use crate::poller::Poller;
 use crate::worker::{END_PAUSE, Worker};
 use bell::Wake;
 use broker_groups::Broker;
@@ -14,6 +13,7 @@ use shared_supply::AskedBack;
 use std::sync::Wait;
 use transport::{Clock, Crossing, Transport};
 use worker_bells::{Roster, SLOTS};
+use worker_connections::Poller;
 
 impl<
     'a,

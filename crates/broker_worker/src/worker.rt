@@ -1,17 +1,12 @@
 //! A worker: what it has, and its turns.
 ghost use Rattle.std.specs.Prelude.{◌≡◌, [], None, length, replicate, IfOk};
-ghost use Rattle.broker_worker.specs.Serving.{AreFresh, AreServed, IsDone, StaysOf, live};
+ghost use Rattle.worker_connections.specs.Serving.{AreFresh, AreServed, IsDone, StaysOf, live};
 ghost use Rattle.broker_worker.specs.Resting.{MayWait};
-ghost use Rattle.broker_worker.specs.Sweeping.{AreTicked};
+ghost use Rattle.worker_connections.specs.Sweeping.{AreTicked};
 
-use crate::arrived::Arrived;
-use crate::connections::{Came, Connections};
-use crate::hand::Hand;
 use crate::kit::{Gear, Kit};
 use crate::marks::Marks;
-use crate::poller::Poller;
 use crate::rounds::mark_ready;
-use crate::served::ServedCounts;
 use bell::Wake;
 use broker_groups::{Broker, BrokerPlace};
 use call_history::HistoryName;
@@ -24,6 +19,7 @@ use std::marker::Model;
 use std::sync::Wait;
 use transport::{Clock, Crossing, Transport};
 use worker_bells::{MOST_CONNECTIONS, Outfit, Roster};
+use worker_connections::{Arrived, Came, Connections, Hand, Poller, ServedCounts};
 
 /// How many bytes a round reads at most.
 pub(crate) const READ_SIZE: usize = 4_096;

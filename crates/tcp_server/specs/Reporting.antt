@@ -9,7 +9,7 @@ use Rattle.group_queue.specs.declared.finish.Unfinished.{Unfinished}
 use Rattle.group_queue.specs.declared.witness.Nobody.{Nobody}
 use Rattle.tcp_edge.specs.Sockets.{SocketState}
 use Rattle.mio.specs.declared.net.stream.TcpStream.{TcpStream}
-use Rattle.broker_worker.specs.declared.served.ServedCounts.{ServedCounts}
+use Rattle.worker_connections.specs.declared.served.ServedCounts.{ServedCounts}
 use Rattle.threaded_broker.specs.Headline.{KeepsTheHeadline}
 use Rattle.threaded_broker.specs.Shares.{IsBoundIn}
 

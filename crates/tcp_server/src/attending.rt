@@ -10,7 +10,6 @@ use crate::reporting::{let_go_of_all, lines, reports_in};
 use crate::serving::Served;
 use crate::watching::Watching;
 use broker_groups::{Broker, Ended, Ports};
-use broker_worker::Hand;
 use call_history::HistoryName;
 use line_io::RunError;
 use mqtt_topic::Routes;
@@ -25,6 +24,7 @@ use std::thread::Threads;
 use tcp_edge::{TcpSource, Until};
 use threaded_broker::{Outcome, serve};
 use transport::OpenCrossing;
+use worker_connections::Hand;
 use worker_pool::{Closer, SourceEnd};
 
 /// Who shuts the gate of a broker: who takes its connections, who watches its input, and who ends it.

@@ -5,7 +5,6 @@ ghost use Rattle.gate_word.specs.Seats.{AreSeatsOf};
 ghost use Rattle.broker_groups.specs.Naming.{HasNoneOut, IsOfBroker};
 
 use broker_groups::{Broker, BrokerPlace, Key, Named, Opened, Ports};
-use broker_worker::Hand;
 use call_history::HistoryName;
 use gate_word::{Gate, GateSeat};
 use line_io::RunError;
@@ -14,6 +13,7 @@ use shared_routes::SharedRoutes;
 use shared_supply::Hall;
 use std::alloc::Global;
 use std::sync::Wait;
+use worker_connections::Hand;
 
 /// A broker that is open: what its workers share, what each of them has, and room for the ports of all.
 pub(crate) struct OpenBroker<'g, B: Broker, N: HistoryName> {

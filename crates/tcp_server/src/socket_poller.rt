@@ -1,11 +1,11 @@
 //! A worker waits at a reactor for its sockets.
 ghost use Rattle.std.specs.Prelude.{◌≡◌};
 
-use broker_worker::Poller;
 use mio::net::TcpStream;
 use std::sync::Wait;
 use std::time::Duration;
 use tcp_edge::{Reactor, Socket};
+use worker_connections::Poller;
 
 /// A reactor, as a worker waits there.
 #[derive(Drop)]

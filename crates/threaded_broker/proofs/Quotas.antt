@@ -11,8 +11,8 @@ use Rattle.conn_service.specs.Services.{ServiceState, opened}
 use Rattle.conn_service.specs.Lives.{DoesAll}
 use Rattle.shared_supply.specs.Calls.{Calls}
 use Rattle.shared_supply.specs.Workers.{Worker, Turns, is_visiting}
-use Rattle.broker_worker.specs.declared.served.ServedCounts.{ServedCounts}
-use Rattle.broker_worker.specs.Serving.{EndsLife}
+use Rattle.worker_connections.specs.declared.served.ServedCounts.{ServedCounts}
+use Rattle.worker_connections.specs.Serving.{EndsLife}
 use Rattle.worker_pool.specs.Pools.{ServesAll}
 use Rattle.threaded_broker.specs.Headline.{AreWithinReceiveMaximum, IsWithinReceiveMaximum}
 

@@ -16,9 +16,9 @@ use Rattle.conn_service.specs.Services.{ServiceState, opened}
 use Rattle.conn_service.specs.Lives.{DoesAll}
 use Rattle.shared_supply.specs.Calls.{Calls}
 use Rattle.shared_supply.specs.Workers.{Worker, Turns, is_visiting}
-use Rattle.broker_worker.specs.declared.served.ServedCounts.{ServedCounts}
-use Rattle.broker_worker.specs.Counting.{counts_of}
-use Rattle.broker_worker.specs.Lives.{HasLivedToItsEnd}
+use Rattle.worker_connections.specs.declared.served.ServedCounts.{ServedCounts}
+use Rattle.worker_connections.specs.Counting.{counts_of}
+use Rattle.worker_connections.specs.Lives.{HasLivedToItsEnd}
 use Rattle.final_report.specs.Brokers.{KeptItsPromises}
 
 module _ {T : Type 0} (group : ℕ → GroupId) (counts : T → Counts) (given accepted : T → Option (List ℕ)) where

@@ -2,10 +2,10 @@
 ghost use Rattle.std.specs.Prelude.{◌≡◌, ◌≤◌, [], length, vec_capacity};
 
 use broker_groups::{Broker, Ports};
-use broker_worker::Hand;
 use gate_word::Drained;
 use std::sync::Wait;
 use std::thread;
+use worker_connections::Hand;
 use worker_pool::Closer;
 
 /// Shuts the gate, and looks until nobody is inside.

@@ -9,7 +9,7 @@ use crate::closing::{close, ports_of};
 use crate::shares::{bind_all, copy_all};
 use bell::Wake;
 use broker_groups::{Broker, BrokerPlace, Ended, Ports};
-use broker_worker::{Gear, Hand, Poller, ServedCounts};
+use broker_worker::Gear;
 use call_history::HistoryName;
 use conn_engine::NoMemory;
 use conn_service::laws::quota_law;
@@ -22,6 +22,7 @@ use std::rt::Clock as SystemClock;
 use std::sync::Wait;
 use std::thread::Threads;
 use transport::{Clock, Crossing, Source, Transport};
+use worker_connections::{Hand, Poller, ServedCounts};
 use worker_pool::{Closer, Pooled, Taken, Unbegun, Watch, run};
 
 /// What became of a broker that was served to its end.

@@ -5,7 +5,7 @@ ghost use Rattle.broker_groups.specs.Naming.{HasNoneOut, IsOfBroker};
 
 use crate::in_memory::{AlwaysReady, Meeting, NothingToWatch, Silent};
 use broker_groups::{Broker, BrokerPlace, Ended, Key, Named, Opened, Ports};
-use broker_worker::{Gear, Hand};
+use broker_worker::Gear;
 use call_history::HistoryName;
 use gate_word::{Gate, GateSeat};
 use group_jobs::Envelope;
@@ -19,6 +19,7 @@ use std::sync::Wait;
 use std::thread::Threads;
 use threaded_broker::{Outcome, give_up, serve};
 use transport::{Scripted, SetClock, Source};
+use worker_connections::Hand;
 use worker_pool::Closer;
 
 /// How many messages each group has room for.

@@ -2,7 +2,6 @@
 ghost use Rattle.std.specs.Prelude.{◌≡◌, ⊤};
 
 use bell::Wake;
-use broker_worker::Poller;
 use std::alloc::{AllocError, Global};
 use std::rt::Clock;
 use std::sync::Wait;
@@ -10,6 +9,7 @@ use std::sync::atomic::{AtomicU64, Ordering};
 use std::thread;
 use std::time::Duration;
 use transport::{Crossing, Scripted};
+use worker_connections::Poller;
 use worker_pool::Watch;
 
 /// How many connections a poller watches at most.

@@ -4,8 +4,8 @@ use Rattle.std.proofs.Math.Nat.{min-eq_left}
 use Rattle.std.proofs.lemmas.List.Sums.{sum_by-cons}
 use Rattle.conn_service.specs.declared.served.Served.{Served}
 use Rattle.conn_service.specs.declared.served.Served.TheVariants.{Ended, Read, Write, Memory, NoCrossing, Stalled}
-use Rattle.broker_worker.specs.declared.served.ServedCounts.{ServedCounts}
-use Rattle.broker_worker.specs.Counting.{raised, counted, counts_of, total}
+use Rattle.worker_connections.specs.declared.served.ServedCounts.{ServedCounts}
+use Rattle.worker_connections.specs.Counting.{raised, counted, counts_of, total}
 use Rattle.worker_pool.specs.Pools.{total_in}
 
 raises : (count : ℕ) → count < 18446744073709551615 → raised count ≡ count + 1

@@ -6,9 +6,9 @@ use Rattle.transport.specs.declared.counts.Counts.{Counts}
 use Rattle.group_queue.specs.Ports.{GroupId}
 use Rattle.conn_channel.specs.Ends.{ReceiverState, received_by}
 use Rattle.conn_service.specs.declared.served.Served.{Served}
-use Rattle.broker_worker.specs.declared.served.ServedCounts.{ServedCounts}
-use Rattle.broker_worker.specs.Counting.{counts_of}
-use Rattle.broker_worker.specs.Serving.{AreServed, live}
+use Rattle.worker_connections.specs.declared.served.ServedCounts.{ServedCounts}
+use Rattle.worker_connections.specs.Counting.{counts_of}
+use Rattle.worker_connections.specs.Serving.{AreServed, live}
 use Rattle.broker_worker.specs.Resting.{WorkerState}
 use Rattle.worker_pool.specs.Pools.{AreAllServed, ServesAll, total_in}
 use Rattle.worker_pool.proofs.Counted.{of_all}

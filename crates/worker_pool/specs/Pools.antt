@@ -5,9 +5,9 @@ use Rattle.transport.specs.declared.counts.Counts.{Counts}
 use Rattle.group_queue.specs.Ports.{GroupId}
 use Rattle.conn_channel.specs.Ends.{ReceiverState}
 use Rattle.conn_service.specs.declared.served.Served.{Served}
-use Rattle.broker_worker.specs.declared.served.ServedCounts.{ServedCounts}
-use Rattle.broker_worker.specs.Counting.{counts_of, total}
-use Rattle.broker_worker.specs.Serving.{AreServed, EndsLife}
+use Rattle.worker_connections.specs.declared.served.ServedCounts.{ServedCounts}
+use Rattle.worker_connections.specs.Counting.{counts_of, total}
+use Rattle.worker_connections.specs.Serving.{AreServed, EndsLife}
 
 -- how many connections are counted by these workers
 abbrev pub total_in : List ServedCounts → ℕ

@@ -2,7 +2,7 @@
 use Rattle.std.specs.Prelude.{◌≡◌, List, length, All}
 use Rattle.conn_channel.specs.Ends.{ChannelId}
 use Rattle.broker_worker.specs.Resting.{WorkerState}
-use Rattle.broker_worker.specs.Serving.{IsDone, StaysOf}
+use Rattle.worker_connections.specs.Serving.{IsDone, StaysOf}
 
 module _ {T : Type 0} where
   -- a worker of this channel

@@ -5,7 +5,7 @@ ghost use Rattle.worker_pool.specs.Accepting.{HasAccepted, OnlyMarks};
 
 use bell::Wake;
 use broker_groups::Broker;
-use broker_worker::{Arrived, Roster};
+use broker_worker::Roster;
 use conn_channel::Sender;
 use gate_word::{Drained, Gate, GateSeat};
 use std::marker::{Model, PhantomData};
@@ -14,6 +14,7 @@ use std::sync::Wait;
 use std::thread;
 use std::time::Duration;
 use transport::{Arrival, Source, Transport};
+use worker_connections::Arrived;
 
 /// For how many milliseconds nothing is taken where every worker has as many connections as it may have.
 const FULL_PAUSE: u64 = 10;

@@ -10,7 +10,7 @@ use crate::running::run_all;
 use crate::watching::Watch;
 use bell::Wake;
 use broker_groups::Broker;
-use broker_worker::{Arrived, Gear, Hand, Kit, Poller, Roster, ServedCounts, Worker};
+use broker_worker::{Gear, Kit, Roster, Worker};
 use call_history::HistoryName;
 use conn_channel::{Receiver, Sender};
 use shared_supply::Hall;
@@ -19,6 +19,7 @@ use std::rt::Clock as SystemClock;
 use std::sync::Wait;
 use std::thread::Threads;
 use transport::{Clock, Crossing, Source, Transport};
+use worker_connections::{Arrived, Hand, Poller, ServedCounts};
 
 /// What a pool gives back.
 #[derive(Drop)]

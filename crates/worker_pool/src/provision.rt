@@ -3,11 +3,12 @@ ghost use Rattle.std.specs.Prelude.{◌≡◌, ◌≤◌, All, [], length, vec_c
 ghost use Rattle.conn_channel.specs.Ends.{new_receiver};
 
 use bell::Wake;
-use broker_worker::{Arrived, Gear, Kit, Roster, ServedCounts, kits};
+use broker_worker::{Gear, Kit, Roster, kits};
 use conn_channel::{Receiver, Sender};
 use conn_engine::NoMemory;
 use std::alloc::Global;
 use transport::Transport;
+use worker_connections::{Arrived, ServedCounts};
 
 /// What all workers share, what each has of it, and the room for what they give back.
 #[derive(Drop)]

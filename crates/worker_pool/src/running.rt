@@ -7,13 +7,14 @@ use crate::accepting::Acceptor;
 use crate::watching::Watch;
 use bell::Wake;
 use broker_groups::Broker;
-use broker_worker::{Poller, Worker};
+use broker_worker::Worker;
 use call_history::HistoryName;
 use std::rt::Clock as SystemClock;
 use std::sync::Wait;
 use std::thread;
 use std::thread::Threads;
 use transport::{Clock, Crossing, Source, Transport};
+use worker_connections::Poller;
 
 /// Who does something in a thread.
 trait Labour<R> {

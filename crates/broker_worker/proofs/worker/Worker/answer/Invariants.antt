@@ -1,5 +1,5 @@
 -- The channel is the same.
-use Rattle.broker_worker.specs.Serving.{StaysOf}
+use Rattle.worker_connections.specs.Serving.{StaysOf}
 use Rattle.broker_worker.proofs.worker.Worker.answer.Given as goal
 
 abbrev pub invariant-invited : goal.invariant-invited

@@ -2,8 +2,9 @@
 use Rattle.std.proofs.Common.{◌≡◌, ℕ, ◌+◌, [], ◌∷◌, ◌++◌, length, length-append, ap, sym, subst, ◌∙◌, rules, arith}
 use Rattle.shared_supply.specs.declared.wakes.Wakes.{Wakes}
 use Rattle.worker_bells.specs.Ringing.{HearsAt}
-use Rattle.broker_worker.specs.Serving.{ConnectionsState}
-use Rattle.broker_worker.specs.Resting.{CountsCalls, one_called_if}
+use Rattle.worker_connections.specs.Serving.{ConnectionsState}
+use Rattle.worker_connections.specs.Members.{one_called_if}
+use Rattle.broker_worker.specs.Resting.{CountsCalls}
 use Rattle.broker_worker.proofs.Hearing.{call_more}
 use Rattle.broker_worker.proofs.worker.Worker.hear.Goals as goal
 

@@ -1,6 +1,6 @@
 -- What its connections tell, it tells.
 use Rattle.std.proofs.Common.{◌≡◌, length, subst}
-use Rattle.broker_worker.specs.Serving.{AreServed, live}
+use Rattle.worker_connections.specs.Serving.{AreServed, live}
 use Rattle.broker_worker.specs.Resting.{WorkerState}
 use Rattle.broker_worker.proofs.worker.Worker.into_parts.Goals as goal
 

@@ -1,5 +1,5 @@
 -- Rounds were made.
-use Rattle.broker_worker.specs.Serving.{Rounds}
+use Rattle.worker_connections.specs.Serving.{Rounds}
 use Rattle.broker_worker.proofs.worker.Worker.reply.Given as goal
 
 abbrev pub invariant-cells : goal.invariant-cells

@@ -1,7 +1,7 @@
 -- Rounds were made, with all of the cells so far where a sweep has begun.
 use Rattle.std.proofs.Common.{◌≡◌, true, false, length}
-use Rattle.broker_worker.specs.Serving.{Rounds}
-use Rattle.broker_worker.specs.Sweeping.{HasGone, IsInTime}
+use Rattle.worker_connections.specs.Serving.{Rounds}
+use Rattle.worker_connections.specs.Sweeping.{HasGone, IsInTime}
 use Rattle.broker_worker.proofs.worker.Worker.serve_due.Given as goal
 
 abbrev pub invariant-cells : goal.invariant-cells

@@ -14,9 +14,9 @@ use Rattle.conn_engine.specs.declared.standing.Standing.TheVariants.{Unconnected
 use Rattle.conn_service.specs.Services.{ServiceState, opened}
 use Rattle.service_table.specs.Cells.{InCell, Opens, TakesFrom}
 use Rattle.worker_bells.specs.declared.members.Wish.{Wish}
-use Rattle.broker_worker.specs.declared.served.ServedCounts.{ServedCounts}
-use Rattle.broker_worker.specs.Resting.{AreWished, HasTaker}
-use Rattle.broker_worker.specs.Serving.{TakesIn}
+use Rattle.worker_connections.specs.declared.served.ServedCounts.{ServedCounts}
+use Rattle.worker_connections.specs.Members.{AreWished, HasTaker}
+use Rattle.worker_connections.specs.Serving.{TakesIn}
 use Rattle.worker_bells.specs.Wishing.{IsWished}
 use Rattle.worker_bells.proofs.Places.{others_stay, put_there}
 

@@ -4,7 +4,7 @@ use Rattle.conn_service.specs.declared.served.Served.{Served}
 use Rattle.conn_service.specs.declared.served.Served.TheVariants.{Ended, Read, Write, Memory, NoCrossing, Stalled}
 use Rattle.service_table.specs.declared.turned.Turned.{Turned}
 use Rattle.service_table.specs.declared.turned.Turned.TheVariants as turns
-use Rattle.broker_worker.specs.declared.served.ServedCounts.{ServedCounts}
+use Rattle.worker_connections.specs.declared.served.ServedCounts.{ServedCounts}
 
 -- one more, up to 2^64 - 1
 abbrev pub raised : ℕ → ℕ

@@ -2,10 +2,10 @@
 use Rattle.std.proofs.Common.{◌≡◌, ◌+◌, length, ap, arith}
 use Rattle.std.proofs.Math.ListN.{length-append}
 use Rattle.conn_channel.specs.Ends.{ReceiverState}
-use Rattle.broker_worker.proofs.Accounting.{came_one}
-use Rattle.broker_worker.proofs.Swept.{came_one as goes_on}
-use Rattle.broker_worker.proofs.Wished.{wished_came}
-use Rattle.broker_worker.proofs.connections.Connections.receive.Goals as goal
+use Rattle.worker_connections.proofs.Accounting.{came_one}
+use Rattle.worker_connections.proofs.Swept.{came_one as goes_on}
+use Rattle.worker_connections.proofs.Wished.{wished_came}
+use Rattle.worker_connections.proofs.connections.Connections.receive.Goals as goal
 
 pub invariant_of-self : goal.invariant_of-self
 invariant_of-self g c =

@@ -4,10 +4,10 @@ use Rattle.std.proofs.Math.ListN.{length-set}
 use Rattle.group_queue.specs.Places.{PlaceState}
 use Rattle.shared_supply.specs.Calls.{Calls}
 use Rattle.shared_supply.specs.Workers.{Turns, is_visiting}
-use Rattle.broker_worker.proofs.Accounting.{behind_round}
-use Rattle.broker_worker.proofs.Swept.{rounds}
-use Rattle.broker_worker.proofs.Wished.{wished_noted}
-use Rattle.broker_worker.proofs.connections.Connections.go_on.Goals as goal
+use Rattle.worker_connections.proofs.Accounting.{behind_round}
+use Rattle.worker_connections.proofs.Swept.{rounds}
+use Rattle.worker_connections.proofs.Wished.{wished_noted}
+use Rattle.worker_connections.proofs.connections.Connections.go_on.Goals as goal
 
 pub invariant_of-self : goal.invariant_of-self
 invariant_of-self g c = (

@@ -7,11 +7,11 @@ ghost use Rattle.shared_supply.specs.Calls.{Calls};
 ghost use Rattle.shared_supply.specs.Waking.{KeepsAtMost, no_wakes};
 ghost use Rattle.shared_supply.specs.Workers.{Turns as Visits, is_visiting};
 ghost use Rattle.worker_bells.specs.declared.members.Wish.{Wish as AnyWish};
-ghost use Rattle.broker_worker.specs.Counting.{none_served};
-ghost use Rattle.broker_worker.specs.Serving.{Admits, AreFresh, AreServed, IsDone, Rounds, StaysOf, TakesIn, live};
-ghost use Rattle.broker_worker.specs.Resting.{HasTaker, one_called_if};
+ghost use Rattle.worker_connections.specs.Counting.{none_served};
+ghost use Rattle.worker_connections.specs.Serving.{Admits, AreFresh, AreServed, IsDone, Rounds, StaysOf, TakesIn, live};
+ghost use Rattle.worker_connections.specs.Members.{HasTaker, one_called_if};
 ghost use Rattle.worker_bells.specs.Wishing.{IsWished};
-ghost use Rattle.broker_worker.specs.Sweeping.{AreTicked, Begins, HasGone, IsInTime, Notes, WaitsInTime, looked};
+ghost use Rattle.worker_connections.specs.Sweeping.{AreTicked, Begins, HasGone, IsInTime, Notes, WaitsInTime, looked};
 
 use crate::arrived::Arrived;
 use crate::hand::Hand;
@@ -33,7 +33,7 @@ use worker_bells::{Members, SLOTS, Wish};
 ///
 /// Contracts see it as a `ConnectionsState`: what was received of the channel, which connections are open and when they went on, and how many have ended in
 /// which way. Each of them lived as a connection is served, from its opening on.
-pub(crate) struct Connections<'a, 'g, B: Broker, N: HistoryName, T: Transport + Drop, R: Wait> {
+pub struct Connections<'a, 'g, B: Broker, N: HistoryName, T: Transport + Drop, R: Wait> {
     receiver: Receiver<Arrived<T>>,
     table: ServiceTable<BrokerPlace<B>, T>,
     supply: SharedSupply<'a, 'g, B, N, R>,
@@ -45,9 +45,9 @@ pub(crate) struct Connections<'a, 'g, B: Broker, N: HistoryName, T: Transport + 
 impl<'a, 'g, B: Broker, N: HistoryName, T: Transport + Drop, R: Wait> Model
     for Connections<'a, 'g, B, N, T, R> {
     ghost use Rattle.std.specs.Prelude.{◌≡◌, length};
-    ghost use Rattle.broker_worker.specs.Serving.{ConnectionsState, IsAccounted};
-    ghost use Rattle.broker_worker.specs.Sweeping.{AreSwept};
-    ghost use Rattle.broker_worker.specs.Resting.{AreWished};
+    ghost use Rattle.worker_connections.specs.Serving.{ConnectionsState, IsAccounted};
+    ghost use Rattle.worker_connections.specs.Sweeping.{AreSwept};
+    ghost use Rattle.worker_connections.specs.Members.{AreWished};
 
     ghost Value = { ConnectionsState T };
 
@@ -58,7 +58,7 @@ impl<'a, 'g, B: Broker, N: HistoryName, T: Transport + Drop, R: Wait> Model
 }
 
 /// What came through the channel.
-pub(crate) enum Came {
+pub enum Came {
     /// A connection, which is open in this cell.
     Opened(usize),
     /// A connection that was not opened, and has ended.
@@ -70,7 +70,7 @@ pub(crate) enum Came {
 }
 
 /// What a round made of a cell.
-pub(crate) enum Went {
+pub enum Went {
     /// There is no connection in it.
     Nowhere,
     /// Its connection goes on, and waits for this.
@@ -88,7 +88,7 @@ impl<'a, 'g, B: Broker, N: HistoryName, T: Transport + Drop, R: Wait> Connection
     R,
 > {
     /// None yet, of those that this end of the channel will receive; this table is for them, these are their wishes, and this supply is what they ask.
-    pub(crate) fn new(
+    pub fn new(
         receiver: Receiver<Arrived<T>>,
         table: ServiceTable<BrokerPlace<B>, T>,
         supply: SharedSupply<'a, 'g, B, N, R>,
@@ -110,33 +110,33 @@ impl<'a, 'g, B: Broker, N: HistoryName, T: Transport + Drop, R: Wait> Connection
     }
 
     /// How many cells there are.
-    pub(crate) fn len(&self) -> usize
+    pub fn len(&self) -> usize
         ensures { result ≡ length self.now.cells }
     {
         self.table.len()
     }
 
     /// The end mark was received, and nothing more is.
-    pub(crate) fn is_ended(&self) -> bool {
+    pub fn is_ended(&self) -> bool {
         self.receiver.is_ended()
     }
 
     /// Nothing more comes, and all that came have ended.
-    pub(crate) fn is_done(&self) -> bool
+    pub fn is_done(&self) -> bool
         ensures { result ≡ true → IsDone self.now }
     {
         self.receiver.is_ended() && self.table.is_empty()
     }
 
     /// The worker looked at its clock, which told this moment.
-    pub(crate) fn look(&mut self, now: u64)
+    pub fn look(&mut self, now: u64)
         ensures { self.new ≡ record self.old { sweeps = looked now self.old.sweeps } }
     {
         self.sweeps.look(now);
     }
 
     /// Whether each of them is to go on. Then a sweep begins, in which they do so one after the other.
-    pub(crate) fn begin_sweep(&mut self) -> bool
+    pub fn begin_sweep(&mut self) -> bool
         ensures same { self.new ≡ record self.old { sweeps = self.new.sweeps } }
         ensures begins { result ≡ true → Begins (length self.old.cells) self.old.sweeps self.new.sweeps }
         ensures late { result ≡ true → HasGone 0 (length self.new.cells) self.new.sweeps }
@@ -150,7 +150,7 @@ impl<'a, 'g, B: Broker, N: HistoryName, T: Transport + Drop, R: Wait> Connection
     }
 
     /// For how many milliseconds at most a worker may wait until its connections are to go on.
-    pub(crate) fn left(&self) -> u64
+    pub fn left(&self) -> u64
         ensures in_time { WaitsInTime result self.now.sweeps.latest self.now.sweeps.swept }
         ensures ticked { IsInTime self.now.sweeps → AreTicked self.now.sweeps.latest self.now.cells }
     {
@@ -158,21 +158,21 @@ impl<'a, 'g, B: Broker, N: HistoryName, T: Transport + Drop, R: Wait> Connection
     }
 
     /// Which of them would be handed a job, and which wait for a session.
-    pub(crate) fn members(&self) -> &Members
+    pub fn members(&self) -> &Members
         ensures { (slot : ℕ) → slot < 8 → HasTaker slot self.now.cells → IsWished slot result.now }
     {
         &self.members
     }
 
     /// The next hand-out begins at this cell.
-    pub(crate) fn begin_at(&mut self, cell: usize)
+    pub fn begin_at(&mut self, cell: usize)
         ensures { self.new ≡ self.old }
     {
         self.members.begin_at(cell);
     }
 
     /// Counts, where a ring was heard, that another worker called this one for a message of the group of this slot.
-    pub(crate) fn count_call_if(&mut self, slot: usize, heard: bool)
+    pub fn count_call_if(&mut self, slot: usize, heard: bool)
         requires { slot < 8 }
         ensures { self.new ≡ record self.old { wakes = one_called_if heard slot self.old.wakes } }
     {
@@ -182,14 +182,14 @@ impl<'a, 'g, B: Broker, N: HistoryName, T: Transport + Drop, R: Wait> Connection
     }
 
     /// For each slot, how many messages of its group they brought that others may wait for.
-    pub(crate) fn messages(&self) -> [u32; SLOTS]
+    pub fn messages(&self) -> [u32; SLOTS]
         ensures { result ≡ self.now.wakes.messages }
     {
         self.supply.wakes().messages
     }
 
     /// Keeps of these messages as many as there are members here that would be handed one, and gives back how many more there are.
-    pub(crate) fn keep_own(&mut self) -> [u32; SLOTS]
+    pub fn keep_own(&mut self) -> [u32; SLOTS]
         ensures kept { (most : List ℕ) × KeepsAtMost most result self.old.wakes self.new.wakes }
         ensures same { self.new ≡ record self.old { wakes = self.new.wakes } }
     {
@@ -197,7 +197,7 @@ impl<'a, 'g, B: Broker, N: HistoryName, T: Transport + Drop, R: Wait> Connection
     }
 
     /// What they did since it was last asked that others may wait for.
-    pub(crate) fn take_wakes(&mut self) -> Wakes
+    pub fn take_wakes(&mut self) -> Wakes
         ensures told { result ≡ self.old.wakes }
         ensures cleared { self.new ≡ record self.old { wakes = no_wakes } }
     {
@@ -206,7 +206,7 @@ impl<'a, 'g, B: Broker, N: HistoryName, T: Transport + Drop, R: Wait> Connection
 
     /// Receives what comes through the channel. A connection is watched by the poller and opened at the worker's moment; where there is no memory for it, or the
     /// system does not watch it, it has ended at once.
-    pub(crate) fn receive<Q: Poller<T>>(&mut self, rt: &R, poller: &mut Q) -> Came
+    pub fn receive<Q: Poller<T>>(&mut self, rt: &R, poller: &mut Q) -> Came
         ensures { StaysOf self.old self.new }
     {
         if self.receiver.is_ended() {
@@ -229,7 +229,7 @@ impl<'a, 'g, B: Broker, N: HistoryName, T: Transport + Drop, R: Wait> Connection
     }
 
     /// The connection in a cell goes on by a round this way, at the worker's moment. Where that ends it, it is not watched any more.
-    pub(crate) fn round<X: Crossing, Q: Poller<T>>(
+    pub fn round<X: Crossing, Q: Poller<T>>(
         &mut self,
         cell: usize,
         crossing: &X,
@@ -287,7 +287,7 @@ impl<'a, 'g, B: Broker, N: HistoryName, T: Transport + Drop, R: Wait> Connection
     }
 
     /// What they had of the broker, the end of the channel, and how they ended. Any that is still open ends as where the broker closes.
-    pub(crate) fn into_parts(self) -> (Hand<B>, Receiver<Arrived<T>>, ServedCounts)
+    pub fn into_parts(self) -> (Hand<B>, Receiver<Arrived<T>>, ServedCounts)
         ensures receiver { result.1 ≡ self.entry.receiver }
         ensures served { (live self.entry ≡ 0) → AreServed B.group T.counts T.given T.accepted (length self.entry.receiver.received) result.2 }
     {

@@ -32,7 +32,7 @@ impl<T: Transport> Arrived<T> {
     }
 
     /// Its transport.
-    pub(crate) fn into_transport(self) -> T
+    pub fn into_transport(self) -> T
         ensures same { result ≡ self }
         ensures fresh { T.counts result ≡ no_counts }
     {

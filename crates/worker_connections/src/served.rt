@@ -1,6 +1,6 @@
 //! How the connections of a worker ended.
 ghost use Rattle.std.specs.Prelude.{◌≡◌};
-ghost use Rattle.broker_worker.specs.Counting.{counted, counted_behind};
+ghost use Rattle.worker_connections.specs.Counting.{counted, counted_behind};
 
 use conn_service::Served;
 use service_table::Turned;
@@ -34,7 +34,7 @@ impl ServedCounts {
     };
 
     /// Counts one that ended so.
-    pub(crate) fn count(&mut self, served: Served)
+    pub fn count(&mut self, served: Served)
         ensures { self.new ≡ counted served self.old }
     {
         match served {
@@ -48,7 +48,7 @@ impl ServedCounts {
     }
 
     /// Counts the connection that a round ended, if it ended one.
-    pub(crate) fn count_behind<T>(&mut self, turned: &Turned<T>)
+    pub fn count_behind<T>(&mut self, turned: &Turned<T>)
         ensures { self.new ≡ counted_behind turned.now self.old }
     {
         if let Turned::Ended(served, _) = turned {

@@ -2,12 +2,12 @@
 use Rattle.std.proofs.Common.{◌≡◌, ℕ, length, None, refl, sym, subst, ap, ◌∙◌}
 use Rattle.std.proofs.lemmas.List.{length-replicate}
 use Rattle.service_table.proofs.Occupied.{replicate-occupied}
-use Rattle.broker_worker.specs.Counting.{none_served}
-use Rattle.broker_worker.specs.Serving.{IsAccounted}
-use Rattle.broker_worker.proofs.Accounting.{fresh}
-use Rattle.broker_worker.proofs.Swept.{free}
-use Rattle.broker_worker.proofs.Wished.{none_wished}
-use Rattle.broker_worker.proofs.connections.Connections.new.Goals as goal
+use Rattle.worker_connections.specs.Counting.{none_served}
+use Rattle.worker_connections.specs.Serving.{IsAccounted}
+use Rattle.worker_connections.proofs.Accounting.{fresh}
+use Rattle.worker_connections.proofs.Swept.{free}
+use Rattle.worker_connections.proofs.Wished.{none_wished}
+use Rattle.worker_connections.proofs.connections.Connections.new.Goals as goal
 
 pub invariant_of-result : goal.invariant_of-result
 invariant_of-result g c =

@@ -10,7 +10,7 @@ use Rattle.conn_service.specs.Lives.{DoesAll, Leads}
 use Rattle.service_table.specs.Cells.{Opens, Tells, Turns}
 use Rattle.service_table.specs.declared.turned.Turned.{Turned}
 use Rattle.service_table.specs.declared.turned.Turned.TheVariants.{Vacant, Goes, Ended}
-use Rattle.broker_worker.specs.Lives.{HasLived, IfLived, IsLife}
+use Rattle.worker_connections.specs.Lives.{HasLived, IfLived, IsLife}
 
 module _ {S P T : Type 0} (call : S → Fact P → S → Type 0) (turn : S → S → Type 0) (visiting : S → Bool) (slot_of : P → ℕ)
     (counts : T → Counts) (given accepted : T → Option (List ℕ)) where

@@ -12,11 +12,11 @@ use Rattle.conn_service.specs.Services.{ServiceState}
 use Rattle.service_table.specs.Cells.{InCell, Opens, Tells, Turns}
 use Rattle.service_table.specs.declared.turned.Turned.{Turned}
 use Rattle.service_table.specs.declared.turned.Turned.TheVariants.{Vacant, Goes, Ended}
-use Rattle.broker_worker.specs.declared.sweeps.Sweeps.{Sweeps}
+use Rattle.worker_connections.specs.declared.sweeps.Sweeps.{Sweeps}
 use Rattle.group_queue.specs.Places.{PlaceState}
-use Rattle.broker_worker.specs.declared.served.ServedCounts.{ServedCounts}
-use Rattle.broker_worker.specs.Serving.{TakesIn}
-use Rattle.broker_worker.specs.Sweeping.{AreSwept, Begins, IfFreshSince, Notes, looked}
+use Rattle.worker_connections.specs.declared.served.ServedCounts.{ServedCounts}
+use Rattle.worker_connections.specs.Serving.{TakesIn}
+use Rattle.worker_connections.specs.Sweeping.{AreSwept, Begins, IfFreshSince, Notes, looked}
 
 before_it : (k n : ℕ) → k ≢ n → k < n + 1 → k < n
 before_it k n apart within = omega arith

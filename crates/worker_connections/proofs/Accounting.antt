@@ -14,10 +14,10 @@ use Rattle.service_table.specs.declared.turned.Turned.{Turned}
 use Rattle.service_table.specs.declared.turned.Turned.TheVariants.{Vacant, Goes, Ended}
 use Rattle.shared_supply.specs.Calls.{Calls}
 use Rattle.shared_supply.specs.Workers.{Worker, Turns as Visits, is_visiting}
-use Rattle.broker_worker.specs.declared.served.ServedCounts.{ServedCounts}
-use Rattle.broker_worker.specs.Counting.{counted, counted_behind, none_served}
-use Rattle.broker_worker.specs.Serving.{Admits, AreServed, IfLives, IsAccounted, TakesIn}
-use Rattle.broker_worker.proofs.Living.{ends, opens, turns}
+use Rattle.worker_connections.specs.declared.served.ServedCounts.{ServedCounts}
+use Rattle.worker_connections.specs.Counting.{counted, counted_behind, none_served}
+use Rattle.worker_connections.specs.Serving.{Admits, AreServed, IfLives, IsAccounted, TakesIn}
+use Rattle.worker_connections.proofs.Living.{ends, opens, turns}
 
 -- what holds of each cell holds of the one at a place
 at_cell : {X : Type 0} (P : X → Type 0) (xs : List X) (k : ℕ) (x : X) → All P xs → slice_get xs k ≡ Some x → P x

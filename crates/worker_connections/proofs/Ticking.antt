@@ -4,9 +4,9 @@ use Rattle.std.proofs.lemmas.List.Elements.{All-weaker}
 use Rattle.conn_service.specs.declared.served.Round.{Round}
 use Rattle.conn_service.specs.declared.served.Round.TheVariants as rounds
 use Rattle.conn_service.specs.Services.{ServiceState, IsTold}
-use Rattle.broker_worker.specs.declared.sweeps.Sweeps.{Sweeps}
-use Rattle.broker_worker.specs.Serving.{ConnectionsState, Rounds}
-use Rattle.broker_worker.specs.Sweeping.{AreSwept, AreTicked, Begins, HasGone, IfFreshSince, IfTicked, IsInTime, KeepsMoment, Notes, WentOnAt, sweep_period}
+use Rattle.worker_connections.specs.declared.sweeps.Sweeps.{Sweeps}
+use Rattle.worker_connections.specs.Serving.{ConnectionsState, Rounds}
+use Rattle.worker_connections.specs.Sweeping.{AreSwept, AreTicked, Begins, HasGone, IfFreshSince, IfTicked, IsInTime, KeepsMoment, Notes, WentOnAt, sweep_period}
 
 -- a sweep that begins has gone over no cell
 pub starts : (count : ℕ) (old new : Sweeps) → Begins count old new → HasGone 0 count new

@@ -1,20 +1,20 @@
 //! When the connections of a worker went on.
 ghost use Rattle.std.specs.Prelude.{◌≡◌, ◌+◌, ◌≤◌, false};
-ghost use Rattle.broker_worker.specs.Sweeping.{Begins, IsInTime, Notes, WaitsInTime, looked};
+ghost use Rattle.worker_connections.specs.Sweeping.{Begins, IsInTime, Notes, WaitsInTime, looked};
 
 /// After so many milliseconds at most each connection goes on, whatever comes.
 const SWEEP_PERIOD: u64 = 50;
 
 /// When the connections of a worker went on, and how far the sweep has come that is under way: it goes over all cells, from the first to the last.
 #[derive(Clone, Copy, Debug, PartialEq, Eq)]
-pub(crate) struct Sweeps {
+pub struct Sweeps {
     /// All of them went on at this moment or later.
-    pub(crate) swept: u64,
+    pub swept: u64,
     /// Those in the first `gone` cells went on at this moment or later.
-    pub(crate) begun: u64,
-    pub(crate) gone: usize,
+    pub begun: u64,
+    pub gone: usize,
     /// The worker's moment: that of its latest look at its clock, or of an earlier one where the clock was set back.
-    pub(crate) latest: u64,
+    pub latest: u64,
 }
 
 impl Sweeps {

@@ -2,7 +2,7 @@
 use Rattle.std.specs.Prelude.{◌≡◌, ◌≢◌, ◌⊎◌, ℕ, ◌+◌, ◌-◌, ◌<◌, ◌≤◌, max, ⊤, List, [], Option, Some, None, All, slice_index_or}
 use Rattle.conn_service.specs.declared.served.Round.{Round}
 use Rattle.conn_service.specs.Services.{ServiceState, opened, IsTold}
-use Rattle.broker_worker.specs.declared.sweeps.Sweeps.{Sweeps}
+use Rattle.worker_connections.specs.declared.sweeps.Sweeps.{Sweeps}
 
 -- the connections of a worker go on at least every so many milliseconds
 abbrev pub sweep_period : ℕ

@@ -2,8 +2,8 @@
 use Rattle.std.proofs.Common.{ap, subst}
 use Rattle.shared_supply.specs.declared.wakes.Wakes.{Wakes}
 use Rattle.shared_supply.specs.Waking.{KeepsAtMost}
-use Rattle.broker_worker.specs.Serving.{ConnectionsState}
-use Rattle.broker_worker.proofs.connections.Connections.keep_own.Goals as goal
+use Rattle.worker_connections.specs.Serving.{ConnectionsState}
+use Rattle.worker_connections.proofs.connections.Connections.keep_own.Goals as goal
 
 pub returns-clause-kept : goal.returns-clause-kept
 returns-clause-kept g c =

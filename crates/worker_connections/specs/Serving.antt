@@ -14,11 +14,11 @@ use Rattle.shared_supply.specs.Calls.{Calls}
 use Rattle.shared_supply.specs.Waking.{no_wakes}
 use Rattle.shared_supply.specs.Workers.{Turns, is_visiting}
 use Rattle.shared_supply.specs.declared.wakes.Wakes.{Wakes}
-use Rattle.broker_worker.specs.declared.served.ServedCounts.{ServedCounts}
-use Rattle.broker_worker.specs.declared.sweeps.Sweeps.{Sweeps}
-use Rattle.broker_worker.specs.Counting.{counted, counts_of, none_served}
-use Rattle.broker_worker.specs.Lives.{IfLived, IsLife}
-use Rattle.broker_worker.specs.Sweeping.{KeepsMoment}
+use Rattle.worker_connections.specs.declared.served.ServedCounts.{ServedCounts}
+use Rattle.worker_connections.specs.declared.sweeps.Sweeps.{Sweeps}
+use Rattle.worker_connections.specs.Counting.{counted, counts_of, none_served}
+use Rattle.worker_connections.specs.Lives.{IfLived, IsLife}
+use Rattle.worker_connections.specs.Sweeping.{KeepsMoment}
 
 -- the end of the channel, the cells with the connections that are open, the counts of those that have ended, when those that are open went on, and what they
 -- did that others may wait for

@@ -1,0 +1,5 @@
+pub mod Accounting
+pub mod Living
+pub mod Swept
+pub mod Ticking
+pub mod Wished

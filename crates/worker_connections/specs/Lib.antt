@@ -1,0 +1,5 @@
+pub mod Counting
+pub mod Lives
+pub mod Members
+pub mod Serving
+pub mod Sweeping

@@ -1,0 +1,20 @@
+//! The connections of one worker of a broker: each that it received is open, or has ended and is counted by how it ended.
+//!
+//! [`Connections`] receives them through a channel (`conn_channel`), as each [`Arrived`], has each in a cell of its table (`service_table`) under the number by which
+//! a [`Poller`] watches it, and goes on with one at a time by a round. It knows when each of them went on last, and which members would be handed a job. What
+//! a worker has of the broker it asks by its supply, and gives back as a [`Hand`].
+#![tactic(auto)]
+
+mod arrived;
+mod connections;
+mod hand;
+mod poller;
+mod served;
+mod sweeps;
+
+pub use arrived::Arrived;
+pub use connections::{Came, Connections, Went};
+pub use hand::Hand;
+pub use poller::Poller;
+pub use served::ServedCounts;
+pub use sweeps::Sweeps;
