@@ -88,11 +88,11 @@ fn a_shut_gate(rt: HostRuntime) -> Result<(), Fail> {
 
 fn is_shared_by_threads<T: Sync>() {}
 
-fn may_be_threaded<B: Broker + Send + Sync>() {
+fn may_be_threaded<B: Broker + Send + Sync, N: HistoryName + Send + Sync>() {
     is_shared_by_threads::<Hall<'static, B, N>>();
 }
 
 #[test]
 fn what_threads_may_do_with_it() {
-    may_be_threaded::<Brand>();
+    may_be_threaded::<Brand, Brand>();
 }
