@@ -14,7 +14,8 @@ mod reading;
 
 use conn_engine::{Conn, HoldingPlace, Input, NoMemory, Supply, Then};
 use mqtt_packet::Packet;
-use mqtt_wire::{Fault, ReadFault, Splitter};
+use mqtt_fields::Fault;
+use mqtt_wire::{ReadFault, Splitter};
 use std::alloc::Global;
 use std::io::Read;
 use std::marker::Model;

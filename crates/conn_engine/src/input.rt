@@ -1,6 +1,6 @@
 //! What comes to a connection, and what becomes of it.
 use mqtt_packet::Packet;
-use mqtt_wire::StreamFault;
+use mqtt_fields::StreamFault;
 
 /// What comes to a connection.
 #[derive(Debug, Drop)]

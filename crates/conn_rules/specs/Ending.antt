@@ -2,8 +2,8 @@
 use Rattle.std.specs.Prelude.{ℕ, ◌*◌, nat_lt, nat_le, ◌&&◌, Bool, Option, Some, None}
 use Rattle.mqtt_packet.specs.declared.packet.ConnectRefusal.{ConnectRefusal}
 use Rattle.mqtt_packet.specs.declared.packet.ConnectRefusal.TheVariants.{ProtocolError}
-use Rattle.mqtt_wire.specs.declared.fault.StreamFault.{StreamFault}
-use Rattle.mqtt_wire.specs.declared.fault.StreamFault.TheVariants.{Malformed, Protocol, TooLarge}
+use Rattle.mqtt_fields.specs.declared.fault.StreamFault.{StreamFault}
+use Rattle.mqtt_fields.specs.declared.fault.StreamFault.TheVariants.{Malformed, Protocol, TooLarge}
 
 -- 4.13: the Reason Code of a fault of the stream
 abbrev pub fault_code : StreamFault → ℕ

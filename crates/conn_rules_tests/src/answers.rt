@@ -6,7 +6,7 @@ use conn_rules::{
 };
 use group_jobs::Fate;
 use mqtt_packet::{ConnectRefusal, Packet, PacketIdentifier, ReasonCode, Subscribe};
-use mqtt_wire::{Fault, StreamFault};
+use mqtt_fields::{Fault, StreamFault};
 use std::alloc::Global;
 use std::test::Fail;
 

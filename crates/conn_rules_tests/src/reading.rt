@@ -4,7 +4,8 @@ use conn_rules::{
     terms_of, unsubscribe_refusal,
 };
 use mqtt_packet::{Packet, ReasonCode};
-use mqtt_wire::{Fault, Splitter};
+use mqtt_fields::Fault;
+use mqtt_wire::Splitter;
 use std::alloc::Global;
 
 /// What the rules say of a first packet.

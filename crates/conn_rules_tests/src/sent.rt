@@ -4,7 +4,8 @@ use bytes::Bytes;
 use conn_rules::{accepting, disconnect, job, puback, refusing, suback, unsuback};
 use group_jobs::Message;
 use mqtt_packet::{ConnectRefusal, NonEmpty, Packet, PacketIdentifier, ReasonCode, Text};
-use mqtt_wire::{Fault, encode};
+use mqtt_fields::Fault;
+use mqtt_wire::encode;
 use std::alloc::Global;
 use std::test::Fail;
 

@@ -2,9 +2,9 @@
 use Rattle.std.proofs.Common.{◌≡◌, ℕ, ◌<◌, ◌≤◌, ◌+◌, ◌⊎◌, List, ◌++◌, length, take, get_or, ap, inl, inr, arith, length-append}
 use Rattle.std.proofs.lemmas.List.Folds.{length-flat_map-take}
 use Rattle.mqtt_packet.specs.declared.packet.Packet.{Packet}
-use Rattle.mqtt_wire.specs.declared.fault.Fault.{Fault}
-use Rattle.mqtt_wire.specs.declared.fault.Fault.TheVariants as faults
-use Rattle.mqtt_wire.specs.declared.fault.StreamFault.TheVariants as streams
+use Rattle.mqtt_fields.specs.declared.fault.Fault.{Fault}
+use Rattle.mqtt_fields.specs.declared.fault.Fault.TheVariants as faults
+use Rattle.mqtt_fields.specs.declared.fault.StreamFault.TheVariants as streams
 use Rattle.mqtt_wire.specs.Writing.{written, remaining_length}
 use Rattle.mqtt_wire.proofs.WritingLaws.{written_length}
 use Rattle.conn_service.specs.Services.{bytes_of, write_room}

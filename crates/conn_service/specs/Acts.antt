@@ -2,7 +2,7 @@
 use Rattle.std.specs.Prelude.{ℕ, Bool, List, [], ◌∷◌, Option, Some, None, filter_map}
 use Rattle.std.specs.List.{flat_map}
 use Rattle.mqtt_packet.specs.declared.packet.Packet.{Packet}
-use Rattle.mqtt_wire.specs.declared.fault.StreamFault.{StreamFault}
+use Rattle.mqtt_fields.specs.declared.fault.StreamFault.{StreamFault}
 use Rattle.transport.specs.declared.answers.Got.{Got}
 use Rattle.transport.specs.declared.answers.Put.{Put}
 use Rattle.conn_engine.specs.declared.input.Input.{Input}

@@ -17,7 +17,8 @@ use itoa::Buffer;
 use line_io::RunError;
 use local_server::Server;
 use mqtt_packet::Packet;
-use mqtt_wire::{Fault, encode_into};
+use mqtt_fields::Fault;
+use mqtt_wire::encode_into;
 use std::alloc::Global;
 use std::marker::Model;
 

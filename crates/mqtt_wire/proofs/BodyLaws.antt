@@ -1,7 +1,7 @@
 -- Bodies: what is read is spelled so, and what is spelled so is read.
 use Rattle.std.proofs.Common.{◌≡◌, ℕ, ◌≤◌, List, ◌++◌, length, Result, Ok, refl, ap, subst, ◌∙◌, arith, length-append}
 use Rattle.std.specs.List.{flat_map}
-use Rattle.mqtt_wire.specs.declared.fault.StreamFault.{StreamFault}
+use Rattle.mqtt_fields.specs.declared.fault.StreamFault.{StreamFault}
 use Rattle.mqtt_packet.specs.declared.packet.QoS.{QoS}
 use Rattle.mqtt_packet.specs.declared.packet.QoS.TheVariants as qos
 use Rattle.mqtt_packet.specs.declared.packet.Delivery.{Delivery}
@@ -16,21 +16,21 @@ use Rattle.mqtt_packet.specs.declared.packet.Packet.TheVariants as packets
 use Rattle.mqtt_wire.specs.declared.kind.Kind.{Kind}
 use Rattle.mqtt_wire.specs.declared.kind.Kind.TheVariants as kinds
 use Rattle.mqtt_wire.specs.declared.kind.PublishFlags.{PublishFlags}
-use Rattle.mqtt_wire.specs.declared.property.Section.TheVariants as sections
+use Rattle.mqtt_fields.specs.declared.property.Section.TheVariants as sections
 use Rattle.mqtt_packet.specs.Texts.{IsText}
-use Rattle.mqtt_wire.specs.Forms.{u16_bytes, utf8_string}
+use Rattle.mqtt_fields.specs.Forms.{u16_bytes, utf8_string, AreBytes}
 use Rattle.mqtt_wire.specs.Kinds.{first_byte}
-use Rattle.mqtt_wire.specs.Fields.{text_at, identifier_at, at_end}
-use Rattle.mqtt_wire.specs.Sections.{properties_at}
-use Rattle.mqtt_wire.specs.PropertyLists.{publish_of, puback_of, subscribe_of, unsubscribe_of, disconnect_of}
+use Rattle.mqtt_fields.specs.Fields.{text_at, identifier_at, at_end}
+use Rattle.mqtt_fields.specs.Sections.{properties_at}
+use Rattle.mqtt_fields.specs.PropertyLists.{publish_of, puback_of, subscribe_of, unsubscribe_of, disconnect_of}
 use Rattle.mqtt_wire.specs.Bodies.{delivery_at, publish_body_at, reason_at, puback_at, disconnect_at, subscription_at, entries_at, subscribe_at, unsubscribe_at, body_at}
 use Rattle.mqtt_wire.specs.Writing.{qos_of, delivery_bytes, subscription_bytes, flags_of, packet_byte}
 use Rattle.mqtt_wire.specs.Spelling.{SpellsPublish, SpellsPuback, SpellsDisconnect, SpellsSubscribe, SpellsUnsubscribe, SpellsBody}
-use Rattle.mqtt_wire.specs.Ranges.{IsIdentifier, IsDelivery, IsFiltered, IsFromClient}
-use Rattle.mqtt_wire.specs.Stream.{AreBytes}
-use Rattle.mqtt_wire.proofs.Steps.{bind_ok, ok_is, Front}
-use Rattle.mqtt_wire.proofs.FieldLaws.{text_takes, identifier_takes, text_again, identifier_again}
-use Rattle.mqtt_wire.proofs.SectionLaws.{properties_take, properties_again}
+use Rattle.mqtt_fields.specs.FieldRanges.{IsIdentifier}
+use Rattle.mqtt_wire.specs.Ranges.{IsDelivery, IsFiltered, IsFromClient}
+use Rattle.mqtt_fields.proofs.Steps.{bind_ok, ok_is, Front}
+use Rattle.mqtt_fields.proofs.FieldLaws.{text_takes, identifier_takes, text_again, identifier_again}
+use Rattle.mqtt_fields.proofs.SectionLaws.{properties_take, properties_again}
 use Rattle.mqtt_wire.proofs.ReasonLaws.{reason_takes, reason_again}
 use Rattle.mqtt_wire.proofs.EntryLaws.{entries_take, entries_again, subscriptions, filters}
 use Rattle.mqtt_wire.proofs.ConnectLaws.{at_end_is, connect_takes, connect_again, other_version_again, with_will_again}

@@ -5,31 +5,29 @@ use Rattle.std.proofs.lemmas.Bool.{eqb-true, eqb-false, or_cases, and_parts}
 use Rattle.std.proofs.lemmas.List.{append-nil}
 use Rattle.std.proofs.lemmas.Slice.Eq.{bytes_eq-Decides}
 use Rattle.std.specs.Str.{is_utf8, chars}
-use Rattle.mqtt_wire.specs.declared.fault.StreamFault.{StreamFault}
+use Rattle.mqtt_fields.specs.declared.fault.StreamFault.{StreamFault}
 use Rattle.mqtt_packet.specs.declared.packet.Connect.{Connect}
 use Rattle.mqtt_wire.specs.declared.bodies.ConnectPayload.{ConnectPayload}
 use Rattle.mqtt_packet.specs.declared.packet.Packet.{Packet}
 use Rattle.mqtt_packet.specs.declared.packet.Packet.TheVariants as packets
 use Rattle.mqtt_packet.specs.Texts.{is_text, IsText, IsBinary}
-use Rattle.mqtt_wire.specs.Forms.{u16_bytes, binary_data, utf8_string}
-use Rattle.mqtt_wire.specs.Faults.{◌>>=◌}
-use Rattle.mqtt_wire.specs.Kinds.{bit}
-use Rattle.mqtt_wire.specs.Fields.{Field, byte_at, u16_at, binary_at, text_at, field_if, at_end}
-use Rattle.mqtt_wire.specs.declared.property.Section.TheVariants as sections
-use Rattle.mqtt_wire.specs.declared.properties.Properties.{Properties}
-use Rattle.mqtt_wire.specs.Sections.{properties_at, SpellsProperties}
-use Rattle.mqtt_wire.specs.PropertyLists.{bytes_if, connect_of}
+use Rattle.mqtt_fields.specs.Forms.{u16_bytes, binary_data, utf8_string, bit, AreBytes}
+use Rattle.mqtt_fields.specs.Faults.{◌>>=◌}
+use Rattle.mqtt_fields.specs.Fields.{Field, byte_at, u16_at, binary_at, text_at, field_if, at_end}
+use Rattle.mqtt_fields.specs.declared.property.Section.TheVariants as sections
+use Rattle.mqtt_fields.specs.declared.properties.Properties.{Properties}
+use Rattle.mqtt_fields.specs.Sections.{properties_at, SpellsProperties}
+use Rattle.mqtt_fields.specs.PropertyLists.{bytes_if, connect_of}
 use Rattle.mqtt_wire.specs.Protocol.{is_mqtt_5, are_connect_flags, has_will}
 use Rattle.mqtt_wire.specs.ConnectBody.{expect, connect_payload_at, connect_fields_at, connect_5_at, connect_at}
 use Rattle.mqtt_wire.specs.Writing.{protocol, connect_flags, connect_payload, packet_byte}
 use Rattle.mqtt_wire.specs.Spelling.{SpellsBody, SpellsConnect, SpellsOtherVersion, SpellsWithWill}
 use Rattle.mqtt_wire.specs.Ranges.{IsFromClient}
-use Rattle.mqtt_wire.specs.Stream.{AreBytes}
-use Rattle.mqtt_wire.proofs.Steps.{bind_ok, ok_is, Front, Front-then}
-use Rattle.mqtt_wire.proofs.Variable.{chosen}
+use Rattle.mqtt_fields.proofs.Steps.{bind_ok, ok_is, Front, Front-then}
+use Rattle.mqtt_fields.proofs.Variable.{chosen}
 use Rattle.mqtt_wire.proofs.HeaderLaws.{bit_is}
-use Rattle.mqtt_wire.proofs.FieldLaws.{byte_takes, u16_takes, binary_takes, text_takes, byte_again, u16_again, binary_again, text_again}
-use Rattle.mqtt_wire.proofs.SectionLaws.{properties_take, properties_again}
+use Rattle.mqtt_fields.proofs.FieldLaws.{byte_takes, u16_takes, binary_takes, text_takes, byte_again, u16_again, binary_again, text_again}
+use Rattle.mqtt_fields.proofs.SectionLaws.{properties_take, properties_again}
 
 -- a body is a packet that a client may send, under the first byte 10
 pub record IsConnect (body : List ℕ) (packet : Packet) : Type 0 where

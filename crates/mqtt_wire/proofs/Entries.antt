@@ -1,15 +1,15 @@
 -- The entries of a SUBSCRIBE or an UNSUBSCRIBE, read one after another.
 use Rattle.std.proofs.Common.{◌≡◌, ℕ, zero, suc, ◌<◌, ◌≤◌, List, [], ◌∷◌, ◌++◌, length, Result, Ok, Err, refl, sym, ap, subst, ◌∙◌, append_assoc, arith}
 use Rattle.std.proofs.lemmas.List.{append-nil}
-use Rattle.mqtt_wire.specs.declared.fault.StreamFault.{StreamFault}
-use Rattle.mqtt_wire.specs.declared.fault.Fault.{Fault}
-use Rattle.mqtt_wire.specs.declared.fault.Fault.TheVariants as errors
+use Rattle.mqtt_fields.specs.declared.fault.StreamFault.{StreamFault}
+use Rattle.mqtt_fields.specs.declared.fault.Fault.{Fault}
+use Rattle.mqtt_fields.specs.declared.fault.Fault.TheVariants as errors
 use Rattle.mqtt_packet.specs.declared.packet.Subscription.{Subscription}
-use Rattle.mqtt_wire.specs.Faults.{◌>>=◌, Fails}
-use Rattle.mqtt_wire.specs.Fields.{Field, byte_at, text_at}
+use Rattle.mqtt_fields.specs.Faults.{◌>>=◌, Fails}
+use Rattle.mqtt_fields.specs.Fields.{Field, byte_at, text_at}
 use Rattle.mqtt_wire.specs.Bodies.{options_at, subscription_at, entries_within, at_least_one}
-use Rattle.mqtt_wire.proofs.Steps.{bind_ok, ok_is}
-use Rattle.mqtt_wire.proofs.FieldLaws.{byte_shorter, text_shorter}
+use Rattle.mqtt_fields.proofs.Steps.{bind_ok, ok_is}
+use Rattle.mqtt_fields.proofs.FieldLaws.{byte_shorter, text_shorter}
 
 -- what is left behind an entry is shorter
 abbrev pub Shortens : {A : Type 0} → (List ℕ → Field A) → Type 0

@@ -2,18 +2,17 @@
 use Rattle.std.proofs.Common.{◌≡◌, ℕ, zero, suc, ◌<◌, ◌≤◌, List, [], ◌∷◌, ◌++◌, length, Result, Ok, Err, refl, sym, ap, subst, ◌∙◌, append_assoc, arith, length-append}
 use Rattle.std.specs.List.{flat_map, AllByRecursion}
 use Rattle.std.proofs.lemmas.List.Concat.{flat_map-cons}
-use Rattle.mqtt_wire.specs.declared.fault.StreamFault.{StreamFault}
+use Rattle.mqtt_fields.specs.declared.fault.StreamFault.{StreamFault}
 use Rattle.mqtt_packet.specs.declared.packet.Subscription.{Subscription}
-use Rattle.mqtt_wire.specs.Faults.{◌>>=◌}
+use Rattle.mqtt_fields.specs.Faults.{◌>>=◌}
 use Rattle.mqtt_packet.specs.Texts.{IsText}
-use Rattle.mqtt_wire.specs.Forms.{utf8_string}
-use Rattle.mqtt_wire.specs.Fields.{Field, byte_at, text_at}
+use Rattle.mqtt_fields.specs.Forms.{utf8_string, AreBytes}
+use Rattle.mqtt_fields.specs.Fields.{Field, byte_at, text_at}
 use Rattle.mqtt_wire.specs.Bodies.{options_at, subscription_at, entries_within, at_least_one, entries_at}
 use Rattle.mqtt_wire.specs.Writing.{options_byte, subscription_bytes}
 use Rattle.mqtt_wire.specs.Ranges.{IsFiltered}
-use Rattle.mqtt_wire.specs.Stream.{AreBytes}
-use Rattle.mqtt_wire.proofs.Steps.{bind_ok, ok_is, Front, Front-then}
-use Rattle.mqtt_wire.proofs.FieldLaws.{byte_takes, byte_again, text_takes, text_shorter, text_again}
+use Rattle.mqtt_fields.proofs.Steps.{bind_ok, ok_is, Front, Front-then}
+use Rattle.mqtt_fields.proofs.FieldLaws.{byte_takes, byte_again, text_takes, text_shorter, text_again}
 use Rattle.mqtt_wire.proofs.OptionLaws.{options_takes, options_again}
 use Rattle.mqtt_wire.proofs.Entries.{Shortens, subscription_shorter}
 

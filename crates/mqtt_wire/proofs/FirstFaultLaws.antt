@@ -1,22 +1,22 @@
 -- The fault of a body is that of the first field that is at fault.
 use Rattle.std.proofs.Common.{◌≡◌, ℕ, ◌/◌, ◌%◌, ◌==◌, Bool, true, false, List, [], ◌∷◌, Result, Ok, Err, refl, sym, subst, inl, inr}
 use Rattle.std.specs.Prelude.{◌↔◌, MatchBool, if◌then◌else◌}
-use Rattle.mqtt_wire.specs.declared.fault.StreamFault.{StreamFault}
+use Rattle.mqtt_fields.specs.declared.fault.StreamFault.{StreamFault}
 use Rattle.mqtt_packet.specs.declared.packet.Packet.TheVariants as packets
 use Rattle.mqtt_packet.specs.declared.packet.Connect.{Connect as ConnectPacket}
-use Rattle.mqtt_wire.specs.declared.property.Section.TheVariants as sections
+use Rattle.mqtt_fields.specs.declared.property.Section.TheVariants as sections
 use Rattle.mqtt_wire.specs.declared.kind.PublishFlags.{PublishFlags}
 use Rattle.mqtt_wire.specs.declared.kind.Kind.{Kind}
 use Rattle.mqtt_wire.specs.declared.kind.Kind.TheVariants.{Connect, Publish, Puback, Subscribe, Unsubscribe, Pingreq, Disconnect, Foreign}
-use Rattle.mqtt_wire.specs.Faults.{◌>>=◌}
-use Rattle.mqtt_wire.specs.Fields.{byte_at, u16_at, binary_at, text_at, identifier_at, field_if, at_end}
+use Rattle.mqtt_fields.specs.Faults.{◌>>=◌}
+use Rattle.mqtt_fields.specs.Fields.{byte_at, u16_at, binary_at, text_at, identifier_at, field_if, at_end}
 use Rattle.mqtt_wire.specs.Protocol.{is_mqtt_5, are_connect_flags, has_will}
-use Rattle.mqtt_wire.specs.Sections.{properties_at}
-use Rattle.mqtt_wire.specs.PropertyLists.{connect_of}
+use Rattle.mqtt_fields.specs.Sections.{properties_at}
+use Rattle.mqtt_fields.specs.PropertyLists.{connect_of}
 use Rattle.mqtt_wire.specs.ConnectBody.{expect, connect_payload_at, connect_fields_at, connect_5_at, connect_at}
 use Rattle.mqtt_wire.specs.Bodies.{delivery_at, publish_body_at, reason_at, puback_at, disconnect_at, subscription_at, entries_at, subscribe_at, unsubscribe_at, body_at}
 use Rattle.mqtt_wire.specs.FirstFaults.{FirstOf, NoneLeft, ended, PublishFault, PubackFault, SubscribeFault, UnsubscribeFault, PayloadFault, Connect5Fault, ConnectFault, BodyFault}
-use Rattle.mqtt_wire.proofs.Steps.{ok_is}
+use Rattle.mqtt_fields.proofs.Steps.{ok_is}
 
 -- an answer is a fault exactly where this says so
 abbrev Tells : {A : Type 0} → Result A StreamFault → (StreamFault → Type 0) → Type 0

@@ -1,20 +1,21 @@
 -- Properties that are spelled are in the ranges of their types.
 use Rattle.std.proofs.Common.{◌≡◌, ℕ, List, [], ◌∷◌, ◌++◌, Option, Some, None, Result, Ok, Err, refl, sym, subst, rules}
-use Rattle.mqtt_wire.specs.declared.fault.StreamFault.{StreamFault}
-use Rattle.mqtt_wire.specs.declared.property.Property.{Property}
-use Rattle.mqtt_wire.specs.declared.property.Property.TheVariants.{PayloadFormatIndicator, MessageExpiryInterval, ContentType, ResponseTopic, CorrelationData, SubscriptionIdentifier, SessionExpiryInterval, AuthenticationMethod, AuthenticationData, RequestProblemInformation, RequestResponseInformation, ReasonString, ReceiveMaximum, TopicAliasMaximum, TopicAlias, UserProperty, MaximumPacketSize}
-use Rattle.mqtt_wire.specs.declared.property.Section.{Section}
-use Rattle.mqtt_wire.specs.declared.property.Section.TheVariants as sections
-use Rattle.mqtt_wire.specs.declared.properties.Properties.{Properties}
+use Rattle.mqtt_fields.specs.declared.fault.StreamFault.{StreamFault}
+use Rattle.mqtt_fields.specs.declared.property.Property.{Property}
+use Rattle.mqtt_fields.specs.declared.property.Property.TheVariants.{PayloadFormatIndicator, MessageExpiryInterval, ContentType, ResponseTopic, CorrelationData, SubscriptionIdentifier, SessionExpiryInterval, AuthenticationMethod, AuthenticationData, RequestProblemInformation, RequestResponseInformation, ReasonString, ReceiveMaximum, TopicAliasMaximum, TopicAlias, UserProperty, MaximumPacketSize}
+use Rattle.mqtt_fields.specs.declared.property.Section.{Section}
+use Rattle.mqtt_fields.specs.declared.property.Section.TheVariants as sections
+use Rattle.mqtt_fields.specs.declared.properties.Properties.{Properties}
 use Rattle.mqtt_packet.specs.declared.user_properties.UserProperty.{UserProperty as Pair}
 use Rattle.mqtt_packet.specs.declared.packet_properties.Authentication.{Authentication}
 use Rattle.mqtt_packet.specs.declared.packet_properties.ConnectProperties.{ConnectProperties}
 use Rattle.mqtt_packet.specs.declared.packet.Packet.{Packet}
 use Rattle.mqtt_packet.specs.declared.packet.Packet.TheVariants as packets
-use Rattle.mqtt_wire.specs.Properties.{nothing, with_property}
-use Rattle.mqtt_wire.specs.Sections.{IsPair, IsProperty, AddUp, SpellsProperties}
-use Rattle.mqtt_wire.specs.PropertyLists.{authentication_of, connect_with, connect_from, connect_of, publish_of, puback_of, subscribe_of, unsubscribe_of, disconnect_of}
-use Rattle.mqtt_wire.specs.Ranges.{Fits, ArePairs, AuthenticationFits, ConnectFits, PublishFits, PubackFits, SubscribeFits, UnsubscribeFits, DisconnectFits, PropertiesFit}
+use Rattle.mqtt_fields.specs.Properties.{nothing, with_property}
+use Rattle.mqtt_fields.specs.Sections.{IsPair, IsProperty, AddUp, SpellsProperties}
+use Rattle.mqtt_fields.specs.PropertyLists.{authentication_of, connect_with, connect_from, connect_of, publish_of, puback_of, subscribe_of, unsubscribe_of, disconnect_of}
+use Rattle.mqtt_fields.specs.FieldRanges.{Fits, ArePairs, AuthenticationFits, ConnectFits, PublishFits, PubackFits, SubscribeFits, UnsubscribeFits, DisconnectFits}
+use Rattle.mqtt_wire.specs.Ranges.{PropertiesFit}
 use Rattle.mqtt_wire.specs.Spelling.{SpellsReason, SpellsBody}
 
 -- each property that is there is in its range

@@ -2,19 +2,19 @@
 use Rattle.std.proofs.Common.{◌≡◌, ℕ, zero, suc, ◌/◌, ◌%◌, ◌<◌, ◌≤◌, Bool, true, false, cond, ltb, eqb, List, [], ◌∷◌, ◌++◌, Option, Some, None, Result, Ok, refl, sym, ap, subst, ◌∙◌, arith, inl, inr}
 use Rattle.std.specs.Prelude.{option_and_then}
 use Rattle.std.proofs.lemmas.Bool.{ltb-false, le-ltb, eqb-true}
-use Rattle.mqtt_wire.specs.declared.fault.StreamFault.{StreamFault}
-use Rattle.mqtt_wire.specs.declared.fault.StreamFault.TheVariants.{TooLarge}
+use Rattle.mqtt_fields.specs.declared.fault.StreamFault.{StreamFault}
+use Rattle.mqtt_fields.specs.declared.fault.StreamFault.TheVariants.{TooLarge}
 use Rattle.mqtt_packet.specs.declared.packet.QoS.{QoS}
 use Rattle.mqtt_packet.specs.declared.packet.QoS.TheVariants.{AtMostOnce, AtLeastOnce, ExactlyOnce}
 use Rattle.mqtt_wire.specs.declared.kind.Kind.{Kind}
 use Rattle.mqtt_packet.specs.declared.packet.ForeignKind.TheVariants as foreign
 use Rattle.mqtt_wire.specs.declared.kind.Kind.TheVariants.{Connect, Publish, Puback, Subscribe, Unsubscribe, Pingreq, Disconnect, Foreign}
-use Rattle.mqtt_wire.specs.Forms.{variable_byte_integer}
-use Rattle.mqtt_wire.specs.Kinds.{bit, qos_bits, qos_at, first_byte, publish_at, kinds_of_one_byte, kind_among, kind_at}
-use Rattle.mqtt_wire.specs.Fields.{variable_at}
-use Rattle.mqtt_wire.specs.Stream.{Header, header_at, header_of, header_from, AreBytes}
-use Rattle.mqtt_wire.proofs.Steps.{bind_ok, unless_ok, rest_bytes}
-use Rattle.mqtt_wire.proofs.Variable.{chosen, variable_takes, variable_again, variable_end}
+use Rattle.mqtt_fields.specs.Forms.{variable_byte_integer, bit, AreBytes}
+use Rattle.mqtt_wire.specs.Kinds.{qos_bits, qos_at, first_byte, publish_at, kinds_of_one_byte, kind_among, kind_at}
+use Rattle.mqtt_fields.specs.Fields.{variable_at}
+use Rattle.mqtt_wire.specs.Stream.{Header, header_at, header_of, header_from}
+use Rattle.mqtt_fields.proofs.Steps.{bind_ok, unless_ok, rest_bytes}
+use Rattle.mqtt_fields.proofs.Variable.{chosen, variable_takes, variable_again, variable_end}
 
 -- ---- the first byte
 

@@ -2,25 +2,25 @@
 use Rattle.std.proofs.Common.{◌≡◌, ℕ, ◌<◌, ◌≤◌, List, ◌∷◌, ◌++◌, length, take, drop, Option, Some, None, Ok, Err, refl, sym, ap, subst, ◌∙◌, append_assoc, arith, inl, inr, length-append}
 use Rattle.std.proofs.lemmas.Bool.{cases_lt}
 use Rattle.std.proofs.lemmas.List.{length-take-le, take-append-drop, take_at, drop_at}
-use Rattle.mqtt_wire.specs.declared.fault.StreamFault.{StreamFault}
-use Rattle.mqtt_wire.specs.declared.fault.Fault.{Fault}
-use Rattle.mqtt_wire.specs.declared.fault.Fault.TheVariants.{Stream, Memory}
+use Rattle.mqtt_fields.specs.declared.fault.StreamFault.{StreamFault}
+use Rattle.mqtt_fields.specs.declared.fault.Fault.{Fault}
+use Rattle.mqtt_fields.specs.declared.fault.Fault.TheVariants.{Stream, Memory}
 use Rattle.mqtt_packet.specs.declared.packet.Packet.{Packet}
 use Rattle.mqtt_wire.specs.declared.header.FixedHeader.{FixedHeader}
 use Rattle.mqtt_wire.specs.declared.frame.Frame.{Frame}
 use Rattle.mqtt_wire.specs.declared.splitter.InHand.{InHand}
 use Rattle.mqtt_wire.specs.declared.splitter.InHand.TheVariants.{Nothing, Headed, Whole}
 use Rattle.mqtt_wire.specs.declared.kind.Kind.{Kind}
-use Rattle.mqtt_wire.specs.Faults.{Fails}
-use Rattle.mqtt_wire.specs.Forms.{variable_byte_integer}
+use Rattle.mqtt_fields.specs.Faults.{Fails}
+use Rattle.mqtt_fields.specs.Forms.{variable_byte_integer, AreBytes}
 use Rattle.mqtt_wire.specs.Kinds.{first_byte}
 use Rattle.mqtt_wire.specs.Bodies.{body_at}
 use Rattle.mqtt_wire.specs.Writing.{framed}
 use Rattle.mqtt_wire.specs.Spelling.{Spells}
-use Rattle.mqtt_wire.specs.Stream.{Header, header_at, Frames, HoldsPacket, IsOpen, FaultAt, AreBytes, Unread}
+use Rattle.mqtt_wire.specs.Stream.{Header, header_at, Frames, HoldsPacket, IsOpen, FaultAt, Unread}
 use Rattle.mqtt_wire.specs.Frame.{header_with, header_bytes, frame_bytes, bytes_in_hand, IsInHand, IsHeld, Keeps, TakesFrame, TakesPacket, unread}
-use Rattle.mqtt_wire.proofs.Steps.{drop_bytes, take_bytes}
-use Rattle.mqtt_wire.proofs.Variable.{at_most_three, at_least_three}
+use Rattle.mqtt_fields.proofs.Steps.{drop_bytes, take_bytes}
+use Rattle.mqtt_fields.proofs.Variable.{at_most_three, at_least_three}
 use Rattle.mqtt_wire.proofs.HeaderLaws.{header_takes, header_again}
 use Rattle.mqtt_wire.proofs.FitLaws.{spelled_fits}
 use Rattle.mqtt_wire.proofs.BodyLaws.{body_takes}

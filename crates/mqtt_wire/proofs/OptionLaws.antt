@@ -6,11 +6,12 @@ use Rattle.mqtt_packet.specs.declared.packet.QoS.TheVariants.{AtMostOnce, AtLeas
 use Rattle.mqtt_packet.specs.declared.packet.RetainHandling.{RetainHandling}
 use Rattle.mqtt_packet.specs.declared.packet.RetainHandling.TheVariants.{Send, SendIfNew, DoNotSend}
 use Rattle.mqtt_packet.specs.declared.packet.SubscriptionOptions.{SubscriptionOptions}
-use Rattle.mqtt_wire.specs.Kinds.{bit, qos_bits, qos_at}
+use Rattle.mqtt_fields.specs.Forms.{bit}
+use Rattle.mqtt_wire.specs.Kinds.{qos_bits, qos_at}
 use Rattle.mqtt_wire.specs.Bodies.{retain_handling_at, options_from, options_at}
 use Rattle.mqtt_wire.specs.Writing.{retain_handling_bits, options_byte}
-use Rattle.mqtt_wire.proofs.Steps.{if_ok, ok_is}
-use Rattle.mqtt_wire.proofs.Variable.{chosen}
+use Rattle.mqtt_fields.proofs.Steps.{if_ok, ok_is}
+use Rattle.mqtt_fields.proofs.Variable.{chosen}
 use Rattle.mqtt_wire.proofs.HeaderLaws.{bit_is, qos_takes}
 
 handling_is : (a b : RetainHandling) → Some a ≡ Some b → a ≡ b

@@ -1,18 +1,18 @@
 -- A stream with more bytes behind it: what was read of it stays, and so does a fault.
 use Rattle.std.proofs.Common.{◌≡◌, ℕ, zero, suc, ◌+◌, ◌-◌, ◌*◌, ltb, eqb, List, [], ◌∷◌, ◌++◌, Option, Some, None, Result, Ok, Err, refl, sym, ap, subst, ◌∙◌, append_assoc, arith, inl, inr, length-append}
 use Rattle.std.proofs.lemmas.List.{take-append-le}
-use Rattle.mqtt_wire.specs.declared.fault.StreamFault.{StreamFault}
-use Rattle.mqtt_wire.specs.declared.fault.StreamFault.TheVariants.{Malformed, TooLarge}
+use Rattle.mqtt_fields.specs.declared.fault.StreamFault.{StreamFault}
+use Rattle.mqtt_fields.specs.declared.fault.StreamFault.TheVariants.{Malformed, TooLarge}
 use Rattle.mqtt_packet.specs.declared.packet.Packet.{Packet}
 use Rattle.mqtt_wire.specs.declared.kind.Kind.{Kind}
-use Rattle.mqtt_wire.specs.Forms.{variable_byte_integer, variable_bytes}
+use Rattle.mqtt_fields.specs.Forms.{variable_byte_integer, variable_bytes, AreBytes}
 use Rattle.mqtt_wire.specs.Kinds.{kind_at, first_byte}
-use Rattle.mqtt_wire.specs.Faults.{◌>>=◌}
-use Rattle.mqtt_wire.specs.Fields.{variable_at, longer}
+use Rattle.mqtt_fields.specs.Faults.{◌>>=◌}
+use Rattle.mqtt_fields.specs.Fields.{variable_at, longer}
 use Rattle.mqtt_wire.specs.Bodies.{body_at}
-use Rattle.mqtt_wire.specs.Stream.{Header, header_at, header_of, header_from, Frames, FaultAt, Begins, Reads, AreBytes}
-use Rattle.mqtt_wire.proofs.Steps.{rest_bytes}
-use Rattle.mqtt_wire.proofs.Variable.{variable_takes, variable_again, chosen}
+use Rattle.mqtt_wire.specs.Stream.{Header, header_at, header_of, header_from, Frames, FaultAt, Begins, Reads}
+use Rattle.mqtt_fields.proofs.Steps.{rest_bytes}
+use Rattle.mqtt_fields.proofs.Variable.{variable_takes, variable_again, chosen}
 use Rattle.mqtt_wire.proofs.HeaderLaws.{header_takes, header_again}
 use Rattle.mqtt_wire.proofs.NextLaws.{back_bytes}
 

@@ -1,23 +1,22 @@
 -- Reason codes and the properties behind them: what is read is spelled so, and what is spelled so is read.
 use Rattle.std.proofs.Common.{◌≡◌, ℕ, ◌<◌, ◌≤◌, List, [], ◌∷◌, length, Ok, refl, sym, ap, subst, ◌∙◌, arith, inl, inr, length-append}
 use Rattle.std.proofs.lemmas.List.{append-nil}
-use Rattle.mqtt_wire.specs.declared.property.Section.{Section}
-use Rattle.mqtt_wire.specs.declared.properties.Properties.{Properties}
-use Rattle.mqtt_wire.specs.Properties.{nothing}
-use Rattle.mqtt_wire.specs.declared.property.Property.{Property}
-use Rattle.mqtt_wire.specs.Forms.{variable_byte_integer}
-use Rattle.mqtt_wire.specs.Sections.{property_bytes, properties_at, AddUp, properties, SpellsProperties}
+use Rattle.mqtt_fields.specs.declared.property.Section.{Section}
+use Rattle.mqtt_fields.specs.declared.properties.Properties.{Properties}
+use Rattle.mqtt_fields.specs.Properties.{nothing}
+use Rattle.mqtt_fields.specs.declared.property.Property.{Property}
+use Rattle.mqtt_fields.specs.Forms.{variable_byte_integer, AreBytes}
+use Rattle.mqtt_fields.specs.Sections.{property_bytes, properties_at, AddUp, properties, SpellsProperties}
 use Rattle.mqtt_wire.specs.Writing.{reason_bytes}
 use Rattle.std.specs.List.{flat_map}
 use Rattle.std.proofs.lemmas.List.Concat.{flat_map-cons}
 use Rattle.std.proofs.lemmas.Bool.{cases_eq, eq-eqb, ne_eqb}
-use Rattle.mqtt_wire.proofs.PropertyListLaws.{spelled}
+use Rattle.mqtt_fields.proofs.PropertyListLaws.{spelled}
 use Rattle.mqtt_wire.specs.Bodies.{last_properties_at, reason_at}
 use Rattle.mqtt_wire.specs.Spelling.{SpellsReason}
-use Rattle.mqtt_wire.specs.Stream.{AreBytes}
-use Rattle.mqtt_wire.proofs.Steps.{bind_ok, ok_is, rest_bytes}
+use Rattle.mqtt_fields.proofs.Steps.{bind_ok, ok_is, rest_bytes}
 use Rattle.mqtt_wire.proofs.ConnectLaws.{at_end_is, all_of}
-use Rattle.mqtt_wire.proofs.SectionLaws.{Gathered, properties_take, properties_again}
+use Rattle.mqtt_fields.proofs.SectionLaws.{Gathered, properties_take, properties_again}
 
 abbrev reason : ℕ → Properties → ℕ × Properties
 reason code all = (code, all)

@@ -2,15 +2,14 @@
 use Rattle.std.proofs.Common.{◌≡◌, ℕ, ◌+◌, ◌*◌, ◌/◌, ◌%◌, ◌<◌, ◌≤◌, List, [], ◌∷◌, ◌++◌, length, drop, get_or, Some, None, Ok, refl, subst, arith, le-ltb}
 use Rattle.mqtt_packet.specs.declared.packet.Packet.{Packet}
 use Rattle.mqtt_packet.specs.declared.packet.Packet.TheVariants as packets
-use Rattle.mqtt_wire.specs.declared.property.Section.{Section}
+use Rattle.mqtt_fields.specs.declared.property.Section.{Section}
 use Rattle.mqtt_wire.specs.declared.splitter.InHand.TheVariants.{Nothing}
-use Rattle.mqtt_wire.specs.Forms.{variable_bytes, u16_bytes}
-use Rattle.mqtt_wire.specs.Fields.{variable_field_at, variable_at}
-use Rattle.mqtt_wire.specs.Properties.{nothing}
-use Rattle.mqtt_wire.specs.Sections.{gathered_at, properties_at}
+use Rattle.mqtt_fields.specs.Forms.{variable_bytes, u16_bytes, AreBytes}
+use Rattle.mqtt_fields.specs.Fields.{variable_field_at, variable_at}
+use Rattle.mqtt_fields.specs.Properties.{nothing}
+use Rattle.mqtt_fields.specs.Sections.{gathered_at, properties_at}
 use Rattle.mqtt_wire.specs.Writing.{framed}
 use Rattle.mqtt_wire.specs.Spelling.{Spells}
-use Rattle.mqtt_wire.specs.Stream.{AreBytes}
 use Rattle.mqtt_wire.specs.Frame.{IsHeld, TakesShort, TakesPacket}
 use Rattle.mqtt_wire.proofs.NextLaws.{back_bytes}
 

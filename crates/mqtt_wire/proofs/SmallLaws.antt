@@ -3,15 +3,16 @@ use Rattle.std.proofs.Common.{◌≡◌, ℕ, ◌+◌, ◌≤◌, List, ◌++◌
 use Rattle.std.specs.Result.{result_ok}
 use Rattle.std.proofs.lemmas.List.{drop_at}
 use Rattle.std.proofs.lemmas.Option.{none-some, same_Some}
-use Rattle.mqtt_wire.specs.declared.fault.StreamFault.{StreamFault}
-use Rattle.mqtt_wire.specs.declared.fault.Fault.{Fault}
+use Rattle.mqtt_fields.specs.declared.fault.StreamFault.{StreamFault}
+use Rattle.mqtt_fields.specs.declared.fault.Fault.{Fault}
 use Rattle.mqtt_packet.specs.declared.packet.Packet.{Packet}
 use Rattle.mqtt_wire.specs.declared.header.FixedHeader.{FixedHeader}
 use Rattle.mqtt_wire.specs.declared.frame.Frame.{Frame}
 use Rattle.mqtt_wire.specs.declared.splitter.InHand.TheVariants.{Nothing, Headed, Whole}
-use Rattle.mqtt_wire.specs.Faults.{Gives}
+use Rattle.mqtt_fields.specs.Faults.{Gives}
 use Rattle.mqtt_wire.specs.Bodies.{body_at}
-use Rattle.mqtt_wire.specs.Stream.{AreBytes, Header, header_at}
+use Rattle.mqtt_fields.specs.Forms.{AreBytes}
+use Rattle.mqtt_wire.specs.Stream.{Header, header_at}
 use Rattle.mqtt_wire.specs.Frame.{header_with, frame_bytes, GivesHeader, Keeps, TakesShort}
 use Rattle.mqtt_wire.proofs.NextLaws.{frame_body_bytes, frame_spells, keeps_body, keeps_header, keeps_on}
 

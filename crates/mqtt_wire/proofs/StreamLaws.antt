@@ -2,17 +2,17 @@
 use Rattle.std.proofs.Common.{◌≡◌, ℕ, zero, suc, ◌<◌, ◌≤◌, List, [], ◌∷◌, ◌++◌, length, take, drop, Option, Some, None, Result, Ok, Err, refl, sym, ap, subst, ◌∙◌, arith, inl, inr, length-append}
 use Rattle.std.proofs.lemmas.Bool.{cases_lt}
 use Rattle.std.proofs.lemmas.List.{take_at, drop_at}
-use Rattle.mqtt_wire.specs.declared.fault.StreamFault.{StreamFault}
+use Rattle.mqtt_fields.specs.declared.fault.StreamFault.{StreamFault}
 use Rattle.mqtt_wire.specs.declared.frame.Frame.{Frame}
 use Rattle.mqtt_wire.specs.declared.kind.Kind.{Kind}
 use Rattle.mqtt_packet.specs.declared.packet.Packet.{Packet}
 use Rattle.mqtt_packet.specs.declared.packet.Packet.TheVariants as packets
-use Rattle.mqtt_wire.specs.Forms.{variable_byte_integer}
+use Rattle.mqtt_fields.specs.Forms.{variable_byte_integer, AreBytes}
 use Rattle.mqtt_wire.specs.Kinds.{first_byte}
 use Rattle.mqtt_wire.specs.Bodies.{body_at}
 use Rattle.mqtt_wire.specs.Writing.{packet_byte, framed, connect_body, publish_body, written_body, written, reason_bytes}
 use Rattle.mqtt_wire.specs.Spelling.{SpellsConnect, SpellsPublish, SpellsPuback, SpellsSubscribe, SpellsUnsubscribe, SpellsDisconnect, SpellsBody, Spells}
-use Rattle.mqtt_wire.specs.Stream.{Header, header_at, Frames, IsOpen, FaultAt, EndsAs, Begins, Reads, Reading, AreBytes}
+use Rattle.mqtt_wire.specs.Stream.{Header, header_at, Frames, IsOpen, FaultAt, EndsAs, Begins, Reads, Reading}
 use Rattle.mqtt_wire.specs.Frame.{frame_bytes}
 use Rattle.mqtt_wire.proofs.BodyLaws.{body_again}
 use Rattle.mqtt_packet.specs.declared.packet.Connect.{Connect}
@@ -21,12 +21,13 @@ use Rattle.mqtt_packet.specs.declared.packet.Puback.{Puback}
 use Rattle.mqtt_packet.specs.declared.packet.Subscribe.{Subscribe}
 use Rattle.mqtt_packet.specs.declared.packet.Unsubscribe.{Unsubscribe}
 use Rattle.mqtt_packet.specs.declared.packet.Disconnect.{Disconnect}
-use Rattle.mqtt_wire.specs.declared.property.Section.TheVariants as sections
-use Rattle.mqtt_wire.specs.Sections.{properties}
-use Rattle.mqtt_wire.specs.PropertyLists.{connect_list, publish_list, puback_list, subscribe_list, unsubscribe_list, disconnect_list}
-use Rattle.mqtt_wire.specs.Ranges.{ConnectFits, PublishFits, PubackFits, SubscribeFits, UnsubscribeFits, DisconnectFits, IsFromClient, PropertiesFit}
+use Rattle.mqtt_fields.specs.declared.property.Section.TheVariants as sections
+use Rattle.mqtt_fields.specs.Sections.{properties}
+use Rattle.mqtt_fields.specs.PropertyLists.{connect_list, publish_list, puback_list, subscribe_list, unsubscribe_list, disconnect_list}
+use Rattle.mqtt_fields.specs.FieldRanges.{ConnectFits, PublishFits, PubackFits, SubscribeFits, UnsubscribeFits, DisconnectFits}
+use Rattle.mqtt_wire.specs.Ranges.{IsFromClient, PropertiesFit}
 use Rattle.mqtt_wire.proofs.ReasonLaws.{reason_written}
-use Rattle.mqtt_wire.proofs.PropertyListLaws.{spelled, all_of_connect, connect_gathered, connect_back, all_of_publish, publish_gathered, publish_back, all_of_puback, puback_gathered, puback_back, all_of_subscribe, subscribe_gathered, subscribe_back, all_of_unsubscribe, unsubscribe_gathered, unsubscribe_back, all_of_disconnect, disconnect_gathered, disconnect_back}
+use Rattle.mqtt_fields.proofs.PropertyListLaws.{spelled, all_of_connect, connect_gathered, connect_back, all_of_publish, publish_gathered, publish_back, all_of_puback, puback_gathered, puback_back, all_of_subscribe, subscribe_gathered, subscribe_back, all_of_unsubscribe, unsubscribe_gathered, unsubscribe_back, all_of_disconnect, disconnect_gathered, disconnect_back}
 use Rattle.mqtt_wire.proofs.ConnectLaws.{shortest_other_version, shortest_with_will}
 use Rattle.mqtt_wire.proofs.NextLaws.{body_size, frame_header, frame_spells, frames_whole, back_bytes, frame_body_bytes}
 

@@ -1,7 +1,6 @@
 -- How many bytes each body is written in, and steps of writing.
-use Rattle.std.proofs.Common.{◌≡◌, ℕ, zero, suc, ◌+◌, ◌-◌, ◌/◌, ◌%◌, ◌<◌, ◌≤◌, List, [], ◌∷◌, ◌++◌, length, get_or, take, Option, Some, None, refl, ap, ◌∙◌, append_assoc, arith, le-ltb, length-append}
-use Rattle.std.specs.Prelude.{MatchOption, Vec}
-use Rattle.std.specs.declared.alloc.Global.{Global}
+use Rattle.std.proofs.Common.{◌≡◌, ℕ, ◌+◌, ◌<◌, ◌≤◌, List, [], ◌∷◌, ◌++◌, length, get_or, take, Option, Some, None, refl, ap, ◌∙◌, arith, length-append}
+use Rattle.std.specs.Prelude.{MatchOption}
 use Rattle.std.specs.List.{flat_map}
 use Rattle.std.proofs.lemmas.List.Folds.{length-flat_map-take}
 use Rattle.mqtt_packet.specs.declared.packet.Connect.{Connect}
@@ -11,20 +10,11 @@ use Rattle.mqtt_packet.specs.declared.packet.ConnectRefusal.{ConnectRefusal}
 use Rattle.mqtt_packet.specs.declared.packet.Packet.{Packet}
 use Rattle.mqtt_packet.specs.declared.packet.Publish.{Publish}
 use Rattle.mqtt_packet.specs.declared.packet.Subscription.{Subscription}
-use Rattle.mqtt_wire.specs.Forms.{u16_bytes, binary_data, utf8_string, variable_bytes, variable_limit, variable_byte_integer}
-use Rattle.mqtt_wire.specs.Buffers.{Appends}
+use Rattle.mqtt_fields.specs.Forms.{u16_bytes, binary_data, utf8_string, variable_bytes, variable_byte_integer}
 use Rattle.mqtt_wire.specs.Connacks.{connack_properties, connack_body}
 use Rattle.mqtt_wire.specs.Writing.{connect_payload, delivery_bytes, reason_bytes, options_byte, subscription_bytes, connect_body, publish_body, written_body, written, remaining_length}
-use Rattle.mqtt_wire.specs.Sections.{properties}
-use Rattle.mqtt_wire.specs.PropertyLists.{bytes_if, connect_list, publish_list}
-
--- the next byte of a Variable Byte Integer
-pub next_byte : (more n : ℕ) → 128 ≤ n → n < variable_limit more → variable_bytes more n ≡ (n % 128 + 128) ∷ variable_bytes (more - 1) (n / 128)
-unfolding variable_bytes
-next_byte zero n large h = absurd (omega arith)
-next_byte (suc more) n large h =
-    let less : suc more - 1 ≡ more = omega arith in
-    rw (le-ltb n 128 large, less) refl
+use Rattle.mqtt_fields.specs.Sections.{properties}
+use Rattle.mqtt_fields.specs.PropertyLists.{bytes_if, connect_list, publish_list}
 
 -- a section of properties
 pub properties_size : (list : List ℕ) → length (properties list) ≡ length (variable_byte_integer (length list)) + length list
@@ -87,15 +77,6 @@ filter_within filters i filter lt is =
 pub sized : (found : Option ℕ) (size remaining : ℕ) → size ≡ remaining → MatchOption found (268435455 < size) (λ n. (n ≡ size) × (size ≤ 268435455)) → MatchOption found (268435455 < remaining) (λ n. (n ≡ remaining) × (n ≤ 268435455))
 sized None size remaining same h = omega arith
 sized (Some n) size remaining same h = (h.0 ∙ same, omega arith)
-
--- what is written behind what was written
-pub appends_both : (old middle new : Vec ℕ Global) (first others : List ℕ) →
-    Appends old first middle → Appends middle others new → Appends old (first ++ others) new
-appends_both old middle new first others a b = record {
-  items = b.items ∙ ap (λ (o : List ℕ). o ++ others) a.items ∙ append_assoc old.items first others;
-  len = omega (arith, a.len, b.len, length-append first others);
-  capacity = omega (arith, a.capacity, b.capacity);
-}
 
 -- a packet has its header and its Remaining Length
 pub written_length : (packet : Packet) → length (written packet) ≡ 1 + length (variable_byte_integer (remaining_length packet)) + remaining_length packet

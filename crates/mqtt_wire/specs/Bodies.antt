@@ -1,7 +1,7 @@
 -- The body of each kind of packet, read field by field: the packet, or the first fault (chapter 3).
 use Rattle.std.specs.Prelude.{ℕ, zero, suc, ◌/◌, ◌%◌, ◌==◌, nat_lt, if◌then◌else◌, List, [], ◌∷◌, length, Option, Some, None, Result, Ok, Err}
-use Rattle.mqtt_wire.specs.declared.fault.StreamFault.{StreamFault}
-use Rattle.mqtt_wire.specs.declared.fault.StreamFault.TheVariants.{Malformed, Protocol}
+use Rattle.mqtt_fields.specs.declared.fault.StreamFault.{StreamFault}
+use Rattle.mqtt_fields.specs.declared.fault.StreamFault.TheVariants.{Malformed, Protocol}
 use Rattle.mqtt_packet.specs.declared.packet.QoS.{QoS}
 use Rattle.mqtt_packet.specs.declared.packet.QoS.TheVariants as qos
 use Rattle.mqtt_packet.specs.declared.packet.RetainHandling.{RetainHandling}
@@ -20,16 +20,16 @@ use Rattle.mqtt_packet.specs.declared.packet.Packet.TheVariants as packets
 use Rattle.mqtt_wire.specs.declared.kind.Kind.{Kind}
 use Rattle.mqtt_wire.specs.declared.kind.Kind.TheVariants as kinds
 use Rattle.mqtt_wire.specs.declared.kind.PublishFlags.{PublishFlags}
-use Rattle.mqtt_wire.specs.Faults.{◌>>=◌}
+use Rattle.mqtt_fields.specs.Faults.{◌>>=◌}
 use Rattle.mqtt_wire.specs.Kinds.{qos_at}
-use Rattle.mqtt_wire.specs.Fields.{Field, byte_at, text_at, identifier_at, at_end}
-use Rattle.mqtt_wire.specs.declared.property.Section.{Section}
-use Rattle.mqtt_wire.specs.declared.property.Section.TheVariants as sections
-use Rattle.mqtt_wire.specs.declared.properties.Properties.{Properties}
-use Rattle.mqtt_wire.specs.Properties.{nothing}
-use Rattle.mqtt_wire.specs.Sections.{properties_at}
+use Rattle.mqtt_fields.specs.Fields.{Field, byte_at, text_at, identifier_at, at_end}
+use Rattle.mqtt_fields.specs.declared.property.Section.{Section}
+use Rattle.mqtt_fields.specs.declared.property.Section.TheVariants as sections
+use Rattle.mqtt_fields.specs.declared.properties.Properties.{Properties}
+use Rattle.mqtt_fields.specs.Properties.{nothing}
+use Rattle.mqtt_fields.specs.Sections.{properties_at}
 use Rattle.mqtt_wire.specs.ConnectBody.{connect_at}
-use Rattle.mqtt_wire.specs.PropertyLists.{publish_of, puback_of, subscribe_of, unsubscribe_of, disconnect_of}
+use Rattle.mqtt_fields.specs.PropertyLists.{publish_of, puback_of, subscribe_of, unsubscribe_of, disconnect_of}
 
 -- 3.3.2.2: there is an identifier where the QoS is not 0
 unfoldable pub delivery_at : QoS → List ℕ → Field Delivery

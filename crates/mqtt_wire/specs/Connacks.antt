@@ -8,10 +8,9 @@ use Rattle.mqtt_packet.specs.declared.packet.Acceptance.{Acceptance}
 use Rattle.mqtt_packet.specs.declared.packet.ConnectRefusal.{ConnectRefusal}
 use Rattle.mqtt_packet.specs.declared.packet.ConnectRefusal.TheVariants as refusals
 use Rattle.mqtt_packet.specs.declared.offer.Offer.{Offer}
-use Rattle.mqtt_wire.specs.Forms.{u32_bytes, utf8_string}
-use Rattle.mqtt_wire.specs.Sections.{properties}
-use Rattle.mqtt_wire.specs.PropertyLists.{bytes_if}
-use Rattle.mqtt_wire.specs.Kinds.{bit}
+use Rattle.mqtt_fields.specs.Forms.{u32_bytes, utf8_string, bit}
+use Rattle.mqtt_fields.specs.Sections.{properties}
+use Rattle.mqtt_fields.specs.PropertyLists.{bytes_if}
 
 -- 3.2.2.3.7: the identifier that was assigned
 abbrev pub assigned : List ℕ → List ℕ

@@ -1,17 +1,17 @@
 -- The body of a CONNECT, read field by field: the packet, or the first fault (section 3.1).
 use Rattle.std.specs.Prelude.{ℕ, ◌/◌, ◌%◌, ◌==◌, if◌then◌else◌, Bool, List, Result, Ok, Err}
-use Rattle.mqtt_wire.specs.declared.fault.StreamFault.{StreamFault}
-use Rattle.mqtt_wire.specs.declared.fault.StreamFault.TheVariants.{Malformed}
+use Rattle.mqtt_fields.specs.declared.fault.StreamFault.{StreamFault}
+use Rattle.mqtt_fields.specs.declared.fault.StreamFault.TheVariants.{Malformed}
 use Rattle.mqtt_packet.specs.declared.packet.Connect.{Connect}
 use Rattle.mqtt_wire.specs.declared.bodies.ConnectPayload.{ConnectPayload}
 use Rattle.mqtt_packet.specs.declared.packet.Packet.{Packet}
 use Rattle.mqtt_packet.specs.declared.packet.Packet.TheVariants as packets
-use Rattle.mqtt_wire.specs.declared.property.Section.TheVariants as sections
-use Rattle.mqtt_wire.specs.Faults.{◌>>=◌}
+use Rattle.mqtt_fields.specs.declared.property.Section.TheVariants as sections
+use Rattle.mqtt_fields.specs.Faults.{◌>>=◌}
 use Rattle.mqtt_wire.specs.Protocol.{is_mqtt_5, are_connect_flags, has_will}
-use Rattle.mqtt_wire.specs.Fields.{byte_at, u16_at, binary_at, text_at, field_if, at_end}
-use Rattle.mqtt_wire.specs.Sections.{properties_at}
-use Rattle.mqtt_wire.specs.PropertyLists.{connect_of}
+use Rattle.mqtt_fields.specs.Fields.{byte_at, u16_at, binary_at, text_at, field_if, at_end}
+use Rattle.mqtt_fields.specs.Sections.{properties_at}
+use Rattle.mqtt_fields.specs.PropertyLists.{connect_of}
 
 -- a value that must be so, or the packet is malformed
 abbrev pub expect : Bool → Result (Unit {0}) StreamFault

@@ -1,14 +1,14 @@
 -- Which fault of a body counts: the first in the order of its fields (section 4.13 and chapter 3).
 use Rattle.std.specs.Prelude.{◌≡◌, ℕ, ◌/◌, ◌%◌, ◌==◌, ◌⊎◌, List, Result, Ok, Err, MatchBool}
-use Rattle.mqtt_wire.specs.declared.fault.StreamFault.{StreamFault}
-use Rattle.mqtt_wire.specs.declared.property.Section.TheVariants as sections
+use Rattle.mqtt_fields.specs.declared.fault.StreamFault.{StreamFault}
+use Rattle.mqtt_fields.specs.declared.property.Section.TheVariants as sections
 use Rattle.mqtt_wire.specs.declared.kind.PublishFlags.{PublishFlags}
 use Rattle.mqtt_wire.specs.declared.kind.Kind.{Kind}
 use Rattle.mqtt_wire.specs.declared.kind.Kind.TheVariants.{Connect, Publish, Puback, Subscribe, Unsubscribe, Pingreq, Disconnect, Foreign}
-use Rattle.mqtt_wire.specs.Fields.{byte_at, u16_at, binary_at, text_at, identifier_at, field_if, at_end}
+use Rattle.mqtt_fields.specs.Fields.{byte_at, u16_at, binary_at, text_at, identifier_at, field_if, at_end}
 use Rattle.mqtt_wire.specs.Protocol.{is_mqtt_5, are_connect_flags, has_will}
-use Rattle.mqtt_wire.specs.Sections.{properties_at}
-use Rattle.mqtt_wire.specs.PropertyLists.{connect_of}
+use Rattle.mqtt_fields.specs.Sections.{properties_at}
+use Rattle.mqtt_fields.specs.PropertyLists.{connect_of}
 use Rattle.mqtt_wire.specs.ConnectBody.{expect}
 use Rattle.mqtt_wire.specs.Bodies.{delivery_at, reason_at, subscription_at, entries_at}
 

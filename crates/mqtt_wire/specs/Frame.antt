@@ -1,19 +1,19 @@
 -- Packets that are taken off a stream: first the header, then the body (section 2.1).
 use Rattle.std.specs.Prelude.{◌≡◌, ℕ, ◌<◌, ◌≤◌, List, [], ◌∷◌, ◌++◌, length, take, drop, Option, Some, None, Result, Ok, Err}
 use Rattle.std.specs.Borrow.{Bor}
-use Rattle.mqtt_wire.specs.declared.fault.StreamFault.{StreamFault}
-use Rattle.mqtt_wire.specs.declared.fault.Fault.{Fault}
-use Rattle.mqtt_wire.specs.declared.fault.Fault.TheVariants.{Stream, Memory}
+use Rattle.mqtt_fields.specs.declared.fault.StreamFault.{StreamFault}
+use Rattle.mqtt_fields.specs.declared.fault.Fault.{Fault}
+use Rattle.mqtt_fields.specs.declared.fault.Fault.TheVariants.{Stream, Memory}
 use Rattle.mqtt_wire.specs.declared.header.FixedHeader.{FixedHeader}
 use Rattle.mqtt_wire.specs.declared.frame.Frame.{Frame}
 use Rattle.mqtt_wire.specs.declared.splitter.InHand.{InHand}
 use Rattle.mqtt_wire.specs.declared.splitter.InHand.TheVariants.{Nothing, Headed, Whole}
 use Rattle.mqtt_packet.specs.declared.packet.Packet.{Packet}
-use Rattle.mqtt_wire.specs.Forms.{variable_byte_integer}
+use Rattle.mqtt_fields.specs.Forms.{variable_byte_integer, AreBytes}
 use Rattle.mqtt_wire.specs.Kinds.{first_byte}
 use Rattle.mqtt_wire.specs.Writing.{framed}
 use Rattle.mqtt_wire.specs.Spelling.{Spells}
-use Rattle.mqtt_wire.specs.Stream.{Header, HoldsPacket, IsOpen, FaultAt, AreBytes, Unread, NextAnswers, header_at, maximum_remaining_length}
+use Rattle.mqtt_wire.specs.Stream.{Header, HoldsPacket, IsOpen, FaultAt, Unread, NextAnswers, header_at, maximum_remaining_length}
 
 -- a header that was read, with the bytes behind it
 abbrev pub header_with : FixedHeader → List ℕ → Header

@@ -1,16 +1,12 @@
 -- The first byte of a packet (sections 2.1.2 and 2.1.3): which kinds are read, and the byte of each.
-use Rattle.std.specs.Prelude.{ℕ, ◌+◌, ◌*◌, ◌/◌, ◌%◌, ◌==◌, Bool, true, false, List, [], ◌∷◌, Option, Some, None, option_and_then, if◌then◌else◌}
+use Rattle.std.specs.Prelude.{ℕ, ◌+◌, ◌*◌, ◌/◌, ◌%◌, ◌==◌, List, [], ◌∷◌, Option, Some, None, option_and_then, if◌then◌else◌}
 use Rattle.mqtt_packet.specs.declared.packet.QoS.{QoS}
 use Rattle.mqtt_packet.specs.declared.packet.QoS.TheVariants.{AtMostOnce, AtLeastOnce, ExactlyOnce}
 use Rattle.mqtt_packet.specs.declared.packet.ForeignKind.{ForeignKind}
 use Rattle.mqtt_packet.specs.declared.packet.ForeignKind.TheVariants as foreign
+use Rattle.mqtt_fields.specs.Forms.{bit}
 use Rattle.mqtt_wire.specs.declared.kind.Kind.{Kind}
 use Rattle.mqtt_wire.specs.declared.kind.Kind.TheVariants.{Connect, Publish, Puback, Subscribe, Unsubscribe, Pingreq, Disconnect, Foreign}
-
--- a flag as a bit
-abbrev pub bit : Bool → ℕ
-bit true = 1
-bit false = 0
 
 -- 4.3 Quality of Service as two bits
 abbrev pub qos_bits : QoS → ℕ

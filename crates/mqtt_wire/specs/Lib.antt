@@ -1,14 +1,5 @@
-pub mod Faults
-pub mod Forms
-pub mod Sizes
-pub mod Buffers
 pub mod Kinds
 pub mod Protocol
-pub mod Fields
-pub mod Properties
-pub mod Sections
-pub mod PropertyLists
-pub mod Orders
 pub mod Ranges
 pub mod ConnectBody
 pub mod Bodies

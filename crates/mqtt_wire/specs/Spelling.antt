@@ -9,14 +9,14 @@ use Rattle.mqtt_packet.specs.declared.packet.Puback.{Puback}
 use Rattle.mqtt_packet.specs.declared.packet.Subscribe.{Subscribe}
 use Rattle.mqtt_packet.specs.declared.packet.Unsubscribe.{Unsubscribe}
 use Rattle.mqtt_packet.specs.declared.packet.Disconnect.{Disconnect}
-use Rattle.mqtt_wire.specs.declared.property.Section.{Section}
-use Rattle.mqtt_wire.specs.declared.property.Section.TheVariants as sections
-use Rattle.mqtt_wire.specs.declared.properties.Properties.{Properties}
-use Rattle.mqtt_wire.specs.Properties.{nothing}
-use Rattle.mqtt_wire.specs.Sections.{SpellsProperties}
-use Rattle.mqtt_wire.specs.PropertyLists.{connect_of, publish_of, puback_of, subscribe_of, unsubscribe_of, disconnect_of}
+use Rattle.mqtt_fields.specs.declared.property.Section.{Section}
+use Rattle.mqtt_fields.specs.declared.property.Section.TheVariants as sections
+use Rattle.mqtt_fields.specs.declared.properties.Properties.{Properties}
+use Rattle.mqtt_fields.specs.Properties.{nothing}
+use Rattle.mqtt_fields.specs.Sections.{SpellsProperties}
+use Rattle.mqtt_fields.specs.PropertyLists.{connect_of, publish_of, puback_of, subscribe_of, unsubscribe_of, disconnect_of}
 use Rattle.mqtt_packet.specs.Texts.{IsText}
-use Rattle.mqtt_wire.specs.Forms.{u16_bytes, utf8_string}
+use Rattle.mqtt_fields.specs.Forms.{u16_bytes, utf8_string}
 use Rattle.mqtt_wire.specs.Protocol.{is_mqtt_5, are_connect_flags, has_will}
 use Rattle.mqtt_wire.specs.Ranges.{IsFromClient, PropertiesFit}
 use Rattle.mqtt_wire.specs.Writing.{protocol, connect_flags, connect_payload, delivery_bytes, subscription_bytes, packet_byte, framed}

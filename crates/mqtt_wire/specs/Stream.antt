@@ -1,17 +1,17 @@
 -- A stream as packets, one after another, and then what is open or a fault (sections 2.1 and 4.13).
-use Rattle.std.specs.Prelude.{◌≡◌, ℕ, ◌<◌, ◌≤◌, ◌⊎◌, nat_lt, slice_index, if◌then◌else◌, List, [], ◌∷◌, ◌++◌, length, take, Option, Some, None, Result, Ok, Err}
+use Rattle.std.specs.Prelude.{◌≡◌, ℕ, ◌<◌, ◌≤◌, ◌⊎◌, nat_lt, if◌then◌else◌, List, [], ◌∷◌, ◌++◌, length, take, Option, Some, None, Result, Ok, Err}
 use Rattle.std.specs.Io.KnownBytes.{Consumes, Keeps, IsAtEnd}
-use Rattle.mqtt_wire.specs.declared.fault.StreamFault.{StreamFault}
-use Rattle.mqtt_wire.specs.declared.fault.StreamFault.TheVariants.{Malformed, TooLarge}
-use Rattle.mqtt_wire.specs.declared.fault.Fault.{Fault}
-use Rattle.mqtt_wire.specs.declared.fault.Fault.TheVariants.{Stream, Memory}
+use Rattle.mqtt_fields.specs.declared.fault.StreamFault.{StreamFault}
+use Rattle.mqtt_fields.specs.declared.fault.StreamFault.TheVariants.{Malformed, TooLarge}
+use Rattle.mqtt_fields.specs.declared.fault.Fault.{Fault}
+use Rattle.mqtt_fields.specs.declared.fault.Fault.TheVariants.{Stream, Memory}
 use Rattle.mqtt_wire.specs.declared.fault.ReadFault.{ReadFault}
 use Rattle.mqtt_wire.specs.declared.fault.ReadFault.TheVariants.{Refused, Device}
 use Rattle.mqtt_packet.specs.declared.packet.Packet.{Packet}
 use Rattle.mqtt_wire.specs.declared.kind.Kind.{Kind}
-use Rattle.mqtt_wire.specs.Faults.{◌>>=◌}
+use Rattle.mqtt_fields.specs.Faults.{◌>>=◌}
 use Rattle.mqtt_wire.specs.Kinds.{kind_at}
-use Rattle.mqtt_wire.specs.Fields.{variable_at}
+use Rattle.mqtt_fields.specs.Fields.{variable_at}
 use Rattle.mqtt_wire.specs.Bodies.{body_at}
 use Rattle.mqtt_wire.specs.Spelling.{Spells}
 
@@ -71,10 +71,6 @@ Begins stream (packet ∷ packets) rest = (front : List ℕ) × (after : List �
 -- the packets of a stream, what is left behind them, and the fault in front of that, if there is one
 abbrev pub Reads : List ℕ → List Packet → List ℕ → Option StreamFault → Type 0
 Reads stream packets rest fault = Begins stream packets rest × EndsAs rest fault
-
--- the numbers are bytes
-abbrev pub AreBytes : List ℕ → Type 0
-AreBytes bytes = (i : ℕ) → slice_index bytes i < 256
 
 -- what a splitter has not read yet, and the fault that it met
 pub record Unread : Type 0 where

@@ -19,11 +19,11 @@ use Rattle.mqtt_packet.specs.declared.packet.Packet.TheVariants as packets
 use Rattle.mqtt_packet.specs.declared.packet.ForeignKind.TheVariants as foreign
 use Rattle.mqtt_wire.specs.declared.kind.Kind.TheVariants as kinds
 use Rattle.mqtt_wire.specs.declared.kind.PublishFlags.{PublishFlags}
-use Rattle.mqtt_wire.specs.Forms.{u16_bytes, variable_byte_integer, binary_data, utf8_string}
-use Rattle.mqtt_wire.specs.Sections.{properties}
-use Rattle.mqtt_wire.specs.PropertyLists.{bytes_if, connect_list, publish_list, puback_list, subscribe_list, unsubscribe_list, disconnect_list}
+use Rattle.mqtt_fields.specs.Forms.{u16_bytes, variable_byte_integer, binary_data, utf8_string, bit}
+use Rattle.mqtt_fields.specs.Sections.{properties}
+use Rattle.mqtt_fields.specs.PropertyLists.{bytes_if, connect_list, publish_list, puback_list, subscribe_list, unsubscribe_list, disconnect_list}
 use Rattle.mqtt_wire.specs.Connacks.{connack_body}
-use Rattle.mqtt_wire.specs.Kinds.{bit, qos_bits, foreign_byte, first_byte}
+use Rattle.mqtt_wire.specs.Kinds.{qos_bits, foreign_byte, first_byte}
 
 -- 3.3.1.2: the quality of service of a PUBLISH
 abbrev pub qos_of : Delivery → QoS

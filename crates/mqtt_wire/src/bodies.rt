@@ -2,23 +2,20 @@
 //! first that is wrong decides.
 
 ghost use Rattle.std.specs.Prelude.{◌≡◌, ◌<◌, List, ℕ, length, OnOk};
-ghost use Rattle.mqtt_wire.specs.Faults.{Gives, GivesField, ReadsField};
-ghost use Rattle.mqtt_wire.specs.PropertyLists.{GivesPublish};
-ghost use Rattle.mqtt_wire.specs.Sections.{properties_at};
-ghost use Rattle.mqtt_wire.specs.Fields.{Field, text_at};
+ghost use Rattle.mqtt_fields.specs.Faults.{Gives, GivesField, ReadsField};
+ghost use Rattle.mqtt_fields.specs.PropertyLists.{GivesPublish};
+ghost use Rattle.mqtt_fields.specs.Sections.{properties_at};
+ghost use Rattle.mqtt_fields.specs.Fields.{Field, text_at};
 ghost use Rattle.mqtt_wire.specs.Protocol.{are_connect_flags};
 ghost use Rattle.mqtt_wire.specs.Bodies.{delivery_at, publish_body_at, last_properties_at, reason_at, puback_at, disconnect_at, retain_handling_at, options_at, subscription_at, entries_within, at_least_one, entries_at, subscribe_at, unsubscribe_at, body_at};
 ghost use Rattle.mqtt_wire.specs.ConnectBody.{expect, connect_payload_at, connect_fields_at, connect_5_at, connect_at};
 
-use crate::fault::{Fault, StreamFault};
-use crate::fields::{
-    read_binary_if, read_byte, read_identifier, read_text, read_text_if, read_u16,
-};
 use crate::kind::{Kind, PublishFlags, qos_of};
-use crate::properties::Properties;
-use crate::property::Section;
-use crate::sections::read_properties;
 use bytes::Bytes;
+use mqtt_fields::{
+    Fault, Properties, Section, StreamFault, read_binary_if, read_byte, read_identifier,
+    read_properties, read_text, read_text_if, read_u16,
+};
 use mqtt_packet::{
     Binary, Boxed, Connect, Delivery, Disconnect, NonEmpty, Packet, Puback, Publish, QoS,
     RareProperties, ReasonCode, RetainHandling, Subscribe, Subscription, SubscriptionOptions, Text,

@@ -2,19 +2,22 @@
 
 ghost use Rattle.std.specs.Prelude.{◌≡◌, ◌<◌, ◌++◌, ◌∷◌, [], length, IfSome};
 ghost use Rattle.std.specs.List.{flat_map, AllByRecursion};
-ghost use Rattle.mqtt_wire.specs.Buffers.{HasRoom, Appends};
+ghost use Rattle.mqtt_fields.specs.Buffers.{HasRoom, Appends};
 ghost use Rattle.mqtt_packet.specs.Texts.{IsText, IsBinary};
-ghost use Rattle.mqtt_wire.specs.Forms.{binary_data, utf8_string};
-ghost use Rattle.mqtt_wire.specs.Sections.{properties};
-ghost use Rattle.mqtt_wire.specs.Ranges.{IsDelivery, IsFiltered, IsFromClient, IsClientKind, PropertiesFit, ConnectFits, PublishFits, PubackFits, SubscribeFits, UnsubscribeFits};
-ghost use Rattle.mqtt_wire.specs.PropertyLists.{bytes_if};
+ghost use Rattle.mqtt_fields.specs.Forms.{binary_data, utf8_string};
+ghost use Rattle.mqtt_fields.specs.Sections.{properties};
+ghost use Rattle.mqtt_fields.specs.FieldRanges.{ConnectFits, PublishFits, PubackFits, SubscribeFits, UnsubscribeFits};
+ghost use Rattle.mqtt_wire.specs.Ranges.{IsDelivery, IsFiltered, IsFromClient, IsClientKind, PropertiesFit};
+ghost use Rattle.mqtt_fields.specs.PropertyLists.{bytes_if};
 ghost use Rattle.mqtt_wire.specs.Connacks.{refusal_code, connack_body};
 ghost use Rattle.mqtt_wire.specs.Writing.{connect_flags, connect_payload, delivery_bytes, options_byte, subscription_bytes, connect_body, publish_body, puback_body, subscribe_body, unsubscribe_body, codes_body, written_body};
 
-use crate::field_writing::{put_binary, put_byte, put_bytes, put_identifier, put_text, put_u16};
-use crate::property_writing::{
-    put_connack_properties, put_connect_properties, put_disconnect_reason, put_puback_reason,
-    put_publish_properties, put_subscribe_properties, put_unsubscribe_properties,
+use crate::connack_writing::put_connack_properties;
+use crate::reason_writing::{put_disconnect_reason, put_puback_reason};
+use mqtt_fields::{
+    put_binary, put_byte, put_bytes, put_connect_properties, put_identifier, put_no_properties,
+    put_publish_properties, put_subscribe_properties, put_text, put_u16,
+    put_unsubscribe_properties,
 };
 use mqtt_packet::{
     Binary, Connack, Connect, ConnectRefusal, Delivery, Packet, PacketIdentifier, Puback, Publish,
@@ -132,15 +135,6 @@ fn put_connack(out: &mut Vec<u8>, connack: &Connack)
             put_no_properties(out);
         }
     }
-}
-
-/// Writes the empty section of properties (section 2.2.2).
-#[tactic(auto, unfolding(crate::specs::Forms::variable_bytes))]
-fn put_no_properties(out: &mut Vec<u8>)
-    requires { HasRoom out.old (properties []) }
-    ensures { Appends out.old (properties []) out.new }
-{
-    put_byte(out, 0);
 }
 
 /// The Reason Code of a refusal (section 3.2.2.2).

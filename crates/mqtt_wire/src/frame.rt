@@ -1,16 +1,16 @@
 //! Packets that are taken off a stream: first the header, then the body (section 2.1).
 
 ghost use Rattle.std.specs.Prelude.{◌≡◌, List, ℕ};
-ghost use Rattle.mqtt_wire.specs.Faults.{Gives};
+ghost use Rattle.mqtt_fields.specs.Faults.{Gives};
 ghost use Rattle.mqtt_wire.specs.Bodies.{body_at};
 ghost use Rattle.mqtt_wire.specs.Frame.{TakesHeader, TakesBody};
 
 use crate::bodies::read_body;
 use crate::body_room::BodyRoom;
-use crate::fault::{Fault, StreamFault};
 use crate::header::{FixedHeader, read_header};
 use crate::kind::Kind;
 use bytes::{Bytes, BytesMut};
+use mqtt_fields::{Fault, StreamFault};
 use mqtt_packet::Packet;
 use std::alloc::{AllocError, Global};
 

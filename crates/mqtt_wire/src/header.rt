@@ -4,9 +4,8 @@ ghost use Rattle.std.specs.Prelude.{◌≡◌, ◌≤◌, List, ℕ, length};
 ghost use Rattle.mqtt_wire.specs.Stream.{header_at};
 ghost use Rattle.mqtt_wire.specs.Frame.{GivesHeader};
 
-use crate::fault::StreamFault;
-use crate::fields::variable_byte_integer;
 use crate::kind::{Kind, kind_of};
+use mqtt_fields::{StreamFault, variable_byte_integer};
 
 /// The greatest Remaining Length that is read: with its header of four bytes the packet has 65,536 bytes.
 const MAXIMUM_REMAINING_LENGTH: u32 = 65_532;

@@ -1,23 +1,16 @@
 //! Laws of the definitions, over every packet and every stream: each is the contract of a function that does nothing.
 
 ghost use Rattle.std.specs.Prelude.{◌≡◌, ◌≤◌, ◌↔◌, List, ℕ, ◌∷◌, ◌++◌, length, Option, Some, None, Err};
-ghost use Rattle.mqtt_wire.specs.declared.fault.StreamFault.{StreamFault};
+ghost use Rattle.mqtt_fields.specs.declared.fault.StreamFault.{StreamFault};
 ghost use Rattle.mqtt_packet.specs.declared.packet.Packet.{Packet as AnyPacket};
-ghost use Rattle.mqtt_packet.specs.declared.packet_properties.ConnectProperties.{ConnectProperties};
-ghost use Rattle.mqtt_packet.specs.declared.packet_properties.PublishProperties.{PublishProperties};
-ghost use Rattle.mqtt_packet.specs.declared.packet_properties.PubackProperties.{PubackProperties};
-ghost use Rattle.mqtt_packet.specs.declared.packet_properties.SubscribeProperties.{SubscribeProperties};
-ghost use Rattle.mqtt_packet.specs.declared.packet_properties.UnsubscribeProperties.{UnsubscribeProperties};
-ghost use Rattle.mqtt_packet.specs.declared.packet_properties.DisconnectProperties.{DisconnectProperties};
-ghost use Rattle.mqtt_wire.specs.Orders.{AreRising};
 ghost use Rattle.mqtt_wire.specs.declared.kind.Kind.{Kind};
 ghost use Rattle.mqtt_wire.specs.Bodies.{body_at};
 ghost use Rattle.mqtt_wire.specs.FirstFaults.{BodyFault};
-ghost use Rattle.mqtt_wire.specs.PropertyLists.{connect_list, publish_list, puback_list, subscribe_list, unsubscribe_list, disconnect_list};
 ghost use Rattle.mqtt_wire.specs.Writing.{written};
 ghost use Rattle.mqtt_wire.specs.Spelling.{Spells, maximum_packet_size};
 ghost use Rattle.mqtt_wire.specs.Ranges.{IsFromClient, PropertiesFit};
-ghost use Rattle.mqtt_wire.specs.Stream.{AreBytes, Reads, Reading};
+ghost use Rattle.mqtt_fields.specs.Forms.{AreBytes};
+ghost use Rattle.mqtt_wire.specs.Stream.{Reads, Reading};
 
 /// No spelling of a packet is a proper beginning of another, and no bytes spell two packets.
 pub fn spellings_are_told_apart()
@@ -55,16 +48,6 @@ pub fn written_packets_are_read_again()
         length (written packet) ≤ maximum_packet_size →
         Reads (written packet ++ after) all rest fault →
         (others : List AnyPacket) × (all ≡ packet ∷ others) × Reads after others rest fault }
-{}
-
-/// Of each packet that a client may send, what is written of its properties is properties in rising order of their identifiers.
-pub fn written_properties_rise()
-    ensures connect { (properties : ConnectProperties) → AreRising (connect_list properties) }
-    ensures publish { (properties : PublishProperties) → AreRising (publish_list properties) }
-    ensures puback { (properties : PubackProperties) → AreRising (puback_list properties) }
-    ensures subscribe { (properties : SubscribeProperties) → AreRising (subscribe_list properties) }
-    ensures unsubscribe { (properties : UnsubscribeProperties) → AreRising (unsubscribe_list properties) }
-    ensures disconnect { (properties : DisconnectProperties) → AreRising (disconnect_list properties) }
 {}
 
 /// The fault of a body is that of the first of its fields that is at fault, in the order in which the standard lists them,

@@ -1,7 +1,7 @@
 //! MQTT 5.0 control packets as bytes: what a client's stream spells, and the one form in which each packet is written.
 //!
 //! [`Splitter`] takes a stream in pieces and answers its packets; [`encode`] writes a packet. A packet is a value of
-//! [`mqtt_packet`].
+//! [`mqtt_packet`], and what can be wrong with one is a [`Fault`](mqtt_fields::Fault).
 //!
 //! Every kind of packet that a client sends is read, with every property and every rule on a value. What a client has no
 //! business to send is read as [`Packet::Foreign`](mqtt_packet::Packet), a CONNECT of another version as `OtherVersion`, one
@@ -21,28 +21,22 @@
 mod bodies;
 mod body_room;
 mod body_writing;
+mod connack_writing;
 mod fault;
-mod field_writing;
-mod fields;
 mod frame;
 mod header;
 mod kind;
 mod laws;
-mod properties;
-mod property;
-mod property_sizes;
-mod property_writing;
-mod sections;
+mod reason_writing;
 mod short;
-mod single_properties;
 mod sizes;
 mod splitter;
 mod writing;
 
-pub use fault::{Fault, ReadFault, StreamFault};
+pub use fault::ReadFault;
 pub use laws::{
     first_fault_counts, pieces_are_read_as_the_whole, spellings_are_told_apart,
-    streams_have_one_reading, written_packets_are_read_again, written_properties_rise,
+    streams_have_one_reading, written_packets_are_read_again,
 };
 pub use splitter::Splitter;
 pub use writing::{encode, encode_into, encoded_size};

@@ -1,7 +1,7 @@
 //! Short packets, read where they stand on the stream.
 
 ghost use Rattle.std.specs.Prelude.{◌≡◌, None};
-ghost use Rattle.mqtt_wire.specs.Stream.{AreBytes};
+ghost use Rattle.mqtt_fields.specs.Forms.{AreBytes};
 ghost use Rattle.mqtt_wire.specs.Frame.{TakesShort};
 
 use crate::bodies::read_body;

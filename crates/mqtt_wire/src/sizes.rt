@@ -2,13 +2,13 @@
 
 ghost use Rattle.std.specs.Prelude.{◌≡◌, ◌<◌, ◌≤◌, ◌+◌, ◌^◌, List, ℕ, min, length, MatchOption};
 ghost use Rattle.std.specs.List.{flat_map};
-ghost use Rattle.mqtt_wire.specs.PropertyLists.{bytes_if};
-ghost use Rattle.mqtt_wire.specs.Sizes.{greatest};
+ghost use Rattle.mqtt_fields.specs.PropertyLists.{bytes_if};
+ghost use Rattle.mqtt_fields.specs.Sizes.{greatest};
 ghost use Rattle.mqtt_wire.specs.Connacks.{connack_properties, connack_body, offer_bytes};
 ghost use Rattle.mqtt_wire.specs.Writing.{subscription_bytes, delivery_bytes, reason_bytes, connect_payload, remaining_length};
-ghost use Rattle.mqtt_wire.specs.Forms.{utf8_string, binary_data};
+ghost use Rattle.mqtt_fields.specs.Forms.{utf8_string, binary_data};
 
-use crate::property_sizes::{
+use mqtt_fields::{
     connect_list_size, disconnect_list_size, puback_list_size, publish_properties_size,
     section_size, subscribe_list_size, unsubscribe_list_size, variable_size,
 };

@@ -1,15 +1,17 @@
 //! A stream in pieces, and the packets that it spells (section 2.1).
 
 ghost use Rattle.std.specs.Prelude.{◌≡◌, [], length, IsTrue, None, Some};
-ghost use Rattle.mqtt_wire.specs.Stream.{AreBytes, NextAnswers, FeedAnswers, ReadAnswers};
+ghost use Rattle.mqtt_fields.specs.Forms.{AreBytes};
+ghost use Rattle.mqtt_wire.specs.Stream.{NextAnswers, FeedAnswers, ReadAnswers};
 ghost use Rattle.mqtt_wire.specs.Frame.{IsHeld, ReachesHeader, ReachesPacket, TakesPacket, fault_in};
 
 use crate::body_room::BodyRoom;
-use crate::fault::{Fault, ReadFault, StreamFault};
+use crate::fault::ReadFault;
 use crate::frame::{Frame, read_frame, take_body, take_header};
 use crate::header::FixedHeader;
 use crate::short::take_short;
 use bytes::BytesMut;
+use mqtt_fields::{Fault, StreamFault};
 use mqtt_packet::Packet;
 use std::alloc::{AllocError, Global};
 use std::io::Read;

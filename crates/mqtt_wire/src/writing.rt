@@ -1,18 +1,16 @@
 //! Packets as bytes, each in its one written form (chapter 3).
 
 ghost use Rattle.std.specs.Prelude.{◌≡◌, ◌<◌, ◌≤◌, ◌+◌, ◌++◌, ◌⊎◌, ◌↔◌, length, vec_len, vec_capacity, IsErrOf, OnOk, OnErr, IfOk, IfErr};
-ghost use Rattle.mqtt_wire.specs.Buffers.{HasRoom, Appends};
-ghost use Rattle.mqtt_wire.specs.Forms.{variable_byte_integer};
+ghost use Rattle.mqtt_fields.specs.Buffers.{HasRoom, Appends};
+ghost use Rattle.mqtt_fields.specs.Forms.{variable_byte_integer};
 ghost use Rattle.mqtt_wire.specs.Kinds.{qos_bits, foreign_byte};
 ghost use Rattle.mqtt_wire.specs.Writing.{qos_of, packet_byte, written, written_size, remaining_length};
 ghost use Rattle.mqtt_wire.specs.Ranges.{IsClientKind, IsFromClient, PropertiesFit};
 ghost use Rattle.mqtt_wire.specs.Spelling.{Spells, maximum_packet_size};
 
 use crate::body_writing::put_body;
-use crate::fault::{Fault, StreamFault};
-use crate::field_writing::{put_byte, put_variable_byte_integer};
-use crate::property_sizes::variable_size;
 use crate::sizes::body_size;
+use mqtt_fields::{Fault, StreamFault, put_byte, put_variable_byte_integer, variable_size};
 use mqtt_packet::{Delivery, ForeignKind, Packet};
 use std::alloc::Global;
 

@@ -10,7 +10,8 @@ mod values;
 
 #[cfg(test)]
 use mqtt_packet::Packet;
-use mqtt_wire::{Fault, Splitter, encode};
+use mqtt_fields::Fault;
+use mqtt_wire::{Splitter, encode};
 #[cfg(test)]
 use std::alloc::Global;
 

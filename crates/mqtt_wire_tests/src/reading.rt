@@ -1,7 +1,8 @@
 //! Streams that are read straight from a reader.
 
 use crate::next_written;
-use mqtt_wire::{Fault, ReadFault, Splitter, StreamFault};
+use mqtt_fields::{Fault, StreamFault};
+use mqtt_wire::{ReadFault, Splitter};
 use std::alloc::Global;
 use std::io;
 use std::io::{ErrorKind, Read};

@@ -1,7 +1,8 @@
 //! Streams of packets, read and written again, and the faults that they show.
 
 use crate::next_written;
-use mqtt_wire::{Fault, Splitter};
+use mqtt_fields::Fault;
+use mqtt_wire::Splitter;
 use std::alloc::Global;
 use std::test::Fail;
 

@@ -7,7 +7,8 @@ use mqtt_packet::{
     Packet, PacketIdentifier, Publish, PublishProperties, QoS, RareProperties, ReasonCode,
     ReceiveMaximum, Suback, SubscriptionIdentifier, Text, Unsuback, UserProperties, UserProperty,
 };
-use mqtt_wire::{Fault, StreamFault, encode_into, encoded_size};
+use mqtt_fields::{Fault, StreamFault};
+use mqtt_wire::{encode_into, encoded_size};
 use std::alloc::Global;
 use std::test::Fail;
 

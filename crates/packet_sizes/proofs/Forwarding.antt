@@ -7,13 +7,13 @@ use Rattle.mqtt_packet.specs.declared.packet.Delivery.TheVariants.{AtMostOnce, A
 use Rattle.mqtt_packet.specs.declared.packet.Packet.TheVariants as packets
 use Rattle.mqtt_packet.specs.declared.packet.Publish.{Publish}
 use Rattle.mqtt_packet.specs.declared.packet_properties.PublishProperties.{PublishProperties}
-use Rattle.mqtt_wire.specs.Forms.{utf8_string, variable_byte_integer}
-use Rattle.mqtt_wire.specs.Properties.{may_come, nothing, with_property}
-use Rattle.mqtt_wire.specs.PropertyLists.{publish_of, publish_list}
-use Rattle.mqtt_wire.specs.Sections.{property_bytes, AddUp}
+use Rattle.mqtt_fields.specs.Forms.{utf8_string, variable_byte_integer}
+use Rattle.mqtt_fields.specs.Properties.{may_come, nothing, with_property}
+use Rattle.mqtt_fields.specs.PropertyLists.{publish_of, publish_list}
+use Rattle.mqtt_fields.specs.Sections.{property_bytes, AddUp}
 use Rattle.mqtt_wire.specs.Spelling.{SpellsPublish, Spells}
 use Rattle.mqtt_wire.specs.Writing.{delivery_bytes, written, remaining_length}
-use Rattle.mqtt_wire.proofs.PropertySizeLaws.{publish_length}
+use Rattle.mqtt_fields.proofs.PropertySizeLaws.{publish_length}
 use Rattle.mqtt_wire.proofs.WritingLaws.{properties_size, publish_size, written_length}
 use Rattle.conn_rules.specs.Packets.{job}
 use Rattle.conn_rules.specs.Publishing.{message_of}

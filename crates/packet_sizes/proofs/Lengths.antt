@@ -2,9 +2,9 @@
 use Rattle.std.proofs.Common.{◌≡◌, ℕ, ◌+◌, ◌<◌, ◌≤◌, length, refl, arith, inl, inr, le-ltb}
 use Rattle.std.proofs.lemmas.Bool.{cases_lt}
 use Rattle.mqtt_packet.specs.declared.packet.Packet.{Packet}
-use Rattle.mqtt_wire.specs.Forms.{variable_byte_integer}
+use Rattle.mqtt_fields.specs.Forms.{variable_byte_integer}
 use Rattle.mqtt_wire.specs.Writing.{written, written_body, written_size, remaining_length}
-use Rattle.mqtt_wire.proofs.Variable.{at_most_three, at_least_three, is_one_byte, is_two_bytes}
+use Rattle.mqtt_fields.proofs.Variable.{at_most_three, at_least_three, is_one_byte, is_two_bytes}
 use Rattle.mqtt_wire.proofs.WritingLaws.{written_length}
 use Rattle.packet_sizes.specs.Sizes.{IsShort}
 

@@ -9,9 +9,9 @@ use Rattle.mqtt_packet.specs.declared.packet.Packet.{Packet}
 use Rattle.mqtt_packet.specs.declared.packet.Packet.TheVariants as packets
 use Rattle.mqtt_wire.specs.Connacks.{assigned, offer_bytes}
 use Rattle.mqtt_packet.specs.Texts.{is_text, IsText}
-use Rattle.mqtt_wire.specs.Forms.{variable_bytes}
+use Rattle.mqtt_fields.specs.Forms.{variable_bytes}
 use Rattle.mqtt_wire.specs.Writing.{written, written_body, remaining_length}
-use Rattle.mqtt_wire.proofs.Variable.{at_most_three}
+use Rattle.mqtt_fields.proofs.Variable.{at_most_three}
 use Rattle.mqtt_wire.proofs.WritingLaws.{connack_size, refused_size, codes_size}
 use Rattle.session_desk.specs.Names.{assigned_name}
 use Rattle.conn_rules.specs.Connecting.{offer}

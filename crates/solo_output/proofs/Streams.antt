@@ -4,7 +4,7 @@ use Rattle.hex.specs.Hex.{decode_of}
 use Rattle.hex.specs.declared.error.FromHexError.{FromHexError}
 use Rattle.hex.proofs.HexLemmas.{decode_of-ok}
 use Rattle.line_io.specs.Lines.{lines_of}
-use Rattle.mqtt_wire.specs.Stream.{AreBytes}
+use Rattle.mqtt_fields.specs.Forms.{AreBytes}
 use Rattle.local_server.specs.declared.event.Event.TheVariants.{Open, Bytes, End}
 use Rattle.local_server.specs.declared.event.TimedEvent.{TimedEvent}
 use Rattle.drive.specs.Scripts.{followed_by}

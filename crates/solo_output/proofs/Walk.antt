@@ -8,10 +8,11 @@ use Rattle.std.proofs.lemmas.List.Concat.{flat_map-append}
 use Rattle.std.proofs.lemmas.List.Sums.{list_all-from_AllPass}
 use Rattle.std.proofs.lemmas.Option.{slice_get_within, slice_get-get_or, same_Some}
 use Rattle.dispatch_core.proofs.Spots.{slice_get-set_same}
-use Rattle.mqtt_wire.specs.declared.fault.StreamFault.{StreamFault}
+use Rattle.mqtt_fields.specs.declared.fault.StreamFault.{StreamFault}
 use Rattle.mqtt_packet.specs.declared.packet.Packet.{Packet}
 use Rattle.mqtt_wire.specs.Spelling.{Spells}
-use Rattle.mqtt_wire.specs.Stream.{Unread, Takes, IsOpen, FaultAt, Reads as ReadsAs, AreBytes, header_at}
+use Rattle.mqtt_fields.specs.Forms.{AreBytes}
+use Rattle.mqtt_wire.specs.Stream.{Unread, Takes, IsOpen, FaultAt, Reads as ReadsAs, header_at}
 use Rattle.mqtt_wire.proofs.NextLaws.{front_bytes, back_bytes}
 use Rattle.mqtt_wire.proofs.StreamLaws.{exists_reading}
 use Rattle.mqtt_wire.proofs.PieceLaws.{faulty_stays}

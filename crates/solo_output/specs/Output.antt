@@ -2,7 +2,7 @@
 use Rattle.std.specs.Prelude.{◌≡◌, ℕ, List, ◌++◌, Option, Ok}
 use Rattle.std.specs.Option.{option_to_list}
 use Rattle.std.specs.List.{flat_map}
-use Rattle.mqtt_wire.specs.declared.fault.StreamFault.{StreamFault}
+use Rattle.mqtt_fields.specs.declared.fault.StreamFault.{StreamFault}
 use Rattle.mqtt_packet.specs.declared.packet.Packet.{Packet}
 use Rattle.mqtt_wire.specs.Stream.{Reads}
 use Rattle.local_server.specs.declared.setup.Setup.{Setup}

@@ -3,7 +3,7 @@
 ghost use Rattle.std.specs.Prelude.{◌≡◌, ◌≢◌, ◌⊎◌, ◌↔◌, ◌+◌, ◌<◌, ◌≤◌, ℕ, min, List, [], ◌∷◌, ◌++◌, length, take, slice_get, Option, Some, None, Ok, Err};
 ghost use Rattle.std.specs.List.{AllByRecursion};
 ghost use Rattle.member_window.specs.Identifiers.{IsLeastFree, AreDistinct};
-ghost use Rattle.mqtt_wire.specs.declared.fault.StreamFault.{StreamFault};
+ghost use Rattle.mqtt_fields.specs.declared.fault.StreamFault.{StreamFault};
 ghost use Rattle.mqtt_packet.specs.declared.packet.Connect.{Connect};
 ghost use Rattle.mqtt_packet.specs.declared.packet.Packet.{Packet};
 ghost use Rattle.mqtt_packet.specs.declared.packet.Packet.TheVariants as kinds;

@@ -9,7 +9,7 @@ use crate::client::Client;
 use crate::said::Said;
 use conn_engine::{HoldingPlace, Input, NoMemory, Supply, Then};
 use mqtt_packet::Packet;
-use mqtt_wire::Fault;
+use mqtt_fields::Fault;
 use std::alloc::Global;
 use std::mem;
 

@@ -2,10 +2,10 @@ use Rattle.std.proofs.Common.{◌≡◌, ◌<◌, ℕ, Bool, false, eqb, length,
 use Rattle.std.proofs.lemmas.Bool.{eqb-false, eqb-true}
 use Rattle.std.proofs.lemmas.Result.{err_from_is_err_and}
 use Rattle.std.proofs.lemmas.List.{nil_from_length}
-use Rattle.mqtt_wire.specs.Fields.{text_at}
+use Rattle.mqtt_fields.specs.Fields.{text_at}
 use Rattle.mqtt_wire.specs.Bodies.{entries_within, entries_at}
 use Rattle.mqtt_wire.proofs.Entries.{goes_on, ends, is_done}
-use Rattle.mqtt_wire.proofs.FieldLaws.{text_shorter}
+use Rattle.mqtt_fields.proofs.FieldLaws.{text_shorter}
 use Rattle.mqtt_wire.proofs.bodies.read_filters.Goals as goal
 
 not_empty : (n : ℕ) (answer : Bool) → answer ≡ eqb n 0 → answer ≡ false → 0 < n

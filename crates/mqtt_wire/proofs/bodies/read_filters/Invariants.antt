@@ -1,5 +1,5 @@
 use Rattle.std.proofs.Common.{◌≡◌, length}
-use Rattle.mqtt_wire.specs.Fields.{text_at}
+use Rattle.mqtt_fields.specs.Fields.{text_at}
 use Rattle.mqtt_wire.specs.Bodies.{entries_within}
 use Rattle.mqtt_wire.proofs.Entries.{with_front}
 use Rattle.mqtt_wire.proofs.bodies.read_filters.Given as goal

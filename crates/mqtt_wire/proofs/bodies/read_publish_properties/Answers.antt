@@ -1,6 +1,6 @@
 use Rattle.std.proofs.Common.{◌≡◌, ◌≤◌, length, get_or, arith}
-use Rattle.mqtt_wire.specs.Properties.{nothing}
-use Rattle.mqtt_wire.specs.declared.property.Section.TheVariants.{Publish}
+use Rattle.mqtt_fields.specs.Properties.{nothing}
+use Rattle.mqtt_fields.specs.declared.property.Section.TheVariants.{Publish}
 use Rattle.mqtt_wire.proofs.ShortLaws.{empty_section}
 use Rattle.mqtt_wire.proofs.bodies.read_publish_properties.Goals as goal
 

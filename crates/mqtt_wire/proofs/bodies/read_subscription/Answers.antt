@@ -1,5 +1,5 @@
 use Rattle.std.proofs.Common.{arith}
-use Rattle.mqtt_wire.proofs.FieldLaws.{byte_shorter, text_shorter}
+use Rattle.mqtt_fields.proofs.FieldLaws.{byte_shorter, text_shorter}
 use Rattle.mqtt_wire.proofs.bodies.read_subscription.Goals as goal
 
 pub returns-clause-shorter : goal.returns-clause-shorter

@@ -1,5 +1,5 @@
 use Rattle.std.proofs.Common.{take, drop}
-use Rattle.mqtt_wire.specs.Buffers.{HasRoom, Appends}
+use Rattle.mqtt_fields.specs.Buffers.{HasRoom, Appends}
 use Rattle.mqtt_wire.proofs.body_writing.put_codes.Given as goal
 
 -- those before this one are written, and there is room for the others

@@ -1,8 +1,8 @@
 use Rattle.std.proofs.Common.{take, drop}
 use Rattle.std.specs.List.{flat_map, AllByRecursion}
 use Rattle.mqtt_packet.specs.Texts.{IsText}
-use Rattle.mqtt_wire.specs.Forms.{utf8_string}
-use Rattle.mqtt_wire.specs.Buffers.{HasRoom, Appends}
+use Rattle.mqtt_fields.specs.Forms.{utf8_string}
+use Rattle.mqtt_fields.specs.Buffers.{HasRoom, Appends}
 use Rattle.mqtt_wire.proofs.body_writing.put_filters.Given as goal
 
 -- those before this one are written, and are in their ranges; there is room for the others

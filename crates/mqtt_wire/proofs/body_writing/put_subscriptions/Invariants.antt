@@ -2,7 +2,7 @@ use Rattle.std.proofs.Common.{take, drop}
 use Rattle.std.specs.List.{flat_map, AllByRecursion}
 use Rattle.mqtt_wire.specs.Writing.{subscription_bytes}
 use Rattle.mqtt_wire.specs.Ranges.{IsFiltered}
-use Rattle.mqtt_wire.specs.Buffers.{HasRoom, Appends}
+use Rattle.mqtt_fields.specs.Buffers.{HasRoom, Appends}
 use Rattle.mqtt_wire.proofs.body_writing.put_subscriptions.Given as goal
 
 -- those before this one are written, and are in their ranges; there is room for the others

@@ -1,5 +1,5 @@
 use Rattle.std.proofs.Common.{◌≡◌, length, ap, arith}
-use Rattle.mqtt_wire.specs.Forms.{variable_byte_integer}
+use Rattle.mqtt_fields.specs.Forms.{variable_byte_integer}
 use Rattle.mqtt_wire.specs.Writing.{remaining_length}
 use Rattle.mqtt_wire.proofs.StreamLaws.{written_spells}
 use Rattle.mqtt_wire.proofs.WritingLaws.{written_length}

@@ -1,5 +1,5 @@
 use Rattle.std.proofs.Common.{◌++◌, append_assoc, arith}
-use Rattle.mqtt_wire.proofs.Steps.{append_bytes}
+use Rattle.mqtt_fields.proofs.Steps.{append_bytes}
 use Rattle.mqtt_wire.specs.Frame.{bytes_in_hand}
 use Rattle.mqtt_wire.proofs.splitter.Splitter.feed.Goals as goal
 

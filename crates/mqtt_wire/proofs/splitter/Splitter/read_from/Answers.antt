@@ -1,7 +1,7 @@
 use Rattle.std.proofs.Common.{subst}
 use Rattle.mqtt_wire.specs.Frame.{bytes_in_hand}
-use Rattle.mqtt_wire.specs.Stream.{AreBytes}
-use Rattle.mqtt_wire.proofs.Steps.{append_bytes}
+use Rattle.mqtt_fields.specs.Forms.{AreBytes}
+use Rattle.mqtt_fields.proofs.Steps.{append_bytes}
 use Rattle.mqtt_wire.proofs.NextLaws.{front_bytes}
 use Rattle.mqtt_wire.proofs.splitter.Splitter.read_from.Goals as goal
 

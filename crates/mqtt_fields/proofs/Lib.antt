@@ -1,0 +1,9 @@
+pub mod Steps
+pub mod Variable
+pub mod FieldLaws
+pub mod PropertyLaws
+pub mod SectionLaws
+pub mod PropertyListLaws
+pub mod OrderLaws
+pub mod PropertySizeLaws
+pub mod BufferLaws
