@@ -14,8 +14,8 @@ use Rattle.group_queue.specs.declared.posted.Posted.{Posted}
 use Rattle.group_queue.specs.Places.{PlaceState, Holds, IsHandedOut, KeepsPlace, SettlesHeld, GatherAnswers, GiveBackAnswers, TakeAnswers, TakeBackAnswers}
 use Rattle.shared_ledger.specs.Givers.{Gathers}
 use Rattle.group_queue.proofs.Checks.{positive, both}
-use Rattle.conn_engine.specs.declared.supply.NoMemory.{NoMemory}
-use Rattle.conn_engine.specs.Holding.{IsAmong, KeepsOut, FindsOut, SpendsOut, ReturnsOut}
+use Rattle.conn_supply.specs.declared.supply.NoMemory.{NoMemory}
+use Rattle.conn_supply.specs.Holding.{IsAmong, KeepsOut, FindsOut, SpendsOut, ReturnsOut}
 use Rattle.broker_groups.specs.Outs.{HasOut, IsHandedTo, jobs_out}
 use Rattle.broker_groups.specs.Answers.{in_group, seen_ledger, seen_main, seen_returns}
 

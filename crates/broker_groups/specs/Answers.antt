@@ -8,7 +8,7 @@ use Rattle.shared_ledger.specs.declared.share.Share.{Share}
 use Rattle.group_queue.specs.declared.posted.Posted.{Posted}
 use Rattle.group_queue.specs.declared.view.Bag.{Bag}
 use Rattle.group_queue.specs.declared.view.View.{View}
-use Rattle.conn_engine.specs.declared.supply.NoMemory.{NoMemory}
+use Rattle.conn_supply.specs.declared.supply.NoMemory.{NoMemory}
 
 -- what a group hands out, which is refused for want of memory alone
 abbrev pub in_group : Result (Option Held) NoMemory → Result (Option Held) JobError

@@ -8,8 +8,8 @@ use Rattle.group_queue.specs.declared.error.OfferError.TheVariants as error
 use Rattle.group_queue.specs.Ports.{GroupId, PortState}
 use Rattle.group_queue.specs.Offers.{OfferAnswers}
 use Rattle.broker_groups.specs.Answers.{seen_main}
-use Rattle.conn_engine.specs.declared.supply.OfferRefusal.{OfferRefusal}
-use Rattle.conn_engine.specs.declared.supply.OfferRefusal.TheVariants as refusal
+use Rattle.conn_supply.specs.declared.supply.OfferRefusal.{OfferRefusal}
+use Rattle.conn_supply.specs.declared.supply.OfferRefusal.TheVariants as refusal
 
 -- the message was offered through the port of this slot's group, as the group answers, and the other ports are as they were
 pub record OffersThrough (group : GroupId) (old : List PortState) (slot : ℕ) (message : Message) (answer : Result Stamp NotTaken) (new : List PortState) : Type 0 where

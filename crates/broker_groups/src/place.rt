@@ -2,14 +2,14 @@
 ghost use Rattle.std.specs.Prelude.{◌≡◌, ◌<◌, ◌≤◌, ◌↔◌, IfOk, IfSome, IsTrue, OnOk, OnErr};
 ghost use Rattle.group_jobs.specs.Stamps.{job_of};
 ghost use Rattle.group_queue.specs.Places.{Holds, IsBalanced, GatherAnswers, GiveBackAnswers, IsSamePlace, KeepsPlace, KeepsRoom, SettlesHeld, TakeAnswers, TakeBackAnswers, UsesRoom};
-ghost use Rattle.conn_engine.specs.Holding.{IsAmong, FindsOut, KeepsOut, ReturnsOut, SpendsOut};
+ghost use Rattle.conn_supply.specs.Holding.{IsAmong, FindsOut, KeepsOut, ReturnsOut, SpendsOut};
 ghost use Rattle.broker_groups.specs.Brokers.{IsBrokerPlace};
 ghost use Rattle.broker_groups.specs.Answers.{in_group, seen_ledger, seen_main, seen_returns};
 ghost use Rattle.broker_groups.specs.Outs.{HasOut};
 
 use crate::broker::Broker;
 use crate::groups::BrokerGroups;
-use conn_engine::{HoldingPlace, NoMemory};
+use conn_supply::{HoldingPlace, NoMemory};
 use gate_word::Turn;
 use group_jobs::{Docket, Envelope, Fate, JobError, Stamp};
 use group_queue::Place;

@@ -5,7 +5,7 @@ ghost use Rattle.broker_groups.specs.Offering.{OffersThrough, OffersTo, told_as}
 
 use crate::broker::Broker;
 use crate::groups::{BrokerGroups, SLOTS};
-use conn_engine::OfferRefusal;
+use conn_supply::OfferRefusal;
 use gate_word::Turn;
 use group_jobs::{SharedMessage, Stamp};
 use group_queue::{NotTaken, OfferError, Port};

@@ -5,7 +5,7 @@ ghost use Rattle.broker_groups.specs.Naming.{HasNoneOut, IsOfBroker};
 
 use broker_groups::{Broker, BrokerGroups, BrokerPlace, Ended, Key, Named, Opened, Ports};
 use bytes::Bytes;
-use conn_engine::OfferRefusal;
+use conn_supply::OfferRefusal;
 use gate_word::{Gate, GateSeat, Turn};
 use group_jobs::{Envelope, Fate, Message, SharedMessage, Stamp};
 use mqtt_packet::{RareProperties, Text};

@@ -5,7 +5,7 @@ ghost use Rattle.conn_channel.specs.Ends.{AreReceivers, new_receiver};
 use crate::marks::Marks;
 use bell::Wake;
 use conn_channel::{Receiver, Sender};
-use conn_engine::NoMemory;
+use conn_supply::NoMemory;
 use std::alloc::Global;
 use std::marker::Model;
 use transport::Transport;

@@ -11,7 +11,7 @@ use bell::Wake;
 use broker_groups::{Broker, BrokerPlace};
 use call_history::HistoryName;
 use conn_channel::Receiver;
-use conn_engine::NoMemory;
+use conn_supply::NoMemory;
 use service_table::ServiceTable;
 use shared_supply::{Hall, SharedSupply};
 use std::alloc::Global;

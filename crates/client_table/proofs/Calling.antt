@@ -4,10 +4,10 @@ use Rattle.std.proofs.lemmas.List.{map-append}
 use Rattle.std.proofs.lemmas.List.Elements.{filter_map-append}
 use Rattle.group_jobs.specs.declared.message.Message.{Message}
 use Rattle.group_jobs.specs.Stamps.{Held}
+use Rattle.conn_supply.specs.declared.supply.NoMemory.{NoMemory}
+use Rattle.conn_supply.specs.Facts.{Fact}
 use Rattle.conn_engine.specs.declared.input.Input.{Input}
 use Rattle.conn_engine.specs.declared.input.Input.TheVariants as inputs
-use Rattle.conn_engine.specs.declared.supply.NoMemory.{NoMemory}
-use Rattle.conn_engine.specs.Facts.{Fact}
 use Rattle.conn_laws.specs.Calls.{hand_out_of, handed, messages_of, fresh_messages, CallsLead}
 use Rattle.conn_laws.proofs.Calling.{joins}
 use Rattle.conn_laws.proofs.Stepping.{stepped}

@@ -1,9 +1,9 @@
 -- What is not written.
 use Rattle.std.proofs.Common.{◌≡◌, ℕ, List, refl, inl}
 use Rattle.mqtt_packet.specs.declared.packet.Packet.{Packet}
+use Rattle.conn_supply.specs.declared.reply.Then.{Then}
+use Rattle.conn_supply.specs.Facts.{Fact}
 use Rattle.conn_engine.specs.declared.input.Input.{Input}
-use Rattle.conn_engine.specs.declared.input.Then.{Then}
-use Rattle.conn_engine.specs.Facts.{Fact}
 use Rattle.conn_engine.specs.Step.{Steps}
 use Rattle.client_table.specs.Clients.{ClientState, moment_of, IsGivenUp}
 

@@ -1,7 +1,7 @@
 -- The client in the last cell is let go, and then the others.
 use Rattle.std.proofs.Common.{◌≡◌, ℕ, List, [], ◌∷◌, ◌++◌, reverse, Option, sym, ap, subst, ◌∙◌}
 use Rattle.std.proofs.lemmas.List.{reverse-append}
-use Rattle.conn_engine.specs.Facts.{Fact}
+use Rattle.conn_supply.specs.Facts.{Fact}
 use Rattle.client_table.specs.Clients.{ClientState}
 use Rattle.client_table.specs.Cells.{Abandons, AbandonsAll, AbandonsEach}
 

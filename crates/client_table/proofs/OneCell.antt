@@ -1,8 +1,8 @@
 -- What happens to the client in a cell comes out in one way, where each call has one answer.
 use Rattle.std.proofs.Common.{◌≡◌, ℕ, List, [], ◌∷◌, Option, Some, None, Ok, slice_set, sym, ap, ◌∙◌, subst}
 use Rattle.std.proofs.lemmas.Option.{same_Some}
+use Rattle.conn_supply.specs.Facts.{Fact}
 use Rattle.conn_engine.specs.declared.input.Input.{Input}
-use Rattle.conn_engine.specs.Facts.{Fact}
 use Rattle.conn_laws.specs.Asking.{OneAnswer}
 use Rattle.conn_laws.specs.Behind.{IsLast}
 use Rattle.conn_laws.proofs.Ended.{ends_by}

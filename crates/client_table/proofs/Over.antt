@@ -1,8 +1,8 @@
 -- A connection of a broker that closes is over.
 use Rattle.std.proofs.Common.{◌≡◌, ℕ, inl, inr}
+use Rattle.conn_supply.specs.Facts.{Fact}
 use Rattle.conn_engine.specs.declared.input.Input.TheVariants as inputs
 use Rattle.conn_engine.specs.declared.standing.Standing.TheVariants.{Ended}
-use Rattle.conn_engine.specs.Facts.{Fact}
 use Rattle.conn_laws.proofs.Ended.{ends_by}
 use Rattle.client_table.specs.Clients.{ClientState, moment_of, IsGivenUp}
 

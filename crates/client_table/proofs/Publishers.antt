@@ -1,9 +1,9 @@
 -- What is offered for a client is offered from its connection.
 use Rattle.std.proofs.Common.{◌≡◌, ℕ, List, [], ◌∷◌, Option, Some, None, Result, Ok, Err, ⊎_elim, inl, inr, subst, ◌∙◌}
+use Rattle.conn_supply.specs.declared.supply.NoMemory.{NoMemory}
+use Rattle.conn_supply.specs.Facts.{Fact}
 use Rattle.conn_engine.specs.declared.input.Input.{Input}
 use Rattle.conn_engine.specs.declared.input.Input.TheVariants as inputs
-use Rattle.conn_engine.specs.declared.supply.NoMemory.{NoMemory}
-use Rattle.conn_engine.specs.Facts.{Fact}
 use Rattle.conn_laws.specs.Publishers.{CallsFrom}
 use Rattle.conn_laws.proofs.Publishers.{none, behind, stepped, failed}
 use Rattle.client_table.specs.Cells.{Receives, TicksFor, EndsFor}

@@ -1,11 +1,11 @@
 -- The quota of a client, whatever is done to it.
 use Rattle.std.proofs.Common.{◌≡◌, ℕ, List, [], ◌∷◌, Option, Some, None, Result, Ok, Err, sym, subst, ⊎_elim, inl, inr}
+use Rattle.conn_supply.specs.declared.supply.NoMemory.{NoMemory}
+use Rattle.conn_supply.specs.Facts.{Fact}
 use Rattle.conn_engine.specs.declared.input.Input.{Input}
 use Rattle.conn_engine.specs.declared.input.Input.TheVariants as inputs
-use Rattle.conn_engine.specs.declared.supply.NoMemory.{NoMemory}
 use Rattle.conn_engine.specs.declared.standing.Standing.{Standing}
 use Rattle.conn_engine.specs.declared.standing.Standing.TheVariants.{Unconnected, Waiting, Connected, Ended}
-use Rattle.conn_engine.specs.Facts.{Fact}
 use Rattle.conn_laws.specs.Quotas.{IsWithinQuota}
 use Rattle.conn_laws.proofs.Quotas as steps
 use Rattle.client_table.specs.Cells.{kept, kept_as, Opens, Receives, TicksFor, EndsFor}

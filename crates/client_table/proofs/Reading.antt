@@ -3,10 +3,10 @@ use Rattle.std.proofs.Common.{◌≡◌, ℕ, List, [], ◌∷◌, ◌++◌, ref
 use Rattle.mqtt_packet.specs.declared.packet.Packet.{Packet}
 use Rattle.mqtt_fields.specs.declared.fault.StreamFault.{StreamFault}
 use Rattle.mqtt_wire.specs.Stream.{Takes, Stops}
+use Rattle.conn_supply.specs.declared.reply.Then.{Then}
+use Rattle.conn_supply.specs.declared.reply.Then.TheVariants.{Go, Close, Kicked}
+use Rattle.conn_supply.specs.Facts.{Fact}
 use Rattle.conn_engine.specs.declared.input.Input.TheVariants as inputs
-use Rattle.conn_engine.specs.declared.input.Then.{Then}
-use Rattle.conn_engine.specs.declared.input.Then.TheVariants.{Go, Close, Kicked}
-use Rattle.conn_engine.specs.Facts.{Fact}
 use Rattle.client_table.specs.Clients.{ClientState, Said, Moves}
 use Rattle.client_table.specs.Streams.{reading_behind, ReadsAs, ReadsOne, ReadsLast, Reads, FailsToReadOne, FailsToRead, IsRead}
 

@@ -1,8 +1,8 @@
 -- A Tick, and what is read behind it.
 use Rattle.std.proofs.Common.{◌≡◌, ◌≢◌, ℕ, List, [], ◌∷◌, ◌++◌, refl, sym, append-nil, ◌∙◌, inl, inr}
+use Rattle.conn_supply.specs.declared.reply.Then.TheVariants.{Go}
+use Rattle.conn_supply.specs.Facts.{Fact}
 use Rattle.conn_engine.specs.declared.input.Input.TheVariants as inputs
-use Rattle.conn_engine.specs.declared.input.Then.TheVariants.{Go}
-use Rattle.conn_engine.specs.Facts.{Fact}
 use Rattle.client_table.specs.Clients.{ClientState, Said, Moves}
 use Rattle.client_table.specs.Streams.{Reads, FailsToRead, Ticks, FailsToTick}
 use Rattle.client_table.proofs.Reading.{joined}

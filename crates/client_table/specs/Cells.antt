@@ -1,11 +1,11 @@
 -- The clients of a broker, by their numbers: what happens to one of them.
 use Rattle.std.specs.Prelude.{◌≡◌, ◌⊎◌, ℕ, List, [], ◌∷◌, reverse, Option, Some, None, Result, Ok, Err, slice_get, slice_set}
+use Rattle.conn_supply.specs.declared.supply.NoMemory.{NoMemory}
+use Rattle.conn_supply.specs.Facts.{Fact}
 use Rattle.conn_engine.specs.declared.input.Input.{Input}
 use Rattle.conn_engine.specs.declared.input.Input.TheVariants as inputs
-use Rattle.conn_engine.specs.declared.supply.NoMemory.{NoMemory}
 use Rattle.conn_engine.specs.declared.standing.Standing.{Standing}
 use Rattle.conn_engine.specs.declared.standing.Standing.TheVariants.{Unconnected, Waiting, Connected, Ended}
-use Rattle.conn_engine.specs.Facts.{Fact}
 use Rattle.client_table.specs.Clients.{ClientState, Said, arrived, Moves, IsGivenUp}
 use Rattle.client_table.specs.Streams.{fed, Reads, FailsToRead, Ticks, FailsToTick}
 

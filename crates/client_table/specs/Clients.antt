@@ -2,10 +2,10 @@
 use Rattle.std.specs.Prelude.{◌≡◌, ℕ, ◌⊎◌, max, List, [], None}
 use Rattle.mqtt_packet.specs.declared.packet.Packet.{Packet}
 use Rattle.mqtt_wire.specs.Stream.{Unread}
+use Rattle.conn_supply.specs.declared.reply.Then.{Then}
+use Rattle.conn_supply.specs.Facts.{Fact}
 use Rattle.conn_engine.specs.declared.input.Input.{Input}
-use Rattle.conn_engine.specs.declared.input.Then.{Then}
 use Rattle.conn_engine.specs.declared.standing.Standing.TheVariants.{Ended}
-use Rattle.conn_engine.specs.Facts.{Fact}
 use Rattle.conn_engine.specs.Standings.{ConnState}
 use Rattle.conn_engine.specs.Step.{Steps, FailsToStep}
 

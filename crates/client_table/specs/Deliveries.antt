@@ -1,7 +1,7 @@
 -- What is said to clients, and what was handed out for it.
 use Rattle.std.specs.Prelude.{◌≡◌, List, [], ◌∷◌, ◌++◌}
 use Rattle.group_jobs.specs.declared.message.Message.{Message}
-use Rattle.conn_engine.specs.Facts.{Fact}
+use Rattle.conn_supply.specs.Facts.{Fact}
 use Rattle.conn_laws.specs.Calls.{handed, messages_of, fresh_messages, MakesAll}
 use Rattle.client_table.specs.Clients.{Said}
 

@@ -6,7 +6,7 @@ ghost use Rattle.client_table.specs.Cells.{kept, Opens, Receives, TicksFor, Ends
 
 use crate::client::Client;
 use crate::said::Said;
-use conn_engine::{HoldingPlace, NoMemory, Supply};
+use conn_supply::{HoldingPlace, NoMemory, Supply};
 use std::alloc::Global;
 
 /// Lets go of the client in a cell where its connection has ended.

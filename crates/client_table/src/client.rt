@@ -1,7 +1,7 @@
 //! A client: its connection, and the stream of its bytes.
 ghost use Rattle.std.specs.Prelude.{◌≡◌, ◌<◌, ◌≤◌, ◌^◌, ◌↔◌, [], ℕ, IsTrue, OnOk, OnErr, MatchOption, MatchResult, true};
 ghost use Rattle.mqtt_wire.specs.Stream.{ReadAnswers};
-ghost use Rattle.conn_engine.specs.Facts.Fact.{Kicked};
+ghost use Rattle.conn_supply.specs.Facts.Fact.{Kicked};
 ghost use Rattle.conn_engine.specs.Step.{IsNoPacket, IsWanted, NeedsVisit};
 ghost use Rattle.conn_engine.specs.declared.input.Input.{Input as Asked};
 ghost use Rattle.conn_engine.specs.Looking.{IsSilentTooLong, TakesAt};
@@ -12,7 +12,8 @@ ghost use Rattle.client_table.specs.Streams.{fed, IsRead, IsInFront, FailsToRead
 
 mod reading;
 
-use conn_engine::{Conn, HoldingPlace, Input, NoMemory, Supply, Then};
+use conn_engine::{Conn, Input};
+use conn_supply::{HoldingPlace, NoMemory, Supply, Then};
 use mqtt_packet::Packet;
 use mqtt_fields::Fault;
 use mqtt_wire::{ReadFault, Splitter};

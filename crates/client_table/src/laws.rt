@@ -2,8 +2,8 @@
 //! nothing, stated over the definitions that the contracts of [`Client`](crate::Client) and [`ClientTable`](crate::ClientTable) cite, and
 //! over every [`Supply`]. So what holds of a supply whatever calls are made of it holds behind each of their calls.
 ghost use Rattle.std.specs.Prelude.{◌≡◌, ℕ, List, [], ◌∷◌, Option, Result, Ok};
+ghost use Rattle.conn_supply.specs.declared.supply.NoMemory.{NoMemory};
 ghost use Rattle.conn_engine.specs.declared.input.Input.{Input};
-ghost use Rattle.conn_engine.specs.declared.supply.NoMemory.{NoMemory};
 ghost use Rattle.conn_laws.specs.Asking.{OneAnswer};
 ghost use Rattle.conn_laws.specs.Behind.{IsLast};
 ghost use Rattle.conn_laws.specs.Calls.{CallsLead};
@@ -16,7 +16,7 @@ ghost use Rattle.client_table.specs.Numbers.{IsNumbered};
 ghost use Rattle.client_table.specs.Quotas.{IsCellWithinQuota};
 ghost use Rattle.client_table.specs.Streams.{Reads, FailsToRead, Ticks, FailsToTick};
 
-use conn_engine::{HoldingPlace, Supply};
+use conn_supply::{HoldingPlace, Supply};
 
 /// **What a client does is a list of calls**: reading its stream, a Tick, a last step, and giving it up, with memory and without. Where
 /// memory is not wanted, what these calls hand out is what the client is told for the first time.

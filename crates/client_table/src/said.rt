@@ -1,7 +1,7 @@
 //! What a step of a connection wrote.
 ghost use Rattle.std.specs.Prelude.{◌≡◌};
 
-use conn_engine::Then;
+use conn_supply::Then;
 use mqtt_packet::Packet;
 use std::marker::Model;
 

@@ -7,7 +7,7 @@ ghost use Rattle.client_table.specs.Cells.{Abandons, AbandonsEach, InCell, Opens
 use crate::cell;
 use crate::client::Client;
 use crate::said::Said;
-use conn_engine::{HoldingPlace, NoMemory, Supply};
+use conn_supply::{HoldingPlace, NoMemory, Supply};
 use std::alloc::Global;
 use std::marker::Model;
 

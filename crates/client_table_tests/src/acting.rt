@@ -3,7 +3,7 @@ ghost use Rattle.std.specs.Prelude.{◌<◌};
 
 use crate::refusing::{Refused, Refusing};
 use client_table::{ClientTable, Said};
-use conn_engine::{NoMemory, Supply};
+use conn_supply::{NoMemory, Supply};
 use local_broker::LocalPlace;
 use mqtt_topic::Routes;
 use mqtt_wire::encode_into;

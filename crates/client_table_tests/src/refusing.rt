@@ -1,12 +1,12 @@
 //! A broker on one thread that refuses memory where it is told to.
 ghost use Rattle.std.specs.Prelude.{◌≡◌, [], IfSome, ⊤};
-ghost use Rattle.conn_engine.specs.Holding.{IsOutAtPlace};
-ghost use Rattle.conn_engine.specs.Ready.{IsSoundSession};
+ghost use Rattle.conn_supply.specs.Holding.{IsOutAtPlace};
+ghost use Rattle.conn_supply.specs.Ready.{IsSoundSession};
 ghost use Rattle.local_broker.specs.Broker.{is_open};
 ghost use Rattle.local_broker.specs.Places.{has_out};
 ghost use Rattle.member_window.specs.Contents.{held_of};
 
-use conn_engine::{BindRefusal, NoMemory, OfferRefusal, Supply};
+use conn_supply::{BindRefusal, NoMemory, OfferRefusal, Supply};
 use group_jobs::{Envelope, Fate, SharedMessage, Stamp};
 use local_broker::{LocalPlace, LocalSupply};
 use mqtt_packet::Text;

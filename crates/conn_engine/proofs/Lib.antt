@@ -1,12 +1,4 @@
-pub mod Again
-pub mod Offering
 pub mod Silence
-pub mod Copies
-pub mod Topics
-pub mod Offered
-pub mod Windows
-pub mod Holding
-pub mod Fresh
 pub mod Sweeping
 pub mod Resuming
 pub mod First

@@ -4,13 +4,13 @@ use Rattle.group_jobs.specs.Stamps.{Held}
 use Rattle.session_desk.specs.Attaching.{asked}
 use Rattle.session_desk.specs.declared.attached.Attached.TheVariants.{Resumed}
 use Rattle.session_desk.specs.declared.session.Session.{Session}
-use Rattle.conn_engine.specs.declared.reply.Reply.{Reply}
+use Rattle.conn_supply.specs.declared.reply.Reply.{Reply}
+use Rattle.conn_supply.specs.declared.supply.NoMemory.{NoMemory}
+use Rattle.conn_supply.specs.Facts.{Fact}
+use Rattle.conn_supply.specs.Facts.Fact.{Attach}
 use Rattle.conn_engine.specs.declared.standing.ConnectRequest.{ConnectRequest}
 use Rattle.conn_engine.specs.declared.standing.Standing.{Standing}
 use Rattle.conn_engine.specs.declared.standing.Standing.TheVariants.{Ended}
-use Rattle.conn_engine.specs.declared.supply.NoMemory.{NoMemory}
-use Rattle.conn_engine.specs.Facts.{Fact}
-use Rattle.conn_engine.specs.Facts.Fact.{Attach}
 use Rattle.conn_engine.specs.Connecting.{opened, has_place, ResumesAs, Attaches, FailsToAttach}
 use Rattle.conn_engine.specs.Ending.{Parts}
 

@@ -6,14 +6,14 @@ use Rattle.group_jobs.specs.Stamps.{Held}
 use Rattle.session_desk.specs.declared.session.Session.{Session}
 use Rattle.session_desk.specs.declared.session.Membership.{Membership}
 use Rattle.conn_rules.specs.Connecting.{is_given_expiry}
-use Rattle.conn_engine.specs.declared.reply.Reply.{Reply}
+use Rattle.conn_supply.specs.declared.reply.Reply.{Reply}
+use Rattle.conn_supply.specs.Facts.{Fact}
+use Rattle.conn_supply.specs.Memberships.{with_membership}
+use Rattle.conn_supply.specs.Replies.{going_on, closed, closing_with}
+use Rattle.conn_supply.specs.Publishing.{Publishes, IsCutShort}
+use Rattle.conn_supply.specs.Acknowledging.{Acknowledges}
+use Rattle.conn_supply.specs.Subscribing.{Subscribes, Unsubscribes, AnswersSome}
 use Rattle.conn_engine.specs.declared.standing.Link.{Link}
-use Rattle.conn_engine.specs.Facts.{Fact}
-use Rattle.conn_engine.specs.Memberships.{with_membership}
-use Rattle.conn_engine.specs.Replies.{going_on, closed, closing_with}
-use Rattle.conn_engine.specs.Publishing.{Publishes, IsCutShort}
-use Rattle.conn_engine.specs.Acknowledging.{Acknowledges}
-use Rattle.conn_engine.specs.Subscribing.{Subscribes, Unsubscribes, AnswersSome}
 
 -- the same connection, with this session
 abbrev pub with_session : {P : Type 0} → Link P → Session Held P → Link P

@@ -16,13 +16,13 @@ use Rattle.session_desk.specs.declared.session.Membership.{Membership}
 use Rattle.session_desk.specs.declared.session.Membership.TheVariants.{NotMember, Member, Leaving}
 use Rattle.conn_rules.specs.Packets.{accepting, refusing}
 use Rattle.conn_rules.specs.declared.terms.Terms.{Terms}
-use Rattle.conn_engine.specs.declared.reply.Reply.{Reply}
+use Rattle.conn_supply.specs.declared.reply.Reply.{Reply}
+use Rattle.conn_supply.specs.Facts.{Fact}
+use Rattle.conn_supply.specs.Facts.Fact.{Attach, ParkAsIs, Withdraw}
+use Rattle.conn_supply.specs.Replies.{going_on, closed}
 use Rattle.conn_engine.specs.declared.standing.ConnectRequest.{ConnectRequest}
 use Rattle.conn_engine.specs.declared.standing.Standing.{Standing}
 use Rattle.conn_engine.specs.declared.standing.Standing.TheVariants.{Unconnected, Waiting, Connected, Ended}
-use Rattle.conn_engine.specs.Facts.{Fact}
-use Rattle.conn_engine.specs.Facts.Fact.{Attach, ParkAsIs, Withdraw}
-use Rattle.conn_engine.specs.Replies.{going_on, closed}
 use Rattle.conn_engine.specs.Ending.{down, Retires, Parts}
 
 -- how many Ticks a connection waits for a session (profile)

@@ -5,9 +5,9 @@ use Rattle.member_window.specs.Contents.{Contents, held_of, after_down}
 use Rattle.session_desk.specs.declared.session.Session.{Session}
 use Rattle.session_desk.specs.declared.session.Membership.{Membership}
 use Rattle.session_desk.specs.declared.session.Membership.TheVariants.{NotMember, Member, Leaving}
-use Rattle.conn_engine.specs.Facts.{Fact}
-use Rattle.conn_engine.specs.Facts.Fact.{GiveBack, Keep, Bury, Park, Sweep}
-use Rattle.conn_engine.specs.Memberships.{with_window, with_membership}
+use Rattle.conn_supply.specs.Facts.{Fact}
+use Rattle.conn_supply.specs.Facts.Fact.{GiveBack, Keep, Bury, Park, Sweep}
+use Rattle.conn_supply.specs.Memberships.{with_window, with_membership}
 
 -- the window of a session that is ending, with what it holds still
 abbrev pub ending : List (ℕ × Held) → Contents Held

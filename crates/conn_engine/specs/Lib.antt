@@ -1,12 +1,3 @@
-pub mod Facts
-pub mod Holding
-pub mod Ready
-pub mod Replies
-pub mod Publishing
-pub mod Memberships
-pub mod Acknowledging
-pub mod Subscribing
-pub mod HandOuts
 pub mod Ending
 pub mod Standings
 pub mod Connecting

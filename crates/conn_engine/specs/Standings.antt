@@ -1,7 +1,7 @@
 -- How far a connection has come.
 use Rattle.std.specs.Prelude.{ℕ, ◌≤◌, ◌<◌, ⊤, List, length}
 use Rattle.group_jobs.specs.Stamps.{Held}
-use Rattle.conn_engine.specs.Ready.{IsSoundSession}
+use Rattle.conn_supply.specs.Ready.{IsSoundSession}
 use Rattle.conn_engine.specs.declared.standing.Standing.{Standing}
 use Rattle.conn_engine.specs.declared.standing.Standing.TheVariants.{Unconnected, Waiting, Connected, Ended}
 

@@ -13,25 +13,25 @@ use Rattle.conn_rules.specs.declared.connecting.FirstAnswer.TheVariants as first
 use Rattle.conn_rules.specs.Connecting.{first_answer, terms_of}
 use Rattle.conn_rules.specs.Ending.{fault_code, fault_refusal, is_overdue, is_late}
 use Rattle.conn_rules.specs.Packets.{disconnect}
+use Rattle.conn_supply.specs.declared.reply.Then.{Then}
+use Rattle.conn_supply.specs.declared.reply.Then.TheVariants.{Go, Close, Kicked}
+use Rattle.conn_supply.specs.declared.reply.Reply.{Reply}
+use Rattle.conn_supply.specs.declared.supply.NoMemory.{NoMemory}
+use Rattle.conn_supply.specs.Facts.{Fact}
+use Rattle.conn_supply.specs.Facts.Fact.{Withdraw, ParkAsIs, Kicked as WasKicked}
+use Rattle.conn_supply.specs.Memberships.{with_window, with_membership}
+use Rattle.conn_supply.specs.Replies.{going_on, closed, taken_over, closing_with}
+use Rattle.conn_supply.specs.HandOuts.{HandsOut, HandsSome}
 use Rattle.conn_engine.specs.declared.input.Input.{Input}
 use Rattle.conn_engine.specs.declared.input.Input.TheVariants as inputs
-use Rattle.conn_engine.specs.declared.input.Then.{Then}
-use Rattle.conn_engine.specs.declared.input.Then.TheVariants.{Go, Close, Kicked}
-use Rattle.conn_engine.specs.declared.reply.Reply.{Reply}
-use Rattle.conn_engine.specs.declared.supply.NoMemory.{NoMemory}
 use Rattle.conn_engine.specs.declared.standing.ConnectRequest.{ConnectRequest}
 use Rattle.conn_engine.specs.declared.standing.Link.{Link}
 use Rattle.conn_engine.specs.declared.standing.Standing.{Standing}
 use Rattle.conn_engine.specs.declared.standing.Standing.TheVariants.{Unconnected, Waiting, Connected, Ended}
-use Rattle.conn_engine.specs.Facts.{Fact}
-use Rattle.conn_engine.specs.Facts.Fact.{Withdraw, ParkAsIs, Kicked as WasKicked}
 use Rattle.conn_engine.specs.Standings.{IsWaiting}
-use Rattle.conn_engine.specs.Memberships.{with_window, with_membership}
-use Rattle.conn_engine.specs.Replies.{going_on, closed, taken_over, closing_with}
 use Rattle.conn_engine.specs.Ending.{down, Parts, Sweeps}
 use Rattle.conn_engine.specs.Connecting.{IsRefused, Attaches, FailsToAttach, TriesAgain, FailsAgain}
 use Rattle.conn_engine.specs.Answering.{Answers, FailsToAnswer, with_session}
-use Rattle.conn_engine.specs.HandOuts.{HandsOut, HandsSome}
 
 -- what a CONNECT asks for that comes at this moment
 abbrev pub request_of : Connect → ℕ → ConnectRequest

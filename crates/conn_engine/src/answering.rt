@@ -1,15 +1,13 @@
 //! The answers to the packets of a client that has its session (chapter 3).
 ghost use Rattle.std.specs.Prelude.{◌≡◌, MatchResult, true};
 ghost use Rattle.mqtt_packet.specs.declared.packet.Packet.TheVariants as packets;
+ghost use Rattle.conn_supply.specs.Ready.{IsSoundSession};
 ghost use Rattle.conn_engine.specs.Answering.{Disconnects, Answers, FailsToAnswer};
-ghost use Rattle.conn_engine.specs.Ready.{IsSoundSession};
 
-use crate::acknowledging::acknowledge;
-use crate::publishing::publish;
-use crate::reply::Reply;
 use crate::standing::Link;
-use crate::subscribing::{subscribe, unsubscribe};
-use crate::supply::{HoldingPlace, NoMemory, Supply};
+use conn_supply::{
+    HoldingPlace, NoMemory, Reply, Supply, acknowledge, publish, subscribe, unsubscribe,
+};
 use mqtt_packet::{Packet, ReasonCode, Subscribe, Unsubscribe};
 use std::alloc::Global;
 

@@ -1,22 +1,20 @@
 //! A connection, step by step.
 ghost use Rattle.std.specs.Prelude.{◌≡◌, ◌<◌, ◌≤◌, ◌^◌, ◌↔◌, ◌++◌, [], true, ℕ, List, IsTrue, MatchOption, MatchResult, max, vec_capacity, vec_len};
 ghost use Rattle.mqtt_packet.specs.declared.packet.Packet.{Packet};
+ghost use Rattle.conn_supply.specs.Ready.{IsSoundSession};
 ghost use Rattle.conn_engine.specs.declared.standing.Standing.TheVariants as standings;
-ghost use Rattle.conn_engine.specs.Ready.{IsSoundSession};
 ghost use Rattle.conn_engine.specs.Standings.{IsSoundStanding, IsWaiting, IsConnected};
 ghost use Rattle.std.specs.Option.{option_to_list};
-ghost use Rattle.conn_engine.specs.HandOuts.{HandsSome};
+ghost use Rattle.conn_supply.specs.HandOuts.{HandsSome};
 ghost use Rattle.conn_engine.specs.Looking.{IsSilentTooLong, TakesAt};
 ghost use Rattle.conn_engine.specs.Step.{IsWanted, NeedsVisit, Hands, HandsLess, Steps, FailsToStep, after_hand_out};
 
 use crate::connecting::is_waiting;
 use crate::ending::{cut_off, give_up};
-use crate::hand_outs::hand_out;
-use crate::input::{Input, Then};
+use crate::input::Input;
 use crate::reacting::react;
-use crate::reply::Reply;
 use crate::standing::{Link, Standing};
-use crate::supply::{HoldingPlace, NoMemory, Supply};
+use conn_supply::{HoldingPlace, NoMemory, Reply, Supply, Then, hand_out};
 use mqtt_packet::Packet;
 use std::alloc::Global;
 use std::marker::Model;

@@ -1,17 +1,16 @@
 //! The answer to a CONNECT, and to a Tick while a connection waits for a session (sections 3.1 and 3.2).
 ghost use Rattle.std.specs.Prelude.{◌≡◌, ◌<◌, ◌≤◌, ◌↔◌, ◌&&◌, nat_lt, not, length, IfOk, IfSome, IsOk, IsTrue, MatchResult};
+ghost use Rattle.conn_supply.specs.Holding.{IsOutAtPlace};
+ghost use Rattle.conn_supply.specs.Ready.{IsSoundSession};
 ghost use Rattle.conn_engine.specs.Connecting.{opened, assigned, has_place, IsRefused, Accepts, RetiresEarlier, ResumesAs, Attaches, FailsToAttach, most_ticks, WaitsAs, TriesAgain, FailsAgain};
 ghost use Rattle.conn_engine.specs.Ending.{Parts};
-ghost use Rattle.conn_engine.specs.Holding.{IsOutAtPlace};
-ghost use Rattle.conn_engine.specs.Ready.{IsSoundSession};
 ghost use Rattle.conn_engine.specs.Standings.{IsSoundStanding, IsWaiting};
 ghost use Rattle.conn_engine.specs.declared.standing.Standing.TheVariants.{Ended};
 
 use crate::ending::{part, part_as_is, retire};
-use crate::reply::Reply;
 use crate::standing::{ConnectRequest, Link, Standing};
-use crate::supply::{HoldingPlace, NoMemory, Supply};
 use conn_rules::{accepting, refusing};
+use conn_supply::{HoldingPlace, NoMemory, Reply, Supply};
 use group_jobs::Envelope;
 use mqtt_packet::{ConnectRefusal, Text};
 use session_desk::{Attached, DeskError, Identity, Membership, Session};

@@ -1,4 +1,4 @@
-//! What comes to a connection, and what becomes of it.
+//! What comes to a connection.
 use mqtt_packet::Packet;
 use mqtt_fields::StreamFault;
 
@@ -15,15 +15,4 @@ pub enum Input {
     EndOfInput,
     /// The broker closes.
     Closing,
-}
-
-/// What becomes of a connection behind a step.
-#[derive(Clone, Copy, Debug, PartialEq, Eq)]
-pub enum Then {
-    /// It goes on.
-    Go,
-    /// It is closed.
-    Close,
-    /// It is closed, since another connection has its session.
-    Kicked,
 }

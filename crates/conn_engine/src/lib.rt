@@ -1,8 +1,8 @@
-//! What a connection answers, and what it is handed: one client's side of a broker, with no clock, socket or thread.
+//! What a connection answers, step by step: one client's side of a broker, with no clock, socket or thread.
 //!
 //! A [`Conn`] takes what comes to it, one [`Input`] a step, with the moment, and gives the packets that are to be written and
-//! whether it goes on. What it asks of sessions, routes and groups it asks of a [`Supply`], which one thread or many may stand
-//! behind.
+//! whether it goes on. What it asks of sessions, routes and groups it asks of a [`Supply`](conn_supply::Supply), which one thread
+//! or many may stand behind.
 //!
 //! ```
 //! let mut conn = Conn::open(alloc, 0, now);
@@ -15,23 +15,15 @@
 //! A session that is ending, and that a sweep of the supply's gave, is retired by [`retire`].
 #![tactic(auto)]
 
-mod acknowledging;
 mod answering;
 mod conn;
 mod connecting;
 mod ending;
-mod hand_outs;
 mod input;
 mod looking;
-mod publishing;
 mod reacting;
-mod reply;
 mod standing;
-mod subscribing;
-mod supply;
 
 pub use conn::Conn;
 pub use ending::retire;
-pub use input::{Input, Then};
-pub use reply::Reply;
-pub use supply::{BindRefusal, HoldingPlace, NoMemory, OfferRefusal, Supply};
+pub use input::Input;

@@ -3,24 +3,23 @@ ghost use Rattle.std.specs.Prelude.{◌≡◌, ◌<◌, ◌≤◌, ◌↔◌, Ok
 ghost use Rattle.conn_rules.specs.Connecting.{first_answer};
 ghost use Rattle.conn_rules.specs.Packets.{disconnect};
 ghost use Rattle.conn_rules.specs.declared.connecting.FirstAnswer.TheVariants as first;
+ghost use Rattle.conn_supply.specs.Facts.Fact.{ParkAsIs};
+ghost use Rattle.conn_supply.specs.Replies.{taken_over};
 ghost use Rattle.conn_engine.specs.declared.standing.Standing.TheVariants as standings;
 ghost use Rattle.conn_engine.specs.Ending.{down};
-ghost use Rattle.conn_engine.specs.Facts.Fact.{ParkAsIs};
-ghost use Rattle.conn_engine.specs.Replies.{taken_over};
 ghost use Rattle.conn_engine.specs.Standings.{IsSoundStanding, IsConnected};
 ghost use Rattle.conn_engine.specs.Step.{request_of, IsNoPacket, IsWanted, NeedsVisit, IsClosed, AnswersFirst, AnswersPacket, AnswersTick, GoesOn, Reacts, FailsOnPacket, FailsFirst, FailsToReact};
 
 use crate::answering::answer;
 use crate::connecting::{attach, refuse, try_again};
 use crate::ending::{give_up, part_as_is, sweep};
-use crate::input::{Input, Then};
-use crate::reply::Reply;
+use crate::input::Input;
 use crate::standing::{ConnectRequest, Link, Standing};
-use crate::supply::{HoldingPlace, NoMemory, Supply};
 use conn_rules::{
     FirstAnswer, answer_to_first, disconnect, fault_code, fault_refusal, is_late, is_overdue,
     terms_of,
 };
+use conn_supply::{HoldingPlace, NoMemory, Reply, Supply, Then};
 use mqtt_packet::{Connect, Packet, ReasonCode};
 use std::alloc::Global;
 use std::mem;

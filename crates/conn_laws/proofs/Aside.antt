@@ -16,15 +16,15 @@ use Rattle.conn_rules.specs.Subscribing.{entry_answer}
 use Rattle.session_desk.specs.declared.session.Session.{Session}
 use Rattle.session_desk.specs.declared.session.Membership.{Membership}
 use Rattle.session_desk.specs.declared.session.Membership.TheVariants.{NotMember, Member, Leaving}
-use Rattle.conn_engine.specs.declared.reply.Reply.{Reply}
+use Rattle.conn_supply.specs.declared.reply.Reply.{Reply}
+use Rattle.conn_supply.specs.declared.supply.BindRefusal.{BindRefusal}
+use Rattle.conn_supply.specs.declared.supply.BindRefusal.TheVariants as refusal
+use Rattle.conn_supply.specs.Facts.{Fact}
+use Rattle.conn_supply.specs.Subscribing.{IsLent, EntersAs, Joins, AnswersEntry, AnswersEntries, AnswersFirst, AnswersSome, SubscribesAs, LeavesBy, LeavesByAll, UnsubscribesAs}
 use Rattle.conn_engine.specs.declared.standing.Standing.{Standing}
 use Rattle.conn_engine.specs.declared.standing.Standing.TheVariants.{Unconnected, Waiting, Connected, Ended}
-use Rattle.conn_engine.specs.declared.supply.BindRefusal.{BindRefusal}
-use Rattle.conn_engine.specs.declared.supply.BindRefusal.TheVariants as refusal
-use Rattle.conn_engine.specs.Facts.{Fact}
 use Rattle.conn_engine.specs.Connecting.{RetiresEarlier, Withdraws}
 use Rattle.conn_engine.specs.Ending.{down, GivesBack, Ends, RetiresAs, Retires, PartsAs, Sweeps}
-use Rattle.conn_engine.specs.Subscribing.{IsLent, EntersAs, Joins, AnswersEntry, AnswersEntries, AnswersFirst, AnswersSome, SubscribesAs, LeavesBy, LeavesByAll, UnsubscribesAs}
 use Rattle.conn_laws.specs.Calls.{offer_of, match_of, settlement_of, hand_out_of, offered, matched, settled, handed, MakesAll}
 use Rattle.conn_laws.specs.Transcripts.{IsAside}
 

@@ -16,14 +16,14 @@ use Rattle.session_desk.specs.declared.error.DeskError.{DeskError}
 use Rattle.session_desk.specs.declared.error.DeskError.TheVariants as errors
 use Rattle.session_desk.specs.declared.session.Session.{Session}
 use Rattle.session_desk.specs.declared.session.Membership.{Membership}
-use Rattle.conn_engine.specs.declared.reply.Reply.{Reply}
+use Rattle.conn_supply.specs.declared.reply.Reply.{Reply}
+use Rattle.conn_supply.specs.Facts.{Fact}
+use Rattle.conn_supply.specs.HandOuts.{IsRefused, HandsOut, TakesSome, HandsSome}
+use Rattle.conn_supply.specs.Subscribing.{AnswersSome, SubscribesAs, UnsubscribesAs}
 use Rattle.conn_engine.specs.declared.standing.ConnectRequest.{ConnectRequest}
 use Rattle.conn_engine.specs.declared.standing.Standing.{Standing}
-use Rattle.conn_engine.specs.Facts.{Fact}
 use Rattle.conn_engine.specs.Connecting.{opened, has_place, ResumesAs, AttachedAs, Attaches, FailsWith, FailsToAttach, TriesAgain, FailsAgain}
 use Rattle.conn_engine.specs.Ending.{Parts, Sweeps}
-use Rattle.conn_engine.specs.HandOuts.{IsRefused, HandsOut, TakesSome, HandsSome}
-use Rattle.conn_engine.specs.Subscribing.{AnswersSome, SubscribesAs, UnsubscribesAs}
 use Rattle.conn_laws.specs.Calls.{offer_of, match_of, settlement_of, hand_out_of, offered, matched, settled, handed, messages_of, fresh_messages, MakesAll}
 use Rattle.conn_laws.proofs.Aside.{Aside, none_in_both}
 use Rattle.conn_laws.proofs.Aside as asides

@@ -5,10 +5,10 @@ use Rattle.group_jobs.specs.Stamps.{Held}
 use Rattle.member_window.specs.Contents.{Contents, IsNextResend, HasRoom, after_resend}
 use Rattle.session_desk.specs.declared.session.Membership.{Membership}
 use Rattle.session_desk.specs.declared.session.Membership.TheVariants.{NotMember, Member, Leaving}
+use Rattle.conn_supply.specs.Facts.{Fact}
+use Rattle.conn_supply.specs.HandOuts.{SendsAgain, AsksFor, SendsNone, SendsFresh, LeavesWith, HandsFresh}
 use Rattle.conn_engine.specs.declared.standing.Standing.{Standing}
 use Rattle.conn_engine.specs.declared.standing.Standing.TheVariants.{Unconnected, Waiting, Connected, Ended}
-use Rattle.conn_engine.specs.Facts.{Fact}
-use Rattle.conn_engine.specs.HandOuts.{SendsAgain, AsksFor, SendsNone, SendsFresh, LeavesWith, HandsFresh}
 use Rattle.conn_laws.specs.Behind.{IsServed, IsAllHandedOut}
 use Rattle.conn_engine.specs.Step.{Hands}
 

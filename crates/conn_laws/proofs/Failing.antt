@@ -6,18 +6,18 @@ use Rattle.mqtt_packet.specs.declared.packet.Publish.{Publish}
 use Rattle.group_jobs.specs.declared.message.Message.{Message}
 use Rattle.group_jobs.specs.declared.stamp.Stamp.{Stamp}
 use Rattle.conn_rules.specs.Publishing.{message_of}
+use Rattle.conn_supply.specs.declared.reply.Then.{Then}
+use Rattle.conn_supply.specs.declared.supply.OfferRefusal.{OfferRefusal}
+use Rattle.conn_supply.specs.Facts.{Fact}
+use Rattle.conn_supply.specs.Facts.Fact.{Match, Offer}
 use Rattle.conn_engine.specs.declared.input.Input.{Input}
 use Rattle.conn_engine.specs.declared.input.Input.TheVariants as inputs
-use Rattle.conn_engine.specs.declared.input.Then.{Then}
 use Rattle.conn_engine.specs.declared.standing.Link.{Link}
 use Rattle.conn_engine.specs.declared.standing.Standing.{Standing}
 use Rattle.conn_engine.specs.declared.standing.Standing.TheVariants.{Unconnected, Waiting, Connected, Ended}
-use Rattle.conn_engine.specs.declared.supply.OfferRefusal.{OfferRefusal}
-use Rattle.conn_engine.specs.Facts.{Fact}
-use Rattle.conn_engine.specs.Facts.Fact.{Match, Offer}
 use Rattle.conn_engine.specs.Answering.{FailsToAnswer}
 use Rattle.conn_laws.specs.Calls.{offer_of, match_of, settlement_of, offered, matched, settled, MakesAll, OffersToEach, OffersNone, SettlesOne, SettlesNone, OffersToSome, FailedCalls}
-use Rattle.conn_engine.specs.Publishing.{OffersFirst, OffersSome, IsCutShort}
+use Rattle.conn_supply.specs.Publishing.{OffersFirst, OffersSome, IsCutShort}
 use Rattle.conn_engine.specs.Step.{hearing, after_hand_out, GivesUp, ShutsDown, CutsOff, FailsToReact, HandsLess, FailsToHand, FailsToStep}
 use Rattle.conn_laws.proofs.Calling.{Plain, HandsSomething, still, one, behind, after, joins, parted, swept, failed_to_attach, failed_again, handed_some, some_answered}
 use Rattle.conn_laws.proofs.Stepping.{Walked, none_behind, none_before, further, reacted}

@@ -7,7 +7,7 @@ use Rattle.member_window.specs.Contents.{held_of}
 use Rattle.session_desk.specs.declared.session.Session.{Session}
 use Rattle.session_desk.specs.declared.session.Membership.{Membership}
 use Rattle.session_desk.specs.declared.session.Membership.TheVariants.{NotMember, Member, Leaving}
-use Rattle.conn_engine.specs.Facts.{Fact}
+use Rattle.conn_supply.specs.Facts.{Fact}
 use Rattle.conn_laws.specs.Asking.{OneAnswer}
 use Rattle.conn_engine.specs.Ending.{down, ending_session, GivesBack, Ends, RetiresFrom, RetiresAs, Retires, PartsAs, Parts, Sweeps}
 use Rattle.conn_laws.proofs.OneCall as calls

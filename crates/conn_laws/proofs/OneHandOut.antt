@@ -9,10 +9,10 @@ use Rattle.member_window.specs.Contents.{Contents, held_of, HasRoom, IsNextResen
 use Rattle.session_desk.specs.declared.session.Membership.{Membership}
 use Rattle.session_desk.specs.declared.session.Membership.TheVariants.{NotMember, Member, Leaving}
 use Rattle.conn_rules.specs.Packets.{job}
-use Rattle.conn_engine.specs.Facts.{Fact}
-use Rattle.conn_engine.specs.Facts.Fact.{Take}
+use Rattle.conn_supply.specs.Facts.{Fact}
+use Rattle.conn_supply.specs.Facts.Fact.{Take}
 use Rattle.conn_laws.specs.Asking.{OneAnswer}
-use Rattle.conn_engine.specs.HandOuts.{SendsAgain, AsksFor, SendsOne, SendsNone, SendsFresh, LeavesWith, HandsFresh, HandsOut}
+use Rattle.conn_supply.specs.HandOuts.{SendsAgain, AsksFor, SendsOne, SendsNone, SendsFresh, LeavesWith, HandsFresh, HandsOut}
 use Rattle.conn_laws.proofs.OneCall as calls
 use Rattle.conn_laws.proofs.OneEnding.{none_some}
 

@@ -15,15 +15,15 @@ use Rattle.conn_rules.specs.Acknowledging.{fate_of}
 use Rattle.conn_rules.specs.Publishing.{publish_answer, puback_code, message_of}
 use Rattle.conn_rules.specs.declared.publishing.PublishAnswer.{PublishAnswer}
 use Rattle.conn_rules.specs.declared.publishing.PublishAnswer.TheVariants as answer
-use Rattle.conn_engine.specs.declared.reply.Reply.{Reply}
-use Rattle.conn_engine.specs.declared.supply.OfferRefusal.{OfferRefusal}
-use Rattle.conn_engine.specs.declared.supply.OfferRefusal.TheVariants as refusal
-use Rattle.conn_engine.specs.Facts.{Fact}
+use Rattle.conn_supply.specs.declared.reply.Reply.{Reply}
+use Rattle.conn_supply.specs.declared.supply.OfferRefusal.{OfferRefusal}
+use Rattle.conn_supply.specs.declared.supply.OfferRefusal.TheVariants as refusal
+use Rattle.conn_supply.specs.Facts.{Fact}
 use Rattle.conn_laws.specs.Asking.{OneAnswer}
-use Rattle.conn_engine.specs.Memberships.{with_window, with_membership}
-use Rattle.conn_engine.specs.Replies.{acknowledging}
-use Rattle.conn_engine.specs.Publishing.{Took, Offers, IsOffered, AnswersPublish, Publishes}
-use Rattle.conn_engine.specs.Acknowledging.{Settles, SettlesIn, AcknowledgesFor, Acknowledges}
+use Rattle.conn_supply.specs.Memberships.{with_window, with_membership}
+use Rattle.conn_supply.specs.Replies.{acknowledging}
+use Rattle.conn_supply.specs.Publishing.{Took, Offers, IsOffered, AnswersPublish, Publishes}
+use Rattle.conn_supply.specs.Acknowledging.{Settles, SettlesIn, AcknowledgesFor, Acknowledges}
 use Rattle.conn_laws.proofs.OneCall as calls
 
 -- how many took a message

@@ -13,13 +13,13 @@ use Rattle.conn_rules.specs.Subscribing.{entry_answer, subscribe_refusal, unsubs
 use Rattle.conn_rules.specs.Packets.{suback, unsuback}
 use Rattle.session_desk.specs.declared.session.Membership.{Membership}
 use Rattle.session_desk.specs.declared.session.Membership.TheVariants.{NotMember, Member, Leaving}
-use Rattle.conn_engine.specs.declared.reply.Reply.{Reply}
-use Rattle.conn_engine.specs.declared.supply.BindRefusal.{BindRefusal}
-use Rattle.conn_engine.specs.declared.supply.BindRefusal.TheVariants as refusal
-use Rattle.conn_engine.specs.Facts.{Fact}
+use Rattle.conn_supply.specs.declared.reply.Reply.{Reply}
+use Rattle.conn_supply.specs.declared.supply.BindRefusal.{BindRefusal}
+use Rattle.conn_supply.specs.declared.supply.BindRefusal.TheVariants as refusal
+use Rattle.conn_supply.specs.Facts.{Fact}
 use Rattle.conn_laws.specs.Asking.{OneAnswer}
-use Rattle.conn_engine.specs.Replies.{going_on}
-use Rattle.conn_engine.specs.Subscribing.{IsLent, EntersAs, StaysAs, Joins, AnswersEntry, AnswersEntries, SubscribesAs, Subscribes, LeavesFrom, LeavesBy, LeavesByAll, UnsubscribesAs, Unsubscribes}
+use Rattle.conn_supply.specs.Replies.{going_on}
+use Rattle.conn_supply.specs.Subscribing.{IsLent, EntersAs, StaysAs, Joins, AnswersEntry, AnswersEntries, SubscribesAs, Subscribes, LeavesFrom, LeavesBy, LeavesByAll, UnsubscribesAs, Unsubscribes}
 use Rattle.conn_laws.proofs.OneCall as calls
 use Rattle.conn_laws.proofs.OneEnding.{none_some}
 

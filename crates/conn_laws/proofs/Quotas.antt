@@ -16,20 +16,20 @@ use Rattle.session_desk.specs.declared.session.Membership.TheVariants.{NotMember
 use Rattle.mqtt_packet.specs.declared.packet.ConnectRefusal.{ConnectRefusal}
 use Rattle.conn_rules.specs.declared.connecting.FirstAnswer.{FirstAnswer}
 use Rattle.conn_rules.specs.declared.connecting.FirstAnswer.TheVariants as first
+use Rattle.conn_supply.specs.declared.reply.Then.{Then}
+use Rattle.conn_supply.specs.declared.reply.Then.TheVariants.{Go, Close, Kicked}
+use Rattle.conn_supply.specs.declared.reply.Reply.{Reply}
+use Rattle.conn_supply.specs.Acknowledging.{AcknowledgesFor}
+use Rattle.conn_supply.specs.Facts.{Fact}
+use Rattle.conn_supply.specs.HandOuts.{SendsAgain, SendsFresh, HandsFresh}
 use Rattle.conn_engine.specs.declared.input.Input.{Input}
 use Rattle.conn_engine.specs.declared.input.Input.TheVariants as inputs
-use Rattle.conn_engine.specs.declared.input.Then.{Then}
-use Rattle.conn_engine.specs.declared.input.Then.TheVariants.{Go, Close, Kicked}
-use Rattle.conn_engine.specs.declared.reply.Reply.{Reply}
 use Rattle.conn_engine.specs.declared.standing.ConnectRequest.{ConnectRequest}
 use Rattle.conn_engine.specs.declared.standing.Link.{Link}
 use Rattle.conn_engine.specs.declared.standing.Standing.{Standing}
 use Rattle.conn_engine.specs.declared.standing.Standing.TheVariants.{Unconnected, Waiting, Connected, Ended}
-use Rattle.conn_engine.specs.Acknowledging.{AcknowledgesFor}
 use Rattle.conn_engine.specs.Answering.{Answers, Disconnects, DisconnectsIf}
 use Rattle.conn_engine.specs.Connecting.{Accepts, AttachedAs, ResumesAs, WaitsAs}
-use Rattle.conn_engine.specs.Facts.{Fact}
-use Rattle.conn_engine.specs.HandOuts.{SendsAgain, SendsFresh, HandsFresh}
 use Rattle.conn_laws.specs.Quotas.{quota_of, KeepsQuota, IsWithinQuota}
 use Rattle.conn_engine.specs.Step.{hearing, IsRefusedIf, WaitsForConnect, AnswersFirst, Concludes, AnswersPacket, IsHeard, AnswersUnlessKicked, Reacts, Hands, Steps}
 

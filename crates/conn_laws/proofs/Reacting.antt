@@ -24,21 +24,21 @@ use Rattle.conn_rules.specs.Connecting.{first_answer}
 use Rattle.conn_rules.specs.Ending.{fault_refusal, is_late, is_overdue}
 use Rattle.conn_rules.specs.Publishing.{publish_answer, message_of}
 use Rattle.conn_rules.specs.Subscribing.{subscribe_refusal, unsubscribe_refusal}
+use Rattle.conn_supply.specs.declared.reply.Then.{Then}
+use Rattle.conn_supply.specs.declared.reply.Then.TheVariants.{Go, Close, Kicked}
+use Rattle.conn_supply.specs.declared.reply.Reply.{Reply}
+use Rattle.conn_supply.specs.Facts.{Fact}
+use Rattle.conn_supply.specs.Facts.Fact.{Settle}
+use Rattle.conn_supply.specs.Acknowledging.{Settles, AcknowledgesFor}
+use Rattle.conn_supply.specs.Publishing.{Offers, AnswersPublish}
 use Rattle.conn_engine.specs.declared.input.Input.{Input}
 use Rattle.conn_engine.specs.declared.input.Input.TheVariants as inputs
-use Rattle.conn_engine.specs.declared.input.Then.{Then}
-use Rattle.conn_engine.specs.declared.input.Then.TheVariants.{Go, Close, Kicked}
-use Rattle.conn_engine.specs.declared.reply.Reply.{Reply}
 use Rattle.conn_engine.specs.declared.standing.Link.{Link}
 use Rattle.conn_engine.specs.declared.standing.Standing.{Standing}
 use Rattle.conn_engine.specs.declared.standing.Standing.TheVariants.{Unconnected, Waiting, Connected, Ended}
-use Rattle.conn_engine.specs.Facts.{Fact}
-use Rattle.conn_engine.specs.Facts.Fact.{Settle}
-use Rattle.conn_engine.specs.Acknowledging.{Settles, AcknowledgesFor}
 use Rattle.conn_engine.specs.Answering.{DisconnectsIf, Disconnects, Answers}
 use Rattle.conn_engine.specs.Connecting.{has_place}
 use Rattle.conn_engine.specs.Ending.{down}
-use Rattle.conn_engine.specs.Publishing.{Offers, AnswersPublish}
 use Rattle.conn_engine.specs.Step.{hearing, IsParted, IsRefusedIf, WaitsForConnect, AnswersFirst, Concludes, AnswersPacket, AnswersTick, IsHeard, AnswersUnlessKicked, Reacts}
 use Rattle.conn_laws.specs.Calls.{settlement_of, hand_out_of, handed, MakesAll, Confirms, SettlesOne, SettlesNone}
 use Rattle.conn_laws.specs.Marks.{publishes_of, fresh_of, acknowledged_of, IsAckedBy}

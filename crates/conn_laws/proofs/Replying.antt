@@ -25,19 +25,19 @@ use Rattle.conn_rules.specs.Subscribing.{subscribe_refusal, unsubscribe_refusal}
 use Rattle.mqtt_packet.specs.declared.packet.Publish.{Publish}
 use Rattle.mqtt_packet.specs.declared.packet.Subscribe.{Subscribe}
 use Rattle.mqtt_packet.specs.declared.packet.Unsubscribe.{Unsubscribe}
+use Rattle.conn_supply.specs.declared.reply.Reply.{Reply}
+use Rattle.conn_supply.specs.Facts.{Fact}
+use Rattle.conn_supply.specs.Publishing.{AnswersPublish}
+use Rattle.conn_supply.specs.Subscribing.{SubscribesAs, UnsubscribesAs}
 use Rattle.conn_engine.specs.declared.input.Input.{Input}
 use Rattle.conn_engine.specs.declared.input.Input.TheVariants as inputs
-use Rattle.conn_engine.specs.declared.reply.Reply.{Reply}
 use Rattle.conn_engine.specs.declared.standing.ConnectRequest.{ConnectRequest}
 use Rattle.conn_engine.specs.declared.standing.Link.{Link}
 use Rattle.conn_engine.specs.declared.standing.Standing.{Standing}
 use Rattle.conn_engine.specs.declared.standing.Standing.TheVariants.{Unconnected, Waiting, Connected, Ended}
-use Rattle.conn_engine.specs.Facts.{Fact}
 use Rattle.conn_engine.specs.Answering.{DisconnectsIf, Disconnects, Answers}
 use Rattle.conn_engine.specs.Connecting.{has_place, most_ticks, IsRefused, Accepts, WaitsAs, ResumesAs, AttachedAs}
-use Rattle.conn_engine.specs.Publishing.{AnswersPublish}
 use Rattle.conn_engine.specs.Step.{hearing, IsClosed, IsRefusedIf, WaitsForConnect, AnswersFirst, AnswersPacket, AnswersTick, AnswersUnlessKicked, IsHeard, Reacts}
-use Rattle.conn_engine.specs.Subscribing.{SubscribesAs, UnsubscribesAs}
 use Rattle.conn_laws.specs.Calls.{fresh_message, fresh_messages}
 use Rattle.conn_laws.specs.Marks.{publishes_in}
 

@@ -6,14 +6,14 @@ use Rattle.group_jobs.specs.Stamps.{Held}
 use Rattle.member_window.specs.Contents.{Contents, HasRoom}
 use Rattle.session_desk.specs.declared.session.Membership.{Membership}
 use Rattle.session_desk.specs.declared.session.Membership.TheVariants.{NotMember, Member, Leaving}
+use Rattle.conn_supply.specs.declared.reply.Then.{Then}
+use Rattle.conn_supply.specs.declared.reply.Reply.{Reply}
+use Rattle.conn_supply.specs.Facts.{Fact}
+use Rattle.conn_supply.specs.Facts.Fact.{Take, TakeBack, TakePlace}
+use Rattle.conn_supply.specs.HandOuts.{AsksFor, SendsNone, SendsFresh, LeavesWith, HandsFresh}
 use Rattle.conn_engine.specs.declared.input.Input.{Input}
-use Rattle.conn_engine.specs.declared.input.Then.{Then}
-use Rattle.conn_engine.specs.declared.reply.Reply.{Reply}
 use Rattle.conn_engine.specs.declared.standing.Standing.{Standing}
 use Rattle.conn_engine.specs.declared.standing.Standing.TheVariants.{Unconnected, Waiting, Connected, Ended}
-use Rattle.conn_engine.specs.Facts.{Fact}
-use Rattle.conn_engine.specs.Facts.Fact.{Take, TakeBack, TakePlace}
-use Rattle.conn_engine.specs.HandOuts.{AsksFor, SendsNone, SendsFresh, LeavesWith, HandsFresh}
 use Rattle.conn_engine.specs.Step.{Reacts, Hands, Steps}
 use Rattle.conn_laws.specs.Calls.{hand_out_of, handed, messages_of}
 use Rattle.conn_laws.specs.ReturnedFirst.{MayFollow, FollowInOrder, CallsReturnedFirst}

@@ -8,16 +8,16 @@ use Rattle.group_jobs.specs.Stamps.{Held}
 use Rattle.member_window.specs.Contents.{Contents, HasRoom, after_put}
 use Rattle.session_desk.specs.declared.session.Membership.{Membership}
 use Rattle.conn_rules.specs.Publishing.{message_of}
+use Rattle.conn_supply.specs.Facts.{Fact}
+use Rattle.conn_supply.specs.Facts.Fact.{Match, Offer, Withdraw, Kicked}
+use Rattle.conn_supply.specs.HandOuts.{IsRefused, TakesSome, HandsSome}
+use Rattle.conn_supply.specs.Publishing.{OffersFirst, OffersSome, IsCutShort}
 use Rattle.conn_engine.specs.declared.input.Input.{Input}
 use Rattle.conn_engine.specs.declared.input.Input.TheVariants as inputs
 use Rattle.conn_engine.specs.declared.standing.Link.{Link}
 use Rattle.conn_engine.specs.declared.standing.Standing.{Standing}
 use Rattle.conn_engine.specs.declared.standing.Standing.TheVariants.{Unconnected, Waiting, Connected, Ended}
-use Rattle.conn_engine.specs.Facts.{Fact}
-use Rattle.conn_engine.specs.Facts.Fact.{Match, Offer, Withdraw, Kicked}
 use Rattle.conn_engine.specs.Answering.{FailsToAnswer}
-use Rattle.conn_engine.specs.HandOuts.{IsRefused, TakesSome, HandsSome}
-use Rattle.conn_engine.specs.Publishing.{OffersFirst, OffersSome, IsCutShort}
 use Rattle.conn_engine.specs.Step.{hearing, after_hand_out, GivesUp, ShutsDown, CutsOff, FailsToReact, HandsLess, FailsToHand, FailsToStep}
 use Rattle.conn_laws.specs.ReturnedFirst.{CallsReturnedFirst}
 use Rattle.conn_laws.proofs.Calling.{parted, swept, failed_to_attach, failed_again, some_answered}

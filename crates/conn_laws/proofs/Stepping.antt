@@ -23,21 +23,21 @@ use Rattle.conn_rules.specs.Connecting.{first_answer}
 use Rattle.conn_rules.specs.Ending.{is_overdue}
 use Rattle.conn_rules.specs.Publishing.{publish_answer, message_of}
 use Rattle.conn_rules.specs.Subscribing.{subscribe_refusal, unsubscribe_refusal}
+use Rattle.conn_supply.specs.declared.reply.Then.{Then}
+use Rattle.conn_supply.specs.declared.reply.Then.TheVariants.{Go, Close, Kicked}
+use Rattle.conn_supply.specs.declared.reply.Reply.{Reply}
+use Rattle.conn_supply.specs.Facts.{Fact}
+use Rattle.conn_supply.specs.Facts.Fact.{Match, Offer, Settle}
+use Rattle.conn_supply.specs.Acknowledging.{Settles, AcknowledgesFor}
 use Rattle.conn_engine.specs.declared.input.Input.{Input}
 use Rattle.conn_engine.specs.declared.input.Input.TheVariants as inputs
-use Rattle.conn_engine.specs.declared.input.Then.{Then}
-use Rattle.conn_engine.specs.declared.input.Then.TheVariants.{Go, Close, Kicked}
-use Rattle.conn_engine.specs.declared.reply.Reply.{Reply}
 use Rattle.conn_engine.specs.declared.standing.Link.{Link}
 use Rattle.conn_engine.specs.declared.standing.Standing.{Standing}
 use Rattle.conn_engine.specs.declared.standing.Standing.TheVariants.{Unconnected, Waiting, Connected, Ended}
-use Rattle.conn_engine.specs.Facts.{Fact}
-use Rattle.conn_engine.specs.Facts.Fact.{Match, Offer, Settle}
-use Rattle.conn_engine.specs.Acknowledging.{Settles, AcknowledgesFor}
 use Rattle.conn_engine.specs.Answering.{Answers}
 use Rattle.conn_engine.specs.Connecting.{has_place}
 use Rattle.conn_laws.specs.Calls.{offer_of, match_of, settlement_of, hand_out_of, offered, matched, settled, handed, messages_of, fresh_messages, IsToBeOffered, Brings, Confirms, OffersToEach, OffersNone, SettlesOne, SettlesNone, MakesAll, StepCalls}
-use Rattle.conn_engine.specs.Publishing.{Offers, AnswersPublish}
+use Rattle.conn_supply.specs.Publishing.{Offers, AnswersPublish}
 use Rattle.conn_engine.specs.Step.{hearing, AnswersFirst, Concludes, AnswersPacket, AnswersTick, IsHeard, IsKicked, AnswersUnlessKicked, Reacts, Hands, Steps}
 use Rattle.conn_laws.proofs.Replying.{replied_and_sent}
 use Rattle.conn_laws.proofs.Calling.{Plain, still, one, behind, joins, parted, swept, attached, tried_again, handed_out, subscribed_as, unsubscribed_as}

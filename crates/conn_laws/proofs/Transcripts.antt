@@ -12,12 +12,12 @@ use Rattle.member_window.specs.Runs.{transcript_of}
 use Rattle.member_window.specs.Runs as windows
 use Rattle.member_window.proofs.Law.{made_append, transcript_append}
 use Rattle.session_desk.specs.declared.session.Membership.{Membership}
+use Rattle.conn_supply.specs.declared.reply.Then.{Then}
+use Rattle.conn_supply.specs.Facts.{Fact}
 use Rattle.conn_engine.specs.declared.input.Input.{Input}
-use Rattle.conn_engine.specs.declared.input.Then.{Then}
 use Rattle.conn_engine.specs.declared.standing.Link.{Link}
 use Rattle.conn_engine.specs.declared.standing.Standing.{Standing}
 use Rattle.conn_engine.specs.declared.standing.Standing.TheVariants.{Unconnected, Waiting, Connected, Ended}
-use Rattle.conn_engine.specs.Facts.{Fact}
 use Rattle.conn_engine.specs.Step.{after_hand_out, Hands, Steps}
 use Rattle.conn_laws.specs.Calls.{settlement_of, hand_out_of, settled, handed}
 use Rattle.conn_laws.specs.Marks.{as_publish, publishes_in, publish_of, publishes_of, fresh_in, fresh_of, acknowledged_in, acknowledged_of, IsWithin}

@@ -11,12 +11,12 @@ use Rattle.session_desk.specs.declared.attached.Attached.TheVariants.{New, Resum
 use Rattle.session_desk.specs.declared.error.DeskError.{DeskError}
 use Rattle.session_desk.specs.declared.error.DeskError.TheVariants as errors
 use Rattle.session_desk.specs.declared.session.Session.{Session}
-use Rattle.conn_engine.specs.declared.reply.Reply.{Reply}
+use Rattle.conn_supply.specs.declared.reply.Reply.{Reply}
+use Rattle.conn_supply.specs.Facts.{Fact}
+use Rattle.conn_supply.specs.Facts.Fact.{ParkAsIs}
 use Rattle.conn_engine.specs.declared.standing.ConnectRequest.{ConnectRequest}
 use Rattle.conn_engine.specs.declared.standing.Link.{Link}
 use Rattle.conn_engine.specs.declared.standing.Standing.{Standing}
-use Rattle.conn_engine.specs.Facts.{Fact}
-use Rattle.conn_engine.specs.Facts.Fact.{ParkAsIs}
 use Rattle.conn_engine.specs.Connecting.{has_place, most_ticks, Accepts, WaitsAs, ResumesAs, AttachedAs, Attaches}
 use Rattle.conn_engine.specs.Ending.{down, Parts}
 use Rattle.conn_laws.specs.Calls.{settlement_of, hand_out_of, settled, handed, MakesAll}

@@ -6,13 +6,13 @@ use Rattle.session_desk.specs.declared.attached.Attached.{Attached}
 use Rattle.session_desk.specs.declared.error.DeskError.{DeskError}
 use Rattle.session_desk.specs.declared.error.DeskError.TheVariants as desk
 use Rattle.session_desk.specs.declared.session.Session.{Session}
-use Rattle.conn_engine.specs.declared.supply.BindRefusal.{BindRefusal}
-use Rattle.conn_engine.specs.declared.supply.BindRefusal.TheVariants as bind
-use Rattle.conn_engine.specs.declared.supply.OfferRefusal.{OfferRefusal}
-use Rattle.conn_engine.specs.declared.supply.OfferRefusal.TheVariants as offer
-use Rattle.conn_engine.specs.declared.supply.NoMemory.{NoMemory}
-use Rattle.conn_engine.specs.Facts.{Fact}
-use Rattle.conn_engine.specs.Facts.Fact.{Attach, Withdraw, Kicked, Park, ParkAsIs, Keep, Bury, Sweep, LendPlace, TakePlace, Bind, Find, Match, Offer, Take, TakeBack, Settle, GiveBack}
+use Rattle.conn_supply.specs.declared.supply.BindRefusal.{BindRefusal}
+use Rattle.conn_supply.specs.declared.supply.BindRefusal.TheVariants as bind
+use Rattle.conn_supply.specs.declared.supply.OfferRefusal.{OfferRefusal}
+use Rattle.conn_supply.specs.declared.supply.OfferRefusal.TheVariants as offer
+use Rattle.conn_supply.specs.declared.supply.NoMemory.{NoMemory}
+use Rattle.conn_supply.specs.Facts.{Fact}
+use Rattle.conn_supply.specs.Facts.Fact.{Attach, Withdraw, Kicked, Park, ParkAsIs, Keep, Bury, Sweep, LendPlace, TakePlace, Bind, Find, Match, Offer, Take, TakeBack, Settle, GiveBack}
 
 -- another call asks the same: it has the same arguments, and its own answer
 abbrev pub IsSameQuestion : {P : Type 0} → Fact P → Fact P → Type 0

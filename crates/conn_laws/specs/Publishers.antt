@@ -2,7 +2,7 @@
 use Rattle.std.specs.Prelude.{◌≡◌, ℕ, List}
 use Rattle.std.specs.List.{AllByRecursion}
 use Rattle.group_jobs.specs.declared.message.Message.{Message}
-use Rattle.conn_engine.specs.Facts.{Fact}
+use Rattle.conn_supply.specs.Facts.{Fact}
 use Rattle.conn_laws.specs.Calls.{offered, MakesAll}
 
 -- whatever these calls offer, they offer it from the connection of this number

@@ -1,7 +1,7 @@
 -- Calls by which what was given back is handed out first: whoever hands a place a message of the queue has just asked whether one was given back.
 use Rattle.std.specs.Prelude.{◌≡◌, List, [], ◌∷◌, Option, Some, None, Ok, ⊤}
-use Rattle.conn_engine.specs.Facts.{Fact}
-use Rattle.conn_engine.specs.Facts.Fact.{Take, TakeBack}
+use Rattle.conn_supply.specs.Facts.{Fact}
+use Rattle.conn_supply.specs.Facts.Fact.{Take, TakeBack}
 use Rattle.conn_laws.specs.Calls.{MakesAll}
 
 -- the call before asked, for this place, whether a message was given back, and there was none

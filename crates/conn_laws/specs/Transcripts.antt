@@ -15,13 +15,13 @@ use Rattle.session_desk.specs.declared.error.DeskError.{DeskError}
 use Rattle.session_desk.specs.declared.session.Session.{Session}
 use Rattle.session_desk.specs.declared.session.Membership.{Membership}
 use Rattle.session_desk.specs.declared.session.Membership.TheVariants.{Member}
+use Rattle.conn_supply.specs.declared.reply.Then.{Then}
+use Rattle.conn_supply.specs.Facts.{Fact}
+use Rattle.conn_supply.specs.Facts.Fact.{Attach, Park, ParkAsIs, Take, TakeBack}
 use Rattle.conn_engine.specs.declared.input.Input.{Input}
-use Rattle.conn_engine.specs.declared.input.Then.{Then}
 use Rattle.conn_engine.specs.declared.standing.Link.{Link}
 use Rattle.conn_engine.specs.declared.standing.Standing.{Standing}
 use Rattle.conn_engine.specs.declared.standing.Standing.TheVariants.{Unconnected, Waiting, Connected, Ended}
-use Rattle.conn_engine.specs.Facts.{Fact}
-use Rattle.conn_engine.specs.Facts.Fact.{Attach, Park, ParkAsIs, Take, TakeBack}
 use Rattle.conn_engine.specs.Ending.{down}
 use Rattle.conn_laws.specs.Calls.{MakesAll, handed, SettlesOne, SettlesNone}
 use Rattle.conn_laws.specs.Marks.{publishes_in, publishes_of, fresh_of, acknowledged_of, IsWithin, IsAckedBy}

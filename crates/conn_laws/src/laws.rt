@@ -1,9 +1,9 @@
 //! The laws, each over every supply.
 ghost use Rattle.std.specs.Prelude.{◌≡◌, ◌≢◌, ◌↔◌, ℕ, List};
 ghost use Rattle.mqtt_packet.specs.declared.packet.Packet.{Packet};
+ghost use Rattle.conn_supply.specs.declared.reply.Then.{Then};
+ghost use Rattle.conn_supply.specs.declared.reply.Then.TheVariants.{Go};
 ghost use Rattle.conn_engine.specs.declared.input.Input.{Input};
-ghost use Rattle.conn_engine.specs.declared.input.Then.{Then};
-ghost use Rattle.conn_engine.specs.declared.input.Then.TheVariants.{Go};
 ghost use Rattle.conn_engine.specs.declared.standing.Link.{Link};
 ghost use Rattle.conn_engine.specs.declared.standing.Standing.{Standing};
 ghost use Rattle.conn_engine.specs.declared.standing.Standing.TheVariants as standings;
@@ -16,7 +16,7 @@ ghost use Rattle.conn_laws.specs.Quotas.{IsWithinQuota};
 ghost use Rattle.conn_laws.specs.Transcripts.{IsNotEnding, Transcribes};
 ghost use Rattle.conn_engine.specs.Step.{Steps, FailsToStep};
 
-use conn_engine::{HoldingPlace, Supply};
+use conn_supply::{HoldingPlace, Supply};
 
 /// **A connection is over exactly where its step says so**: it has ended behind a step that does not go on, and behind no other.
 /// And it ends by a fault, by the end of its input, and by the broker's closing (`last`). A connection whose client has its session has one behind

@@ -1,6 +1,6 @@
 //! Laws of a connection's steps: what holds of each, whatever it asks and is answered. Each is the contract of a function that does
 //! nothing, stated over the definitions that the contract of [`Conn::step`](conn_engine::Conn::step) cites, and over every
-//! [`Supply`](conn_engine::Supply).
+//! [`Supply`](conn_supply::Supply).
 #![tactic(auto)]
 
 mod laws;

@@ -6,8 +6,8 @@ use Rattle.transport.specs.declared.counts.Counts.{Counts}
 use Rattle.transport.specs.declared.answers.Got.{Got}
 use Rattle.transport.specs.declared.answers.Got.TheVariants as got
 use Rattle.transport.specs.declared.answers.Put.TheVariants as put
+use Rattle.conn_supply.specs.Facts.{Fact}
 use Rattle.conn_engine.specs.declared.standing.Standing.TheVariants.{Ended}
-use Rattle.conn_engine.specs.Facts.{Fact}
 use Rattle.conn_service.specs.declared.served.Served.{Served}
 use Rattle.conn_service.specs.Services.{ServiceState, HasNoMore}
 use Rattle.conn_service.specs.Acts.{Act, Reads, Writes, Enters, Leaves}

@@ -17,13 +17,13 @@ use Rattle.member_window.specs.Runs.{MakesAll, marks_of, transcript_of, standing
 use Rattle.member_window.proofs.Legality.{legal_append}
 use Rattle.member_window.proofs.Law.{sound_after_all, legal_calls, standing_after_calls}
 use Rattle.session_desk.specs.declared.session.Session.{Session}
+use Rattle.conn_supply.specs.declared.reply.Then.{Then}
+use Rattle.conn_supply.specs.Facts.{Fact}
 use Rattle.conn_engine.specs.declared.input.Input.{Input}
 use Rattle.conn_engine.specs.declared.input.Input.TheVariants as inputs
-use Rattle.conn_engine.specs.declared.input.Then.{Then}
 use Rattle.conn_engine.specs.declared.standing.Link.{Link}
 use Rattle.conn_engine.specs.declared.standing.Standing.{Standing}
 use Rattle.conn_engine.specs.declared.standing.Standing.TheVariants.{Unconnected, Waiting, Connected, Ended}
-use Rattle.conn_engine.specs.Facts.{Fact}
 use Rattle.conn_engine.specs.Step.{Steps as Stepping}
 use Rattle.conn_laws.specs.Behind.{KeepsOrEnds}
 use Rattle.conn_laws.specs.Marks.{publishes_in, publishes_of, publish_of, as_publish, IsWithin}

@@ -11,10 +11,10 @@ use Rattle.transport.specs.Scripts.{got_count}
 use Rattle.std.proofs.lemmas.List.{nil_from_length}
 use Rattle.transport.specs.declared.answers.Got.{Got}
 use Rattle.transport.specs.declared.answers.Got.TheVariants as got
+use Rattle.conn_supply.specs.Facts.{Fact}
 use Rattle.conn_engine.specs.declared.input.Input.{Input}
 use Rattle.conn_engine.specs.declared.input.Input.TheVariants as inputs
 use Rattle.conn_engine.specs.declared.standing.Standing.TheVariants.{Ended}
-use Rattle.conn_engine.specs.Facts.{Fact}
 use Rattle.conn_engine.specs.Step.{Steps as Stepping}
 use Rattle.conn_laws.proofs.Ended.{ends_by}
 use Rattle.client_table.specs.Clients.{ClientState, moment_of}

@@ -4,7 +4,7 @@ use Rattle.transport.specs.declared.counts.Counts.{Counts}
 use Rattle.transport.specs.declared.answers.Put.{Put}
 use Rattle.transport.specs.declared.answers.Put.TheVariants as put
 use Rattle.transport.specs.declared.answers.Got.{Got}
-use Rattle.conn_engine.specs.Facts.{Fact}
+use Rattle.conn_supply.specs.Facts.{Fact}
 use Rattle.conn_service.specs.Services.{ServiceState, IdlesTick, KeepsIdles}
 use Rattle.conn_service.specs.Acts.{Reads, Writes, Enters, Leaves}
 use Rattle.conn_service.specs.Edges.{ReadsOnce, WritesOnce, LeadsAtEdge}

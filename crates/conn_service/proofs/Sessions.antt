@@ -1,7 +1,7 @@
 -- What a step does for its session.
 use Rattle.std.proofs.Common.{ℕ, Bool, List, Option}
 use Rattle.transport.specs.declared.counts.Counts.{Counts}
-use Rattle.conn_engine.specs.Facts.{Fact}
+use Rattle.conn_supply.specs.Facts.{Fact}
 use Rattle.conn_laws.proofs.Failing as failing
 use Rattle.conn_laws.proofs.Transcripts.{transcribed}
 use Rattle.client_table.specs.Clients.{moment_of}

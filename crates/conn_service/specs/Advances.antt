@@ -5,7 +5,7 @@ use Rattle.transport.specs.declared.answers.Got.{Got}
 use Rattle.transport.specs.declared.answers.Got.TheVariants as got
 use Rattle.transport.specs.declared.answers.Put.{Put}
 use Rattle.transport.specs.declared.answers.Put.TheVariants as put
-use Rattle.conn_engine.specs.Facts.{Fact}
+use Rattle.conn_supply.specs.Facts.{Fact}
 use Rattle.conn_service.specs.Services.{ServiceState, HasNoMore}
 use Rattle.conn_service.specs.Acts.{Act, Reads, Writes}
 use Rattle.conn_service.specs.Edges.{DoesAllAtEdge}

@@ -1,8 +1,8 @@
 -- A connection that is served to its end.
 use Rattle.std.specs.Prelude.{◌≡◌, ◌⊎◌, ℕ, Bool, List, Option, Some}
 use Rattle.transport.specs.declared.counts.Counts.{Counts}
+use Rattle.conn_supply.specs.Facts.{Fact}
 use Rattle.conn_engine.specs.declared.standing.Standing.TheVariants.{Ended}
-use Rattle.conn_engine.specs.Facts.{Fact}
 use Rattle.conn_service.specs.declared.served.Served.{Served}
 use Rattle.conn_service.specs.declared.served.Served.TheVariants as served
 use Rattle.conn_service.specs.Services.{ServiceState, opened}

@@ -9,8 +9,8 @@ use Rattle.session_desk.specs.declared.session.Session.{Session}
 use Rattle.session_desk.specs.Attaching.{Request}
 use Rattle.session_desk.specs.declared.attached.Attached.{Attached}
 use Rattle.session_desk.specs.declared.error.DeskError.{DeskError}
-use Rattle.conn_engine.specs.Facts.{Fact}
-use Rattle.conn_engine.specs.Facts.Fact.{Attach}
+use Rattle.conn_supply.specs.Facts.{Fact}
+use Rattle.conn_supply.specs.Facts.Fact.{Attach}
 use Rattle.conn_laws.specs.Calls.{FailedCalls}
 use Rattle.conn_laws.specs.Transcripts.{IsNotEnding, session_given, Transcribes}
 use Rattle.conn_laws.specs.Marks.{publishes_in, publishes_of}

@@ -12,7 +12,7 @@ ghost use Rattle.conn_service.specs.Edges.{MayRead, ReadsOnce, WritesOnce, Leads
 use crate::crossing::may_pass;
 use crate::served::Served;
 use crate::service::Service;
-use conn_engine::{HoldingPlace, NoMemory, Supply};
+use conn_supply::{HoldingPlace, NoMemory, Supply};
 use transport::{Crossing, Got, Put, Transport};
 
 /// For how many milliseconds a transport may take nothing of what waits.

@@ -11,7 +11,7 @@ ghost use Rattle.conn_service.specs.Lives.{Does, DoesAll};
 ghost use Rattle.conn_service.specs.Sessions.{IsLegalLife, TellsItsSession};
 ghost use Rattle.conn_service.specs.Transcripts.{IsQuiet, ReadsItsStream, WritesItsPackets};
 
-use conn_engine::{HoldingPlace, Supply};
+use conn_supply::{HoldingPlace, Supply};
 use transport::Transport;
 
 /// **What is stepped is what was read** (sections 2.1 and 4.13), whatever pieces it comes in: the packets that are stepped are those that the bytes

@@ -3,7 +3,7 @@ ghost use Rattle.std.specs.Prelude.{◌≡◌, ◌<◌, ◌≤◌, ◌++◌, ◌
 ghost use Rattle.conn_service.specs.Services.{bytes_of, write_room};
 ghost use Rattle.conn_service.specs.Moments.{since_step};
 
-use conn_engine::NoMemory;
+use conn_supply::NoMemory;
 use mqtt_packet::Packet;
 use mqtt_wire::encode_into;
 use std::alloc::{AllocError, Global};

@@ -5,8 +5,8 @@ ghost use Rattle.conn_engine.specs.Looking.{IsSilentTooLong};
 ghost use Rattle.conn_service.specs.declared.served.Round.TheVariants as rounds;
 ghost use Rattle.conn_service.specs.declared.served.Served.TheVariants as endings;
 ghost use Rattle.conn_service.specs.Crossings.{RefusesAlways};
+ghost use Rattle.conn_supply.specs.Facts.Fact.{Kicked};
 ghost use Rattle.conn_engine.specs.declared.input.Input.TheVariants as inputs;
-ghost use Rattle.conn_engine.specs.Facts.Fact.{Kicked};
 ghost use Rattle.conn_service.specs.Moments.{is_tick_for};
 ghost use Rattle.conn_service.specs.Services.{HasNoMore, IsAnswered, IsOnTime, IsServed, IsTold, IdlesTick, KeepsEdge, KeepsEdgeAt, KeepsEnough};
 ghost use Rattle.conn_service.specs.Directions.{reads, writes};
@@ -15,7 +15,8 @@ ghost use Rattle.conn_service.specs.Advances.{Advances, IsDoneOrAdvances};
 
 use crate::served::{Direction, Round, Served};
 use crate::service::Service;
-use conn_engine::{HoldingPlace, Input, Supply};
+use conn_engine::Input;
+use conn_supply::{HoldingPlace, Supply};
 use transport::{Crossing, Got, Transport};
 
 /// After how many milliseconds without a Tick a round makes one.

@@ -9,7 +9,7 @@ ghost use Rattle.conn_service.specs.Services.{opened};
 use crate::outgoing::Outgoing;
 use crate::served::Served;
 use client_table::Client;
-use conn_engine::{HoldingPlace, Supply};
+use conn_supply::{HoldingPlace, Supply};
 use mqtt_packet::Packet;
 use std::alloc::Global;
 use std::marker::Model;

@@ -7,7 +7,7 @@ ghost use Rattle.conn_service.specs.Endings.{EndsAs, IsServedToItsEnd};
 
 use crate::served::{Direction, Round, Served};
 use crate::service::Service;
-use conn_engine::{HoldingPlace, Supply};
+use conn_supply::{HoldingPlace, Supply};
 use std::alloc::Global;
 use std::sync::Wait;
 use transport::{Clock, Crossing, Transport};

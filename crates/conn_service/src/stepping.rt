@@ -1,7 +1,7 @@
 //! The steps of a connection that is served.
 ghost use Rattle.std.specs.Prelude.{◌≡◌, ◌≢◌, ◌<◌, length, [], None, Some, Ok, true, false, OnOk, IfErr};
+ghost use Rattle.conn_supply.specs.declared.reply.Then.TheVariants.{Go};
 ghost use Rattle.conn_engine.specs.Step.{IsNoPacket};
-ghost use Rattle.conn_engine.specs.declared.input.Then.TheVariants.{Go};
 ghost use Rattle.conn_engine.specs.declared.standing.Standing.TheVariants.{Ended};
 ghost use Rattle.conn_laws.specs.Behind.{IsLast};
 ghost use Rattle.conn_service.specs.Services.{write_room, IsAnswered, KeepsEdge, KeepsEdgeAt};
@@ -12,7 +12,8 @@ ghost use Rattle.conn_service.specs.Lives.{IsDue, Leads};
 use crate::outgoing::{WRITE_ROOM, put_down};
 use crate::served::Served;
 use crate::service::Service;
-use conn_engine::{HoldingPlace, Input, NoMemory, Supply, Then};
+use conn_engine::Input;
+use conn_supply::{HoldingPlace, NoMemory, Supply, Then};
 use transport::Transport;
 
 /// The moment of the latest Tick, behind this input.

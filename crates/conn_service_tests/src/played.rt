@@ -3,8 +3,8 @@ ghost use Rattle.std.specs.Prelude.{◌≡◌, ◌<◌, IfSome};
 ghost use Rattle.transport.specs.Counting.{no_counts};
 
 use bytes::Bytes;
-use conn_engine::{HoldingPlace, Supply};
 use conn_service::{Direction, Round, Service};
+use conn_supply::{HoldingPlace, Supply};
 use drive::drive_lines;
 use local_broker::{LocalPlace, LocalSupply};
 use local_server::Setup;

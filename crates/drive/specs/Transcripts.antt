@@ -5,8 +5,8 @@ use Rattle.std.specs.Fmt.{decimal}
 use Rattle.std.specs.Io.KnownBytes.{Appends}
 use Rattle.mqtt_packet.specs.declared.packet.Packet.{Packet}
 use Rattle.mqtt_wire.specs.Writing.{written}
-use Rattle.conn_engine.specs.declared.input.Then.{Then}
-use Rattle.conn_engine.specs.declared.input.Then.TheVariants as thens
+use Rattle.conn_supply.specs.declared.reply.Then.{Then}
+use Rattle.conn_supply.specs.declared.reply.Then.TheVariants as thens
 use Rattle.client_table.specs.Clients.{Said}
 use Rattle.local_broker.specs.Broker.{Broker}
 use Rattle.local_broker.specs.Reporting.{TellsLine}

@@ -12,7 +12,7 @@ ghost use Rattle.drive.specs.Forms.{lines_as};
 
 use crate::form::Form;
 use client_table::Said;
-use conn_engine::Then;
+use conn_supply::Then;
 use itoa::Buffer;
 use line_io::RunError;
 use local_server::Server;

@@ -28,7 +28,7 @@ use Rattle.session_desk.specs.declared.session.Membership.TheVariants.{NotMember
 use Rattle.session_desk.specs.Books.{Books}
 use Rattle.session_desk.specs.Everything.{HasAll, items_of, place_in, place_of, free_in}
 use Rattle.session_desk.specs.Rows.{session_in}
-use Rattle.conn_engine.specs.Holding.{AreOut, IsOutAtPlace, messages}
+use Rattle.conn_supply.specs.Holding.{AreOut, IsOutAtPlace, messages}
 use Rattle.broker_groups.specs.Outs.{HasOut, IsHandedTo, jobs_out}
 use Rattle.broker_groups.specs.Endings.{joined, port_slot, place_slot, held_slot}
 use Rattle.broker_groups.specs.Sorting.{at_slot}

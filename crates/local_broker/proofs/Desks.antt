@@ -18,8 +18,8 @@ use Rattle.session_desk.specs.Calls.{Call, IsAllowed, Makes}
 use Rattle.session_desk.specs.Everywhere.{IfMember, GoesIn, ComesOut, IsAttachedSo}
 use Rattle.session_desk.proofs.OneHand.{law_all}
 use Rattle.session_desk.proofs.Everywhere.{onward, out}
-use Rattle.conn_engine.specs.Holding.{IsOutAtPlace}
-use Rattle.conn_engine.specs.Ready.{IsSoundSession, IsReady}
+use Rattle.conn_supply.specs.Holding.{IsOutAtPlace}
+use Rattle.conn_supply.specs.Ready.{IsSoundSession, IsReady}
 use Rattle.local_group.specs.Groups.{Group}
 use Rattle.local_broker.specs.Places.{GroupPlace, cell_of, has_out}
 use Rattle.local_broker.specs.Broker.{IsSound}

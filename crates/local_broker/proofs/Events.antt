@@ -10,8 +10,8 @@ use Rattle.group_jobs.specs.declared.message.Message.{Message}
 use Rattle.group_jobs.specs.declared.stamp.Stamp.{Stamp}
 use Rattle.group_jobs.specs.Stamps.{Held, job_of}
 use Rattle.local_group.specs.Groups.{Group, Adds, Settles, Closes}
-use Rattle.conn_engine.specs.declared.supply.NoMemory.{NoMemory}
-use Rattle.conn_engine.specs.declared.supply.OfferRefusal.{OfferRefusal}
+use Rattle.conn_supply.specs.declared.supply.NoMemory.{NoMemory}
+use Rattle.conn_supply.specs.declared.supply.OfferRefusal.{OfferRefusal}
 use Rattle.local_broker.specs.Groups.{IsOffered, HandsOut, HandsOutAgain, IsOutAt, IsSettled, IsGivenBack, LetsGo}
 use Rattle.local_broker.specs.Histories.{EndsHandOut}
 use Rattle.local_broker.proofs.Closed.{either}

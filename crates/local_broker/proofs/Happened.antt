@@ -15,9 +15,9 @@ use Rattle.session_desk.specs.Hands.{DeskLaw}
 use Rattle.session_desk.proofs.OneHand.{law_all}
 use Rattle.local_group.specs.Groups.{Group}
 use Rattle.local_group.proofs.Steps.{goes_on}
-use Rattle.conn_engine.specs.declared.supply.OfferRefusal.{OfferRefusal}
-use Rattle.conn_engine.specs.Facts.{Fact}
-use Rattle.conn_engine.specs.Facts.Fact.{Attach, Withdraw, Kicked, Park, ParkAsIs, Keep, Bury, Sweep, LendPlace, TakePlace, Bind, Find, Match, Offer, Take, TakeBack, Settle, GiveBack}
+use Rattle.conn_supply.specs.declared.supply.OfferRefusal.{OfferRefusal}
+use Rattle.conn_supply.specs.Facts.{Fact}
+use Rattle.conn_supply.specs.Facts.Fact.{Attach, Withdraw, Kicked, Park, ParkAsIs, Keep, Bury, Sweep, LendPlace, TakePlace, Bind, Find, Match, Offer, Take, TakeBack, Settle, GiveBack}
 use Rattle.local_broker.specs.Places.{GroupPlace, cell_of}
 use Rattle.local_broker.specs.Groups.{InGroup, ClosesEach}
 use Rattle.local_broker.specs.Broker.{Broker, IsClosed, IsNewBroker}

@@ -16,9 +16,9 @@ use Rattle.local_group.specs.declared.error.OfferError.TheVariants as why
 use Rattle.local_group.specs.Groups.{Group, MayOffer, MayNotOffer}
 use Rattle.local_group.specs.Alike.{AreAlike}
 use Rattle.local_group.proofs.Alike as groups
-use Rattle.conn_engine.specs.declared.supply.NoMemory.{NoMemory}
-use Rattle.conn_engine.specs.declared.supply.OfferRefusal.{OfferRefusal}
-use Rattle.conn_engine.specs.declared.supply.OfferRefusal.TheVariants as refusal
+use Rattle.conn_supply.specs.declared.supply.NoMemory.{NoMemory}
+use Rattle.conn_supply.specs.declared.supply.OfferRefusal.{OfferRefusal}
+use Rattle.conn_supply.specs.declared.supply.OfferRefusal.TheVariants as refusal
 use Rattle.conn_laws.specs.Asking.{IsTold}
 use Rattle.local_broker.specs.Groups.{told_as, IsOffered, HandsOut, HandsOutAgain, IsOutAt, IsSettled, IsGivenBack, InGroup, ClosesEach}
 use Rattle.local_broker.specs.Alike.{AreAlikeInEachSlot}

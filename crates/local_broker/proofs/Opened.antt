@@ -10,7 +10,7 @@ use Rattle.session_desk.specs.Hands.{DeskLaw}
 use Rattle.session_desk.specs.Everywhere.{IsEverywhere}
 use Rattle.session_desk.specs.Places.{IsFreeAt, TakesPlace, cell_at}
 use Rattle.session_desk.proofs.OneHand.{law_new, no_row}
-use Rattle.conn_engine.specs.Holding.{IsOutAtPlace}
+use Rattle.conn_supply.specs.Holding.{IsOutAtPlace}
 use Rattle.local_group.specs.Groups.{Group}
 use Rattle.local_broker.specs.Places.{GroupPlace, place_at, has_out}
 use Rattle.local_broker.specs.Broker.{AreNewGroups, IsNewGroup, HasAllPlaces}

@@ -23,8 +23,8 @@ use Rattle.local_group.specs.Groups.{Group, Adds, IsFresh, Settles, GivesBack, C
 use Rattle.local_group.specs.Spots.{jobs_in}
 use Rattle.local_group.proofs.Spots.{lists_same, lists_more, lists_less}
 use Rattle.local_group.proofs.Steps.{goes_on}
-use Rattle.conn_engine.specs.declared.supply.NoMemory.{NoMemory}
-use Rattle.conn_engine.specs.declared.supply.OfferRefusal.{OfferRefusal}
+use Rattle.conn_supply.specs.declared.supply.NoMemory.{NoMemory}
+use Rattle.conn_supply.specs.declared.supply.OfferRefusal.{OfferRefusal}
 use Rattle.local_broker.specs.Groups.{IsOffered, HandsOut, HandsOutAgain, IsOutAt, IsSettled, IsGivenBack, LetsGo}
 use Rattle.local_broker.specs.ReturnedFirst.{NoneReturned, ServesReturnedFirst}
 use Rattle.local_broker.proofs.Closed.{either}

@@ -8,8 +8,8 @@ use Rattle.group_jobs.specs.declared.fate.Fate.TheVariants as fate
 use Rattle.group_jobs.specs.declared.message.Message.{Message}
 use Rattle.group_jobs.specs.declared.stamp.Stamp.{Stamp}
 use Rattle.local_group.specs.Groups.{Group, Settles}
-use Rattle.conn_engine.specs.declared.supply.NoMemory.{NoMemory}
-use Rattle.conn_engine.specs.declared.supply.OfferRefusal.{OfferRefusal}
+use Rattle.conn_supply.specs.declared.supply.NoMemory.{NoMemory}
+use Rattle.conn_supply.specs.declared.supply.OfferRefusal.{OfferRefusal}
 use Rattle.local_broker.specs.Groups.{IsOffered, HandsOut, HandsOutAgain, IsOutAt, IsSettled, IsGivenBack, LetsGo}
 
 -- no group of a list is closed

@@ -9,7 +9,7 @@ use Rattle.session_desk.specs.Everywhere.{IsEverywhere}
 use Rattle.session_desk.specs.Hands.{DeskLaw}
 use Rattle.session_desk.specs.Places.{IsFreeAt}
 use Rattle.local_group.specs.Groups.{Group, IsFresh}
-use Rattle.conn_engine.specs.Holding.{IsOutAtPlace}
+use Rattle.conn_supply.specs.Holding.{IsOutAtPlace}
 use Rattle.local_broker.specs.Places.{GroupPlace, place_at, has_out}
 
 pub record Broker : Type 0 where

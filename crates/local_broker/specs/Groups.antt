@@ -8,9 +8,9 @@ use Rattle.local_group.specs.declared.error.OfferError.{OfferError}
 use Rattle.local_group.specs.declared.error.OfferError.TheVariants as offer
 use Rattle.local_group.specs.declared.error.TakeError.TheVariants as taking
 use Rattle.local_group.specs.Groups.{Group, IsHeld, Accepts, MayNotOffer, Takes, TakesBack, MayNotTake, Settles, GivesBack, Closes}
-use Rattle.conn_engine.specs.declared.supply.NoMemory.{NoMemory}
-use Rattle.conn_engine.specs.declared.supply.OfferRefusal.{OfferRefusal}
-use Rattle.conn_engine.specs.declared.supply.OfferRefusal.TheVariants as refusal
+use Rattle.conn_supply.specs.declared.supply.NoMemory.{NoMemory}
+use Rattle.conn_supply.specs.declared.supply.OfferRefusal.{OfferRefusal}
+use Rattle.conn_supply.specs.declared.supply.OfferRefusal.TheVariants as refusal
 
 -- what a connection is told of a group's refusal
 abbrev pub told_as : OfferError → OfferRefusal

@@ -1,9 +1,9 @@
 //! The calls of connections.
 ghost use Rattle.std.specs.Prelude.{◌≡◌, ◌≤◌, ◌<◌, [], length, IfOk, IfErr, IfSome};
 ghost use Rattle.member_window.specs.Contents.{held_of};
-ghost use Rattle.conn_engine.specs.Facts.Fact.{Park, ParkAsIs, Keep, Bury};
-ghost use Rattle.conn_engine.specs.Holding.{IsOutAtPlace};
-ghost use Rattle.conn_engine.specs.Ready.{IsSoundSession};
+ghost use Rattle.conn_supply.specs.Facts.Fact.{Park, ParkAsIs, Keep, Bury};
+ghost use Rattle.conn_supply.specs.Holding.{IsOutAtPlace};
+ghost use Rattle.conn_supply.specs.Ready.{IsSoundSession};
 ghost use Rattle.local_broker.specs.Broker.{is_open};
 ghost use Rattle.local_broker.specs.Calls.{Calls};
 ghost use Rattle.local_broker.specs.Places.{has_out};
@@ -13,7 +13,7 @@ use crate::letting_go::dissolve;
 use crate::opening::SLOTS;
 use crate::place::LocalPlace;
 use crate::supply::LocalSupply;
-use conn_engine::{BindRefusal, NoMemory, OfferRefusal, Supply};
+use conn_supply::{BindRefusal, NoMemory, OfferRefusal, Supply};
 use group_jobs::{Envelope, Fate, SharedMessage, Stamp};
 use mqtt_packet::Text;
 use mqtt_topic::{Share, Slots, TopicError, TopicName};

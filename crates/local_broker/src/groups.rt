@@ -3,7 +3,7 @@ ghost use Rattle.std.specs.Prelude.{◌≡◌, ◌<◌, ◌↔◌, IsTrue};
 ghost use Rattle.local_broker.specs.Groups.{ClosesEach, told_as, IsOffered, HandsOut, HandsOutAgain, IsOutAt, IsSettled, IsGivenBack};
 
 use crate::letting_go::let_go;
-use conn_engine::{NoMemory, OfferRefusal};
+use conn_supply::{NoMemory, OfferRefusal};
 use group_jobs::{Envelope, Fate, SharedMessage, Stamp};
 use local_group::{LocalGroup, NotTaken, OfferError, TakeError};
 

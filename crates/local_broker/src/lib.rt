@@ -1,6 +1,6 @@
 //! What the connections of a broker on one thread share: the desk of sessions, the routes, and eight groups.
 //!
-//! A [`LocalSupply`] is a [`Supply`](conn_engine::Supply): each connection asks it for sessions, shares and messages. It is open
+//! A [`LocalSupply`] is a [`Supply`](conn_supply::Supply): each connection asks it for sessions, shares and messages. It is open
 //! until [`LocalSupply::close`], and at the end it tells what became of each message.
 //!
 //! ```

@@ -4,7 +4,7 @@ ghost use Rattle.session_desk.specs.Books.{new_books};
 ghost use Rattle.local_broker.specs.Broker.{HasAllPlaces, AreNewGroups};
 
 use crate::place::LocalPlace;
-use conn_engine::NoMemory;
+use conn_supply::NoMemory;
 use group_jobs::Envelope;
 use local_group::LocalGroup;
 use session_desk::Desk;

@@ -1,5 +1,5 @@
 //! Places of the groups.
-use conn_engine::HoldingPlace;
+use conn_supply::HoldingPlace;
 use session_desk::Place;
 use std::marker::Model;
 

@@ -9,7 +9,7 @@ use crate::groups::close_each;
 use crate::letting_go::let_go;
 use crate::opening::{open_desk, open_groups};
 use crate::place::LocalPlace;
-use conn_engine::NoMemory;
+use conn_supply::NoMemory;
 use group_jobs::Envelope;
 use local_group::LocalGroup;
 use mqtt_topic::{Routes, Share};

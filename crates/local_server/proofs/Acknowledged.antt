@@ -8,9 +8,9 @@ use Rattle.group_jobs.specs.Stamps.{Held}
 use Rattle.member_window.specs.Contents.{held_of}
 use Rattle.member_window.specs.Marks.{Mark, Standing as Led, held}
 use Rattle.conn_rules.specs.Acknowledging.{fate_of}
+use Rattle.conn_supply.specs.declared.reply.Then.{Then}
 use Rattle.conn_engine.specs.declared.input.Input.{Input}
 use Rattle.conn_engine.specs.declared.input.Input.TheVariants as inputs
-use Rattle.conn_engine.specs.declared.input.Then.{Then}
 use Rattle.conn_engine.specs.declared.standing.Link.{Link}
 use Rattle.conn_engine.specs.declared.standing.Standing.{Standing}
 use Rattle.conn_engine.specs.declared.standing.Standing.TheVariants.{Unconnected, Waiting, Connected, Ended}

@@ -11,17 +11,17 @@ use Rattle.conn_rules.specs.declared.connecting.FirstAnswer.{FirstAnswer}
 use Rattle.conn_rules.specs.declared.connecting.FirstAnswer.TheVariants as first
 use Rattle.conn_rules.specs.Connecting.{first_answer}
 use Rattle.conn_rules.specs.Ending.{fault_refusal}
+use Rattle.conn_supply.specs.declared.reply.Then.{Then}
+use Rattle.conn_supply.specs.declared.reply.Reply.{Reply}
+use Rattle.conn_supply.specs.Facts.Fact.{Withdraw, Kicked as WasKicked}
 use Rattle.conn_engine.specs.declared.input.Input.{Input}
 use Rattle.conn_engine.specs.declared.input.Input.TheVariants as inputs
-use Rattle.conn_engine.specs.declared.input.Then.{Then}
-use Rattle.conn_engine.specs.declared.reply.Reply.{Reply}
 use Rattle.conn_engine.specs.declared.standing.ConnectRequest.{ConnectRequest}
 use Rattle.conn_engine.specs.declared.standing.Link.{Link}
 use Rattle.conn_engine.specs.declared.standing.Standing.{Standing}
 use Rattle.conn_engine.specs.declared.standing.Standing.TheVariants.{Unconnected, Waiting, Connected, Ended}
 use Rattle.conn_engine.specs.Connecting.{TriesAgain, Withdraws}
 use Rattle.conn_engine.specs.Ending.{down, Sweeps}
-use Rattle.conn_engine.specs.Facts.Fact.{Withdraw, Kicked as WasKicked}
 use Rattle.conn_engine.specs.Step.{IsRefusedIf, WaitsForConnect, AnswersFirst, AnswersPacket, AnswersTick, AnswersUnlessKicked, Reacts, Hands, Steps, after_hand_out}
 use Rattle.conn_laws.specs.Transcripts.{link_of}
 use Rattle.local_broker.specs.Places.{GroupPlace}

@@ -21,11 +21,14 @@ use Rattle.conn_rules.specs.declared.publishing.PublishAnswer.{PublishAnswer}
 use Rattle.conn_rules.specs.declared.publishing.PublishAnswer.TheVariants as answers
 use Rattle.conn_rules.specs.Publishing.{publish_answer, message_of}
 use Rattle.conn_rules.specs.Subscribing.{subscribe_refusal, unsubscribe_refusal}
+use Rattle.conn_supply.specs.declared.reply.Then.{Then}
+use Rattle.conn_supply.specs.declared.reply.Then.TheVariants.{Go, Close, Kicked}
+use Rattle.conn_supply.specs.declared.reply.Reply.{Reply}
+use Rattle.conn_supply.specs.Facts.Fact.{Attach, Match}
+use Rattle.conn_supply.specs.Publishing.{AnswersPublish, IsOffered}
+use Rattle.conn_supply.specs.Subscribing.{SubscribesAs, UnsubscribesAs}
 use Rattle.conn_engine.specs.declared.input.Input.{Input}
 use Rattle.conn_engine.specs.declared.input.Input.TheVariants as inputs
-use Rattle.conn_engine.specs.declared.input.Then.{Then}
-use Rattle.conn_engine.specs.declared.input.Then.TheVariants.{Go, Close, Kicked}
-use Rattle.conn_engine.specs.declared.reply.Reply.{Reply}
 use Rattle.conn_engine.specs.declared.standing.ConnectRequest.{ConnectRequest}
 use Rattle.conn_engine.specs.declared.standing.Link.{Link}
 use Rattle.conn_engine.specs.declared.standing.Standing.{Standing}
@@ -33,10 +36,7 @@ use Rattle.conn_engine.specs.declared.standing.Standing.TheVariants.{Waiting, Co
 use Rattle.conn_engine.specs.Answering.{DisconnectsIf, Disconnects, Answers}
 use Rattle.conn_engine.specs.Connecting.{WaitsAs, ResumesAs, AttachedAs, Attaches, most_ticks}
 use Rattle.conn_engine.specs.Ending.{down}
-use Rattle.conn_engine.specs.Facts.Fact.{Attach, Match}
-use Rattle.conn_engine.specs.Publishing.{AnswersPublish, IsOffered}
 use Rattle.conn_engine.specs.Step.{IsParted, Concludes, AnswersPacket, IsHeard, hearing}
-use Rattle.conn_engine.specs.Subscribing.{SubscribesAs, UnsubscribesAs}
 use Rattle.conn_laws.specs.Transcripts.{link_of}
 use Rattle.local_broker.specs.Places.{GroupPlace}
 use Rattle.local_broker.specs.Broker.{Broker}

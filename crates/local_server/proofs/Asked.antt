@@ -13,8 +13,8 @@ use Rattle.session_desk.specs.Books.{Books}
 use Rattle.session_desk.specs.Attaching.{Request, attaches_by}
 use Rattle.session_desk.specs.Sweeping.{Sweeps}
 use Rattle.session_desk.specs.Hands.{DeskLaw}
-use Rattle.conn_engine.specs.Facts.{Fact}
-use Rattle.conn_engine.specs.Facts.Fact.{Attach, Withdraw, Kicked, Park, ParkAsIs, Keep, Bury, Sweep, LendPlace, TakePlace, Bind, Find, Match, Offer, Take, TakeBack, Settle, GiveBack}
+use Rattle.conn_supply.specs.Facts.{Fact}
+use Rattle.conn_supply.specs.Facts.Fact.{Attach, Withdraw, Kicked, Park, ParkAsIs, Keep, Bury, Sweep, LendPlace, TakePlace, Bind, Find, Match, Offer, Take, TakeBack, Settle, GiveBack}
 use Rattle.conn_laws.specs.Calls.{MakesAll}
 use Rattle.conn_laws.specs.Transcripts.{IsAside, session_given, LeadsAside, HandsIn}
 use Rattle.local_broker.specs.Places.{GroupPlace, cell_of}

@@ -1,7 +1,7 @@
 -- What was given back is handed out first, in every run of a server.
 use Rattle.std.proofs.Common.{◌≡◌, ℕ, zero, suc, Bool, true, false, List, [], ◌∷◌, Ok, Result, sym, ap, subst}
+use Rattle.conn_supply.specs.declared.supply.NoMemory.{NoMemory}
 use Rattle.conn_engine.specs.declared.input.Input.TheVariants as inputs
-use Rattle.conn_engine.specs.declared.supply.NoMemory.{NoMemory}
 use Rattle.client_table.specs.Clients.{Said}
 use Rattle.client_table.proofs.ReturnedFirst.{receives, ticks_for, ends_for}
 use Rattle.local_broker.specs.Broker.{Broker, is_open}

@@ -12,8 +12,8 @@ use Rattle.member_window.specs.Contents.{Contents, held_of, after_put, after_res
 use Rattle.member_window.proofs.Lists.{contains_nil, contains_cons_cases}
 use Rattle.session_desk.specs.declared.session.Membership.{Membership}
 use Rattle.session_desk.specs.declared.session.Membership.TheVariants.{NotMember, Member, Leaving}
-use Rattle.conn_engine.specs.HandOuts.{SendsAgain, AsksFor, SendsFresh, LeavesWith, HandsFresh, HandsOut}
-use Rattle.conn_engine.specs.Facts.Fact.{Take, TakeBack, TakePlace}
+use Rattle.conn_supply.specs.HandOuts.{SendsAgain, AsksFor, SendsFresh, LeavesWith, HandsFresh, HandsOut}
+use Rattle.conn_supply.specs.Facts.Fact.{Take, TakeBack, TakePlace}
 use Rattle.local_group.specs.declared.waiting.Waiting.{Waiting}
 use Rattle.local_group.specs.Groups.{Group, held_by}
 use Rattle.local_broker.specs.Places.{GroupPlace}

@@ -1,10 +1,10 @@
 -- Whether a connection goes on: what it has behind a step, and what is left of its client.
 use Rattle.std.proofs.Common.{◌≡◌, ◌≢◌, ℕ, List, None, refl, ap, subst}
 use Rattle.mqtt_packet.specs.declared.packet.Packet.{Packet}
+use Rattle.conn_supply.specs.declared.reply.Then.{Then}
+use Rattle.conn_supply.specs.declared.reply.Then.TheVariants.{Go, Close, Kicked}
 use Rattle.conn_engine.specs.declared.input.Input.{Input}
 use Rattle.conn_engine.specs.declared.input.Input.TheVariants as inputs
-use Rattle.conn_engine.specs.declared.input.Then.{Then}
-use Rattle.conn_engine.specs.declared.input.Then.TheVariants.{Go, Close, Kicked}
 use Rattle.conn_engine.specs.declared.standing.Link.{Link}
 use Rattle.conn_engine.specs.declared.standing.Standing.{Standing}
 use Rattle.conn_engine.specs.declared.standing.Standing.TheVariants.{Unconnected, Waiting, Connected, Ended}

@@ -7,10 +7,10 @@ use Rattle.std.proofs.lemmas.List.{map-append}
 use Rattle.std.proofs.lemmas.List.Elements.{filter_map-append}
 use Rattle.dispatch_core.proofs.RunLaws.{lawful_run}
 use Rattle.session_desk.specs.Hands.{DeskLaw}
+use Rattle.conn_supply.specs.declared.supply.NoMemory.{NoMemory}
+use Rattle.conn_supply.specs.Facts.{Fact}
 use Rattle.conn_engine.specs.declared.input.Input.{Input}
 use Rattle.conn_engine.specs.declared.input.Input.TheVariants as inputs
-use Rattle.conn_engine.specs.declared.supply.NoMemory.{NoMemory}
-use Rattle.conn_engine.specs.Facts.{Fact}
 use Rattle.conn_laws.specs.Calls.{hand_out_of, handed, messages_of, MakesAll, CallsLead}
 use Rattle.client_table.specs.Clients.{ClientState, Said}
 use Rattle.client_table.specs.Cells.{Receives, TicksFor, EndsFor}

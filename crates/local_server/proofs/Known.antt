@@ -18,7 +18,7 @@ use Rattle.group_jobs.specs.declared.message.Message.{Message}
 use Rattle.group_jobs.specs.declared.stamp.Stamp.{Stamp}
 use Rattle.group_jobs.specs.Stamps.{Held, job_of, stamp_of}
 use Rattle.member_window.proofs.Lists.{contains_here, contains_there, contains_cons_cases, contains_nil}
-use Rattle.conn_engine.specs.declared.supply.NoMemory.{NoMemory}
+use Rattle.conn_supply.specs.declared.supply.NoMemory.{NoMemory}
 use Rattle.local_group.specs.declared.waiting.Waiting.{Waiting}
 use Rattle.local_group.specs.Groups.{Group, waits, held_by, Adds, Accepts, Takes, TakesBack, Settles, GivesBack, Closes}
 use Rattle.local_broker.specs.Groups.{InGroup, HandsOut, HandsOutAgain, IsSettled, IsGivenBack, LetsGo, IsOutAt, ClosesEach}

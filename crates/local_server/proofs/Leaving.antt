@@ -16,12 +16,12 @@ use Rattle.session_desk.specs.declared.session.Membership.TheVariants.{NotMember
 use Rattle.session_desk.specs.declared.row.Standing.TheVariants.{Parked}
 use Rattle.session_desk.specs.Rows.{away, with_standing}
 use Rattle.session_desk.specs.Keeping.{Parks, ParksAsIs, EndsLent, parked_at}
-use Rattle.conn_engine.specs.declared.supply.BindRefusal.{BindRefusal}
-use Rattle.conn_engine.specs.declared.supply.BindRefusal.TheVariants as refusal
+use Rattle.conn_supply.specs.declared.supply.BindRefusal.{BindRefusal}
+use Rattle.conn_supply.specs.declared.supply.BindRefusal.TheVariants as refusal
+use Rattle.conn_supply.specs.Facts.{Fact}
+use Rattle.conn_supply.specs.Facts.Fact.{Park, ParkAsIs, LendPlace, Bind, Find}
+use Rattle.conn_supply.specs.Subscribing.{IsLent, EntersAs, Joins, AnswersEntry, AnswersEntries, LeavesBy, LeavesByAll}
 use Rattle.conn_engine.specs.Ending.{down, PartsAs, Parts}
-use Rattle.conn_engine.specs.Facts.{Fact}
-use Rattle.conn_engine.specs.Facts.Fact.{Park, ParkAsIs, LendPlace, Bind, Find}
-use Rattle.conn_engine.specs.Subscribing.{IsLent, EntersAs, Joins, AnswersEntry, AnswersEntries, LeavesBy, LeavesByAll}
 use Rattle.local_broker.specs.Places.{GroupPlace}
 use Rattle.local_broker.specs.Broker.{Broker}
 use Rattle.local_broker.specs.Calls.{Calls}

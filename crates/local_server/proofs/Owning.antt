@@ -17,10 +17,10 @@ use Rattle.session_desk.specs.declared.session.Membership.TheVariants.{NotMember
 use Rattle.session_desk.specs.declared.row.Row.{Row}
 use Rattle.session_desk.specs.Rows.{Rows, HasRow, session_in}
 use Rattle.session_desk.proofs.Seen.{after_insert, after_remove}
+use Rattle.conn_supply.specs.Facts.{Fact}
+use Rattle.conn_supply.specs.Facts.Fact.{Offer}
+use Rattle.conn_supply.specs.Publishing.{Offers}
 use Rattle.conn_engine.specs.declared.standing.Link.{Link}
-use Rattle.conn_engine.specs.Facts.{Fact}
-use Rattle.conn_engine.specs.Facts.Fact.{Offer}
-use Rattle.conn_engine.specs.Publishing.{Offers}
 use Rattle.conn_laws.specs.Calls.{settlement_of}
 use Rattle.local_broker.specs.Places.{GroupPlace}
 use Rattle.local_broker.specs.Broker.{Broker, IsNewBroker}

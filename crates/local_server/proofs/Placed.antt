@@ -3,9 +3,9 @@ use Rattle.std.proofs.Common.{◌≡◌, ◌≢◌, ℕ, List, [], ◌∷◌, �
 use Rattle.std.specs.List.{AllByRecursion, cons_option}
 use Rattle.std.proofs.lemmas.Bool.{cases_eq}
 use Rattle.group_jobs.specs.Stamps.{Held}
+use Rattle.conn_supply.specs.Facts.{Fact}
+use Rattle.conn_supply.specs.Facts.Fact.{Take, TakeBack}
 use Rattle.conn_engine.specs.declared.standing.Link.{Link}
-use Rattle.conn_engine.specs.Facts.{Fact}
-use Rattle.conn_engine.specs.Facts.Fact.{Take, TakeBack}
 use Rattle.conn_laws.specs.Calls.{hand_out_of, handed, MakesAll}
 use Rattle.conn_laws.specs.Transcripts.{IsMemberAt, KeepsNumbers}
 use Rattle.local_group.specs.declared.waiting.Waiting.{Waiting}

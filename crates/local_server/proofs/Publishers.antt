@@ -1,7 +1,7 @@
 -- What a group accepts in an event comes from its connection.
 use Rattle.std.proofs.Common.{◌≡◌, ℕ, Bool, true, false, List, Result, ap}
+use Rattle.conn_supply.specs.declared.supply.NoMemory.{NoMemory}
 use Rattle.conn_engine.specs.declared.input.Input.TheVariants as inputs
-use Rattle.conn_engine.specs.declared.supply.NoMemory.{NoMemory}
 use Rattle.client_table.specs.Clients.{Said}
 use Rattle.client_table.proofs.Publishers.{receives, ticks_for, ends_for}
 use Rattle.local_broker.specs.Broker.{Broker, is_open}

@@ -17,8 +17,8 @@ use Rattle.session_desk.specs.Rows.{Rows, IsKept, IsOverdue, session_in, away, w
 use Rattle.session_desk.specs.Attaching.{Request, AttachesClient, attaches_by}
 use Rattle.session_desk.specs.Keeping.{Buries}
 use Rattle.session_desk.specs.Sweeping.{HandsOut}
+use Rattle.conn_supply.specs.Facts.Fact.{Attach, Bury, Sweep, GiveBack}
 use Rattle.conn_engine.specs.Ending.{down, ending_session, GivesBack, Ends, RetiresFrom, RetiresAs, Retires, Sweeps}
-use Rattle.conn_engine.specs.Facts.Fact.{Attach, Bury, Sweep, GiveBack}
 use Rattle.local_broker.specs.Places.{GroupPlace, cell_of}
 use Rattle.local_broker.specs.Broker.{Broker}
 use Rattle.local_broker.specs.Calls.{Calls}

@@ -11,8 +11,8 @@ use Rattle.member_window.proofs.Lists.{contains_here, contains_there, contains_c
 use Rattle.session_desk.specs.declared.session.Membership.{Membership}
 use Rattle.session_desk.specs.declared.session.Membership.TheVariants.{NotMember, Member, Leaving}
 use Rattle.conn_rules.specs.Acknowledging.{fate_of}
-use Rattle.conn_engine.specs.Acknowledging.{Settles, AcknowledgesFor}
-use Rattle.conn_engine.specs.Facts.Fact.{Settle}
+use Rattle.conn_supply.specs.Acknowledging.{Settles, AcknowledgesFor}
+use Rattle.conn_supply.specs.Facts.Fact.{Settle}
 use Rattle.local_group.specs.Groups.{Group}
 use Rattle.local_broker.specs.Places.{GroupPlace}
 use Rattle.local_broker.specs.Groups.{IsOutAt}

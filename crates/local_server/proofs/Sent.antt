@@ -12,9 +12,9 @@ use Rattle.member_window.specs.Identifiers.{identifiers, entries_without}
 use Rattle.member_window.specs.Marks.{Mark, Up, Sent, Acked, Down, Standing as Led, standing_after, standing_after_all}
 use Rattle.member_window.specs.Transcript.{IsLegalFrom, MaySend, MayResend}
 use Rattle.member_window.proofs.Lists.{contains_here, contains_there, contains_cons_cases, contains_nil, contains_identifier}
+use Rattle.conn_supply.specs.declared.reply.Then.{Then}
 use Rattle.conn_engine.specs.declared.input.Input.{Input}
 use Rattle.conn_engine.specs.declared.input.Input.TheVariants as inputs
-use Rattle.conn_engine.specs.declared.input.Then.{Then}
 use Rattle.conn_engine.specs.declared.standing.Link.{Link}
 use Rattle.conn_engine.specs.declared.standing.Standing.{Standing}
 use Rattle.conn_engine.specs.declared.standing.Standing.TheVariants.{Unconnected, Waiting, Connected, Ended}

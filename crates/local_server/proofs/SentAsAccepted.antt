@@ -7,8 +7,8 @@ use Rattle.member_window.specs.Marks.{Mark, Standing as Led, standing_down, stan
 use Rattle.member_window.specs.Runs.{standing_of}
 use Rattle.member_window.specs.Transcript.{IsLegal}
 use Rattle.member_window.proofs.Lists.{contains_nil}
+use Rattle.conn_supply.specs.declared.reply.Then.{Then}
 use Rattle.conn_engine.specs.declared.input.Input.{Input}
-use Rattle.conn_engine.specs.declared.input.Then.{Then}
 use Rattle.conn_engine.specs.declared.standing.Link.{Link}
 use Rattle.conn_engine.specs.declared.standing.Standing.{Standing}
 use Rattle.conn_laws.specs.Marks.{acknowledged_of}

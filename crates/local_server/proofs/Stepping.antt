@@ -10,12 +10,12 @@ use Rattle.member_window.specs.Runs.{transcript_of as made_by}
 use Rattle.session_desk.specs.declared.attached.Attached.{Attached}
 use Rattle.session_desk.specs.declared.error.DeskError.{DeskError}
 use Rattle.session_desk.specs.declared.session.Session.{Session}
+use Rattle.conn_supply.specs.declared.reply.Then.{Then}
+use Rattle.conn_supply.specs.declared.reply.Then.TheVariants.{Go}
+use Rattle.conn_supply.specs.Facts.Fact.{Attach, ParkAsIs}
 use Rattle.conn_engine.specs.declared.input.Input.{Input}
-use Rattle.conn_engine.specs.declared.input.Then.{Then}
-use Rattle.conn_engine.specs.declared.input.Then.TheVariants.{Go}
 use Rattle.conn_engine.specs.declared.standing.Link.{Link}
 use Rattle.conn_engine.specs.Ending.{down}
-use Rattle.conn_engine.specs.Facts.Fact.{Attach, ParkAsIs}
 use Rattle.conn_laws.specs.Marks.{IsWithin}
 use Rattle.conn_laws.specs.Transcripts.{session_given, LeadsAside, AsksForOne, SessionBegins, SessionGoesOn, SessionEnds, AsksInVain, SessionTurns}
 use Rattle.local_broker.specs.Places.{GroupPlace}

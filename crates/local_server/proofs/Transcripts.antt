@@ -18,9 +18,9 @@ use Rattle.session_desk.specs.declared.row.Standing.TheVariants.{Parked}
 use Rattle.session_desk.specs.declared.session.Session.{Session}
 use Rattle.session_desk.specs.Rows.{HasRow, session_in}
 use Rattle.session_desk.specs.Books.{Books}
+use Rattle.conn_supply.specs.declared.supply.NoMemory.{NoMemory}
 use Rattle.conn_engine.specs.declared.input.Input.TheVariants as inputs
 use Rattle.conn_engine.specs.declared.standing.Link.{Link}
-use Rattle.conn_engine.specs.declared.supply.NoMemory.{NoMemory}
 use Rattle.client_table.specs.Cells.{InCell, Opens}
 use Rattle.client_table.specs.Clients.{ClientState, Said}
 use Rattle.local_broker.specs.Places.{GroupPlace}

@@ -6,13 +6,13 @@ use Rattle.std.proofs.lemmas.List.{map-append}
 use Rattle.std.proofs.lemmas.List.Elements.{filter_map-append, Contains-append_cases}
 use Rattle.mqtt_wire.specs.Stream.{Unread}
 use Rattle.group_jobs.specs.Stamps.{Held}
+use Rattle.conn_supply.specs.declared.supply.NoMemory.{NoMemory}
+use Rattle.conn_supply.specs.Facts.{Fact}
 use Rattle.conn_engine.specs.declared.input.Input.{Input}
 use Rattle.conn_engine.specs.declared.input.Input.TheVariants as inputs
 use Rattle.conn_engine.specs.declared.standing.Link.{Link}
 use Rattle.conn_engine.specs.declared.standing.Standing.{Standing}
 use Rattle.conn_engine.specs.declared.standing.Standing.TheVariants.{Unconnected, Waiting, Connected, Ended}
-use Rattle.conn_engine.specs.declared.supply.NoMemory.{NoMemory}
-use Rattle.conn_engine.specs.Facts.{Fact}
 use Rattle.conn_engine.specs.Step.{Steps}
 use Rattle.conn_laws.specs.Calls.{handed}
 use Rattle.conn_laws.specs.Marks.{publishes_of, fresh_of}

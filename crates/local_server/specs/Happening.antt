@@ -1,8 +1,8 @@
 -- What an event makes of a server on one thread, and what is said in it.
 use Rattle.std.specs.Prelude.{◌≡◌, ℕ, zero, suc, max, Bool, true, false, List, [], ◌∷◌, ◌++◌, Result, Ok}
 use Rattle.std.specs.Result.{result_and}
+use Rattle.conn_supply.specs.declared.supply.NoMemory.{NoMemory}
 use Rattle.conn_engine.specs.declared.input.Input.TheVariants as inputs
-use Rattle.conn_engine.specs.declared.supply.NoMemory.{NoMemory}
 use Rattle.client_table.specs.Clients.{Said}
 use Rattle.client_table.specs.Cells.{InCell, Opens, Receives, TicksFor, EndsFor}
 use Rattle.local_broker.specs.Places.{GroupPlace}

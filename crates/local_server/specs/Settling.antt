@@ -17,9 +17,9 @@ use Rattle.session_desk.specs.declared.session.Membership.{Membership}
 use Rattle.session_desk.specs.declared.session.Membership.TheVariants.{NotMember, Member, Leaving}
 use Rattle.session_desk.specs.Rows.{HasRow, session_in}
 use Rattle.conn_rules.specs.Acknowledging.{fate_of}
+use Rattle.conn_supply.specs.declared.reply.Then.TheVariants.{Go}
 use Rattle.conn_engine.specs.declared.input.Input.{Input}
 use Rattle.conn_engine.specs.declared.input.Input.TheVariants as inputs
-use Rattle.conn_engine.specs.declared.input.Then.TheVariants.{Go}
 use Rattle.conn_engine.specs.declared.standing.Link.{Link}
 use Rattle.conn_laws.specs.Marks.{acknowledged_of}
 use Rattle.client_table.specs.Clients.{Said}

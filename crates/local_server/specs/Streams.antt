@@ -2,9 +2,9 @@
 use Rattle.std.specs.Prelude.{◌≡◌, ◌≢◌, ℕ, ◌<◌, Bool, true, false, List, [], ◌∷◌, ◌++◌, Option, Some, None, slice_get, ⊤}
 use Rattle.mqtt_wire.specs.Spelling.{Spells}
 use Rattle.mqtt_wire.specs.Stream.{FaultAt}
+use Rattle.conn_supply.specs.declared.reply.Then.TheVariants.{Go}
 use Rattle.conn_engine.specs.declared.input.Input.{Input}
 use Rattle.conn_engine.specs.declared.input.Input.TheVariants as inputs
-use Rattle.conn_engine.specs.declared.input.Then.TheVariants.{Go}
 use Rattle.client_table.specs.Clients.{ClientState, Said}
 use Rattle.client_table.specs.Streams.{IsRead}
 use Rattle.local_broker.specs.Places.{GroupPlace}

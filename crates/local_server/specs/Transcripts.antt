@@ -13,7 +13,7 @@ use Rattle.session_desk.specs.declared.session.Session.{Session}
 use Rattle.session_desk.specs.declared.session.Membership.{Membership}
 use Rattle.session_desk.specs.declared.session.Membership.TheVariants.{NotMember, Member, Leaving}
 use Rattle.session_desk.specs.Rows.{HasRow}
-use Rattle.conn_engine.specs.declared.input.Then.TheVariants.{Go}
+use Rattle.conn_supply.specs.declared.reply.Then.TheVariants.{Go}
 use Rattle.conn_engine.specs.declared.standing.Link.{Link}
 use Rattle.conn_laws.specs.Quotas.{quota_of, KeepsQuota}
 use Rattle.conn_laws.specs.Marks.{fresh_of, IsWithin}

@@ -3,8 +3,8 @@ use Rattle.std.specs.Prelude.{◌≡◌, ℕ, nat_eq, List, [], ◌∷◌, Optio
 use Rattle.std.specs.List.{filter}
 use Rattle.group_jobs.specs.Stamps.{Held}
 use Rattle.member_window.specs.Marks.{Mark}
+use Rattle.conn_supply.specs.declared.reply.Then.{Then}
 use Rattle.conn_engine.specs.declared.input.Input.{Input}
-use Rattle.conn_engine.specs.declared.input.Then.{Then}
 use Rattle.conn_laws.specs.Marks.{publishes_in, publishes_of}
 use Rattle.client_table.specs.Clients.{Said}
 use Rattle.local_broker.specs.Places.{GroupPlace}

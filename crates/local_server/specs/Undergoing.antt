@@ -1,6 +1,6 @@
 -- One event after another, whether memory was wanted in them or not.
 use Rattle.std.specs.Prelude.{◌≡◌, List, [], ◌∷◌, Result}
-use Rattle.conn_engine.specs.declared.supply.NoMemory.{NoMemory}
+use Rattle.conn_supply.specs.declared.supply.NoMemory.{NoMemory}
 use Rattle.client_table.specs.Clients.{Said}
 use Rattle.local_server.specs.declared.event.TimedEvent.{TimedEvent}
 use Rattle.local_server.specs.Servers.{ServerState}

@@ -2,7 +2,7 @@
 //! definitions that the contract of [`Server::happen`](crate::Server::happen) cites.
 ghost use Rattle.std.specs.Prelude.{◌≡◌, ℕ, true, false, List, [], Ok, Result};
 ghost use Rattle.session_desk.specs.Hands.{DeskLaw};
-ghost use Rattle.conn_engine.specs.declared.supply.NoMemory.{NoMemory};
+ghost use Rattle.conn_supply.specs.declared.supply.NoMemory.{NoMemory};
 ghost use Rattle.client_table.specs.Clients.{Said};
 ghost use Rattle.local_broker.specs.Broker.{is_open};
 ghost use Rattle.local_server.specs.declared.event.Event.{Event};

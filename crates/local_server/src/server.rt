@@ -9,7 +9,7 @@ ghost use Rattle.local_server.specs.Happening.{ClosesAll, Does, Happens};
 use crate::event::Event;
 use crate::setup::Setup;
 use client_table::{CLIENTS, ClientTable, Said};
-use conn_engine::{NoMemory, Supply};
+use conn_supply::{NoMemory, Supply};
 use local_broker::{LocalPlace, LocalSupply};
 use mqtt_topic::Share;
 use std::alloc::Global;

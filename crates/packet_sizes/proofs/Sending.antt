@@ -30,21 +30,21 @@ use Rattle.conn_rules.specs.Ending.{fault_refusal}
 use Rattle.conn_rules.specs.Packets.{accepting, refusing, puback, suback, unsuback, disconnect}
 use Rattle.conn_rules.specs.Publishing.{publish_answer}
 use Rattle.conn_rules.specs.Subscribing.{most_entries, subscribe_refusal, unsubscribe_refusal}
+use Rattle.conn_supply.specs.declared.reply.Then.{Then}
+use Rattle.conn_supply.specs.declared.reply.Reply.{Reply}
+use Rattle.conn_supply.specs.Facts.{Fact}
+use Rattle.conn_supply.specs.HandOuts.{SendsAgain, SendsFresh, HandsFresh}
+use Rattle.conn_supply.specs.Publishing.{AnswersPublish}
+use Rattle.conn_supply.specs.Subscribing.{AnswersEntries, LeavesByAll, SubscribesAs, UnsubscribesAs}
 use Rattle.conn_engine.specs.declared.input.Input.{Input}
 use Rattle.conn_engine.specs.declared.input.Input.TheVariants as inputs
-use Rattle.conn_engine.specs.declared.input.Then.{Then}
-use Rattle.conn_engine.specs.declared.reply.Reply.{Reply}
 use Rattle.conn_engine.specs.declared.standing.ConnectRequest.{ConnectRequest}
 use Rattle.conn_engine.specs.declared.standing.Link.{Link}
 use Rattle.conn_engine.specs.declared.standing.Standing.{Standing}
 use Rattle.conn_engine.specs.declared.standing.Standing.TheVariants.{Unconnected, Waiting, Connected, Ended}
-use Rattle.conn_engine.specs.Facts.{Fact}
 use Rattle.conn_engine.specs.Answering.{DisconnectsIf, Disconnects, Answers}
 use Rattle.conn_engine.specs.Connecting.{assigned, name_if, has_place, most_ticks, IsRefused, Accepts, WaitsAs, ResumesAs, AttachedAs}
-use Rattle.conn_engine.specs.HandOuts.{SendsAgain, SendsFresh, HandsFresh}
-use Rattle.conn_engine.specs.Publishing.{AnswersPublish}
 use Rattle.conn_engine.specs.Step.{hearing, IsClosed, IsRefusedIf, WaitsForConnect, AnswersFirst, AnswersPacket, AnswersTick, AnswersUnlessKicked, IsHeard, Reacts, Hands, Steps}
-use Rattle.conn_engine.specs.Subscribing.{AnswersEntries, LeavesByAll, SubscribesAs, UnsubscribesAs}
 use Rattle.packet_sizes.specs.Sizes.{IsSmall, IsShort, HandsOn, IsAnswer, IsAnswerUnlessHandedOn, IsShortUnlessHandedOn}
 use Rattle.packet_sizes.proofs.Replies as replies
 

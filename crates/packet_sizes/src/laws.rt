@@ -13,13 +13,13 @@ ghost use Rattle.session_desk.specs.Names.{assigned_name};
 ghost use Rattle.conn_rules.specs.Packets.{accepting, refusing, job, puback, suback, unsuback, disconnect};
 ghost use Rattle.conn_rules.specs.Publishing.{message_of};
 ghost use Rattle.conn_rules.specs.Subscribing.{most_entries};
+ghost use Rattle.conn_supply.specs.declared.reply.Then.{Then};
 ghost use Rattle.conn_engine.specs.declared.input.Input.{Input};
-ghost use Rattle.conn_engine.specs.declared.input.Then.{Then};
 ghost use Rattle.conn_engine.specs.declared.standing.Standing.{Standing};
 ghost use Rattle.conn_engine.specs.Step.{Steps};
 ghost use Rattle.packet_sizes.specs.Sizes.{IsSmall, IsShort, IsLight, IsAnswerUnlessHandedOn, IsShortUnlessHandedOn};
 
-use conn_engine::{HoldingPlace, Supply};
+use conn_supply::{HoldingPlace, Supply};
 
 /// **A message is handed on in no more bytes than it came in** (section 3.3): a PUBLISH that was read has at most 65,536 bytes in all, and
 /// what goes on of it is its topic, its payload, and those of its properties that go with a message (3.3.2.3). Where it came with a Packet

@@ -3,8 +3,8 @@ ghost use Rattle.std.specs.Prelude.{◌≡◌, ◌<◌, None, true, false, IfSom
 ghost use Rattle.conn_engine.specs.declared.standing.Standing.TheVariants.{Ended};
 
 use crate::scripts::{member, publisher};
-use conn_engine::{HoldingPlace, Supply};
 use conn_service::{Direction, Round, Service};
+use conn_supply::{HoldingPlace, Supply};
 use std::alloc::Global;
 use transport::{OpenCrossing, Scripted};
 

@@ -1,7 +1,7 @@
 -- What a round makes of a cell, from what it makes of the connection in it.
 use Rattle.std.proofs.Common.{◌≡◌, ℕ, Bool, List, Option, Some, subst, sym}
 use Rattle.transport.specs.declared.counts.Counts.{Counts}
-use Rattle.conn_engine.specs.Facts.{Fact}
+use Rattle.conn_supply.specs.Facts.{Fact}
 use Rattle.conn_service.specs.Services.{ServiceState}
 use Rattle.conn_service.specs.Lives.{Leads}
 use Rattle.service_table.specs.declared.turned.Turned.{Turned}

@@ -1,7 +1,7 @@
 -- The connections of a worker, each in the cell of its number: what happens to one of them.
 use Rattle.std.specs.Prelude.{◌≡◌, ℕ, Bool, cond, List, Option, Some, None, is_some, slice_get, slice_set, count_by, MatchOption}
 use Rattle.transport.specs.declared.counts.Counts.{Counts}
-use Rattle.conn_engine.specs.Facts.{Fact}
+use Rattle.conn_supply.specs.Facts.{Fact}
 use Rattle.conn_engine.specs.Looking.{TakesAt}
 use Rattle.conn_engine.specs.Standings.{IsWaiting}
 use Rattle.conn_service.specs.declared.served.Round.TheVariants as rounds

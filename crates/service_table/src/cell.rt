@@ -4,8 +4,8 @@ ghost use Rattle.transport.specs.Counting.{no_counts};
 ghost use Rattle.service_table.specs.Cells.{Opens, Refuses, Turns, ended_by, taken};
 
 use crate::turned::Turned;
-use conn_engine::{HoldingPlace, Supply};
 use conn_service::{Direction, Round, Service};
+use conn_supply::{HoldingPlace, Supply};
 use std::alloc::Global;
 use std::marker::Model;
 use transport::{Crossing, Transport};

@@ -6,8 +6,8 @@ ghost use Rattle.service_table.specs.Cells.{InCell, Opens, Refuses, TakesFrom, T
 use crate::cell;
 use crate::cell::Seat;
 use crate::turned::Turned;
-use conn_engine::{HoldingPlace, NoMemory, Supply};
 use conn_service::Direction;
+use conn_supply::{HoldingPlace, NoMemory, Supply};
 use std::alloc::{AllocError, Global};
 use std::marker::Model;
 use transport::{Crossing, Transport};

@@ -18,8 +18,8 @@ use Rattle.session_desk.specs.Everywhere.{IfMember, GoesIn, ComesOut, IsAttached
 use Rattle.session_desk.specs.Places.{cell_at}
 use Rattle.session_desk.proofs.OneHand.{law_all, law_new}
 use Rattle.session_desk.proofs.Everywhere.{nothing, onward, out}
-use Rattle.conn_engine.specs.Holding.{AreOut, IsOutAtPlace}
-use Rattle.conn_engine.specs.Ready.{IsSoundSession, IsReady}
+use Rattle.conn_supply.specs.Holding.{AreOut, IsOutAtPlace}
+use Rattle.conn_supply.specs.Ready.{IsSoundSession, IsReady}
 use Rattle.shared_desk.specs.Books.{IsLawful, IsMade}
 
 module _ {P : Type 0} (HasOut : P → List Held → Type 0) where

@@ -7,7 +7,7 @@ use Rattle.session_desk.specs.Books.{Books, new_books}
 use Rattle.session_desk.specs.Calls.{Call, IsAllowed, Makes, MakesAll}
 use Rattle.session_desk.specs.Everywhere.{GoesIn, AllGoIn}
 use Rattle.session_desk.specs.Places.{cell_at}
-use Rattle.conn_engine.specs.Holding.{IsOutAtPlace}
+use Rattle.conn_supply.specs.Holding.{IsOutAtPlace}
 use Rattle.shared_desk.specs.Books.{IsLawful}
 use Rattle.shared_desk.specs.Histories.{Leads, IsHistory, IsTold}
 use Rattle.shared_desk.proofs.Desks.{new_is_lawful, kept}

@@ -13,7 +13,7 @@ use Rattle.session_desk.specs.Stored.{TakesOut, last_in}
 use Rattle.session_desk.proofs.LastIn.{very_session}
 use Rattle.session_desk.proofs.Marked.{marked_all, none_marked}
 use Rattle.session_desk.proofs.OneHand.{law_all, law_new}
-use Rattle.conn_engine.specs.Holding.{IsOutAtPlace}
+use Rattle.conn_supply.specs.Holding.{IsOutAtPlace}
 use Rattle.shared_desk.specs.Books.{IsMade}
 use Rattle.shared_desk.specs.Histories.{IsHistory, IsTold}
 use Rattle.shared_desk.proofs.Desks.{made}

@@ -6,7 +6,7 @@ use Rattle.session_desk.specs.Calls.{Call, IsAllowed, Makes}
 use Rattle.session_desk.specs.Everywhere.{IsEverywhere}
 use Rattle.session_desk.specs.Hands.{DeskLaw}
 use Rattle.session_desk.specs.Places.{cell_at}
-use Rattle.conn_engine.specs.Holding.{IsOutAtPlace}
+use Rattle.conn_supply.specs.Holding.{IsOutAtPlace}
 
 module _ {P : Type 0} (HasOut : P → List Held → Type 0) where
   -- it keeps the desk law; each session has out at its place just what it holds, and nothing is out at a free place

@@ -5,7 +5,7 @@ use Rattle.session_desk.specs.Books.{Books, new_books}
 use Rattle.session_desk.specs.Calls.{Call, MakesAll}
 use Rattle.session_desk.specs.Everywhere.{AllGoIn}
 use Rattle.session_desk.specs.Places.{cell_at}
-use Rattle.conn_engine.specs.Holding.{IsOutAtPlace}
+use Rattle.conn_supply.specs.Holding.{IsOutAtPlace}
 
 module _ {P : Type 0} (HasOut : P → List Held → Type 0) (slot_of number_of : P → ℕ) where
   -- these calls, one after the other, made these books of a new desk, and what went in had out at its place what it holds

@@ -7,15 +7,15 @@ ghost use Rattle.session_desk.specs.Books.{Books, IsKicked, new_books};
 ghost use Rattle.session_desk.specs.Calls.{Attach, Withdraw, Kicked, Park, ParkAsIs, Keep, Bury, Sweep, LendPlace, TakePlace};
 ghost use Rattle.session_desk.specs.Places.{IsOfSlot};
 ghost use Rattle.session_desk.specs.declared.session.Session as Sessions;
-ghost use Rattle.conn_engine.specs.Holding.{IsOutAtPlace};
-ghost use Rattle.conn_engine.specs.Ready.{IsReady, IsSoundSession};
+ghost use Rattle.conn_supply.specs.Holding.{IsOutAtPlace};
+ghost use Rattle.conn_supply.specs.Ready.{IsReady, IsSoundSession};
 ghost use Rattle.shared_desk.specs.Books.{IsLawful, IsMade};
 ghost use Rattle.shared_desk.specs.Histories.{IsTold, Leads};
 
 use crate::told::{DeskHistory, DeskPass, Told};
 use bytes::Bytes;
 use call_history::{Entries, HistoryName, Keeper, Known};
-use conn_engine::HoldingPlace;
+use conn_supply::HoldingPlace;
 use group_jobs::Envelope;
 use session_desk::{Attached, Desk, DeskError, Session};
 use std::marker::{Brand, Model};

@@ -12,7 +12,7 @@ ghost use Rattle.shared_desk.specs.Books.{IsMade};
 ghost use Rattle.shared_desk.specs.Histories.{IsHistory, IsTold};
 ghost use Rattle.shared_desk.specs.Holders.{IsHolder};
 
-use conn_engine::HoldingPlace;
+use conn_supply::HoldingPlace;
 
 /// **A beginning of a history is one**, and each call in it was made of a lawful desk, which was lawful after it.
 pub fn histories<P: HoldingPlace>()

@@ -2,7 +2,7 @@
 ghost use Rattle.shared_desk.specs.Histories.{IsHistory};
 
 use call_history::{CallHistory, HistoryName, Known};
-use conn_engine::HoldingPlace;
+use conn_supply::HoldingPlace;
 use std::marker::{Model, PhantomData};
 
 /// A call of a desk, with its arguments and its answer, for contracts alone: no value of it is made.

@@ -1,6 +1,6 @@
 //! What the calls of one thread are answered.
 ghost use Rattle.std.specs.Prelude.{◌≡◌, ◌<◌, ◌≤◌, length, IfOk, IfSome};
-ghost use Rattle.conn_engine.specs.Ready.{IsReady, IsSoundSession};
+ghost use Rattle.conn_supply.specs.Ready.{IsReady, IsSoundSession};
 ghost use Rattle.shared_desk_tests.specs.Spots.{any_out};
 
 use crate::spot::Spot;

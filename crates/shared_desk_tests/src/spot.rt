@@ -1,5 +1,5 @@
 //! Places for tests.
-use conn_engine::HoldingPlace;
+use conn_supply::HoldingPlace;
 use session_desk::Place;
 
 /// One of two places of the group with slot 3, which keep no account of what is out at them.

@@ -1,9 +1,9 @@
 //! The calls of connections.
 ghost use Rattle.std.specs.Prelude.{◌≡◌, [], IfSome};
 ghost use Rattle.member_window.specs.Contents.{held_of};
-ghost use Rattle.conn_engine.specs.Facts.Fact.{Park, ParkAsIs, Keep, Bury};
-ghost use Rattle.conn_engine.specs.Holding.{IsOutAtPlace};
-ghost use Rattle.conn_engine.specs.Ready.{IsSoundSession};
+ghost use Rattle.conn_supply.specs.Facts.Fact.{Park, ParkAsIs, Keep, Bury};
+ghost use Rattle.conn_supply.specs.Holding.{IsOutAtPlace};
+ghost use Rattle.conn_supply.specs.Ready.{IsSoundSession};
 ghost use Rattle.broker_groups.specs.Outs.{HasOut};
 ghost use Rattle.shared_supply.specs.Calls.{Calls};
 ghost use Rattle.shared_supply.specs.Workers.{is_visiting, Begins, Leaves, Turns};
@@ -13,7 +13,7 @@ use crate::settling::settle;
 use crate::supply::{SharedSupply, turn_of};
 use broker_groups::{Broker, BrokerPlace};
 use call_history::HistoryName;
-use conn_engine::{BindRefusal, NoMemory, OfferRefusal, Supply};
+use conn_supply::{BindRefusal, NoMemory, OfferRefusal, Supply};
 use gate_word::Visitor;
 use group_jobs::{Envelope, Fate, SharedMessage, Stamp};
 use mqtt_packet::Text;

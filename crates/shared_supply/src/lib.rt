@@ -1,4 +1,4 @@
-//! What the workers of a broker share, and what each of them asks: a [`Supply`](conn_engine::Supply) for connections on many threads.
+//! What the workers of a broker share, and what each of them asks: a [`Supply`](conn_supply::Supply) for connections on many threads.
 #![tactic(auto)]
 
 mod calls;

@@ -1,6 +1,6 @@
 //! How a place settles a message, and when it gathers.
 ghost use Rattle.std.specs.Prelude.{◌≡◌};
-ghost use Rattle.conn_engine.specs.Holding.{IsAmong, KeepsOut, SpendsOut};
+ghost use Rattle.conn_supply.specs.Holding.{IsAmong, KeepsOut, SpendsOut};
 ghost use Rattle.broker_groups.specs.Outs.{HasOut};
 ghost use Rattle.shared_supply.specs.Settling.{Gathers, IsDue, SettlesAndGathers, runs_at};
 

@@ -3,7 +3,7 @@ ghost use Rattle.std.specs.Prelude.{◌≡◌, ◌<◌};
 ghost use Rattle.shared_supply.specs.Waking.{KeepsAtMost, also_asked, asking_back, freeing, no_wakes, one_called, one_more, one_taken, one_taken_if};
 
 use broker_groups::{Broker, BrokerPlace};
-use conn_engine::NoMemory;
+use conn_supply::NoMemory;
 use group_jobs::Envelope;
 use session_desk::{Attached, DeskError};
 

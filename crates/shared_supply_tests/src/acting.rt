@@ -5,7 +5,7 @@ use crate::telling::tell;
 use broker_groups::{Broker, BrokerPlace, Key};
 use call_history::HistoryName;
 use client_table::{CLIENTS, ClientTable, Said};
-use conn_engine::{HoldingPlace, NoMemory, Supply};
+use conn_supply::{HoldingPlace, NoMemory, Supply};
 use drive::drive_lines;
 use gate_word::Gate;
 use local_server::Setup;

@@ -2,7 +2,7 @@
 ghost use Rattle.std.specs.Prelude.{◌<◌};
 
 use client_table::{ClientTable, Said};
-use conn_engine::{HoldingPlace, NoMemory, Supply};
+use conn_supply::{HoldingPlace, NoMemory, Supply};
 use mqtt_wire::encode_into;
 use std::alloc::Global;
 

@@ -4,7 +4,7 @@ ghost use Rattle.broker_groups.specs.Outs.{HasOut};
 
 use broker_groups::{Broker, BrokerPlace, Key};
 use call_history::HistoryName;
-use conn_engine::Supply;
+use conn_supply::Supply;
 use gate_word::Gate;
 use std::alloc::Global;
 use std::sync::Wait;

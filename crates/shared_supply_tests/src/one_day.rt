@@ -4,7 +4,7 @@ ghost use Rattle.std.specs.Prelude.{◌≡◌};
 use crate::clients::{WRITTEN, two_clients};
 use broker_groups::{Broker, BrokerPlace, Key};
 use call_history::HistoryName;
-use conn_engine::Supply;
+use conn_supply::Supply;
 use gate_word::Gate;
 use shared_supply::Hall;
 use std::alloc::Global;

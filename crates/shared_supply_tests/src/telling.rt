@@ -1,7 +1,7 @@
 //! What is written of what was said, a line a packet.
 
 use client_table::Said;
-use conn_engine::Then;
+use conn_supply::Then;
 use mqtt_packet::Packet;
 use mqtt_wire::encode_into;
 use std::alloc::Global;

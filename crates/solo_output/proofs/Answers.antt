@@ -20,13 +20,13 @@ use Rattle.conn_rules.specs.Connecting.{is_given_expiry}
 use Rattle.conn_rules.specs.Packets.{disconnect, puback, suback, unsuback}
 use Rattle.conn_rules.specs.Publishing.{publish_answer, puback_code, message_of}
 use Rattle.conn_rules.specs.Subscribing.{subscribe_refusal, unsubscribe_refusal}
-use Rattle.conn_engine.specs.declared.input.Then.TheVariants.{Go, Close}
-use Rattle.conn_engine.specs.declared.reply.Reply.{Reply as Told}
+use Rattle.conn_supply.specs.declared.reply.Then.TheVariants.{Go, Close}
+use Rattle.conn_supply.specs.declared.reply.Reply.{Reply as Told}
+use Rattle.conn_supply.specs.Memberships.{with_window, with_membership as having}
+use Rattle.conn_supply.specs.Publishing.{Offers, AnswersPublish}
+use Rattle.conn_supply.specs.Acknowledging.{AcknowledgesFor}
+use Rattle.conn_supply.specs.Subscribing.{SubscribesAs, UnsubscribesAs}
 use Rattle.conn_engine.specs.declared.standing.Link.{Link}
-use Rattle.conn_engine.specs.Memberships.{with_window, with_membership as having}
-use Rattle.conn_engine.specs.Publishing.{Offers, AnswersPublish}
-use Rattle.conn_engine.specs.Acknowledging.{AcknowledgesFor}
-use Rattle.conn_engine.specs.Subscribing.{SubscribesAs, UnsubscribesAs}
 use Rattle.conn_engine.specs.Answering.{Answers, Disconnects, DisconnectsIf, joining, expiring}
 use Rattle.local_broker.specs.Places.{GroupPlace}
 use Rattle.local_broker.specs.Broker.{Broker}

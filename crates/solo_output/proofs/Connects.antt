@@ -26,9 +26,9 @@ use Rattle.session_desk.proofs.Seen.{insert_here}
 use Rattle.session_desk.specs.declared.session.Membership.TheVariants.{NotMember}
 use Rattle.conn_rules.specs.Connecting.{terms_of}
 use Rattle.conn_rules.specs.Packets.{accepting}
-use Rattle.conn_engine.specs.declared.input.Then.TheVariants.{Go}
-use Rattle.conn_engine.specs.declared.reply.Reply.{Reply as Told}
-use Rattle.conn_engine.specs.Replies.{going_on}
+use Rattle.conn_supply.specs.declared.reply.Then.TheVariants.{Go}
+use Rattle.conn_supply.specs.declared.reply.Reply.{Reply as Told}
+use Rattle.conn_supply.specs.Replies.{going_on}
 use Rattle.conn_engine.specs.Step.{request_of}
 use Rattle.conn_engine.specs.declared.standing.ConnectRequest.{ConnectRequest}
 use Rattle.conn_engine.specs.Connecting.{assigned, opened, Attaches as EngineAttaches, AttachedAs}

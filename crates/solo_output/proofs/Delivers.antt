@@ -10,9 +10,9 @@ use Rattle.session_desk.specs.declared.session.Membership.{Membership}
 use Rattle.session_desk.specs.declared.session.Membership.TheVariants.{NotMember, Member, Leaving}
 use Rattle.session_desk.specs.Rows.{Rows}
 use Rattle.conn_rules.specs.declared.terms.Terms.{Terms}
+use Rattle.conn_supply.specs.Memberships.{with_window, with_membership as having}
+use Rattle.conn_supply.specs.HandOuts.{SendsAgain, HandsFresh, HandsOut, LeavesWith}
 use Rattle.conn_engine.specs.declared.standing.Link.{Link}
-use Rattle.conn_engine.specs.Memberships.{with_window, with_membership as having}
-use Rattle.conn_engine.specs.HandOuts.{SendsAgain, HandsFresh, HandsOut, LeavesWith}
 use Rattle.conn_engine.specs.Step.{after_hand_out}
 use Rattle.local_broker.specs.Places.{GroupPlace}
 use Rattle.local_broker.specs.Broker.{Broker}

@@ -23,8 +23,8 @@ use Rattle.local_group.specs.declared.waiting.Waiting.{Waiting}
 use Rattle.local_group.specs.Groups.{Group, life, waits, MayNotOffer, Settles}
 use Rattle.local_group.proofs.Counts.{count_of-same}
 use Rattle.conn_rules.specs.Acknowledging.{fate_of}
-use Rattle.conn_engine.specs.declared.supply.OfferRefusal.{OfferRefusal}
-use Rattle.conn_engine.specs.Publishing.{Took}
+use Rattle.conn_supply.specs.declared.supply.OfferRefusal.{OfferRefusal}
+use Rattle.conn_supply.specs.Publishing.{Took}
 use Rattle.local_broker.specs.Groups.{told_as, IsOffered, HandsOut, HandsOutAgain, IsOutAt, IsSettled, IsGivenBack}
 use Rattle.member_window.specs.Identifiers.{identifiers, entries_without, identifiers_without, AreDistinct}
 use Rattle.member_window.proofs.Lists.{contains_identifier, identifiers-without}

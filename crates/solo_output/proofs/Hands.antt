@@ -11,8 +11,8 @@ use Rattle.member_window.specs.Contents.{Contents, held_of, HasRoom, after_put}
 use Rattle.session_desk.specs.declared.session.Membership.{Membership}
 use Rattle.session_desk.specs.declared.session.Membership.TheVariants.{Member}
 use Rattle.conn_rules.specs.Packets.{job}
-use Rattle.conn_engine.specs.Facts.Fact.{Take, TakeBack}
-use Rattle.conn_engine.specs.HandOuts.{AsksFor, SendsOne, SendsNone, SendsFresh}
+use Rattle.conn_supply.specs.Facts.Fact.{Take, TakeBack}
+use Rattle.conn_supply.specs.HandOuts.{AsksFor, SendsOne, SendsNone, SendsFresh}
 use Rattle.local_broker.specs.Places.{GroupPlace}
 use Rattle.local_broker.specs.Broker.{Broker}
 use Rattle.local_broker.specs.Calls.{Calls}

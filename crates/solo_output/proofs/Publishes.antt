@@ -7,9 +7,9 @@ use Rattle.mqtt_topic.specs.Routes.{routed, places_of}
 use Rattle.group_jobs.specs.declared.message.Message.{Message}
 use Rattle.group_jobs.specs.declared.stamp.Stamp.{Stamp}
 use Rattle.group_jobs.specs.Stamps.{Held}
-use Rattle.conn_engine.specs.declared.supply.OfferRefusal.{OfferRefusal}
-use Rattle.conn_engine.specs.Facts.Fact.{Offer}
-use Rattle.conn_engine.specs.Publishing.{Took, Offers}
+use Rattle.conn_supply.specs.declared.supply.OfferRefusal.{OfferRefusal}
+use Rattle.conn_supply.specs.Facts.Fact.{Offer}
+use Rattle.conn_supply.specs.Publishing.{Took, Offers}
 use Rattle.local_broker.specs.Groups.{InGroup, IsOffered}
 use Rattle.local_broker.specs.Broker.{Broker}
 use Rattle.local_broker.specs.Calls.{Calls, OffersFrom}

@@ -8,7 +8,7 @@ use Rattle.member_window.specs.Calls.{Acks}
 use Rattle.member_window.proofs.Lists.{contains_nil, identifiers-without}
 use Rattle.session_desk.specs.declared.session.Membership.{Membership}
 use Rattle.session_desk.specs.declared.session.Membership.TheVariants.{Member, Leaving}
-use Rattle.conn_engine.specs.Acknowledging.{Settles, SettlesIn}
+use Rattle.conn_supply.specs.Acknowledging.{Settles, SettlesIn}
 use Rattle.local_broker.specs.Places.{GroupPlace}
 use Rattle.local_broker.specs.Broker.{Broker}
 use Rattle.local_broker.specs.Calls.{Calls}

@@ -17,10 +17,10 @@ use Rattle.conn_rules.specs.declared.subscribing.EntryAnswer.{EntryAnswer}
 use Rattle.conn_rules.specs.declared.subscribing.EntryAnswer.TheVariants as answers
 use Rattle.conn_rules.specs.declared.terms.Terms.{Terms}
 use Rattle.conn_rules.specs.Subscribing.{entry_answer}
-use Rattle.conn_engine.specs.declared.supply.BindRefusal.{BindRefusal}
-use Rattle.conn_engine.specs.declared.supply.BindRefusal.TheVariants as refusal
-use Rattle.conn_engine.specs.Memberships.{with_membership as having}
-use Rattle.conn_engine.specs.Subscribing.{IsLent, EntersAs, StaysAs, Joins, AnswersEntry, AnswersEntries, LeavesFrom, LeavesBy, LeavesByAll}
+use Rattle.conn_supply.specs.declared.supply.BindRefusal.{BindRefusal}
+use Rattle.conn_supply.specs.declared.supply.BindRefusal.TheVariants as refusal
+use Rattle.conn_supply.specs.Memberships.{with_membership as having}
+use Rattle.conn_supply.specs.Subscribing.{IsLent, EntersAs, StaysAs, Joins, AnswersEntry, AnswersEntries, LeavesFrom, LeavesBy, LeavesByAll}
 use Rattle.local_broker.specs.Places.{GroupPlace}
 use Rattle.local_broker.specs.Broker.{Broker}
 use Rattle.local_broker.specs.Calls.{Calls}

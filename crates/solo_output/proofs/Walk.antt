@@ -18,10 +18,10 @@ use Rattle.mqtt_wire.proofs.StreamLaws.{exists_reading}
 use Rattle.mqtt_wire.proofs.PieceLaws.{faulty_stays}
 use Rattle.mqtt_topic.specs.Names.{Share}
 use Rattle.group_jobs.specs.Stamps.{Held}
+use Rattle.conn_supply.specs.declared.reply.Then.{Then}
+use Rattle.conn_supply.specs.declared.reply.Then.TheVariants.{Go, Close}
 use Rattle.conn_engine.specs.declared.input.Input.{Input}
 use Rattle.conn_engine.specs.declared.input.Input.TheVariants as inputs
-use Rattle.conn_engine.specs.declared.input.Then.{Then}
-use Rattle.conn_engine.specs.declared.input.Then.TheVariants.{Go, Close}
 use Rattle.conn_engine.specs.declared.standing.Link.{Link}
 use Rattle.conn_engine.specs.declared.standing.Standing.{Standing}
 use Rattle.conn_engine.specs.declared.standing.Standing.TheVariants as standings

@@ -3,7 +3,7 @@ ghost use Rattle.std.specs.Prelude.{◌≡◌};
 
 use broker_groups::{Broker, BrokerPlace, Key};
 use call_history::HistoryName;
-use conn_engine::Supply;
+use conn_supply::Supply;
 use gate_word::Gate;
 use scripted_jobs::{close, open, serve};
 use std::alloc::Global;

@@ -4,7 +4,7 @@ use crate::clients::Clients;
 use crate::words::Workers;
 use broker_groups::{Broker, BrokerPlace};
 use client_table::ClientTable;
-use conn_engine::Supply;
+use conn_supply::Supply;
 use std::alloc::Global;
 use std::rt::Runtime;
 use std::sync::Wait;

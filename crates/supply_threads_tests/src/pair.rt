@@ -2,7 +2,7 @@
 ghost use Rattle.std.specs.Prelude.{◌<◌};
 
 use client_table::{ClientTable, Said};
-use conn_engine::{HoldingPlace, Supply};
+use conn_supply::{HoldingPlace, Supply};
 use std::alloc::Global;
 use test_broker::packets::{DISCONNECT, acknowledge, connect, publish, refuse, subscribe};
 use test_broker::seen::Seen;

@@ -7,7 +7,7 @@ ghost use Rattle.broker_groups.specs.Outs.{HasOut};
 use crate::row_end::{Ending, Out, abandon, end};
 use broker_groups::{Broker, BrokerPlace, Key, Ports};
 use call_history::HistoryName;
-use conn_engine::Supply;
+use conn_supply::Supply;
 use gate_word::Gate;
 use group_jobs::Envelope;
 use session_desk::Place;

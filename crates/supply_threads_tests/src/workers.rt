@@ -4,7 +4,7 @@ ghost use Rattle.std.specs.Prelude.{◌≤◌};
 use crate::pair::Pair;
 use broker_groups::{Broker, BrokerPlace};
 use client_table::ClientTable;
-use conn_engine::{HoldingPlace, Supply};
+use conn_supply::{HoldingPlace, Supply};
 use std::alloc::Global;
 use std::process::Abort;
 use std::sync::Wait;

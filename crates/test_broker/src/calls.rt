@@ -2,7 +2,7 @@
 ghost use Rattle.std.specs.Prelude.{◌≡◌, ◌∷◌, [], true, MatchOption};
 
 use bytes::Bytes;
-use conn_engine::{HoldingPlace, Supply};
+use conn_supply::{HoldingPlace, Supply};
 use group_jobs::{Envelope, Fate, Message, SharedMessage};
 use mqtt_packet::{RareProperties, Text};
 use std::alloc::Global;

@@ -9,7 +9,7 @@ use crate::seen::Seen;
 use crate::worker::{keep, supply_of};
 use broker_groups::{Broker, BrokerPlace, Opened, Ports};
 use call_history::HistoryName;
-use conn_engine::Supply;
+use conn_supply::Supply;
 use gate_word::{Gate, GateSeat};
 use shared_desk::OpenedDesk;
 use shared_supply::Hall;

@@ -1,7 +1,7 @@
 //! Shares by their texts.
 
 use bytes::Bytes;
-use conn_engine::{HoldingPlace, Supply};
+use conn_supply::{HoldingPlace, Supply};
 use mqtt_packet::Text;
 use mqtt_topic::Share;
 use std::alloc::Global;

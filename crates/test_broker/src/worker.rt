@@ -5,7 +5,7 @@ use crate::broker::{Built, Hand};
 use crate::ending::{Counts, end};
 use broker_groups::{Broker, BrokerPlace, Key, Ports};
 use call_history::HistoryName;
-use conn_engine::Supply;
+use conn_supply::Supply;
 use gate_word::Gate;
 use shared_supply::{Hall, SharedSupply};
 use std::alloc::Global;

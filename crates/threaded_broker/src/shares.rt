@@ -4,7 +4,7 @@ ghost use Rattle.shared_routes.specs.Known.{Grows};
 ghost use Rattle.threaded_broker.specs.Shares.{IsBoundIn};
 
 use bytes::Bytes;
-use conn_engine::NoMemory;
+use conn_supply::NoMemory;
 use mqtt_packet::Text;
 use mqtt_topic::Share;
 use shared_routes::{BindError, KnownRoutes};

@@ -2,7 +2,7 @@
 
 use crate::shares::share_of;
 use bell::{MOST_WORKERS, Wake};
-use conn_engine::NoMemory;
+use conn_supply::NoMemory;
 use std::alloc::Global;
 use std::sync::Arc;
 use std::sync::atomic::{AtomicU64, Ordering};

@@ -10,7 +10,7 @@ use crate::bells::{Listening, Ringing};
 use crate::calls::Roster;
 use crate::members::Members;
 use bell::{Bell, Listener, MOST_WORKERS, Ringer, Wake};
-use conn_engine::NoMemory;
+use conn_supply::NoMemory;
 use std::alloc::Global;
 use std::marker::Model;
 use std::sync::Arc;

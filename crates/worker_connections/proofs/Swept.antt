@@ -7,7 +7,7 @@ use Rattle.std.proofs.lemmas.Bool.{cases_eq}
 use Rattle.std.proofs.lemmas.List.Elements.{All-set, All-replicate}
 use Rattle.std.proofs.lemmas.List.{get_or-set_same, get_or-set_other, get_or_default}
 use Rattle.transport.specs.declared.counts.Counts.{Counts}
-use Rattle.conn_engine.specs.Facts.{Fact}
+use Rattle.conn_supply.specs.Facts.{Fact}
 use Rattle.conn_service.specs.Services.{ServiceState}
 use Rattle.service_table.specs.Cells.{InCell, Opens, Tells, Turns}
 use Rattle.service_table.specs.declared.turned.Turned.{Turned}

@@ -2,8 +2,8 @@
 use Rattle.std.specs.Prelude.{◌≡◌, ◌⊎◌, ℕ, ⊤, Bool, List, Option, Some, None}
 use Rattle.transport.specs.declared.counts.Counts.{Counts}
 use Rattle.transport.specs.Counting.{no_counts}
+use Rattle.conn_supply.specs.Facts.{Fact}
 use Rattle.conn_engine.specs.declared.standing.Standing.TheVariants.{Ended}
-use Rattle.conn_engine.specs.Facts.{Fact}
 use Rattle.conn_service.specs.declared.served.Served.{Served}
 use Rattle.conn_service.specs.declared.served.Served.TheVariants.{Memory}
 use Rattle.conn_service.specs.Services.{ServiceState, opened}

@@ -5,7 +5,7 @@ ghost use Rattle.conn_channel.specs.Ends.{new_receiver};
 use bell::Wake;
 use broker_worker::{Gear, Kit, Roster, kits};
 use conn_channel::{Receiver, Sender};
-use conn_engine::NoMemory;
+use conn_supply::NoMemory;
 use std::alloc::Global;
 use transport::Transport;
 use worker_connections::{Arrived, ServedCounts};

@@ -7,7 +7,8 @@ ghost use Rattle.client_table.specs.Streams.{fed, reading_behind, ReadsAs, Fails
 
 use crate::client::Client;
 use crate::said::Said;
-use conn_engine::{HoldingPlace, Input, NoMemory, Supply, Then};
+use conn_engine::Input;
+use conn_supply::{HoldingPlace, NoMemory, Supply, Then};
 use mqtt_packet::Packet;
 use mqtt_fields::Fault;
 use std::alloc::Global;

@@ -1,7 +1,7 @@
 -- What was handed out is all that is out.
 use Rattle.std.proofs.Common.{[], ◌∷◌, Option, Ok, refl, subst}
 use Rattle.group_jobs.specs.Stamps.{Held}
-use Rattle.conn_engine.specs.Holding.{with_found}
+use Rattle.conn_supply.specs.Holding.{with_found}
 use Rattle.broker_groups.specs.Outs.{HasOut}
 use Rattle.broker_groups_tests.proofs.one_day.work.Goals as goal
 

@@ -1,7 +1,7 @@
 -- The oldest message is out at the place, and then the others.
 use Rattle.std.proofs.Common.{rules}
-use Rattle.conn_engine.specs.Holding.{messages}
-use Rattle.conn_engine.proofs.Holding.{oldest_out, oldest_spent}
+use Rattle.conn_supply.specs.Holding.{messages}
+use Rattle.conn_supply.proofs.Holding.{oldest_out, oldest_spent}
 use Rattle.conn_engine.proofs.ending.+give_back.Goals as goal
 
 pub give_back-requires : goal.give_back-requires

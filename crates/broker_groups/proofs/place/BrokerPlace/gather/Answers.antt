@@ -1,7 +1,7 @@
 -- What was out is out.
 use Rattle.std.proofs.Common.{subst}
 use Rattle.group_queue.specs.Places.{PlaceState}
-use Rattle.conn_engine.specs.Holding.{KeepsOut}
+use Rattle.conn_supply.specs.Holding.{KeepsOut}
 use Rattle.broker_groups.specs.Outs.{HasOut}
 use Rattle.broker_groups.proofs.Outs.{gathered}
 use Rattle.broker_groups.proofs.place.BrokerPlace.gather.Goals as goal

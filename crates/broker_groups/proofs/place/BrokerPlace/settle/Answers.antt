@@ -1,7 +1,7 @@
 -- What is out is what the place holds, and one less is out.
 use Rattle.std.proofs.Common.{sym, subst}
 use Rattle.group_queue.specs.Places.{PlaceState}
-use Rattle.conn_engine.specs.Holding.{IsAmong, SpendsOut}
+use Rattle.conn_supply.specs.Holding.{IsAmong, SpendsOut}
 use Rattle.broker_groups.specs.Outs.{HasOut}
 use Rattle.broker_groups.proofs.Outs.{held, settled}
 use Rattle.broker_groups.proofs.place.BrokerPlace.settle.Goals as goal

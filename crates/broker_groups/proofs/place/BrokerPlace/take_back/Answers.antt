@@ -1,7 +1,7 @@
 -- What was handed out is out, beside what was.
 use Rattle.std.proofs.Common.{sym, subst}
 use Rattle.group_queue.specs.Places.{PlaceState, TakeBackAnswers}
-use Rattle.conn_engine.specs.Holding.{FindsOut}
+use Rattle.conn_supply.specs.Holding.{FindsOut}
 use Rattle.broker_groups.specs.Answers.{seen_returns}
 use Rattle.broker_groups.specs.Outs.{HasOut}
 use Rattle.broker_groups.proofs.Outs.{taken_back}

@@ -1,0 +1,26 @@
+-- What was taken goes out, or waits for the next connection.
+use Rattle.std.proofs.Common.{rules, sym}
+use Rattle.conn_supply.proofs.Fresh.{taken_one}
+use Rattle.conn_supply.proofs.hand_outs.next_fresh.Goals as goal
+
+pub returns-in-Ok-clause-sent : goal.returns-in-Ok-clause-sent
+returns-in-Ok-clause-sent g c =
+    let put = c.in-Ok.ensures.put in (
+      record {
+        envelope = c.in-Ok-Some.envelope;
+        identifier = put.0;
+        room = search rules;
+        asked = rw (sym c.in-Ok-Some.field-0-is) c.in-Ok-Some.ensures.asked;
+        free = put.1;
+        put = put.2;
+        sent = put.3;
+      },
+      c.put.ensures.progress,
+    )
+
+pub returns-in-Err-put-clause-kept : goal.returns-in-Err-put-clause-kept
+returns-in-Err-put-clause-kept g c =
+    let put = c.in-Err-put.ensures.put in
+    taken_one g.S.Supply.call c.args.supply.now c.ask.new.supply c.args.place.now c.ask.new.place c.args.window.now c.put.new.window
+    c.in-Ok-Some.envelope put.0 (search rules)
+    (rw (sym c.in-Ok-Some.field-0-is) c.in-Ok-Some.ensures.asked) put.1 put.2

@@ -1,0 +1,115 @@
+-- What a connection answers to a SUBSCRIBE and to an UNSUBSCRIBE, and whom it asks (sections 3.8 to 3.11).
+use Rattle.std.specs.Prelude.{◌≡◌, ◌≢◌, ℕ, Bool, List, [], ◌∷◌, Option, Some, None, Result, Ok, Err, ◌⊎◌, is_some}
+use Rattle.mqtt_packet.specs.declared.packet.Subscribe.{Subscribe}
+use Rattle.mqtt_packet.specs.declared.packet.Subscription.{Subscription}
+use Rattle.mqtt_packet.specs.declared.packet.Unsubscribe.{Unsubscribe}
+use Rattle.mqtt_topic.specs.declared.error.TopicError.{TopicError}
+use Rattle.mqtt_topic.specs.Names.{Share, share_of}
+use Rattle.conn_rules.specs.declared.subscribing.EntryAnswer.{EntryAnswer}
+use Rattle.conn_rules.specs.declared.subscribing.EntryAnswer.TheVariants as answers
+use Rattle.conn_rules.specs.declared.terms.Terms.{Terms}
+use Rattle.conn_rules.specs.Subscribing.{entry_answer, subscribe_refusal, unsubscribe_refusal}
+use Rattle.conn_rules.specs.Packets.{suback, unsuback}
+use Rattle.session_desk.specs.declared.session.Membership.{Membership}
+use Rattle.session_desk.specs.declared.session.Membership.TheVariants.{NotMember, Member, Leaving}
+use Rattle.conn_supply.specs.declared.reply.Reply.{Reply}
+use Rattle.conn_supply.specs.declared.supply.BindRefusal.{BindRefusal}
+use Rattle.conn_supply.specs.declared.supply.BindRefusal.TheVariants as refusal
+use Rattle.conn_supply.specs.Facts.{Fact}
+use Rattle.conn_supply.specs.Facts.Fact.{Bind, Find, LendPlace}
+use Rattle.conn_supply.specs.Replies.{going_on, closing_with}
+
+module _ {S P : Type 0} (call : S → Fact P → S → Type 0) (slot_of : P → ℕ) where
+  -- a place in the group of this slot is asked for, and is of that group: 97 where none is free
+  abbrev pub IsLent : S → ℕ → Option P → ℕ → Membership P → S → Type 0
+  IsLent old slot None code membership new = call old (LendPlace slot None) new × (code ≡ 0x97) × (membership ≡ NotMember)
+  IsLent old slot (Some place) code membership new = call old (LendPlace slot (Some place)) new × (code ≡ 1) × (membership ≡ Member place) × (slot_of place ≡ slot)
+
+  -- who is no member is bound to the share's group, if there is a slot for it: else 97
+  abbrev pub EntersAs : S → Share → Result ℕ BindRefusal → ℕ → Membership P → S → Type 0
+  EntersAs old share (Ok slot) code membership new = (mid : S) × (lent : Option P) × call old (Bind share (Ok slot)) mid × IsLent mid slot lent code membership new
+  EntersAs old share (Err refusal.NoSlot) code membership new = call old (Bind share (Err refusal.NoSlot)) new × (code ≡ 0x97) × (membership ≡ NotMember)
+  EntersAs old share (Err refusal.Memory) code membership new = ⊥
+
+  -- whoever has a place in this very group stays, and is a member also where he was leaving; who has one in another is refused by 97
+  abbrev pub StaysAs : P → Option ℕ → Membership P → ℕ → Membership P → Type 0
+  StaysAs place found old code membership =
+      ((found ≡ Some (slot_of place)) × (code ≡ 1) × (membership ≡ Member place))
+      ⊎ ((found ≢ Some (slot_of place)) × (code ≡ 0x97) × (membership ≡ old))
+
+  -- a share is joined: a session is a member of one group at a time (profile)
+  abbrev pub Joins : S → Membership P → Share → ℕ → Membership P → S → Type 0
+  Joins old NotMember share code membership new = (bound : Result ℕ BindRefusal) × EntersAs old share bound code membership new
+  Joins old (Member place) share code membership new = (found : Option ℕ) × call old (Find share found) new × StaysAs place found (Member place) code membership
+  Joins old (Leaving place) share code membership new = (found : Option ℕ) × call old (Find share found) new × StaysAs place found (Leaving place) code membership
+
+  -- an entry of a SUBSCRIBE
+  abbrev pub AnswersEntry : S → Membership P → EntryAnswer → ℕ → Membership P → S → Type 0
+  AnswersEntry old membership (answers.Refuse refused) code membership' new = (code ≡ refused) × (membership' ≡ membership) × (new ≡ old)
+  AnswersEntry old membership (answers.Join share) code membership' new = Joins old membership share code membership' new
+
+  -- a share was to be bound, and there was no memory: nothing has changed
+  abbrev pub IsUnbound : S → Membership P → Membership P → S → Type 0
+  IsUnbound old membership membership' new = (share : Share) × call old (Bind share (Err refusal.Memory)) new × (membership' ≡ membership)
+
+  -- the entries of a SUBSCRIBE, in their order: each sees what the earlier ones did
+  abbrev pub AnswersEntries : Bool → Terms → S → Membership P → List Subscription → List ℕ → Membership P → S → Type 0
+  AnswersEntries identified terms old membership [] codes membership' new = (codes ≡ []) × (membership' ≡ membership) × (new ≡ old)
+  AnswersEntries identified terms old membership (entry ∷ entries) codes membership' new =
+      (code : ℕ) × (rest : List ℕ) × (between : Membership P) × (mid : S)
+      × AnswersEntry old membership (entry_answer identified entry terms) code between mid
+      × AnswersEntries identified terms mid between entries rest membership' new × (codes ≡ code ∷ rest)
+
+  -- some of the entries were answered, from the first on, at least one; or there was no memory for the first
+  abbrev pub AnswersFirst : Bool → Terms → S → Membership P → List Subscription → Membership P → S → Type 0
+  AnswersFirst identified terms old membership [] membership' new = ⊥
+  AnswersFirst identified terms old membership (entry ∷ entries) membership' new =
+      IsUnbound old membership membership' new
+      ⊎ ((code : ℕ) × (between : Membership P) × (mid : S)
+      × AnswersEntry old membership (entry_answer identified entry terms) code between mid
+      × AnswersFirst identified terms mid between entries membership' new)
+
+  -- where memory was wanted, some of the entries were answered, from the first on, or none
+  abbrev pub AnswersSome : Bool → Terms → S → Membership P → List Subscription → Membership P → S → Type 0
+  AnswersSome identified terms old membership entries membership' new =
+      ((membership' ≡ membership) × (new ≡ old)) ⊎ AnswersFirst identified terms old membership entries membership' new
+
+  -- a SUBSCRIBE closes the connection, or is answered by a SUBACK with a code for each entry
+  abbrev pub SubscribesAs : Option ℕ → Terms → S → Membership P → Subscribe → Reply → Membership P → S → Type 0
+  SubscribesAs (Some code) terms old membership subscribe reply membership' new = (reply ≡ closing_with code) × (membership' ≡ membership) × (new ≡ old)
+  SubscribesAs None terms old membership subscribe reply membership' new =
+      (codes : List ℕ) × (reply ≡ going_on (Some (suback subscribe.packet_identifier codes)))
+      × AnswersEntries (is_some subscribe.properties.subscription_identifier) terms old membership subscribe.subscriptions codes membership' new
+
+  abbrev pub Subscribes : Terms → S → Membership P → Subscribe → Reply → Membership P → S → Type 0
+  Subscribes terms old membership subscribe reply membership' new = SubscribesAs (subscribe_refusal subscribe) terms old membership subscribe reply membership' new
+
+  -- a member leaves by the very text of its share
+  abbrev pub LeavesFrom : P → Option ℕ → ℕ → Membership P → Type 0
+  LeavesFrom place found code membership =
+      ((found ≡ Some (slot_of place)) × (code ≡ 0) × (membership ≡ Leaving place))
+      ⊎ ((found ≢ Some (slot_of place)) × (code ≡ 0x11) × (membership ≡ Member place))
+
+  -- an entry of an UNSUBSCRIBE: 11 where the session is no member of that share (3.11.3)
+  abbrev pub LeavesBy : S → Membership P → Result Share TopicError → ℕ → Membership P → S → Type 0
+  LeavesBy old (Member place) (Ok share) code membership new = (found : Option ℕ) × call old (Find share found) new × LeavesFrom place found code membership
+  LeavesBy old (Member place) (Err refusal) code membership new = (code ≡ 0x11) × (membership ≡ Member place) × (new ≡ old)
+  LeavesBy old NotMember parsed code membership new = (code ≡ 0x11) × (membership ≡ NotMember) × (new ≡ old)
+  LeavesBy old (Leaving place) parsed code membership new = (code ≡ 0x11) × (membership ≡ Leaving place) × (new ≡ old)
+
+  abbrev pub LeavesByAll : S → Membership P → List (List ℕ) → List ℕ → Membership P → S → Type 0
+  LeavesByAll old membership [] codes membership' new = (codes ≡ []) × (membership' ≡ membership) × (new ≡ old)
+  LeavesByAll old membership (text ∷ texts) codes membership' new =
+      (code : ℕ) × (rest : List ℕ) × (between : Membership P) × (mid : S)
+      × LeavesBy old membership (share_of text) code between mid
+      × LeavesByAll mid between texts rest membership' new × (codes ≡ code ∷ rest)
+
+  -- an UNSUBSCRIBE closes the connection, or is answered by an UNSUBACK with a code for each filter
+  abbrev pub UnsubscribesAs : Option ℕ → S → Membership P → Unsubscribe → Reply → Membership P → S → Type 0
+  UnsubscribesAs (Some code) old membership unsubscribe reply membership' new = (reply ≡ closing_with code) × (membership' ≡ membership) × (new ≡ old)
+  UnsubscribesAs None old membership unsubscribe reply membership' new =
+      (codes : List ℕ) × (reply ≡ going_on (Some (unsuback unsubscribe.packet_identifier codes)))
+      × LeavesByAll old membership unsubscribe.filters codes membership' new
+
+  abbrev pub Unsubscribes : S → Membership P → Unsubscribe → Reply → Membership P → S → Type 0
+  Unsubscribes old membership unsubscribe reply membership' new = UnsubscribesAs (unsubscribe_refusal unsubscribe) old membership unsubscribe reply membership' new
