@@ -14,8 +14,8 @@ mod reading;
 
 use conn_engine::{Conn, Input};
 use conn_supply::{HoldingPlace, NoMemory, Supply, Then};
-use mqtt_packet::Packet;
 use mqtt_fields::Fault;
+use mqtt_packet::Packet;
 use mqtt_wire::{ReadFault, Splitter};
 use std::alloc::Global;
 use std::io::Read;

@@ -1,6 +1,6 @@
 //! What comes to a connection.
-use mqtt_packet::Packet;
 use mqtt_fields::StreamFault;
+use mqtt_packet::Packet;
 
 /// What comes to a connection.
 #[derive(Debug, Drop)]

@@ -2,8 +2,8 @@
 ghost use Rattle.std.specs.Prelude.{◌≡◌, ◌<◌, ◌*◌, MatchOption};
 ghost use Rattle.conn_rules.specs.Ending.{fault_code, fault_refusal, is_overdue, is_late};
 
-use mqtt_packet::{ConnectRefusal, ReasonCode};
 use mqtt_fields::StreamFault;
+use mqtt_packet::{ConnectRefusal, ReasonCode};
 
 /// How long a connection may be without a CONNECT, in milliseconds.
 pub const CONNECT_TIMEOUT: u64 = 10_000;

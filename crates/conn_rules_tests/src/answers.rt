@@ -5,8 +5,8 @@ use conn_rules::{
     fault_refusal, is_late, is_overdue, puback_code,
 };
 use group_jobs::Fate;
-use mqtt_packet::{ConnectRefusal, Packet, PacketIdentifier, ReasonCode, Subscribe};
 use mqtt_fields::{Fault, StreamFault};
+use mqtt_packet::{ConnectRefusal, Packet, PacketIdentifier, ReasonCode, Subscribe};
 use std::alloc::Global;
 use std::test::Fail;
 

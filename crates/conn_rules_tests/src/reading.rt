@@ -3,8 +3,8 @@ use conn_rules::{
     FirstAnswer, PublishAnswer, Terms, answer_to_first, answer_to_publish, subscribe_refusal,
     terms_of, unsubscribe_refusal,
 };
-use mqtt_packet::{Packet, ReasonCode};
 use mqtt_fields::Fault;
+use mqtt_packet::{Packet, ReasonCode};
 use mqtt_wire::Splitter;
 use std::alloc::Global;
 

@@ -8,9 +8,9 @@ mod streams;
 #[cfg(test)]
 mod values;
 
+use mqtt_fields::Fault;
 #[cfg(test)]
 use mqtt_packet::Packet;
-use mqtt_fields::Fault;
 use mqtt_wire::{Splitter, encode};
 #[cfg(test)]
 use std::alloc::Global;

@@ -2,12 +2,12 @@
 
 use crate::written;
 use bytes::Bytes;
+use mqtt_fields::{Fault, StreamFault};
 use mqtt_packet::{
     Acceptance, Binary, Connack, ConnectRefusal, Delivery, MaximumPacketSize, NonEmpty, Offer,
     Packet, PacketIdentifier, Publish, PublishProperties, QoS, RareProperties, ReasonCode,
     ReceiveMaximum, Suback, SubscriptionIdentifier, Text, Unsuback, UserProperties, UserProperty,
 };
-use mqtt_fields::{Fault, StreamFault};
 use mqtt_wire::{encode_into, encoded_size};
 use std::alloc::Global;
 use std::test::Fail;

@@ -9,8 +9,8 @@ use crate::client::Client;
 use crate::said::Said;
 use conn_engine::Input;
 use conn_supply::{HoldingPlace, NoMemory, Supply, Then};
-use mqtt_packet::Packet;
 use mqtt_fields::Fault;
+use mqtt_packet::Packet;
 use std::alloc::Global;
 use std::mem;
 
