@@ -9,7 +9,7 @@ ghost use Rattle.conn_supply.specs.Facts.Fact.{Kicked};
 ghost use Rattle.conn_engine.specs.declared.input.Input.TheVariants as inputs;
 ghost use Rattle.conn_service.specs.Moments.{is_tick_for};
 ghost use Rattle.conn_service.specs.Services.{HasNoMore, IsAnswered, IsOnTime, IsServed, IsTold, IdlesTick, KeepsEdge, KeepsEdgeAt, KeepsEnough};
-ghost use Rattle.conn_service.specs.Directions.{reads, writes};
+ghost use Rattle.conn_service.specs.Directions.{Follows, reads, writes};
 ghost use Rattle.conn_service.specs.Lives.{IsDue, Leads};
 ghost use Rattle.conn_service.specs.Advances.{Advances, IsDoneOrAdvances};
 
@@ -42,8 +42,7 @@ impl<P: HoldingPlace, T: Transport> Service<P, T> {
         ensures told { IsTold result self.new now }
         ensures more { reads direction ≡ true → result ≡ rounds.More → Advances S.call S.turn S.visiting P.slot_of T.counts T.given T.accepted self.old supply.old self.new supply.new }
         ensures idles { IdlesTick T.counts now self.old self.new }
-        ensures unread { reads direction ≡ false → T.given self.new.transport ≡ T.given self.old.transport }
-        ensures unwritten { writes direction ≡ false → self.old.outgoing ≡ [] → T.accepted self.new.transport ≡ T.accepted self.old.transport }
+        ensures way { Follows T.given T.accepted direction now self.old self.new }
         ensures crossing { result ≡ rounds.Ended endings.NoCrossing → RefusesAlways X.refuses crossing.now worker }
     {
         match self.go_on(supply, crossing, worker, now, buffer, direction) {
@@ -95,6 +94,7 @@ impl<P: HoldingPlace, T: Transport> Service<P, T> {
         ensures going { OnOk result (self.new.ending ≡ None) }
         ensures ended { IfErr result (λ served. self.new.ending ≡ Some served) }
         ensures idles { IdlesTick T.counts now self.old self.new }
+        ensures ticks { reads direction ≡ false → OnOk result (self.new.outgoing ≡ [] → self.new.ticked ≡ now) }
         ensures unread { reads direction ≡ false → T.given self.new.transport ≡ T.given self.old.transport }
         ensures unwritten { writes direction ≡ false → self.old.outgoing ≡ [] → T.accepted self.new.transport ≡ T.accepted self.old.transport }
         ensures crossing { result ≡ Err endings.NoCrossing → RefusesAlways X.refuses crossing.now worker }
@@ -126,6 +126,7 @@ impl<P: HoldingPlace, T: Transport> Service<P, T> {
         ensures going { OnOk result (self.new.ending ≡ None) }
         ensures ended { IfErr result (λ served. self.new.ending ≡ Some served) }
         ensures idles { IdlesTick T.counts now self.old self.new }
+        ensures ticks { reads ≡ false → self.old.outgoing ≡ [] → OnOk result ((self.new.client.conn.standing ≡ Ended) ⊎ (self.new.ticked ≡ now)) }
         ensures unread { reads ≡ false → T.given self.new.transport ≡ T.given self.old.transport }
         ensures unwritten { T.accepted self.new.transport ≡ T.accepted self.old.transport }
     {
@@ -161,6 +162,7 @@ impl<P: HoldingPlace, T: Transport> Service<P, T> {
         ensures going { OnOk result (self.new.ending ≡ None) }
         ensures ended { IfErr result (λ served. self.new.ending ≡ Some served) }
         ensures idles { IdlesTick T.counts now self.old self.new }
+        ensures ticks { reads ≡ false → self.old.outgoing ≡ [] → OnOk result ((self.new.client.conn.standing ≡ Ended) ⊎ (self.new.ticked ≡ now)) }
         ensures unread { reads ≡ false → T.given self.new.transport ≡ T.given self.old.transport }
         ensures unwritten { T.accepted self.new.transport ≡ T.accepted self.old.transport }
     {
@@ -185,6 +187,7 @@ impl<P: HoldingPlace, T: Transport> Service<P, T> {
         ensures going { OnOk result (self.new.ending ≡ None) }
         ensures ended { IfErr result (λ served. self.new.ending ≡ Some served) }
         ensures idles { IdlesTick T.counts now self.old self.new }
+        ensures over { OnOk result (self.new.client.conn.standing ≡ Ended) }
         ensures transport { self.new.transport ≡ self.old.transport }
     {
         self.step(supply, now, Input::Closing)?;
@@ -213,6 +216,7 @@ impl<P: HoldingPlace, T: Transport> Service<P, T> {
         ensures going { OnOk result (self.new.ending ≡ None) }
         ensures ended { IfErr result (λ served. self.new.ending ≡ Some served) }
         ensures idles { IdlesTick T.counts now self.old self.new }
+        ensures ticks { reads ≡ false → self.old.outgoing ≡ [] → OnOk result (self.new.ticked ≡ now) }
         ensures unread { reads ≡ false → T.given self.new.transport ≡ T.given self.old.transport }
         ensures unwritten { T.accepted self.new.transport ≡ T.accepted self.old.transport }
         ensures visiting { S.visiting supply.new ≡ S.visiting supply.old }
@@ -257,6 +261,7 @@ impl<P: HoldingPlace, T: Transport> Service<P, T> {
         ensures going { OnOk result (self.new.ending ≡ None) }
         ensures ended { IfErr result (λ served. self.new.ending ≡ Some served) }
         ensures idles { IdlesTick T.counts now self.old self.new }
+        ensures still { reads ≡ false → self.new.ticked ≡ self.old.ticked }
         ensures unread { reads ≡ false → T.given self.new.transport ≡ T.given self.old.transport }
         ensures unwritten { T.accepted self.new.transport ≡ T.accepted self.old.transport }
         ensures visiting { S.visiting supply.new ≡ S.visiting supply.old }

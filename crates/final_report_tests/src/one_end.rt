@@ -10,7 +10,7 @@ use final_report::{end_broker, end_groups};
 use gate_word::{Drained, Gate, GateSeat, Turn};
 use group_jobs::{Envelope, Message, SharedMessage};
 use mqtt_packet::{RareProperties, Text};
-use shared_desk::{DeskPass, OpenedDesk, SharedDesk};
+use shared_desk::OpenedDesk;
 use shared_routes::SharedRoutes;
 use shared_supply::Hall;
 use std::alloc::Global;
@@ -80,33 +80,6 @@ fn count(ended: Ended<'_>) -> (usize, u64, usize) {
     }
     strangers.destroy_empty();
     (reports, accepted, queued)
-}
-
-/// Gives the desk all places.
-fn furnish<B: Broker, N: HistoryName, R: Wait>(
-    rt: &R,
-    desk: &SharedDesk<BrokerPlace<B>, N>,
-    pass: &mut DeskPass<BrokerPlace<B>, N>,
-    places: Vec<BrokerPlace<B>>,
-)
-    requires { All HasNoneOut places.items }
-{
-    let mut places = places;
-    'places: while let Some(place) = places.pop() {
-        give_place(rt, desk, pass, place);
-    }
-}
-
-/// Gives the desk a place.
-fn give_place<B: Broker, N: HistoryName, R: Wait>(
-    rt: &R,
-    desk: &SharedDesk<BrokerPlace<B>, N>,
-    pass: &mut DeskPass<BrokerPlace<B>, N>,
-    place: BrokerPlace<B>,
-)
-    requires { HasNoneOut place }
-{
-    let _back = desk.take_place(rt, pass, place);
 }
 
 /// Shuts the gate, and looks whether it is drained.
@@ -198,7 +171,7 @@ fn end_with<B: Broker, N: HistoryName, R: Wait>(
     requires places { All HasNoneOut places.items }
 {
     let (desk, mut pass) = desk.name::<N>();
-    furnish(rt, &desk, &mut pass, places);
+    desk.take_places(rt, &mut pass, places);
     let hall = Hall::new(gate, groups, desk, SharedRoutes::new(alloc));
     end(rt, alloc, drained, hall, ports)
 }

@@ -6,6 +6,8 @@ use Rattle.conn_engine.specs.Looking.{TakesAt}
 use Rattle.conn_engine.specs.Standings.{IsWaiting}
 use Rattle.conn_service.specs.declared.served.Round.TheVariants as rounds
 use Rattle.conn_service.specs.Services.{ServiceState, opened, IsTold}
+use Rattle.conn_service.specs.declared.served.Direction.{Direction}
+use Rattle.conn_service.specs.Directions.{Follows}
 use Rattle.conn_service.specs.Lives.{Leads}
 use Rattle.service_table.specs.declared.turned.Turned.{Turned}
 use Rattle.service_table.specs.declared.turned.Turned.TheVariants.{Vacant, Goes, Ended}
@@ -50,6 +52,12 @@ abbrev pub Tells : {P T : Type 0} → Turned T → ServiceState P T → ℕ → 
 Tells Vacant service now after = ⊥
 Tells (Goes round) service now after = IsTold round service now × (after ≡ Some service)
 Tells (Ended served transport) service now after = IsTold (rounds.Ended served) service now × (transport ≡ service.transport) × (after ≡ None)
+
+-- the connection in a cell, where there is one, went by a round the way that it was told
+abbrev pub FollowsIn : {P T : Type 0} → (T → Option (List ℕ)) → (T → Option (List ℕ)) → Direction → ℕ → Option (ServiceState P T) → Turned T → Option (ServiceState P T) → Type 0
+FollowsIn given accepted direction now None turned after = Unit {0}
+FollowsIn {P} {T} given accepted direction now (Some service) turned after =
+    (behind : ServiceState P T) × Tells turned behind now after × Follows given accepted direction now service behind
 
 -- the slot of the group that the client in a cell would be handed a message of now; a free cell has none
 abbrev pub TakesFrom : {P T : Type 0} → (P → ℕ) → Option (ServiceState P T) → Option ℕ → Type 0

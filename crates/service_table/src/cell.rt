@@ -1,7 +1,7 @@
 //! A cell, in which a connection may be.
 ghost use Rattle.std.specs.Prelude.{◌≡◌, ◌+◌, ◌<◌, None, Some, length, MatchResult};
 ghost use Rattle.transport.specs.Counting.{no_counts};
-ghost use Rattle.service_table.specs.Cells.{Opens, Refuses, Turns, ended_by, taken};
+ghost use Rattle.service_table.specs.Cells.{FollowsIn, Opens, Refuses, Turns, ended_by, taken};
 
 use crate::turned::Turned;
 use conn_service::{Direction, Round, Service};
@@ -102,6 +102,7 @@ pub(crate) fn round<P: HoldingPlace, T: Transport, S: Supply<P>, X: Crossing>(
 ) -> Turned<T>
     requires room { 0 < length buffer.old }
     ensures turns { Turns S.call S.turn S.visiting P.slot_of T.counts T.given T.accepted now cell.old supply.old result cell.new supply.new }
+    ensures way { FollowsIn T.given T.accepted direction now cell.old result cell.new }
     ensures count { taken cell.old ≡ taken cell.new + ended_by result }
 {
     let Some(seat) = cell.take() else {

@@ -1,7 +1,7 @@
 //! The connections of a worker, by the cells of their numbers.
 ghost use Rattle.std.specs.Prelude.{◌≡◌, ◌+◌, ◌<◌, ◌≤◌, ◌↔◌, None, true, length, replicate, slice_index_or, All, IfOk, IsTrue, MatchResult};
 ghost use Rattle.transport.specs.Counting.{no_counts};
-ghost use Rattle.service_table.specs.Cells.{InCell, Opens, Refuses, TakesFrom, Turns, Waits, ended_by, occupied};
+ghost use Rattle.service_table.specs.Cells.{FollowsIn, InCell, Opens, Refuses, TakesFrom, Turns, Waits, ended_by, occupied};
 
 use crate::cell;
 use crate::cell::Seat;
@@ -86,6 +86,7 @@ impl<P: HoldingPlace, T: Transport> ServiceTable<P, T> {
         requires cell { cell < length self.old }
         requires room { 0 < length buffer.old }
         ensures turns { InCell self.old cell (λ before after. Turns S.call S.turn S.visiting P.slot_of T.counts T.given T.accepted now before supply.old result after supply.new) self.new }
+        ensures way { InCell self.old cell (λ before after. FollowsIn T.given T.accepted direction now before result after) self.new }
         ensures len { length self.new ≡ length self.old }
         ensures count { occupied self.old ≡ occupied self.new + ended_by result }
     {

@@ -1,8 +1,8 @@
 -- The one history of a desk behind a lock: its calls, in the order of the lock, from a new desk on.
-use Rattle.std.specs.Prelude.{◌≡◌, ℕ, List, [], ◌∷◌, ◌++◌}
+use Rattle.std.specs.Prelude.{◌≡◌, ℕ, List, [], ◌∷◌, ◌++◌, Option}
 use Rattle.group_jobs.specs.Stamps.{Held}
 use Rattle.session_desk.specs.Books.{Books, new_books}
-use Rattle.session_desk.specs.Calls.{Call, MakesAll}
+use Rattle.session_desk.specs.Calls.{Call, MakesAll, TakePlace}
 use Rattle.session_desk.specs.Everywhere.{AllGoIn}
 use Rattle.session_desk.specs.Places.{cell_at}
 use Rattle.conn_supply.specs.Holding.{IsOutAtPlace}
@@ -22,3 +22,9 @@ module _ {P : Type 0} (HasOut : P → List Held → Type 0) (slot_of number_of :
     pub since : List (Call Held P)
     pub is : now ≡ known ++ since ++ call ∷ []
     pub legal : IsHistory now
+
+  -- these places were handed in, one after the other, with calls of others between
+  abbrev pub TakesEach : List (Call Held P) → List P → List (Call Held P) → Type 0
+  TakesEach known [] now = now ≡ known
+  TakesEach known (place ∷ places) now =
+      (back : Option P) × (between : List (Call Held P)) × IsTold known (TakePlace place back) between × TakesEach between places now

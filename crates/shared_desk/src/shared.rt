@@ -1,5 +1,5 @@
 //! The desk behind a lock, and how it is opened.
-ghost use Rattle.std.specs.Prelude.{◌≡◌, ◌<◌, ◌≤◌, ◌⊎◌, ◌++◌, ◌∷◌, [], true, ℕ, List, length, Some, None, IfOk, IfSome};
+ghost use Rattle.std.specs.Prelude.{◌≡◌, ◌<◌, ◌≤◌, ◌⊎◌, ◌++◌, ◌∷◌, [], true, ℕ, All, List, length, reverse, Some, None, IfOk, IfSome};
 ghost use mathlib.Core.List.{IsPrefix};
 ghost use Rattle.group_jobs.specs.Stamps.{Held};
 ghost use Rattle.session_desk.specs.Attaching.{asked};
@@ -9,7 +9,7 @@ ghost use Rattle.session_desk.specs.Places.{IsOfSlot};
 ghost use Rattle.conn_supply.specs.Holding.{IsOutAtPlace};
 ghost use Rattle.conn_supply.specs.Ready.{IsReady, IsSoundSession};
 ghost use Rattle.shared_desk.specs.Books.{IsLawful, IsMade};
-ghost use Rattle.shared_desk.specs.Histories.{IsHistory, IsTold, Leads};
+ghost use Rattle.shared_desk.specs.Histories.{IsHistory, IsTold, Leads, TakesEach};
 
 use crate::lawful::LawfulDesk;
 use crate::told::{DeskHistory, DeskPass, Told};
@@ -356,6 +356,20 @@ impl<P: HoldingPlace, D: HistoryName> SharedDesk<P, D> {
             marks: _,
         } = self;
         desk.into_inner().finish(&history, me)
+    }
+}
+
+impl<P: HoldingPlace + Drop, D: HistoryName> SharedDesk<P, D> {
+    /// Places are free from now on, one after the other, the last one first. One of which a place of the same group with the same number is free already is
+    /// let go.
+    pub fn take_places<R: Wait>(&self, rt: &R, me: &mut DeskPass<P, D>, places: Vec<P>)
+        requires { All (λ place. P.has_out place []) places.items }
+        ensures { TakesEach P.has_out P.slot_of P.number_of me.old (reverse places.items) me.new }
+    {
+        let mut places = places;
+        'places: while let Some(place) = places.pop() {
+            let _back = self.take_place(rt, me, place);
+        }
     }
 }
 

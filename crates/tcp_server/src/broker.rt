@@ -1,14 +1,14 @@
 //! A broker: how it is opened, and how it ends.
-ghost use Rattle.std.specs.Prelude.{◌≡◌, ◌+◌, ◌≤◌, [], All, length, vec_capacity, IfOk, IfErr};
+ghost use Rattle.std.specs.Prelude.{◌≡◌, ◌+◌, ◌≤◌, [], length, vec_capacity, IfOk, IfErr};
 ghost use Rattle.line_io.specs.declared.error.RunError.TheVariants.{Memory};
 ghost use Rattle.gate_word.specs.Seats.{AreSeatsOf};
-ghost use Rattle.broker_groups.specs.Naming.{HasNoneOut, IsOfBroker};
+ghost use Rattle.broker_groups.specs.Naming.{IsOfBroker};
 
 use broker_groups::{Broker, BrokerPlace, Key, Named, Opened, Ports};
 use call_history::HistoryName;
 use gate_word::{Gate, GateSeat};
 use line_io::RunError;
-use shared_desk::{DeskPass, OpenedDesk, SharedDesk};
+use shared_desk::OpenedDesk;
 use shared_routes::SharedRoutes;
 use shared_supply::Hall;
 use std::alloc::Global;
@@ -62,37 +62,10 @@ pub(crate) fn open<'g, B: Broker, N: HistoryName, R: Wait>(
         return Err(RunError::Memory);
     };
     let (desk, mut pass) = desk.name::<N>();
-    furnish(rt, &desk, &mut pass, places);
+    desk.take_places(rt, &mut pass, places);
     let hands = deal(gate, seats, ports, hands);
     let hall = Hall::new(gate, groups, desk, SharedRoutes::new(alloc));
     Ok(OpenBroker { hall, hands, room })
-}
-
-/// Gives the desk all places.
-fn furnish<B: Broker, N: HistoryName, R: Wait>(
-    rt: &R,
-    desk: &SharedDesk<BrokerPlace<B>, N>,
-    pass: &mut DeskPass<BrokerPlace<B>, N>,
-    places: Vec<BrokerPlace<B>>,
-)
-    requires { All HasNoneOut places.items }
-{
-    let mut places = places;
-    'places: while let Some(place) = places.pop() {
-        give_place(rt, desk, pass, place);
-    }
-}
-
-/// Gives the desk a place.
-fn give_place<B: Broker, N: HistoryName, R: Wait>(
-    rt: &R,
-    desk: &SharedDesk<BrokerPlace<B>, N>,
-    pass: &mut DeskPass<BrokerPlace<B>, N>,
-    place: BrokerPlace<B>,
-)
-    requires { HasNoneOut place }
-{
-    let _back = desk.take_place(rt, pass, place);
 }
 
 /// The last seat.

@@ -1,12 +1,12 @@
 //! A broker that is opened, and what is done with it.
-ghost use Rattle.std.specs.Prelude.{◌≡◌, ◌≤◌, ◌<◌, All, IfSome};
+ghost use Rattle.std.specs.Prelude.{◌≡◌, ◌≤◌, ◌<◌, IfSome};
 ghost use Rattle.gate_word.specs.Seats.{AreSeatsOf};
-ghost use Rattle.broker_groups.specs.Naming.{HasNoneOut, IsOfBroker};
+ghost use Rattle.broker_groups.specs.Naming.{IsOfBroker};
 
 use broker_groups::{Broker, BrokerPlace, Key, Named, Opened, Ports};
 use call_history::HistoryName;
 use gate_word::{Gate, GateSeat};
-use shared_desk::{DeskPass, OpenedDesk, SharedDesk};
+use shared_desk::OpenedDesk;
 use shared_routes::SharedRoutes;
 use shared_supply::Hall;
 use std::alloc::Global;
@@ -41,33 +41,6 @@ pub trait Day {
         built: Built<'_, B, N>,
     ) -> Option<Self::Told>
         requires { gate.now ≡ B.gate };
-}
-
-/// Gives the desk all places.
-fn furnish<B: Broker, N: HistoryName, R: Wait>(
-    rt: &R,
-    desk: &SharedDesk<BrokerPlace<B>, N>,
-    pass: &mut DeskPass<BrokerPlace<B>, N>,
-    places: Vec<BrokerPlace<B>>,
-)
-    requires { All HasNoneOut places.items }
-{
-    let mut places = places;
-    'places: while let Some(place) = places.pop() {
-        give_place(rt, desk, pass, place);
-    }
-}
-
-/// Gives the desk a place.
-fn give_place<B: Broker, N: HistoryName, R: Wait>(
-    rt: &R,
-    desk: &SharedDesk<BrokerPlace<B>, N>,
-    pass: &mut DeskPass<BrokerPlace<B>, N>,
-    place: BrokerPlace<B>,
-)
-    requires { HasNoneOut place }
-{
-    let _back = desk.take_place(rt, pass, place);
 }
 
 /// Shuts the gate, and says whether it was drained then.
@@ -147,7 +120,7 @@ pub fn build<'g, B: Broker, N: HistoryName, R: Wait>(
         return None;
     };
     let (desk, mut pass) = desk.name::<N>();
-    furnish(rt, &desk, &mut pass, places);
+    desk.take_places(rt, &mut pass, places);
     let hands = deal(alloc, gate, &mut seats, ports);
     let hall = Hall::new(gate, groups, desk, SharedRoutes::new(alloc));
     Some(Built { hall, hands, spare })

@@ -1,7 +1,7 @@
 //! A broker that is opened, and served to its end over connections in memory.
-ghost use Rattle.std.specs.Prelude.{◌≡◌, ◌≤◌, All, IfSome};
+ghost use Rattle.std.specs.Prelude.{◌≡◌, ◌≤◌, IfSome};
 ghost use Rattle.gate_word.specs.Seats.{AreSeatsOf};
-ghost use Rattle.broker_groups.specs.Naming.{HasNoneOut, IsOfBroker};
+ghost use Rattle.broker_groups.specs.Naming.{IsOfBroker};
 
 use crate::in_memory::{AlwaysReady, Meeting, NothingToWatch, Silent};
 use broker_groups::{Broker, BrokerPlace, Ended, Key, Named, Opened, Ports};
@@ -9,7 +9,7 @@ use broker_worker::Gear;
 use call_history::HistoryName;
 use gate_word::{Gate, GateSeat};
 use group_jobs::Envelope;
-use shared_desk::{DeskPass, OpenedDesk, SharedDesk};
+use shared_desk::OpenedDesk;
 use shared_routes::SharedRoutes;
 use shared_supply::Hall;
 use std::alloc::{AllocError, Global};
@@ -89,33 +89,6 @@ fn told_of<S: Drop>(outcome: Outcome<'_, S>) -> Told {
         counted,
         reports: count_reports(ended),
     }
-}
-
-/// Gives the desk all places.
-fn furnish<B: Broker, N: HistoryName, R: Wait>(
-    rt: &R,
-    desk: &SharedDesk<BrokerPlace<B>, N>,
-    pass: &mut DeskPass<BrokerPlace<B>, N>,
-    places: Vec<BrokerPlace<B>>,
-)
-    requires { All HasNoneOut places.items }
-{
-    let mut places = places;
-    'places: while let Some(place) = places.pop() {
-        give_place(rt, desk, pass, place);
-    }
-}
-
-/// Gives the desk a place.
-fn give_place<B: Broker, N: HistoryName, R: Wait>(
-    rt: &R,
-    desk: &SharedDesk<BrokerPlace<B>, N>,
-    pass: &mut DeskPass<BrokerPlace<B>, N>,
-    place: BrokerPlace<B>,
-)
-    requires { HasNoneOut place }
-{
-    let _back = desk.take_place(rt, pass, place);
 }
 
 /// The last seat.
@@ -297,7 +270,7 @@ fn live_with<
         }
     };
     let (desk, mut pass) = desk.name::<N>();
-    furnish(rt, &desk, &mut pass, places);
+    desk.take_places(rt, &mut pass, places);
     let hall = Hall::new(gate, groups, desk, SharedRoutes::new(alloc));
     let (Some(hands), Some((accepting, ending))) = (
         deal(alloc, gate, seats, ports),
