@@ -1,26 +1,23 @@
 //! Writers of the properties of each packet, in rising order of their identifiers (section 2.2.2).
 
-ghost use Rattle.std.specs.Prelude.{◌<◌, ◌^◌, ◌++◌, ◌∷◌, [], length, IfSome};
+ghost use Rattle.std.specs.Prelude.{◌<◌, ◌^◌, ◌∷◌, [], length, IfSome};
 ghost use Rattle.mqtt_fields.specs.Buffers.{HasRoom, Appends};
 ghost use Rattle.mqtt_fields.specs.Forms.{u16_bytes, u32_bytes, variable_byte_integer};
 ghost use Rattle.mqtt_fields.specs.Sections.{pair_bytes, properties, IsPair};
 ghost use Rattle.mqtt_fields.specs.FieldRanges.{ArePairs, AuthenticationFits, ConnectFits, PublishFits, PubackFits, SubscribeFits, UnsubscribeFits, DisconnectFits};
 ghost use Rattle.mqtt_fields.specs.PropertyLists.{bytes_if, user_bytes, authentication_bytes, connect_list, publish_list, puback_list, subscribe_list, unsubscribe_list, disconnect_list};
 
-use crate::field_writing::{
-    put_byte, put_bytes, put_text, put_u16, put_u32, put_variable_byte_integer,
-};
+use crate::field_writing::{put_byte, put_text, put_u16, put_u32, put_variable_byte_integer};
 use crate::property_sizes::{
-    connect_list_size, disconnect_list_size, puback_list_size, publish_properties_size,
-    subscribe_list_size, unsubscribe_list_size,
+    connect_list_size, publish_properties_size, subscribe_list_size, unsubscribe_list_size,
 };
 use crate::single_properties::{
     put_binary_if, put_byte_if, put_flag_if, put_text_if, put_u16_if, put_u32_if,
 };
 use mqtt_packet::{
-    Acceptance, Authentication, ConnectProperties, DisconnectProperties, MaximumPacketSize, Offer,
-    PubackProperties, PublishProperties, QoS, RareProperties, ReasonCode, ReceiveMaximum,
-    SubscribeProperties, SubscriptionIdentifier, UnsubscribeProperties, UserProperty,
+    Authentication, ConnectProperties, DisconnectProperties, MaximumPacketSize, PubackProperties,
+    PublishProperties, RareProperties, ReceiveMaximum, SubscribeProperties, SubscriptionIdentifier,
+    UnsubscribeProperties, UserProperty,
 };
 
 /// Property Identifiers (table 2-4).

@@ -1,6 +1,5 @@
 //! Writers of the properties of a CONNACK (section 3.2.2.3).
 
-ghost use Rattle.std.specs.Prelude.{◌<◌, ◌^◌, ◌∷◌, ◌++◌, [], length};
 ghost use Rattle.mqtt_fields.specs.Buffers.{HasRoom, Appends};
 ghost use Rattle.mqtt_fields.specs.Sections.{properties};
 ghost use Rattle.mqtt_wire.specs.Connacks.{connack_properties, offer_bytes, unless_available};

@@ -1,6 +1,6 @@
 //! Writers of a reason code with the properties behind it (sections 3.4.2 and 3.14.2).
 
-ghost use Rattle.std.specs.Prelude.{◌<◌, ◌∷◌, ◌++◌, [], length};
+ghost use Rattle.std.specs.Prelude.{◌<◌, length};
 ghost use Rattle.mqtt_fields.specs.Buffers.{HasRoom, Appends};
 ghost use Rattle.mqtt_fields.specs.FieldRanges.{PubackFits, DisconnectFits};
 ghost use Rattle.mqtt_fields.specs.PropertyLists.{puback_list, disconnect_list};
