@@ -48,3 +48,15 @@ called_before worker (Listened other ∷ since) before was = called_before worke
 called_before worker (Settled other ∷ since) before was = called_before worker since before was
 called_before worker (Rang ∷ since) before was = called_before worker since before was
 called_before worker (Called other ∷ since) before was = ap (λ (b : Bool). (worker == other) || b) (called_before worker since before was) ∙ or-true (worker == other)
+
+or_more : (first one other : Bool) → (one ≡ true → other ≡ true) → (first || one) ≡ true → (first || other) ≡ true
+or_more true one other more is = refl
+or_more false one other more is = more is
+
+-- and so is what was called since
+pub called_behind : (worker : ℕ) (since before : List Step) → was_called worker since ≡ true → was_called worker (since ++ before) ≡ true
+called_behind worker [] before was = absurd (cc was)
+called_behind worker (Listened other ∷ since) before was = called_behind worker since before was
+called_behind worker (Settled other ∷ since) before was = called_behind worker since before was
+called_behind worker (Rang ∷ since) before was = called_behind worker since before was
+called_behind worker (Called other ∷ since) before was = or_more (worker == other) (was_called worker since) (was_called worker (since ++ before)) (called_behind worker since before) was

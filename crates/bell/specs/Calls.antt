@@ -1,5 +1,5 @@
 -- The calls of a bell, as the steps that they make.
-use Rattle.std.specs.Prelude.{◌≡◌, ℕ, ◌+◌, ◌%◌, ◌==◌, ◌≤◌, ◌<◌, ◌⊎◌, if◌then◌else◌, Bool, true, Option, Some, length, slice_get, All, List, [], ◌∷◌, ◌++◌}
+use Rattle.std.specs.Prelude.{◌≡◌, ℕ, ◌+◌, ◌%◌, ◌==◌, ◌≤◌, ◌<◌, ◌⊎◌, ◌&&◌, not, if◌then◌else◌, Bool, true, false, Option, Some, length, slice_get, All, List, [], ◌∷◌, ◌++◌}
 use Rattle.std.specs.Option.{is_some}
 use Rattle.std.specs.Int.{bit_at}
 use Rattle.atomic_table.specs.Seated.{TableId}
@@ -43,12 +43,21 @@ Wakes worker old woken new =
 abbrev pub CalledBelow : ℕ → List Step → List Step → Type 0
 CalledBelow count old since = (worker : ℕ) → worker < count → is_idle worker old ≡ true → was_called worker since ≡ true
 
--- who was idle was called since, or as many were woken as were wanted
-pub record CallsIdle (workers wanted woken : ℕ) (old new : List Step) : Type 0 where
+-- by the number that was found the worker is idle; and it is named by the other number, or is not named
+abbrev pub is_due : (found first : ℕ) → (named : Bool) → ℕ → Bool
+is_due found first true worker = (bit_at found worker == 1) && (bit_at first worker == 1)
+is_due found first false worker = (bit_at found worker == 1) && not (bit_at first worker == 1)
+
+-- of the workers below this number, each that was due was called since
+abbrev pub DueBelow : (ℕ → Bool) → ℕ → List Step → Type 0
+DueBelow due count since = (worker : ℕ) → worker < count → due worker ≡ true → was_called worker since ≡ true
+
+-- who was due was called since, or as many were woken as were wanted
+pub record CallsDue (due : ℕ → Bool) (workers wanted woken : ℕ) (old new : List Step) : Type 0 where
   pub since : List Step
   pub is : new ≡ since ++ old
   pub most : woken ≤ wanted
-  pub each : (woken ≡ wanted) ⊎ CalledBelow workers old since
+  pub each : (woken ≡ wanted) ⊎ DueBelow due workers since
   pub idle : woken + wakes old ≤ wakes new
 
 -- who was idle at the moment of the ring was called since, or as many were woken as were wanted

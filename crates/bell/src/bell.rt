@@ -3,7 +3,7 @@ ghost use Rattle.std.specs.Prelude.{◌≡◌, ◌≤◌, ◌<◌, ◌+◌, ◌=
 ghost use Rattle.bell.specs.declared.step.Step.TheVariants.{Called, Rang};
 ghost use Rattle.bell.specs.History.{is_idle};
 ghost use Rattle.bell.specs.Rule.{IsPassOf, IsNew};
-ghost use Rattle.bell.specs.Calls.{AreListeners, AreListenersOf, AreRingers, AreRingersOf, Calls, CallsIdle, Listens, Makes, Rings, Settles, ShowsIdle, Wakes};
+ghost use Rattle.bell.specs.Calls.{AreListeners, AreListenersOf, AreRingers, AreRingersOf, Calls, CallsDue, Listens, Makes, Rings, Settles, ShowsIdle, Wakes, is_due};
 
 use crate::handles::{Listener, Ringer};
 use crate::wake::{Call, Wake};
@@ -137,8 +137,27 @@ impl Bell {
         ensures bell { ringer.new.bell ≡ ringer.old.bell }
         ensures rang { Rings self.now.workers wanted result ringer.old.history ringer.new.history }
     {
+        self.ring_first(ringer, wanted, 0, wakers)
+    }
+
+    /// The same, where the workers whose bits are set in `first`, the lowest bit that of worker 0, are woken before the
+    /// others.
+    pub fn ring_first<W: Wake>(
+        &self,
+        ringer: &mut Ringer,
+        wanted: usize,
+        first: u64,
+        wakers: &[W],
+    ) -> usize
+        requires bell { ringer.old.bell ≡ self.now.word }
+        requires wakers { length wakers.now ≡ self.now.workers }
+        ensures bell { ringer.new.bell ≡ ringer.old.bell }
+        ensures rang { Rings self.now.workers wanted result ringer.old.history ringer.new.history }
+    {
         let found = self.raise(ringer);
-        self.call_idle(ringer, found, wanted, wakers)
+        let woken = self.call_idle(ringer, found, first, true, wanted, wakers);
+        let others = self.call_idle(ringer, found, first, false, wanted - woken, wakers);
+        woken + others
     }
 
     // Rings. Answers what the word was, which tells who was idle.
@@ -152,27 +171,29 @@ impl Bell {
         word::ring(&self.word, &mut ringer.pass)
     }
 
-    // Wakes those who were idle by this number, until there are as many as are wanted.
+    // Wakes those who were idle by the number that was found and are named by the bits of `first`, or those who are not
+    // named, until there are as many as are wanted.
     fn call_idle<W: Wake>(
         &self,
         ringer: &mut Ringer,
         found: u64,
+        first: u64,
+        named: bool,
         wanted: usize,
         wakers: &[W],
     ) -> usize
         requires bell { ringer.old.bell ≡ self.now.word }
         requires wakers { length wakers.now ≡ self.now.workers }
         requires few { self.now.workers ≤ MOST_WORKERS }
-        requires idle { ShowsIdle found ringer.old.history }
         ensures bell { ringer.new.bell ≡ ringer.old.bell }
-        ensures called { CallsIdle self.now.workers wanted result ringer.old.history ringer.new.history }
+        ensures called { CallsDue (is_due found first named) self.now.workers wanted result ringer.old.history ringer.new.history }
     {
         let mut woken = 0;
         for worker in 0..wakers.len() {
             if woken == wanted {
                 break;
             }
-            if word::has_idle(found, worker) {
+            if word::is_due(found, first, named, worker) {
                 woken += self.call(ringer, worker, wakers);
             }
         }

@@ -6,6 +6,7 @@ ghost use Rattle.std.specs.Int.{bit_at};
 ghost use Rattle.bell.specs.declared.step.Step.TheVariants.{Listened, Settled, Rang, Called};
 ghost use Rattle.bell.specs.Handles.{turn};
 ghost use Rattle.bell.specs.Rule.{IsPassOf, Tells};
+ghost use Rattle.bell.specs.Calls.{is_due as is_due_by};
 
 use crate::step::View;
 use atomic_table::{Play, Seat, Split, Table, TableRule};
@@ -141,4 +142,16 @@ pub fn has_idle(word: u64, worker: usize) -> bool
     ensures { result ≡ (bit_at word worker == 1) }
 {
     word >> worker & 1 == 1
+}
+
+/// Whether the worker is idle by the number that was found, and is named by the other number, or is not named.
+pub fn is_due(found: u64, first: u64, named: bool, worker: usize) -> bool
+    requires { worker < 32 }
+    ensures { result ≡ is_due_by found first named worker }
+{
+    if named {
+        has_idle(found, worker) && has_idle(first, worker)
+    } else {
+        has_idle(found, worker) && !has_idle(first, worker)
+    }
 }
