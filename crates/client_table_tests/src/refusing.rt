@@ -178,6 +178,10 @@ impl Supply<LocalPlace> for Refusing {
         self.broker.offer(slot, connection, message)
     }
 
+    fn may_take(&self, place: &LocalPlace) -> bool {
+        self.broker.may_take(place)
+    }
+
     fn take(&mut self, place: &mut LocalPlace) -> Result<Option<Envelope>, NoMemory> {
         if is_due(&mut self.refused.take) {
             return Err(NoMemory);

@@ -1,5 +1,5 @@
 -- Calls one after the other, by which nothing is offered and nothing is settled, and what they hand out.
-use Rattle.std.proofs.Common.{◌≡◌, ℕ, Bool, true, false, List, [], ◌∷◌, ◌++◌, filter_map, Option, Some, None, Result, Ok, Err, refl, sym, ap, subst, ◌∙◌, inl, inr, ⊎_elim, not, ◌&&◌}
+use Rattle.std.proofs.Common.{◌≡◌, ℕ, Bool, true, false, List, [], ◌∷◌, ◌++◌, filter_map, Option, Some, None, Result, Ok, Err, refl, sym, ap, subst, ◌∙◌, inl, inr, not, ◌&&◌}
 use Rattle.std.proofs.lemmas.List.{map-append}
 use Rattle.std.proofs.lemmas.List.Elements.{filter_map-append}
 use Rattle.mqtt_packet.specs.declared.packet.Packet.{Packet}
@@ -151,10 +151,13 @@ module _ {S P : Type 0} (call : S → Fact P → S → Type 0) where
   HandsSomething old new = (given : List Message) × Plain given old new
 
   taken : (envelopes : List Held) (old new : S) (place place' : P) (window window' : Contents Held) → TakesSome call old place window envelopes place' window' new → HandsSomething old new
-  taken [] old new place place' window window' takes = ([], ⊎_elim (λ none. still old new none.1) (λ no. refused old new place place' no.1) takes.1)
+  taken [] old new place place' window window' (same, inl none) = ([], still old new none.1)
+  taken [] old new place place' window window' (same, inr stop) = ([], behind old old new (one old old _ stop.1 refl refl refl refl) (refused old new place place' stop.2))
   taken (envelope ∷ envelopes) old new place place' window window' takes =
-      let later = taken envelopes takes.2 new takes.1 place' (after_put window takes.0 envelope) window' takes.6 in
-      (envelope.message ∷ later.0, after (envelope.message ∷ []) later.0 old takes.2 new (plain _ old takes.2 (hand_outs.asked_for call (Some envelope) old takes.2 place takes.1 takes.3).calls) later.1)
+      let later = taken envelopes takes.2 new takes.1 place' (after_put window takes.0 envelope) window' takes.7 in
+      let asked = plain _ old takes.2 (hand_outs.asked_for call (Some envelope) old takes.2 place takes.1 takes.4).calls in
+      let first = after [] (envelope.message ∷ []) old old takes.2 (one old old _ takes.3 refl refl refl refl) asked in
+      (envelope.message ∷ later.0, after (envelope.message ∷ []) later.0 old takes.2 new first later.1)
 
   pub handed_some : (old new : S) (membership : Membership P) (window : Contents Held) (membership' : Membership P) (window' : Contents Held)
       → HandsSome call old membership window membership' window' new → HandsSomething old new

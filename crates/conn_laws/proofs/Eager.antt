@@ -1,11 +1,12 @@
 -- Nothing is left to hand out behind a step.
-use Rattle.std.proofs.Common.{◌≡◌, ℕ, List, [], ◌∷◌, Some, None, sym, subst, inl, inr, ⊎_elim}
+use Rattle.std.proofs.Common.{◌≡◌, ℕ, false, List, [], ◌∷◌, Some, None, sym, subst, inl, inr}
 use Rattle.mqtt_packet.specs.declared.packet.Packet.{Packet}
 use Rattle.group_jobs.specs.Stamps.{Held}
 use Rattle.member_window.specs.Contents.{Contents, IsNextResend, HasRoom, after_resend}
 use Rattle.session_desk.specs.declared.session.Membership.{Membership}
 use Rattle.session_desk.specs.declared.session.Membership.TheVariants.{NotMember, Member, Leaving}
 use Rattle.conn_supply.specs.Facts.{Fact}
+use Rattle.conn_supply.specs.Facts.Fact.{MayTake}
 use Rattle.conn_supply.specs.HandOuts.{SendsAgain, AsksFor, SendsNone, SendsFresh, LeavesWith, HandsFresh}
 use Rattle.conn_engine.specs.declared.standing.Standing.{Standing}
 use Rattle.conn_engine.specs.declared.standing.Standing.TheVariants.{Unconnected, Waiting, Connected, Ended}
@@ -23,14 +24,13 @@ all_again (packet ∷ packets) old new sends = all_again packets (after_resend o
 module _ {S P : Type 0} (call : S → Fact P → S → Type 0) where
   asked_last : (old new : S) (place place' : P) (window : Contents Held) → AsksFor call old place None place' new → IsServed call new (Member place') window
   asked_last old new place place' window (inl found) = cc
-  asked_last old new place place' window (inr none) = inr (old, none.1, place, none.0, none.2, none.3)
+  asked_last old new place place' window (inr none) = inr (inl (old, none.1, place, none.0, none.2, none.3))
 
   none_fresh : (old new : S) (place place' : P) (window window' : Contents Held) → SendsNone call old place window place' window' new → IsServed call new (Member place') window'
-  none_fresh old new place place' window window' sends =
-      ⊎_elim
-      (λ (full : ¬ HasRoom window × (place' ≡ place) × (new ≡ old)). inl (λ room. full.0 (subst HasRoom sends.0 room)))
-      (λ (none : HasRoom window × AsksFor call old place None place' new). asked_last old new place place' window' none.1)
-      sends.1
+  none_fresh old new place place' window window' (same, inl full) = inl (λ room. full.0 (subst HasRoom same room))
+  none_fresh old new place place' window window' (same, inr (inl none)) = asked_last old new place place' window' none.2
+  none_fresh old new place place' window window' (same, inr (inr stop)) =
+      inr (inr (subst (λ s. call s (MayTake place' false) s) (sym stop.2) (subst (λ p. call old (MayTake p false) old) (sym stop.1) stop.3)))
 
   all_fresh : (sent : List Packet) (old new : S) (place place' : P) (window window' : Contents Held) → SendsFresh call old place window sent place' window' new
       → Waits window → Waits window' × IsServed call new (Member place') window'

@@ -1,11 +1,11 @@
 -- What is handed out behind a reply: the calls of the supply, those of the session's window, and the marks that these make.
-use Rattle.std.proofs.Common.{◌≡◌, ℕ, true, false, List, [], ◌∷◌, ◌++◌, map, Option, Some, None, Ok, refl, sym, ap, subst, ◌∙◌, inl, inr, ⊎_elim}
+use Rattle.std.proofs.Common.{◌≡◌, ℕ, true, false, List, [], ◌∷◌, ◌++◌, map, Option, Some, None, Ok, refl, sym, ap, subst, ◌∙◌, inl, inr}
 use Rattle.std.specs.List.{AllByRecursion}
 use Rattle.std.proofs.lemmas.List.Elements.{filter_map-append}
 use Rattle.mqtt_packet.specs.declared.packet.Packet.{Packet}
 use Rattle.group_jobs.specs.declared.message.Message.{Message}
 use Rattle.group_jobs.specs.Stamps.{Held}
-use Rattle.member_window.specs.Contents.{Contents, HasRoom, after_resend}
+use Rattle.member_window.specs.Contents.{Contents, after_resend}
 use Rattle.member_window.specs.Calls.{Call, Put, NextResend}
 use Rattle.member_window.specs.Runs.{transcript_of}
 use Rattle.member_window.specs.Runs as windows
@@ -108,13 +108,15 @@ module _ {S P : Type 0} (call : S → Fact P → S → Type 0) where
 
   sent_none : (old new : S) (place place' : P) (window window' : Contents Held) (membership' : Membership P) → SendsNone call old place window place' window' new
       → HandsAt old place window [] place' membership' window' new
-  sent_none old new place place' window window' membership' sends =
-      ⊎_elim
-      (λ (full : ¬ HasRoom window × (place' ≡ place) × (new ≡ old)). (hands_none old new window [] membership' window' refl sends.0 (still call old new full.2), λ (of : P → ℕ) (keeps : KeepsNumbers call of). ap of full.1))
-      (λ (none : HasRoom window × AsksFor call old place None place' new).
-      let asked = asked_for None old new place place' none.1 in
-      (hands_none old new window [] membership' window' refl sends.0 asked.calls, λ (of : P → ℕ) (keeps : KeepsNumbers call of). (asked.stays of keeps).1))
-      sends.1
+  sent_none old new place place' window window' membership' (same, inl full) =
+      (hands_none old new window [] membership' window' refl same (still call old new full.2), λ of keeps. ap of full.1)
+  sent_none old new place place' window window' membership' (same, inr (inl none)) =
+      let asked = asked_for None old new place place' none.2 in
+      let calls = behind call old old new (one call old old _ none.1 tt refl refl refl refl) asked.calls in
+      (hands_none old new window [] membership' window' refl same calls, λ of keeps. (asked.stays of keeps).1)
+  sent_none old new place place' window window' membership' (same, inr (inr stop)) =
+      let calls = behind call old old new (one call old old _ stop.3 tt refl refl refl refl) (still call old new stop.2) in
+      (hands_none old new window [] membership' window' refl same calls, λ of keeps. ap of stop.1)
 
   sent_fresh : (packets : List Packet) (old new : S) (place place' : P) (window window' : Contents Held) (membership' : Membership P) → membership' ≡ Member place'
       → SendsFresh call old place window packets place' window' new → HandsAt old place window packets place' membership' window' new
@@ -122,11 +124,12 @@ module _ {S P : Type 0} (call : S → Fact P → S → Type 0) where
   sent_fresh (packet ∷ packets) old new place place' window window' membership' is sends =
       let first = sends.3 in
       let asked = asked_for (Some first.envelope) old sends.2 place sends.0 first.asked in
+      let one_call = after call [] ((asked.from, first.envelope) ∷ []) old old sends.2 (one call old old _ first.allowed tt refl refl refl refl) asked.calls in
       let others = sent_fresh packets sends.2 new sends.0 place' sends.1 window' membership' is sends.4 in
       let rest = others.0 in (
         record {
           given = (asked.from, first.envelope) ∷ rest.given;
-          calls = after call ((asked.from, first.envelope) ∷ []) rest.given old sends.2 new asked.calls rest.calls;
+          calls = after call ((asked.from, first.envelope) ∷ []) rest.given old sends.2 new one_call rest.calls;
           sends = record {
             calls = Put first.envelope (Ok first.identifier) ∷ rest.sends.calls;
             made = (tt, (sends.1, (first.room, first.free, first.put), rest.sends.made));

@@ -15,7 +15,7 @@ use Rattle.conn_supply.specs.declared.supply.BindRefusal.TheVariants as bind
 use Rattle.conn_supply.specs.declared.supply.OfferRefusal.{OfferRefusal}
 use Rattle.conn_supply.specs.declared.supply.OfferRefusal.TheVariants as offer
 use Rattle.conn_supply.specs.Facts.{Fact}
-use Rattle.conn_supply.specs.Facts.Fact.{Attach, Withdraw, Kicked, Park, ParkAsIs, Keep, Bury, Sweep, LendPlace, TakePlace, Bind, Find, Match, Offer, Take, TakeBack, Settle, GiveBack}
+use Rattle.conn_supply.specs.Facts.Fact.{Attach, Withdraw, Kicked, Park, ParkAsIs, Keep, Bury, Sweep, LendPlace, TakePlace, Bind, Find, Match, Offer, MayTake, Take, TakeBack, Settle, GiveBack}
 use Rattle.conn_laws.specs.Asking.{OneAnswer}
 
 -- calls with the same arguments that are one have the same answer
@@ -45,6 +45,9 @@ match_is topic x y e = cc
 
 offer_is : {P : Type 0} (slot connection : ℕ) (message : Message) (x y : Result Stamp OfferRefusal) → ◌≡◌ {A = Fact P} (Offer slot connection message x) (Offer slot connection message y) → x ≡ y
 offer_is slot connection message x y e = cc
+
+may_take_is : {P : Type 0} (place : P) (x y : Bool) → MayTake place x ≡ MayTake place y → x ≡ y
+may_take_is place x y e = cc
 
 take_place_is : {P : Type 0} (place p q : P) (x y : Option Held) → Take place p (Ok x) ≡ Take place q (Ok y) → p ≡ q
 take_place_is place p q x y e = cc
@@ -125,6 +128,10 @@ module _ {S P : Type 0} (call : S → Fact P → S → Type 0) (AreAlike : S →
       → call a (Offer slot connection message x) a' → call b (Offer slot connection message y) b' → (x ≡ y) × AreAlike a' b'
   offered a a' b b' slot connection message x y alike had also h k =
       let one = answers a b a' b' (Offer slot connection message x) (Offer slot connection message y) alike (y, refl) had also h k in (offer_is {P = P} slot connection message x y one.0, one.1)
+
+  pub allowed : (a a' b b' : S) (place : P) (x y : Bool) → AreAlike a b → call a (MayTake place x) a' → call b (MayTake place y) b' → (x ≡ y) × AreAlike a' b'
+  allowed a a' b b' place x y alike h k =
+      let one = answers a b a' b' (MayTake place x) (MayTake place y) alike (y, refl) tt tt h k in (may_take_is place x y one.0, one.1)
 
   pub taken : (a a' b b' : S) (place p q : P) (x y : Option Held) → AreAlike a b → call a (Take place p (Ok x)) a' → call b (Take place q (Ok y)) b' → (p ≡ q) × (x ≡ y) × AreAlike a' b'
   taken a a' b b' place p q x y alike h k =

@@ -5,7 +5,7 @@ use Rattle.std.proofs.lemmas.Option.{same_Some}
 use Rattle.mqtt_packet.specs.declared.packet.Packet.{Packet}
 use Rattle.group_jobs.specs.Stamps.{Held}
 use Rattle.member_window.specs.Identifiers.{identifiers, IsLeastFree}
-use Rattle.member_window.specs.Contents.{Contents, held_of, HasRoom, IsNextResend, after_put, after_resend}
+use Rattle.member_window.specs.Contents.{Contents, held_of, IsNextResend, after_put, after_resend}
 use Rattle.session_desk.specs.declared.session.Membership.{Membership}
 use Rattle.session_desk.specs.declared.session.Membership.TheVariants.{NotMember, Member, Leaving}
 use Rattle.conn_rules.specs.Packets.{job}
@@ -47,6 +47,9 @@ sent_again (p ∷ ps) (q ∷ qs) old new new' h k =
     let rest = sent_again ps qs (after_resend old (Some h.0)) new new' h.3 (subst (λ (e : ℕ × Held). SendsAgain (after_resend old (Some e)) qs new') (sym entry) k.3) in
     (λ i. packet i ∷ rest.0 i, rest.1)
 
+no_yes : false ≡ true → ⊥
+no_yes e = cc
+
 module _ {S P : Type 0} (call : S → Fact P → S → Type 0) (AreAlike : S → S → Type 0) (answers : OneAnswer call AreAlike) where
   -- a place asks for a message
   asked : (a a' b b' : S) (place p q : P) (x y : Option Held) → AreAlike a b → AsksFor call a place x p a' → AsksFor call b place y q b' → (p ≡ q) × (x ≡ y) × AreAlike a' b'
@@ -74,25 +77,30 @@ module _ {S P : Type 0} (call : S → Fact P → S → Type 0) (AreAlike : S →
 
   -- nothing goes out in the one, and something in the other
   none_and_one : {A : Type 0} (a a' b b' : S) (place p q : P) (window w v : Contents Held) (y : Packet) → AreAlike a b → SendsNone call a place window p w a' → SendsOne call b place window y q v b' → A
-  none_and_one a a' b b' place p q window w v y alike h k =
-      ⊎_elim
-      (λ (full : (¬ HasRoom window) × (p ≡ place) × (a' ≡ a)). absurd (full.0 k.room))
-      (λ (none : HasRoom window × AsksFor call a place None p a'). absurd (none_some k.envelope (asked a a' b b' place p q None (Some k.envelope) alike none.1 k.asked).1))
-      h.1
+  none_and_one a a' b b' place p q window w v y alike (is, inl full) k = absurd (full.0 k.room)
+  none_and_one a a' b b' place p q window w v y alike (is, inr (inl none)) k =
+      absurd (none_some k.envelope (asked a a' b b' place p q None (Some k.envelope) alike none.2 k.asked).1)
+  none_and_one a a' b b' place p q window w v y alike (is, inr (inr stop)) k = absurd (no_yes (calls.allowed call AreAlike answers a a b b place false true alike stop.3 k.allowed).0)
 
   one_and_none : {A : Type 0} (a a' b b' : S) (place p q : P) (window w v : Contents Held) (x : Packet) → AreAlike a b → SendsOne call a place window x p w a' → SendsNone call b place window q v b' → A
-  one_and_none a a' b b' place p q window w v x alike h k =
-      ⊎_elim
-      (λ (full : (¬ HasRoom window) × (q ≡ place) × (b' ≡ b)). absurd (full.0 h.room))
-      (λ (none : HasRoom window × AsksFor call b place None q b'). absurd (none_some h.envelope (sym (asked a a' b b' place p q (Some h.envelope) None alike h.asked none.1).1)))
-      k.1
+  one_and_none a a' b b' place p q window w v x alike h (is, inl full) = absurd (full.0 h.room)
+  one_and_none a a' b b' place p q window w v x alike h (is, inr (inl none)) =
+      absurd (none_some h.envelope (sym (asked a a' b b' place p q (Some h.envelope) None alike h.asked none.2).1))
+  one_and_none a a' b b' place p q window w v x alike h (is, inr (inr stop)) =
+      absurd (no_yes (sym (calls.allowed call AreAlike answers a a b b place true false alike h.allowed stop.3).0))
 
   sent_none : (a a' b b' : S) (place p q : P) (window w v : Contents Held) → AreAlike a b → SendsNone call a place window p w a' → SendsNone call b place window q v b' → (p ≡ q) × (w ≡ v) × AreAlike a' b'
   sent_none a a' b b' place p q window w v alike (is, inl h) (also, inl k) = (h.1 ∙ sym k.1, is ∙ sym also, calls.still call AreAlike answers a a' b b' alike h.2 k.2)
-  sent_none a a' b b' place p q window w v alike (is, inl h) (also, inr k) = absurd (h.0 k.0)
-  sent_none a a' b b' place p q window w v alike (is, inr h) (also, inl k) = absurd (k.0 h.0)
-  sent_none a a' b b' place p q window w v alike (is, inr h) (also, inr k) =
-      let one = asked a a' b b' place p q None None alike h.1 k.1 in (one.0, is ∙ sym also, one.2)
+  sent_none a a' b b' place p q window w v alike (is, inl h) (also, inr (inl k)) = absurd (h.0 k.0)
+  sent_none a a' b b' place p q window w v alike (is, inl h) (also, inr (inr k)) = absurd (h.0 k.0)
+  sent_none a a' b b' place p q window w v alike (is, inr (inl h)) (also, inl k) = absurd (k.0 h.0)
+  sent_none a a' b b' place p q window w v alike (is, inr (inr h)) (also, inl k) = absurd (k.0 h.0)
+  sent_none a a' b b' place p q window w v alike (is, inr (inl h)) (also, inr (inl k)) =
+      let one = asked a a' b b' place p q None None alike h.2 k.2 in (one.0, is ∙ sym also, one.2)
+  sent_none a a' b b' place p q window w v alike (is, inr (inl h)) (also, inr (inr k)) = absurd (no_yes (sym (calls.allowed call AreAlike answers a a b b place true false alike h.1 k.3).0))
+  sent_none a a' b b' place p q window w v alike (is, inr (inr h)) (also, inr (inl k)) = absurd (no_yes (calls.allowed call AreAlike answers a a b b place false true alike h.3 k.1).0)
+  sent_none a a' b b' place p q window w v alike (is, inr (inr h)) (also, inr (inr k)) =
+      (h.1 ∙ sym k.1, is ∙ sym also, calls.still call AreAlike answers a a' b b' alike h.2 k.2)
 
   sent_fresh : (xs ys : List Packet) (a a' b b' : S) (place p q : P) (window w v : Contents Held) → AreAlike a b
       → SendsFresh call a place window xs p w a' → SendsFresh call b place window ys q v b' → (xs ≡ ys) × (p ≡ q) × (w ≡ v) × AreAlike a' b'

@@ -1,15 +1,15 @@
 -- What was given back is handed out first, among the calls of a step.
-use Rattle.std.proofs.Common.{◌≡◌, ℕ, List, [], ◌∷◌, ◌++◌, Option, Some, None, Ok, refl, inl, inr, ⊎_elim}
+use Rattle.std.proofs.Common.{◌≡◌, ℕ, true, false, List, [], ◌∷◌, ◌++◌, Option, Some, None, Ok, refl, inl, inr}
 use Rattle.std.specs.List.{cons_option}
 use Rattle.mqtt_packet.specs.declared.packet.Packet.{Packet}
 use Rattle.group_jobs.specs.Stamps.{Held}
-use Rattle.member_window.specs.Contents.{Contents, HasRoom}
+use Rattle.member_window.specs.Contents.{Contents}
 use Rattle.session_desk.specs.declared.session.Membership.{Membership}
 use Rattle.session_desk.specs.declared.session.Membership.TheVariants.{NotMember, Member, Leaving}
 use Rattle.conn_supply.specs.declared.reply.Then.{Then}
 use Rattle.conn_supply.specs.declared.reply.Reply.{Reply}
 use Rattle.conn_supply.specs.Facts.{Fact}
-use Rattle.conn_supply.specs.Facts.Fact.{Take, TakeBack, TakePlace}
+use Rattle.conn_supply.specs.Facts.Fact.{MayTake, Take, TakeBack, TakePlace}
 use Rattle.conn_supply.specs.HandOuts.{AsksFor, SendsNone, SendsFresh, LeavesWith, HandsFresh}
 use Rattle.conn_engine.specs.declared.input.Input.{Input}
 use Rattle.conn_engine.specs.declared.standing.Standing.{Standing}
@@ -82,17 +82,16 @@ module _ {S P : Type 0} (call : S → Fact P → S → Type 0) where
       }
 
   sent_none : (old new : S) (place place' : P) (window window' : Contents Held) → SendsNone call old place window place' window' new → CallsReturnedFirst call old new
-  sent_none old new place place' window window' sends =
-      ⊎_elim
-      (λ (full : ¬ HasRoom window × (place' ≡ place) × (new ≡ old)). none old new full.2)
-      (λ (asked : HasRoom window × AsksFor call old place None place' new). asked_for None old new place place' asked.1)
-      sends.1
+  sent_none old new place place' window window' (same, inl full) = none old new full.2
+  sent_none old new place place' window window' (same, inr (inl asked)) = behind old old new (one old old (MayTake place true) asked.1 tt) (asked_for None old new place place' asked.2)
+  sent_none old new place place' window window' (same, inr (inr stop)) = behind old old new (one old old (MayTake place false) stop.3 tt) (none old new stop.2)
 
   sent_fresh : (packets : List Packet) (old new : S) (place place' : P) (window window' : Contents Held) → SendsFresh call old place window packets place' window' new
       → CallsReturnedFirst call old new
   sent_fresh [] old new place place' window window' sends = sent_none old new place place' window window' sends
   sent_fresh (packet ∷ packets) old new place place' window window' sends =
-      behind old sends.2 new (asked_for (Some sends.3.envelope) old sends.2 place sends.0 sends.3.asked) (sent_fresh packets sends.2 new sends.0 place' sends.1 window' sends.4)
+      let first = behind old old sends.2 (one old old (MayTake place true) sends.3.allowed tt) (asked_for (Some sends.3.envelope) old sends.2 place sends.0 sends.3.asked) in
+      behind old sends.2 new first (sent_fresh packets sends.2 new sends.0 place' sends.1 window' sends.4)
 
   left_with : (old new : S) (place : P) (window : Contents Held) (membership : Membership P) → LeavesWith call old place window membership new → CallsReturnedFirst call old new
   left_with old new place window membership (inl gone) = one old new (TakePlace place) gone.2 tt

@@ -5,7 +5,7 @@ use Rattle.mqtt_packet.specs.declared.packet.Packet.TheVariants as packets
 use Rattle.mqtt_packet.specs.declared.packet.Publish.{Publish}
 use Rattle.group_jobs.specs.declared.message.Message.{Message}
 use Rattle.group_jobs.specs.Stamps.{Held}
-use Rattle.member_window.specs.Contents.{Contents, HasRoom, after_put}
+use Rattle.member_window.specs.Contents.{Contents, after_put}
 use Rattle.session_desk.specs.declared.session.Membership.{Membership}
 use Rattle.conn_rules.specs.Publishing.{message_of}
 use Rattle.conn_supply.specs.Facts.{Fact}
@@ -46,14 +46,12 @@ module _ {S P : Type 0} (call : S → Fact P → S → Type 0) where
 
   taken : (envelopes : List Held) (old new : S) (place place' : P) (window window' : Contents Held) → TakesSome call old place window envelopes place' window' new
       → CallsReturnedFirst call old new
-  taken [] old new place place' window window' takes =
-      ⊎_elim
-      (λ (nothing : (place' ≡ place) × (new ≡ old)). none call old new nothing.1)
-      (λ (no : HasRoom window × IsRefused call old place place' new). refused old new place place' no.1)
-      takes.1
+  taken [] old new place place' window window' (same, inl nothing) = none call old new nothing.1
+  taken [] old new place place' window window' (same, inr stop) = behind call old old new (one call old old _ stop.1 tt) (refused old new place place' stop.2)
   taken (envelope ∷ envelopes) old new place place' window window' takes =
-      behind call old takes.2 new (asked_for call (Some envelope) old takes.2 place takes.1 takes.3)
-      (taken envelopes takes.2 new takes.1 place' (after_put window takes.0 envelope) window' takes.6)
+      behind call old old new (one call old old _ takes.3 tt) (
+      behind call old takes.2 new (asked_for call (Some envelope) old takes.2 place takes.1 takes.4)
+      (taken envelopes takes.2 new takes.1 place' (after_put window takes.0 envelope) window' takes.7))
 
   handed_some : (old new : S) (membership : Membership P) (window : Contents Held) (membership' : Membership P) (window' : Contents Held)
       → HandsSome call old membership window membership' window' new → CallsReturnedFirst call old new

@@ -12,7 +12,7 @@ use Rattle.conn_supply.specs.declared.supply.OfferRefusal.{OfferRefusal}
 use Rattle.conn_supply.specs.declared.supply.OfferRefusal.TheVariants as offer
 use Rattle.conn_supply.specs.declared.supply.NoMemory.{NoMemory}
 use Rattle.conn_supply.specs.Facts.{Fact}
-use Rattle.conn_supply.specs.Facts.Fact.{Attach, Withdraw, Kicked, Park, ParkAsIs, Keep, Bury, Sweep, LendPlace, TakePlace, Bind, Find, Match, Offer, Take, TakeBack, Settle, GiveBack}
+use Rattle.conn_supply.specs.Facts.Fact.{Attach, Withdraw, Kicked, Park, ParkAsIs, Keep, Bury, Sweep, LendPlace, TakePlace, Bind, Find, Match, Offer, MayTake, Take, TakeBack, Settle, GiveBack}
 
 -- another call asks the same: it has the same arguments, and its own answer
 abbrev pub IsSameQuestion : {P : Type 0} → Fact P → Fact P → Type 0
@@ -30,6 +30,7 @@ IsSameQuestion (Bind share answer) other = (its : Result ℕ BindRefusal) × (ot
 IsSameQuestion (Find share answer) other = (its : Option ℕ) × (other ≡ Find share its)
 IsSameQuestion (Match topic slots) other = (its : List ℕ) × (other ≡ Match topic its)
 IsSameQuestion (Offer slot connection message answer) other = (its : Result Stamp OfferRefusal) × (other ≡ Offer slot connection message its)
+IsSameQuestion (MayTake place answer) other = (its : Bool) × (other ≡ MayTake place its)
 IsSameQuestion {P} (Take place place' answer) other = (after : P) × (its : Result (Option Held) NoMemory) × (other ≡ Take place after its)
 IsSameQuestion {P} (TakeBack place place' answer) other = (after : P) × (its : Result (Option Held) NoMemory) × (other ≡ TakeBack place after its)
 IsSameQuestion {P} (Settle place place' envelope fate) other = (after : P) × (other ≡ Settle place after envelope fate)

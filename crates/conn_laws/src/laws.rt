@@ -34,7 +34,7 @@ pub fn ended_law<P: HoldingPlace, S: Supply<P>>()
 
 /// **Nothing is left to hand out** behind a step that leaves a client with its session: no message waits to be sent again that the
 /// quota has room for; and where the session is a member's, its window has no room for another message, or there was none, when it
-/// was asked for last.
+/// was asked for last, or the supply's last answer was that the place is to be handed no more now.
 pub fn eager_law<P: HoldingPlace, S: Supply<P>>()
     ensures { (number now : ℕ) (standing : Standing P) (link : Link P) (input : Input) (packets : List Packet) (next : Then) (old new : S) →
         Steps S.call P.slot_of old number standing now input packets next (standings.Connected link) new →

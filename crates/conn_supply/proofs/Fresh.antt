@@ -1,10 +1,11 @@
 -- What is sent, one message after the other.
-use Rattle.std.proofs.Common.{◌≡◌, ℕ, List, [], ◌∷◌, ◌++◌, Some, refl, ap, subst, ◌∙◌, append_assoc, inl}
+use Rattle.std.proofs.Common.{◌≡◌, ℕ, List, [], ◌∷◌, ◌++◌, true, Some, refl, ap, subst, ◌∙◌, append_assoc, inl}
 use Rattle.mqtt_packet.specs.declared.packet.Packet.{Packet}
 use Rattle.group_jobs.specs.Stamps.{Held}
 use Rattle.member_window.specs.Identifiers.{identifiers, IsLeastFree}
 use Rattle.member_window.specs.Contents.{Contents, HasRoom, held_of, after_put}
 use Rattle.conn_supply.specs.Facts.{Fact}
+use Rattle.conn_supply.specs.Facts.Fact.{MayTake}
 use Rattle.conn_supply.specs.HandOuts.{AsksFor, SendsOne, SendsFresh, TakesSome}
 
 -- packets behind packets
@@ -25,11 +26,11 @@ module _ {S P : Type 0} (call : S → Fact P → S → Type 0) where
       → (all : List Held) × TakesSome call old place window all place' window' new
   one_more_taken old mid new place between place' window window_between window' packet taken sends more = (
     sends.envelope ∷ taken,
-    (sends.identifier, between, mid, sends.asked, sends.free, sends.room, subst (λ w. TakesSome call mid between w taken place' window' new) sends.put more),
+    (sends.identifier, between, mid, sends.allowed, sends.asked, sends.free, sends.room, subst (λ w. TakesSome call mid between w taken place' window' new) sends.put more),
   )
 
   pub taken_one : (old new : S) (place place' : P) (window window' : Contents Held) (envelope : Held) (identifier : ℕ) → HasRoom window
-      → AsksFor call old place (Some envelope) place' new → IsLeastFree (identifiers (held_of window)) identifier → window' ≡ after_put window identifier envelope
+      → call old (MayTake place true) old → AsksFor call old place (Some envelope) place' new → IsLeastFree (identifiers (held_of window)) identifier → window' ≡ after_put window identifier envelope
       → (all : List Held) × TakesSome call old place window all place' window' new
-  taken_one old new place place' window window' envelope identifier room asked free put =
-      (envelope ∷ [], (identifier, place', new, asked, free, room, (put, inl (refl, refl))))
+  taken_one old new place place' window window' envelope identifier room allowed asked free put =
+      (envelope ∷ [], (identifier, place', new, allowed, asked, free, room, (put, inl (refl, refl))))

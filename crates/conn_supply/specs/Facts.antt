@@ -32,6 +32,8 @@ pub data Fact (P : Type 0) : Type 0 where
   Match : (topic : List ℕ) → (slots : List ℕ) → Fact P
   -- who has which message; a place is as it was, and as it is then
   Offer : (slot connection : ℕ) → (message : Message) → (answer : Result Stamp OfferRefusal) → Fact P
+  -- whether a place is to be handed one more message
+  MayTake : (place : P) → (answer : Bool) → Fact P
   Take : (old new : P) → (answer : Result (Option Held) NoMemory) → Fact P
   TakeBack : (old new : P) → (answer : Result (Option Held) NoMemory) → Fact P
   Settle : (old new : P) → (envelope : Held) → (fate : Fate) → Fact P

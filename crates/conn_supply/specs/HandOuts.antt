@@ -9,7 +9,7 @@ use Rattle.session_desk.specs.declared.session.Membership.TheVariants.{NotMember
 use Rattle.conn_rules.specs.Packets.{job}
 use Rattle.conn_supply.specs.declared.supply.NoMemory.{NoMemory}
 use Rattle.conn_supply.specs.Facts.{Fact}
-use Rattle.conn_supply.specs.Facts.Fact.{Take, TakeBack, TakePlace}
+use Rattle.conn_supply.specs.Facts.Fact.{MayTake, Take, TakeBack, TakePlace}
 
 -- what waits is sent again, the oldest first, with DUP 1 and under its own identifier, until the quota is used up or nothing waits (4.4)
 abbrev pub SendsAgain : Contents Held → List Packet → Contents Held → Type 0
@@ -47,23 +47,26 @@ module _ {S P : Type 0} (call : S → Fact P → S → Type 0) where
       ((refusal : NoMemory) × call old (TakeBack place place' (Err refusal)) new)
       ⊎ ((refusal : NoMemory) × (between : P) × (mid : S) × call old (TakeBack place between (Ok None)) mid × call mid (Take between place' (Err refusal)) new)
 
-  -- a message that the place is handed goes out with DUP 0, under the least free identifier
+  -- a message that the place is handed, where there is room and the supply allows one more, goes out with DUP 0, under the least free identifier
   pub record SendsOne (old : S) (place : P) (window : Contents Held) (packet : Packet) (place' : P) (window' : Contents Held) (new : S) : Type 0 where
     pub envelope : Held
     pub identifier : ℕ
     pub room : HasRoom window
+    pub allowed : call old (MayTake place true) old
     pub asked : AsksFor old place (Some envelope) place' new
     pub free : IsLeastFree (identifiers (held_of window)) identifier
     pub put : window' ≡ after_put window identifier envelope
     pub sent : packet ≡ job false envelope.message identifier
 
-  -- there is no room, or there is none for the place
+  -- there is no room; or there is none for the place; or the supply allows no more now, and nothing has changed
   abbrev pub SendsNone : S → P → Contents Held → P → Contents Held → S → Type 0
   SendsNone old place window place' window' new =
       (window' ≡ window)
-      × ((¬ HasRoom window × (place' ≡ place) × (new ≡ old)) ⊎ (HasRoom window × AsksFor old place None place' new))
+      × ((¬ HasRoom window × (place' ≡ place) × (new ≡ old))
+      ⊎ (HasRoom window × call old (MayTake place true) old × AsksFor old place None place' new)
+      ⊎ (HasRoom window × (place' ≡ place) × (new ≡ old) × call old (MayTake place false) old))
 
-  -- messages go out while there is room, until there is none for the place
+  -- messages go out while there is room, until there is none for the place or the supply allows no more
   abbrev pub SendsFresh : S → P → Contents Held → List Packet → P → Contents Held → S → Type 0
   SendsFresh old place window [] place' window' new = SendsNone old place window place' window' new
   SendsFresh old place window (packet ∷ packets) place' window' new =
@@ -93,12 +96,12 @@ module _ {S P : Type 0} (call : S → Fact P → S → Type 0) where
     pub sent_again : SendsAgain window again between
     pub sent_fresh : HandsFresh old membership between fresh membership' window' new
 
-  -- where memory was wanted, what is held stays, and these messages were put behind it, each where there was room
+  -- where memory was wanted, what is held stays, and these messages were put behind it, each where there was room and the supply allowed one more
   abbrev pub TakesSome : S → P → Contents Held → List Held → P → Contents Held → S → Type 0
   TakesSome old place window [] place' window' new =
-      (window' ≡ window) × (((place' ≡ place) × (new ≡ old)) ⊎ (HasRoom window × IsRefused old place place' new))
+      (window' ≡ window) × (((place' ≡ place) × (new ≡ old)) ⊎ (HasRoom window × call old (MayTake place true) old × IsRefused old place place' new))
   TakesSome old place window (envelope ∷ envelopes) place' window' new =
-      (identifier : ℕ) × (between : P) × (mid : S) × AsksFor old place (Some envelope) between mid
+      (identifier : ℕ) × (between : P) × (mid : S) × call old (MayTake place true) old × AsksFor old place (Some envelope) between mid
       × IsLeastFree (identifiers (held_of window)) identifier × HasRoom window
       × TakesSome mid between (after_put window identifier envelope) envelopes place' window' new
 

@@ -104,7 +104,7 @@ fn identifier_of(number: u16) -> PacketIdentifier
     }
 }
 
-/// Hands messages to a place, and sends them, while there is room.
+/// Hands messages to a place, and sends them, while there is room and the supply allows one more.
 #[tactic(auto, using(crate::proofs::Fresh::one_more_sent))]
 fn send_fresh<P: HoldingPlace, S: Supply<P>>(
     supply: &mut S,
@@ -132,7 +132,7 @@ fn send_fresh<P: HoldingPlace, S: Supply<P>>(
     }
 }
 
-/// Hands a message to a place, where there is room and a message, and gives its packet.
+/// Hands a message to a place, where there is room, the supply allows one more and has one, and gives its packet.
 fn next_fresh<P: HoldingPlace, S: Supply<P>>(
     supply: &mut S,
     place: &mut P,
@@ -149,6 +149,9 @@ fn next_fresh<P: HoldingPlace, S: Supply<P>>(
     ensures visiting { S.visiting supply.new ≡ S.visiting supply.old }
 {
     if !window.room() {
+        return Ok(None);
+    }
+    if !supply.may_take(place) {
         return Ok(None);
     }
     match ask(supply, place) {

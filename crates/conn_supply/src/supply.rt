@@ -1,7 +1,7 @@
 //! What a connection asks: who has which session, which share is bound to which slot, and who has which message.
 ghost use Rattle.std.specs.Prelude.{◌≡◌, ◌<◌, ◌≤◌, [], List, length, IfOk, IfErr, IfSome, Bool, true, ⊤};
 ghost use Rattle.conn_supply.specs.Facts.{Fact};
-ghost use Rattle.conn_supply.specs.Facts.Fact.{Attach, Withdraw, Kicked, Park, ParkAsIs, Keep, Bury, Sweep, LendPlace, TakePlace, Bind, Find, Match, Offer, Take, TakeBack, Settle, GiveBack};
+ghost use Rattle.conn_supply.specs.Facts.Fact.{Attach, Withdraw, Kicked, Park, ParkAsIs, Keep, Bury, Sweep, LendPlace, TakePlace, Bind, Find, Match, Offer, MayTake, Take, TakeBack, Settle, GiveBack};
 ghost use Rattle.conn_supply.specs.Holding.{IsAmong, IsOutAtPlace, FindsOut, SpendsOut, ReturnsOut};
 ghost use Rattle.conn_supply.specs.Ready.{IsReady, IsSoundSession};
 ghost use Rattle.group_jobs.specs.Stamps.{Held};
@@ -208,6 +208,10 @@ pub trait Supply<P: HoldingPlace> {
         requires { visiting self.old ≡ true }
         ensures called { call self.old (Offer slot connection message result) self.new }
         ensures visiting { visiting self.new ≡ visiting self.old };
+
+    /// Whether one more message is to be handed to a place now. It changes nothing: who is told no asks again at a later step.
+    fn may_take(&self, place: &P) -> bool
+        ensures { call self.now (MayTake place.now result) self.now };
 
     /// Hands the oldest queued message to a place; `None` where nothing is queued, or the broker is closed.
     fn take(&mut self, place: &mut P) -> Result<Option<Envelope>, NoMemory>

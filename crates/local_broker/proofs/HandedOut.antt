@@ -18,7 +18,7 @@ use Rattle.local_group.specs.Groups.{Group, Adds, Settles, Closes}
 use Rattle.conn_supply.specs.declared.supply.NoMemory.{NoMemory}
 use Rattle.conn_supply.specs.declared.supply.OfferRefusal.{OfferRefusal}
 use Rattle.conn_supply.specs.Facts.{Fact}
-use Rattle.conn_supply.specs.Facts.Fact.{Attach, Withdraw, Kicked, Park, ParkAsIs, Keep, Bury, Sweep, LendPlace, TakePlace, Bind, Find, Match, Offer, Take, TakeBack, Settle, GiveBack}
+use Rattle.conn_supply.specs.Facts.Fact.{Attach, Withdraw, Kicked, Park, ParkAsIs, Keep, Bury, Sweep, LendPlace, TakePlace, Bind, Find, Match, Offer, MayTake, Take, TakeBack, Settle, GiveBack}
 use Rattle.local_broker.specs.Places.{GroupPlace}
 use Rattle.local_broker.specs.Groups.{InGroup, ClosesEach, IsOffered, HandsOut, HandsOutAgain, IsOutAt, IsSettled, IsGivenBack, LetsGo}
 use Rattle.local_broker.specs.Broker.{Broker, IsNewBroker}
@@ -177,6 +177,7 @@ since (Bind share answer) old new does slot group there = since_same old.groups 
 since (Find share answer) old new does slot group there = since_same old.groups new.groups (ap (λ b. b.groups) does.1) slot group there
 since (Match topic slots) old new does slot group there = since_same old.groups new.groups (ap (λ b. b.groups) does.1) slot group there
 since (Offer at connection message answer) old new does slot group there = since_offer old.groups new.groups at connection message answer does.0 slot group there
+since (MayTake place answer) old new does slot group there = since_same old.groups new.groups (ap (λ b. b.groups) does.1) slot group there
 since (Take place place' answer) old new does slot group there =
     subst (Since old.groups slot group) (taken_seen answer place place' slot) (
     since_in old.groups new.groups place.slot _ (given_to place.number answer) (λ before after is. handed answer before after place.number is) does.0 slot group there)

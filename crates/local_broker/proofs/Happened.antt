@@ -17,7 +17,7 @@ use Rattle.local_group.specs.Groups.{Group}
 use Rattle.local_group.proofs.Steps.{goes_on}
 use Rattle.conn_supply.specs.declared.supply.OfferRefusal.{OfferRefusal}
 use Rattle.conn_supply.specs.Facts.{Fact}
-use Rattle.conn_supply.specs.Facts.Fact.{Attach, Withdraw, Kicked, Park, ParkAsIs, Keep, Bury, Sweep, LendPlace, TakePlace, Bind, Find, Match, Offer, Take, TakeBack, Settle, GiveBack}
+use Rattle.conn_supply.specs.Facts.Fact.{Attach, Withdraw, Kicked, Park, ParkAsIs, Keep, Bury, Sweep, LendPlace, TakePlace, Bind, Find, Match, Offer, MayTake, Take, TakeBack, Settle, GiveBack}
 use Rattle.local_broker.specs.Places.{GroupPlace, cell_of}
 use Rattle.local_broker.specs.Groups.{InGroup, ClosesEach}
 use Rattle.local_broker.specs.Broker.{Broker, IsClosed, IsNewBroker}
@@ -48,6 +48,7 @@ law_next old new (Bind share answer) law does = same_desk old new law does.1.des
 law_next old new (Find share answer) law does = same_desk old new law (ap (λ b. b.desk) does.1)
 law_next old new (Match topic slots) law does = same_desk old new law (ap (λ b. b.desk) does.1)
 law_next old new (Offer slot connection message answer) law does = same_desk old new law does.1.desk
+law_next old new (MayTake place answer) law does = same_desk old new law (ap (λ b. b.desk) does.1)
 law_next old new (Take place place' answer) law does = same_desk old new law does.2.desk
 law_next old new (TakeBack place place' answer) law does = same_desk old new law does.2.desk
 law_next old new (Settle place place' envelope fate) law does = same_desk old new law does.2.desk
@@ -110,6 +111,7 @@ came old new (Bind share answer) does = came_same old.groups new.groups does.1.g
 came old new (Find share answer) does = came_same old.groups new.groups (ap (λ b. b.groups) does.1)
 came old new (Match topic slots) does = came_same old.groups new.groups (ap (λ b. b.groups) does.1)
 came old new (Offer slot connection message answer) does = came_offer old.groups new.groups slot connection message answer does.0
+came old new (MayTake place answer) does = came_same old.groups new.groups (ap (λ b. b.groups) does.1)
 came old new (Take place place' answer) does = came_in old.groups new.groups place.slot _ (λ before after is. handed before after place.number answer is) does.0
 came old new (TakeBack place place' answer) does = came_in old.groups new.groups place.slot _ (λ before after is. handed_again before after place.number answer is) does.0
 came old new (Settle place place' envelope fate) does = came_in old.groups new.groups place.slot _ (λ before after is. settled before after place.number envelope fate is) does.0

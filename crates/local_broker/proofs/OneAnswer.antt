@@ -21,7 +21,7 @@ use Rattle.conn_supply.specs.declared.supply.BindRefusal.TheVariants as bind
 use Rattle.conn_supply.specs.declared.supply.OfferRefusal.{OfferRefusal}
 use Rattle.conn_supply.specs.declared.supply.OfferRefusal.TheVariants as refusal
 use Rattle.conn_supply.specs.Facts.{Fact}
-use Rattle.conn_supply.specs.Facts.Fact.{Attach, Withdraw, Kicked, Park, ParkAsIs, Keep, Bury, Sweep, LendPlace, TakePlace, Bind, Find, Match, Offer, Take, TakeBack, Settle, GiveBack}
+use Rattle.conn_supply.specs.Facts.Fact.{Attach, Withdraw, Kicked, Park, ParkAsIs, Keep, Bury, Sweep, LendPlace, TakePlace, Bind, Find, Match, Offer, MayTake, Take, TakeBack, Settle, GiveBack}
 use Rattle.conn_laws.specs.Asking.{IsSameQuestion, HadMemory}
 use Rattle.local_broker.specs.Places.{GroupPlace, cell_of}
 use Rattle.local_broker.specs.Groups.{IsOffered, HandsOut, HandsOutAgain, IsSettled, IsGivenBack}
@@ -165,6 +165,8 @@ module _ (one other one' other' : Broker) (alike : AreAlike one other) where
       let b' = rw asks.1 at b in
       let done = one_offered one.groups other.groups one'.groups other'.groups slot connection message x asks.0 alike.groups had (rw asks.1 at also) a.0 b'.0 in
       told (Offer slot connection message) x asks.0 its asks.1 (done.0, groups_alike a.1 b'.1 done.1)
+  one_answer (MayTake place x) its law asks had also a b =
+      let b' = rw asks.1 at b in told (MayTake place) x asks.0 its asks.1 (a.0 ∙ sym b'.0, same a.1 b'.1)
   one_answer (Take place after x) its law asks had also a b =
       let b' = rw asks.2 at b in
       let also' = rw asks.2 at also in

@@ -9,7 +9,7 @@ use Rattle.group_jobs.specs.Stamps.{Held}
 use Rattle.local_group.specs.Groups.{Group}
 use Rattle.conn_supply.specs.declared.supply.OfferRefusal.{OfferRefusal}
 use Rattle.conn_supply.specs.Facts.{Fact}
-use Rattle.conn_supply.specs.Facts.Fact.{Attach, Withdraw, Kicked, Park, ParkAsIs, Keep, Bury, Sweep, LendPlace, TakePlace, Bind, Find, Match, Offer, Take, TakeBack, Settle, GiveBack}
+use Rattle.conn_supply.specs.Facts.Fact.{Attach, Withdraw, Kicked, Park, ParkAsIs, Keep, Bury, Sweep, LendPlace, TakePlace, Bind, Find, Match, Offer, MayTake, Take, TakeBack, Settle, GiveBack}
 use Rattle.local_broker.specs.Places.{GroupPlace}
 use Rattle.local_broker.specs.Groups.{InGroup, HasGroup, IsOutAt, ClosesEach}
 use Rattle.local_broker.specs.Broker.{Broker}
@@ -75,6 +75,7 @@ stays_out old new (Bind share answer) place envelope has does other = same old.g
 stays_out old new (Find share answer) place envelope has does other = same old.groups new.groups place.slot _ (ap (λ b. b.groups) does.1) has
 stays_out old new (Match topic slots) place envelope has does other = same old.groups new.groups place.slot _ (ap (λ b. b.groups) does.1) has
 stays_out old new (Offer slot connection message answer) place envelope has does other = along_offer old.groups new.groups slot connection message answer place envelope does.0 has
+stays_out old new (MayTake to answer) place envelope has does other = same old.groups new.groups place.slot _ (ap (λ b. b.groups) does.1) has
 stays_out old new (Take to to' answer) place envelope has does other =
     along old.groups new.groups to.slot _ place.slot _ (λ one next is out. handed one next to.number answer place.number envelope is out) does.0 has
 stays_out old new (TakeBack to to' answer) place envelope has does other =

@@ -16,7 +16,7 @@ use Rattle.local_group.specs.Groups.{Group, Adds, Settles, Closes}
 use Rattle.conn_supply.specs.declared.supply.NoMemory.{NoMemory}
 use Rattle.conn_supply.specs.declared.supply.OfferRefusal.{OfferRefusal}
 use Rattle.conn_supply.specs.Facts.{Fact}
-use Rattle.conn_supply.specs.Facts.Fact.{Attach, Withdraw, Kicked, Park, ParkAsIs, Keep, Bury, Sweep, LendPlace, TakePlace, Bind, Find, Match, Offer, Take, TakeBack, Settle, GiveBack}
+use Rattle.conn_supply.specs.Facts.Fact.{Attach, Withdraw, Kicked, Park, ParkAsIs, Keep, Bury, Sweep, LendPlace, TakePlace, Bind, Find, Match, Offer, MayTake, Take, TakeBack, Settle, GiveBack}
 use Rattle.conn_laws.specs.Calls.{offer_of, offered, MakesAll}
 use Rattle.conn_laws.specs.Publishers.{AreFrom, CallsFrom}
 use Rattle.local_broker.specs.Places.{GroupPlace}
@@ -150,6 +150,7 @@ called (Find share answer) port old new from does = still (AcceptsThrough port) 
 called (Match topic slots) port old new from does = still (AcceptsThrough port) old new (ap (λ b. b.groups) does.1)
 called (Offer slot connection message answer) port old new from does =
     subst (λ (n : ℕ). AllAddOnly (AcceptsThrough n) old new) from (through old new slot connection message answer does.0)
+called (MayTake place answer) port old new from does = still (AcceptsThrough port) old new (ap (λ b. b.groups) does.1)
 called (Take place place' answer) port old new from does =
     in_one (AcceptsThrough port) old new place.slot _ (λ before after is. is_handed answer port before after place.number is) does.0
 called (TakeBack place place' answer) port old new from does =

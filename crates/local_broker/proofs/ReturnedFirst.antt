@@ -11,7 +11,7 @@ use Rattle.local_group.specs.Groups.{Group}
 use Rattle.conn_supply.specs.declared.supply.NoMemory.{NoMemory}
 use Rattle.conn_supply.specs.declared.supply.OfferRefusal.{OfferRefusal}
 use Rattle.conn_supply.specs.Facts.{Fact}
-use Rattle.conn_supply.specs.Facts.Fact.{Attach, Withdraw, Kicked, Park, ParkAsIs, Keep, Bury, Sweep, LendPlace, TakePlace, Bind, Find, Match, Offer, Take, TakeBack, Settle, GiveBack}
+use Rattle.conn_supply.specs.Facts.Fact.{Attach, Withdraw, Kicked, Park, ParkAsIs, Keep, Bury, Sweep, LendPlace, TakePlace, Bind, Find, Match, Offer, MayTake, Take, TakeBack, Settle, GiveBack}
 use Rattle.conn_laws.specs.Calls.{MakesAll}
 use Rattle.conn_laws.specs.ReturnedFirst.{FoundNone, MayFollow, FollowInOrder, CallsReturnedFirst}
 use Rattle.local_broker.specs.Places.{GroupPlace}
@@ -99,6 +99,7 @@ called (Bind share answer) last old new is may does all = same_groups old new do
 called (Find share answer) last old new is may does all = same_groups old new (ap (λ b. b.groups) does.1) all
 called (Match topic slots) last old new is may does all = same_groups old new (ap (λ b. b.groups) does.1) all
 called (Offer slot connection message answer) last old new is may does all = offers old new slot connection message answer does.0 all
+called (MayTake place answer) last old new is may does all = same_groups old new (ap (λ b. b.groups) does.1) all
 called (Take place place' answer) last old new is may does all = taken answer last place place' old new is may does all
 called (TakeBack place place' answer) last old new is may does all =
     in_one old new place.slot _ (λ before after there call. groups.handed_again answer before after place.number call) does.0 all

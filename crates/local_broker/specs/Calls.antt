@@ -1,5 +1,5 @@
 -- What each call of a connection makes of a broker on one thread, and what it answers.
-use Rattle.std.specs.Prelude.{◌≡◌, ◌⊎◌, ℕ, ◌<◌, ◌≤◌, List, Option, Result, Ok, Err}
+use Rattle.std.specs.Prelude.{◌≡◌, ◌⊎◌, ℕ, ◌<◌, ◌≤◌, true, List, Option, Result, Ok, Err}
 use Rattle.mqtt_topic.specs.Names.{Share}
 use Rattle.mqtt_topic.specs.Routes.{BindAnswers, slot_of, routed, places_of}
 use Rattle.mqtt_topic.specs.declared.error.TopicError.TheVariants as topic
@@ -14,7 +14,7 @@ use Rattle.conn_supply.specs.declared.supply.BindRefusal.TheVariants as bind
 use Rattle.conn_supply.specs.declared.supply.OfferRefusal.{OfferRefusal}
 use Rattle.conn_supply.specs.declared.supply.OfferRefusal.TheVariants as refusal
 use Rattle.conn_supply.specs.Facts.{Fact}
-use Rattle.conn_supply.specs.Facts.Fact.{Attach, Withdraw, Kicked, Park, ParkAsIs, Keep, Bury, Sweep, LendPlace, TakePlace, Bind, Find, Match, Offer, Take, TakeBack, Settle, GiveBack}
+use Rattle.conn_supply.specs.Facts.Fact.{Attach, Withdraw, Kicked, Park, ParkAsIs, Keep, Bury, Sweep, LendPlace, TakePlace, Bind, Find, Match, Offer, MayTake, Take, TakeBack, Settle, GiveBack}
 use Rattle.local_group.specs.Groups.{Group}
 use Rattle.local_broker.specs.Places.{GroupPlace, cell_of}
 use Rattle.local_broker.specs.Groups.{IsOffered, HandsOut, HandsOutAgain, IsSettled, IsGivenBack, InGroup, ClosesEach}
@@ -75,6 +75,7 @@ Calls old (Bind share answer) new = Binds old.routes share answer new.routes × 
 Calls old (Find share answer) new = (answer ≡ slot_of share.text old.routes) × (new ≡ old)
 Calls old (Match topic slots) new = (slots ≡ places_of 0 (routed topic old.routes)) × (new ≡ old)
 Calls old (Offer slot connection message answer) new = OffersFrom old.groups slot connection message answer new.groups × AsksGroup old new
+Calls old (MayTake place answer) new = (answer ≡ true) × (new ≡ old)
 Calls old (Take place place' answer) new =
     InGroup old.groups place.slot (λ before after. HandsOut before place.number answer after) new.groups × (place' ≡ place) × AsksGroup old new
 Calls old (TakeBack place place' answer) new =

@@ -150,6 +150,10 @@ impl Supply<LocalPlace> for LocalSupply {
         )
     }
 
+    fn may_take(&self, _place: &LocalPlace) -> bool {
+        true
+    }
+
     fn take(&mut self, place: &mut LocalPlace) -> Result<Option<Envelope>, NoMemory> {
         groups::take(&mut self.groups[usize::from(place.slot())], place.number())
     }

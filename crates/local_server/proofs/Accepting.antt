@@ -12,7 +12,7 @@ use Rattle.group_jobs.specs.Stamps.{Held}
 use Rattle.conn_supply.specs.declared.supply.OfferRefusal.{OfferRefusal}
 use Rattle.conn_supply.specs.Publishing.{Offers}
 use Rattle.conn_supply.specs.Facts.{Fact}
-use Rattle.conn_supply.specs.Facts.Fact.{Attach, Withdraw, Kicked, Park, ParkAsIs, Keep, Bury, Sweep, LendPlace, TakePlace, Bind, Find, Match, Offer, Take, TakeBack, Settle, GiveBack}
+use Rattle.conn_supply.specs.Facts.Fact.{Attach, Withdraw, Kicked, Park, ParkAsIs, Keep, Bury, Sweep, LendPlace, TakePlace, Bind, Find, Match, Offer, MayTake, Take, TakeBack, Settle, GiveBack}
 use Rattle.local_broker.specs.Places.{GroupPlace}
 use Rattle.local_broker.specs.Broker.{Broker}
 use Rattle.local_broker.specs.Calls.{Calls, OffersFrom}
@@ -45,6 +45,7 @@ called_known (Bind share answer) log old new spends is does was = same_groups lo
 called_known (Find share answer) log old new spends is does was = same_groups log old new (ap (λ (b : Broker). b.groups) does.1) was
 called_known (Match topic slots) log old new spends is does was = same_groups log old new (ap (λ (b : Broker). b.groups) does.1) was
 called_known (Offer slot connection message answer) log old new spends is does was = absurd is
+called_known (MayTake place answer) log old new spends is does was = same_groups log old new (ap (λ (b : Broker). b.groups) does.1) was
 called_known (Take place place' answer) log old new spends is does was =
     in_group log old.groups new.groups place.slot _ (λ before after there made. handed log place.slot answer before after place.number made) does.0 was
 called_known (TakeBack place place' answer) log old new spends is does was =

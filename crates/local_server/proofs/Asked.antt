@@ -14,7 +14,7 @@ use Rattle.session_desk.specs.Attaching.{Request, attaches_by}
 use Rattle.session_desk.specs.Sweeping.{Sweeps}
 use Rattle.session_desk.specs.Hands.{DeskLaw}
 use Rattle.conn_supply.specs.Facts.{Fact}
-use Rattle.conn_supply.specs.Facts.Fact.{Attach, Withdraw, Kicked, Park, ParkAsIs, Keep, Bury, Sweep, LendPlace, TakePlace, Bind, Find, Match, Offer, Take, TakeBack, Settle, GiveBack}
+use Rattle.conn_supply.specs.Facts.Fact.{Attach, Withdraw, Kicked, Park, ParkAsIs, Keep, Bury, Sweep, LendPlace, TakePlace, Bind, Find, Match, Offer, MayTake, Take, TakeBack, Settle, GiveBack}
 use Rattle.conn_laws.specs.Calls.{MakesAll}
 use Rattle.conn_laws.specs.Transcripts.{IsAside, session_given, LeadsAside, HandsIn}
 use Rattle.local_broker.specs.Places.{GroupPlace, cell_of}
@@ -52,6 +52,7 @@ one_aside (Bind share answer) old new aside does = same_desk old new does.1.desk
 one_aside (Find share answer) old new aside does = same_desk old new (ap (λ b. b.desk) does.1)
 one_aside (Match topic slots) old new aside does = same_desk old new (ap (λ b. b.desk) does.1)
 one_aside (Offer slot connection message answer) old new aside does = same_desk old new does.1.desk
+one_aside (MayTake place answer) old new aside does = same_desk old new (ap (λ b. b.desk) does.1)
 one_aside (Take place place' answer) old new aside does = same_desk old new does.2.desk
 one_aside (TakeBack place place' answer) old new aside does = same_desk old new does.2.desk
 one_aside (Settle place place' envelope fate) old new aside does = same_desk old new does.2.desk

@@ -12,7 +12,7 @@ use Rattle.member_window.specs.Contents.{Contents, held_of, after_put, after_res
 use Rattle.member_window.proofs.Lists.{contains_nil, contains_cons_cases}
 use Rattle.session_desk.specs.declared.session.Membership.{Membership}
 use Rattle.session_desk.specs.declared.session.Membership.TheVariants.{NotMember, Member, Leaving}
-use Rattle.conn_supply.specs.HandOuts.{SendsAgain, AsksFor, SendsFresh, LeavesWith, HandsFresh, HandsOut}
+use Rattle.conn_supply.specs.HandOuts.{SendsAgain, AsksFor, SendsNone, SendsFresh, LeavesWith, HandsFresh, HandsOut}
 use Rattle.conn_supply.specs.Facts.Fact.{Take, TakeBack, TakePlace}
 use Rattle.local_group.specs.declared.waiting.Waiting.{Waiting}
 use Rattle.local_group.specs.Groups.{Group, held_by}
@@ -158,13 +158,19 @@ module _ (ledger : Ledger) (old new : Broker) (place : GroupPlace) (window : Con
 abbrev pub Handed : Ledger → Broker → Membership GroupPlace → Contents Held → Broker → Type 0
 Handed ledger old membership window new = Holds ledger new membership (held_of window) × Goes [] old new
 
+-- nothing goes out
+sends_none : (ledger : Ledger) (old new : Broker) (place place' : GroupPlace) (window window' : Contents Held) → AreRunning old → AllKnow ledger.log old.groups
+    → SendsNone Calls old place window place' window' new → (place' ≡ place) × Goes [] old new
+sends_none ledger old new place place' window window' running know (same, inl full) = (full.1, still old new full.2)
+sends_none ledger old new place place' window window' running know (same, inr (inl none)) =
+    let a = asked None ledger.log old new place place' running know none.2 in (a.kept, a.goes)
+sends_none ledger old new place place' window window' running know (same, inr (inr stop)) = let answer = stop.3.0 in absurd (cc)
+
 sends_fresh : (packets : List Packet) (ledger : Ledger) (old new : Broker) (place place' : GroupPlace) (window window' : Contents Held)
     → SendsFresh Calls old place window packets place' window' new
     → Holds ledger old (Member place) (held_of window) → Handed ledger old (Member place') window' new
 sends_fresh [] ledger old new place place' window window' sends was =
-    let moved : (place' ≡ place) × Goes [] old new =
-    ⊎_elim (λ none. (none.1, still old new none.2))
-    (λ (some : _ × AsksFor Calls old place None place' new). (let a = asked None ledger.log old new place place' was.others.running was.others.know some.1 in (a.kept, a.goes))) sends.1 in
+    let moved = sends_none ledger old new place place' window window' was.others.running was.others.know sends in
     let same : Holds ledger old (Member place') (held_of window') =
     subst (λ (p : GroupPlace). Holds ledger old (Member p) (held_of window')) (sym moved.0)
     (subst (λ (w : Contents Held). Holds ledger old (Member place) (held_of w)) (sym sends.0) was) in

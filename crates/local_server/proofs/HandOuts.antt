@@ -7,7 +7,7 @@ use Rattle.group_jobs.specs.Stamps.{Held, job_of}
 use Rattle.local_group.specs.Groups.{Group}
 use Rattle.conn_supply.specs.declared.supply.NoMemory.{NoMemory}
 use Rattle.conn_supply.specs.Facts.{Fact}
-use Rattle.conn_supply.specs.Facts.Fact.{Attach, Withdraw, Kicked, Park, ParkAsIs, Keep, Bury, Sweep, LendPlace, TakePlace, Bind, Find, Match, Offer, Take, TakeBack, Settle, GiveBack}
+use Rattle.conn_supply.specs.Facts.Fact.{Attach, Withdraw, Kicked, Park, ParkAsIs, Keep, Bury, Sweep, LendPlace, TakePlace, Bind, Find, Match, Offer, MayTake, Take, TakeBack, Settle, GiveBack}
 use Rattle.conn_laws.specs.Calls.{hand_out_of}
 use Rattle.local_broker.specs.Places.{GroupPlace}
 use Rattle.local_broker.specs.Broker.{Broker, IsNewBroker}
@@ -58,6 +58,7 @@ belongs (Bind share answer) old new running does = tt
 belongs (Find share answer) old new running does = tt
 belongs (Match topic slots) old new running does = tt
 belongs (Offer slot connection message answer) old new running does = tt
+belongs (MayTake place answer) old new running does = tt
 belongs (Take place place' answer) old new running does = taken answer place place' old new running does
 belongs (TakeBack place place' answer) old new running does = taken_back answer place place' old new running does
 belongs (Settle place place' envelope fate) old new running does = tt

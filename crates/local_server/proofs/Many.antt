@@ -6,7 +6,7 @@ use Rattle.group_jobs.specs.declared.stamp.Stamp.{Stamp}
 use Rattle.local_group.specs.Groups.{Group}
 use Rattle.conn_supply.specs.declared.supply.OfferRefusal.{OfferRefusal}
 use Rattle.conn_supply.specs.Facts.{Fact}
-use Rattle.conn_supply.specs.Facts.Fact.{Attach, Withdraw, Kicked, Park, ParkAsIs, Keep, Bury, Sweep, LendPlace, TakePlace, Bind, Find, Match, Offer, Take, TakeBack, Settle, GiveBack}
+use Rattle.conn_supply.specs.Facts.Fact.{Attach, Withdraw, Kicked, Park, ParkAsIs, Keep, Bury, Sweep, LendPlace, TakePlace, Bind, Find, Match, Offer, MayTake, Take, TakeBack, Settle, GiveBack}
 use Rattle.local_broker.specs.Places.{GroupPlace}
 use Rattle.local_broker.specs.Groups.{InGroup}
 use Rattle.local_broker.specs.Broker.{Broker}
@@ -37,6 +37,7 @@ called (Bind share answer) old new does = ap length does.1.groups
 called (Find share answer) old new does = ap (λ (b : Broker). length b.groups) does.1
 called (Match topic slots) old new does = ap (λ (b : Broker). length b.groups) does.1
 called (Offer slot connection message answer) old new does = offered old.groups new.groups slot connection message answer does.0
+called (MayTake place answer) old new does = ap (λ (b : Broker). length b.groups) does.1
 called (Take place place' answer) old new does = in_one old.groups new.groups place.slot _ does.0
 called (TakeBack place place' answer) old new does = in_one old.groups new.groups place.slot _ does.0
 called (Settle place place' envelope fate) old new does = in_one old.groups new.groups place.slot _ does.0

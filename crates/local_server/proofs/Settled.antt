@@ -17,7 +17,7 @@ use Rattle.local_group.specs.Groups.{Group, Adds, Settles, Closes}
 use Rattle.conn_supply.specs.declared.supply.NoMemory.{NoMemory}
 use Rattle.conn_supply.specs.declared.supply.OfferRefusal.{OfferRefusal}
 use Rattle.conn_supply.specs.Facts.{Fact}
-use Rattle.conn_supply.specs.Facts.Fact.{Attach, Withdraw, Kicked, Park, ParkAsIs, Keep, Bury, Sweep, LendPlace, TakePlace, Bind, Find, Match, Offer, Take, TakeBack, Settle, GiveBack}
+use Rattle.conn_supply.specs.Facts.Fact.{Attach, Withdraw, Kicked, Park, ParkAsIs, Keep, Bury, Sweep, LendPlace, TakePlace, Bind, Find, Match, Offer, MayTake, Take, TakeBack, Settle, GiveBack}
 use Rattle.conn_laws.specs.Calls.{settlement_of, settled, MakesAll}
 use Rattle.local_broker.specs.Places.{GroupPlace}
 use Rattle.local_broker.specs.Groups.{InGroup, IsOffered, HandsOut, HandsOutAgain, IsOutAt, IsSettled, IsGivenBack, LetsGo, ClosesEach}
@@ -129,6 +129,7 @@ none_settled (Bind share answer) old new none does = same_in old.groups new.grou
 none_settled (Find share answer) old new none does = same_in old.groups new.groups (ap (λ b. b.groups) does.1)
 none_settled (Match topic slots) old new none does = same_in old.groups new.groups (ap (λ b. b.groups) does.1)
 none_settled (Offer at connection message answer) old new none does = none_offered old.groups new.groups at connection message answer does.0
+none_settled (MayTake place answer) old new none does = same_in old.groups new.groups (ap (λ b. b.groups) does.1)
 none_settled (Take place place' answer) old new none does =
     none_in old.groups new.groups place.slot _ (λ before after is. handed answer before after place.number is) does.0
 none_settled (TakeBack place place' answer) old new none does =

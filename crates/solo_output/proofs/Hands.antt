@@ -128,8 +128,8 @@ module _ (slot : ℕ) (story : Story) (member : story.membership ≡ Member slot
   sends_none : (new : Broker) (window' : Contents Held) (place' : GroupPlace) → SendsNone Calls old (first_place slot) window place' window' new
       → Delivers (hand_out slot (due slot story) story) slot old [] place' window' new
   sends_none new window' place' (kept, inl full) = no_more (full_due full.0) new full.2 window' kept place' full.1
-  sends_none new window' place' (kept, inr (room, inl found)) = absurd (none-some found.0 found.1)
-  sends_none new window' place' (kept, inr (room, inr asked)) =
+  sends_none new window' place' (kept, inr (inl (room, allowed, inl found))) = absurd (none-some found.0 found.1)
+  sends_none new window' place' (kept, inr (inl (room, allowed, inr asked))) =
       let none = none_due (none_left asked.1 new asked.0 place' asked.2 asked.3) in
       let after = stays asked.1 new asked.0 place' asked.2 asked.3 in
       subst (λ (messages : List Message). Delivers (hand_out slot messages story) slot old [] place' window' new) (sym none)
@@ -140,6 +140,7 @@ module _ (slot : ℕ) (story : Story) (member : story.membership ≡ Member slot
         place = after.1;
         desk = after.2;
       })
+  sends_none new window' place' (kept, inr (inr stop)) = let answer = stop.3.0 in absurd (cc)
 
   -- one message goes out
   abbrev next : ℕ

@@ -10,6 +10,7 @@ returns-in-Ok-clause-sent g c =
         envelope = c.in-Ok-Some.envelope;
         identifier = put.0;
         room = search rules;
+        allowed = search rules;
         asked = rw (sym c.in-Ok-Some.field-0-is) c.in-Ok-Some.ensures.asked;
         free = put.1;
         put = put.2;
@@ -22,5 +23,5 @@ pub returns-in-Err-put-clause-kept : goal.returns-in-Err-put-clause-kept
 returns-in-Err-put-clause-kept g c =
     let put = c.in-Err-put.ensures.put in
     taken_one g.S.Supply.call c.args.supply.now c.ask.new.supply c.args.place.now c.ask.new.place c.args.window.now c.put.new.window
-    c.in-Ok-Some.envelope put.0 (search rules)
+    c.in-Ok-Some.envelope put.0 (search rules) (search rules)
     (rw (sym c.in-Ok-Some.field-0-is) c.in-Ok-Some.ensures.asked) put.1 put.2
