@@ -80,6 +80,18 @@ pub record AreReady (count : ℕ) (ports : List PortState) (places : List PlaceS
   pub none_returned : lists.returned.items ≡ []
   pub room_for_returned : IsRoomFor ports places holder.settled (vec_capacity lists.returned)
 
+-- in how many runs the jobs are that a place settled and did not give to the group's ledger
+abbrev pub runs_kept : PlaceState → ℕ
+runs_kept place = length (runs_of Acknowledged place.docket.settled) + length (runs_of Refused place.docket.settled)
+
+-- the lists have room for no more than what there is: a number for each port, the envelopes, a docket for each place, and what the ports sent
+pub record IsBounded (count : ℕ) (ports : List PortState) (places : List PlaceState) (held : List Held) (lists : Lists) : Type 0 where
+  pub accepted : vec_capacity lists.accepted ≡ count
+  pub envelopes : vec_capacity lists.held ≡ length held
+  pub dockets : vec_capacity lists.dockets ≡ length places
+  pub queued : vec_capacity lists.queued ≤ sum_by (λ (p : PortState). length p.sent) ports
+  pub returned : vec_capacity lists.returned ≤ sum_by (λ (p : PortState). length p.sent) ports
+
 -- the stamp is of this group, and its job is one of these
 abbrev pub IsAmong : GroupId → List Job → Stamp → Type 0
 IsAmong group jobs stamp = (stamp.group ≡ group.slot) × Contains jobs (job_of stamp)

@@ -2,6 +2,8 @@
 #![tactic(auto)]
 
 #[cfg(test)]
+mod busy_places;
+#[cfg(test)]
 mod finishing;
 #[cfg(test)]
 mod group_ledger;

@@ -197,7 +197,7 @@ fn live_open<L: Life, R: Wait>(
 }
 
 /// A gate with one seat.
-fn open_gate(alloc: Global) -> Option<(Gate, GateSeat)>
+pub fn open_gate(alloc: Global) -> Option<(Gate, GateSeat)>
     ensures { IfSome result (λ opened. opened.1.gate ≡ opened.0) }
 {
     let (gate, mut seats) = match Gate::open(alloc, 1) {

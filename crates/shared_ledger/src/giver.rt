@@ -1,7 +1,6 @@
 //! Who gives to a shared ledger, and who has it in hands.
-ghost use Rattle.std.specs.Prelude.{◌≡◌, ◌≤◌, ◌+◌, length, min, OnOk};
-ghost use Rattle.group_jobs.specs.declared.fate.Fate.{Fate};
-ghost use Rattle.group_jobs.specs.Settled.{KeepsSettled, least_spare, runs_of};
+ghost use Rattle.std.specs.Prelude.{◌≡◌, ◌≤◌, min, OnOk};
+ghost use Rattle.group_jobs.specs.Settled.{KeepsSettled, least_spare};
 ghost use Rattle.shared_ledger.specs.Giving.{jobs_in};
 
 use crate::queue::LedgerPass;
@@ -56,16 +55,17 @@ impl Holder {
         self.ledger.len()
     }
 
-    /// Makes room for the runs of another ledger, beside all the room that there is.
+    /// Makes room for so many more runs of each fate. It asks for no memory where there is so much room.
     ///
     /// # Errors
     ///
     /// 503 [`JobError::Memory`]. The jobs stay, and there is no less room than before.
-    pub fn reserve_for(&mut self, other: &Ledger) -> Result<(), JobError>
-        ensures ok { OnOk result ((fate : Fate) → least_spare self.old.settled + length (runs_of fate other.now) ≤ least_spare self.new.settled) }
+    pub fn reserve(&mut self, count: usize) -> Result<(), JobError>
+        ensures ok { OnOk result (count ≤ least_spare self.new.settled) }
+        ensures full { count ≤ least_spare self.old.settled → result ≡ Ok tt }
         ensures kept { KeepsSettled self.old.settled self.new.settled }
         ensures same { self.new ≡ record self.old { settled = self.new.settled } }
     {
-        self.ledger.reserve_for(other)
+        self.ledger.reserve(count)
     }
 }
