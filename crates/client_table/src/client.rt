@@ -4,7 +4,7 @@ ghost use Rattle.mqtt_wire.specs.Stream.{ReadAnswers};
 ghost use Rattle.conn_supply.specs.Facts.Fact.{Kicked};
 ghost use Rattle.conn_engine.specs.Step.{IsNoPacket, IsWanted, NeedsVisit};
 ghost use Rattle.conn_engine.specs.declared.input.Input.{Input as Asked};
-ghost use Rattle.conn_engine.specs.Looking.{IsSilentTooLong, TakesAt};
+ghost use Rattle.conn_engine.specs.Looking.{IsSilentTooLong, TakesAt, held_by};
 ghost use Rattle.conn_engine.specs.Standings.{IsWaiting};
 ghost use Rattle.conn_engine.specs.declared.standing.Standing.TheVariants as standings;
 ghost use Rattle.client_table.specs.Clients.{ClientState, words, arrived, Moves, FailsToMove, IsGivenUp};
@@ -209,6 +209,13 @@ impl<P: HoldingPlace> Client<P> {
             (λ deadline. (now : ℕ) → IsSilentTooLong self.now.conn.standing now ↔ deadline ≤ now) }
     {
         self.conn.deadline()
+    }
+
+    /// How many messages it has not acknowledged.
+    pub fn held(&self) -> usize
+        ensures { result ≡ held_by self.now.conn.standing }
+    {
+        self.conn.held()
     }
 
     /// The slot of the group that it would be handed a message of now: see [`Conn::takes_from`].

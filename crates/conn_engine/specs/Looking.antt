@@ -1,7 +1,7 @@
--- What can be told of a connection without a step: when silence ends it, and whose messages it would take.
-use Rattle.std.specs.Prelude.{◌≡◌, ℕ, ◌-◌, true}
+-- What can be told of a connection without a step: when silence ends it, how many messages its client has, and whose it would take.
+use Rattle.std.specs.Prelude.{◌≡◌, ℕ, ◌-◌, true, length}
 use Rattle.session_desk.specs.declared.session.Membership.TheVariants.{Member}
-use Rattle.member_window.specs.Contents.{HasRoom}
+use Rattle.member_window.specs.Contents.{HasRoom, held_of}
 use Rattle.conn_rules.specs.Ending.{is_overdue, is_late}
 use Rattle.conn_engine.specs.declared.standing.Standing.{Standing}
 use Rattle.conn_engine.specs.declared.standing.Standing.TheVariants.{Unconnected, Waiting, Connected, Ended}
@@ -19,3 +19,10 @@ TakesAt (Unconnected opened) place = ⊥
 TakesAt (Waiting request ticks) place = ⊥
 TakesAt (Connected link) place = (link.session.membership ≡ Member place) × HasRoom link.session.window
 TakesAt Ended place = ⊥
+
+-- how many messages its client has not acknowledged
+abbrev pub held_by : {P : Type 0} → Standing P → ℕ
+held_by (Unconnected opened) = 0
+held_by (Waiting request ticks) = 0
+held_by (Connected link) = length (held_of link.session.window)
+held_by Ended = 0

@@ -6,7 +6,7 @@ ghost use Rattle.conn_engine.specs.declared.standing.Standing.TheVariants as sta
 ghost use Rattle.conn_engine.specs.Standings.{IsSoundStanding, IsWaiting, IsConnected};
 ghost use Rattle.std.specs.Option.{option_to_list};
 ghost use Rattle.conn_supply.specs.HandOuts.{HandsSome};
-ghost use Rattle.conn_engine.specs.Looking.{IsSilentTooLong, TakesAt};
+ghost use Rattle.conn_engine.specs.Looking.{IsSilentTooLong, TakesAt, held_by};
 ghost use Rattle.conn_engine.specs.Step.{IsWanted, NeedsVisit, Hands, HandsLess, Steps, FailsToStep, after_hand_out};
 
 use crate::connecting::is_waiting;
@@ -100,6 +100,13 @@ impl<P: HoldingPlace> Conn<P> {
 }
 
 impl<P: HoldingPlace> Conn<P> {
+    /// How many messages its client has not acknowledged.
+    pub fn held(&self) -> usize
+        ensures { result ≡ held_by self.now.standing }
+    {
+        self.standing.held()
+    }
+
     /// The slot of the group that its client would be handed a message of now: it is a member there, and has room for one.
     pub fn takes_from(&self) -> Option<u8>
         ensures { MatchOption result

@@ -1,6 +1,6 @@
 //! What can be told of a connection without a step.
 ghost use Rattle.std.specs.Prelude.{◌≡◌, ◌<◌, ◌≤◌, ◌^◌, ◌↔◌, ℕ, MatchOption};
-ghost use Rattle.conn_engine.specs.Looking.{IsSilentTooLong, TakesAt};
+ghost use Rattle.conn_engine.specs.Looking.{IsSilentTooLong, TakesAt, held_by};
 
 use crate::standing::Standing;
 use conn_rules::{CONNECT_TIMEOUT, longest_silence};
@@ -26,6 +26,18 @@ impl<P> Standing<P> {
 }
 
 impl<P: Place> Standing<P> {
+    /// How many messages the client has not acknowledged.
+    pub(crate) fn held(&self) -> usize
+        ensures { result ≡ held_by self.now }
+    {
+        match self {
+            Standing::Connected(link) => link.session.window.len(),
+            Standing::Unconnected { .. } => 0,
+            Standing::Waiting { .. } => 0,
+            Standing::Ended => 0,
+        }
+    }
+
     /// The slot of the group that the client would be handed a message of now.
     pub(crate) fn takes_from(&self) -> Option<u8>
         ensures { MatchOption result

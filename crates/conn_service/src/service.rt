@@ -1,7 +1,7 @@
 //! A connection that is served.
 ghost use Rattle.std.specs.Prelude.{◌≡◌, ◌<◌, ◌≤◌, ◌^◌, ◌↔◌, ℕ, IsTrue, MatchOption, MatchResult};
 ghost use Rattle.transport.specs.Counting.{no_counts};
-ghost use Rattle.conn_engine.specs.Looking.{IsSilentTooLong, TakesAt};
+ghost use Rattle.conn_engine.specs.Looking.{IsSilentTooLong, TakesAt, held_by};
 ghost use Rattle.conn_engine.specs.Standings.{IsWaiting};
 ghost use Rattle.conn_engine.specs.declared.standing.Standing.TheVariants as standings;
 ghost use Rattle.conn_service.specs.Services.{opened};
@@ -90,6 +90,13 @@ impl<P: HoldingPlace, T: Transport> Service<P, T> {
             (λ deadline. (now : ℕ) → IsSilentTooLong self.now.client.conn.standing now ↔ deadline ≤ now) }
     {
         self.client.deadline()
+    }
+
+    /// How many messages its client has not acknowledged.
+    pub fn held(&self) -> usize
+        ensures { result ≡ held_by self.now.client.conn.standing }
+    {
+        self.client.held()
     }
 
     /// The slot of the group that its client would be handed a message of now: see [`Conn::takes_from`](conn_engine::Conn::takes_from).

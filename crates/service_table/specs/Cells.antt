@@ -2,7 +2,7 @@
 use Rattle.std.specs.Prelude.{◌≡◌, ℕ, Bool, cond, List, Option, Some, None, is_some, slice_get, slice_set, count_by, MatchOption}
 use Rattle.transport.specs.declared.counts.Counts.{Counts}
 use Rattle.conn_supply.specs.Facts.{Fact}
-use Rattle.conn_engine.specs.Looking.{TakesAt}
+use Rattle.conn_engine.specs.Looking.{TakesAt, held_by}
 use Rattle.conn_engine.specs.Standings.{IsWaiting}
 use Rattle.conn_service.specs.declared.served.Round.TheVariants as rounds
 use Rattle.conn_service.specs.Services.{ServiceState, opened, IsTold}
@@ -65,6 +65,11 @@ TakesFrom slot_of None slot = slot ≡ None
 TakesFrom {P} slot_of (Some service) slot =
     MatchOption slot ((place : P) → ¬ TakesAt service.client.conn.standing place)
     (λ slot. (place : P) × TakesAt service.client.conn.standing place × (slot_of place ≡ slot))
+
+-- how many messages the client in a cell has not acknowledged
+abbrev pub held_in : {P T : Type 0} → Option (ServiceState P T) → ℕ
+held_in None = 0
+held_in (Some service) = held_by service.client.conn.standing
 
 -- a client is in a cell, and waits for its session
 abbrev pub Waits : {P T : Type 0} → Option (ServiceState P T) → Type 0

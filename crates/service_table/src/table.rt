@@ -1,7 +1,7 @@
 //! The connections of a worker, by the cells of their numbers.
 ghost use Rattle.std.specs.Prelude.{◌≡◌, ◌+◌, ◌<◌, ◌≤◌, ◌↔◌, None, true, length, replicate, slice_index_or, All, IfOk, IsTrue, MatchResult};
 ghost use Rattle.transport.specs.Counting.{no_counts};
-ghost use Rattle.service_table.specs.Cells.{FollowsIn, InCell, Opens, Refuses, TakesFrom, Turns, Waits, ended_by, occupied};
+ghost use Rattle.service_table.specs.Cells.{FollowsIn, InCell, Opens, Refuses, TakesFrom, Turns, Waits, ended_by, held_in, occupied};
 
 use crate::cell;
 use crate::cell::Seat;
@@ -99,6 +99,17 @@ impl<P: HoldingPlace, T: Transport> ServiceTable<P, T> {
             buffer,
             direction,
         )
+    }
+
+    /// How many messages the client in a cell has not acknowledged.
+    pub fn held(&self, cell: usize) -> usize
+        requires { cell < length self.now }
+        ensures { result ≡ held_in (slice_index_or self.now cell None) }
+    {
+        match &self.cells[cell] {
+            Some(seat) => seat.service().held(),
+            None => 0,
+        }
     }
 
     /// The slot of the group that the client in a cell would be handed a message of now: see
