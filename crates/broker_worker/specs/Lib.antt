@@ -1,3 +1,4 @@
+pub mod Offering
 pub mod Resting
 pub use Rattle.worker_bells.specs.Ringing
 pub use Rattle.worker_bells.specs.Wishing

@@ -9,7 +9,7 @@ use conn_supply::NoMemory;
 use std::alloc::Global;
 use std::marker::Model;
 use transport::Transport;
-use worker_bells::{Members, Outfit, Roster, Wish, outfits, share_of};
+use worker_bells::{Held, Members, Outfit, Roster, Wish, outfits, share_of};
 use worker_connections::Arrived;
 
 /// Where a worker waits, and its clock.
@@ -135,5 +135,6 @@ fn blank(alloc: Global, count: usize) -> Result<(Marks, Members), NoMemory>
 {
     let marks = vec![in alloc; false; count]?;
     let wishes = vec![in alloc; Wish::NONE; count]?;
-    Ok((Marks::new(marks), Members::new(wishes)))
+    let held = vec![in alloc; Held::NONE; count]?;
+    Ok((Marks::new(marks), Members::new(wishes, held)))
 }

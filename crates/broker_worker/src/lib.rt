@@ -7,7 +7,9 @@
 
 mod kit;
 mod marks;
+mod offering;
 mod rounds;
+mod sharing;
 mod telling;
 mod worker;
 

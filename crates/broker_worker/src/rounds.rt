@@ -1,6 +1,7 @@
-//! The rounds of a worker's connections: which are to go on in its turn, and who is handed a job.
+//! The rounds of a worker's connections: which are to go on in its turn.
 ghost use Rattle.std.specs.Prelude.{◌≡◌, ◌<◌, ◌+◌, true, false, length};
-ghost use Rattle.worker_connections.specs.Serving.{Rounds};
+ghost use Rattle.worker_connections.specs.Serving.{GoesBy, Rounds, round_of, round_told};
+ghost use Rattle.service_table.specs.declared.turned.Turned.{Turned as AnyTurned};
 ghost use Rattle.worker_connections.specs.Sweeping.{HasGone, IsInTime, Notes};
 
 use crate::marks::Marks;
@@ -11,7 +12,7 @@ use call_history::HistoryName;
 use conn_service::{Direction, Round};
 use std::sync::Wait;
 use transport::{Clock, Crossing, Transport};
-use worker_bells::{Roster, SLOTS};
+use worker_bells::Roster;
 use worker_connections::{Poller, Went};
 
 impl<
@@ -65,19 +66,22 @@ impl<
     {
         let due = self.due.take(cell);
         if due || all {
-            let _round = self.round(cell, direction, buffer);
+            let _round = self.round(cell, direction, buffer, 0);
         }
     }
 
-    /// Goes on with the connection in a cell by a round this way. What it waits for; `None` where there is none, or it has ended.
-    fn round(
+    /// Goes on with the connection in a cell by a round this way, in which so many messages at most are handed to its client. What it waits for; `None` where there is
+    /// none, or it has ended.
+    pub(crate) fn round(
         &mut self,
         cell: usize,
         direction: Direction,
         buffer: &mut [u8; READ_SIZE],
+        most: u32,
     ) -> Option<Round>
         ensures goes { Rounds self.old.connections self.new.connections }
         ensures notes { cell < length self.old.connections.cells → Notes cell (length self.old.connections.cells) self.old.connections.sweeps self.new.connections.sweeps }
+        ensures made { cell < length self.old.connections.cells → (turned : AnyTurned T) × (result ≡ round_of turned) × GoesBy B.group T.counts T.given T.accepted cell direction most turned self.old.connections self.new.connections }
     {
         let worker = u32::try_from(self.number).unwrap_or(u32::MAX);
         let went = self.connections.round(
@@ -87,6 +91,7 @@ impl<
             worker,
             buffer,
             direction,
+            most,
         );
         note_went(
             &mut self.due,
@@ -96,44 +101,6 @@ impl<
             direction,
             went,
         )
-    }
-
-    /// Goes on with members of the groups for which it rang. Where this worker was called, and none of them could be handed a job, it rings for another one.
-    pub(crate) fn hand_out(&mut self, buffer: &mut [u8; READ_SIZE])
-        ensures { Rounds self.old.connections self.new.connections }
-    {
-        'slots: for slot in 0..SLOTS {
-            let (rung, called) = self.outfit.take(slot);
-            let seen = rung && self.hand_out_of(slot, buffer);
-            if called && !seen {
-                self.outfit.ring(slot, 1);
-            }
-        }
-    }
-
-    /// Goes on with members of a group, one after the other, until one has room for more than there is. Whether one of them went on, and did not have to wait
-    /// until its client reads.
-    fn hand_out_of(&mut self, slot: usize, buffer: &mut [u8; READ_SIZE]) -> bool
-        ensures { Rounds self.old.connections self.new.connections }
-    {
-        let count = self.connections.len();
-        let first = self.connections.members().next();
-        let mut seen = false;
-        'members: for step in 0..count {
-            if !self.connections.members().has_taker(slot) {
-                return seen;
-            }
-            let cell = first.wrapping_add(step) % count;
-            if self.connections.members().takes(cell, slot) {
-                let went_on = can_go_on(self.round(cell, Direction::Outbound, buffer));
-                seen = seen || went_on;
-                if went_on && self.connections.members().takes(cell, slot) {
-                    self.connections.begin_at(cell);
-                    return true;
-                }
-            }
-        }
-        seen
     }
 }
 
@@ -160,7 +127,9 @@ fn note_went<W: Wake>(
     cell: usize,
     direction: Direction,
     went: Went,
-) -> Option<Round> {
+) -> Option<Round>
+    ensures { result ≡ round_told went }
+{
     match went {
         Went::Nowhere => None,
         Went::On(round) => {
@@ -182,13 +151,5 @@ fn is_due_again(round: Round, direction: Direction) -> bool {
         Round::More => true,
         Round::Writing => matches!(direction, Direction::Inbound),
         Round::Reading | Round::Waiting | Round::Ended(_) => false,
-    }
-}
-
-/// Whether a connection has not ended, and does not wait until its client reads.
-fn can_go_on(round: Option<Round>) -> bool {
-    match round {
-        Some(Round::Writing) | None => false,
-        Some(_) => true,
     }
 }

@@ -1,6 +1,6 @@
 //! What a worker tells the others, and what it hears of them.
-ghost use Rattle.std.specs.Prelude.{◌≡◌, List, ℕ};
-ghost use Rattle.shared_supply.specs.Waking.{KeepsAtMost, no_wakes};
+ghost use Rattle.std.specs.Prelude.{◌≡◌};
+ghost use Rattle.shared_supply.specs.Waking.{no_wakes};
 ghost use Rattle.broker_worker.specs.Resting.{HearsCalls, MayWait};
 ghost use Rattle.worker_bells.specs.Ringing.{AreRung};
 ghost use Rattle.worker_connections.specs.Sweeping.{AreTicked, IsInTime, WaitsInTime};
@@ -27,17 +27,6 @@ impl<
     C: Clock + Drop,
     R: Wait,
 > Worker<'a, 'g, B, N, T, Q, W, X, C, R> {
-    /// Tells the others of the messages of each group that are more than this worker has members for: it rings for as many workers. The others it keeps, since it goes
-    /// on to hand them out.
-    pub(crate) fn tell_beyond(&mut self)
-        ensures rung { (most others : List ℕ) × KeepsAtMost most others self.old.connections.wakes self.new.connections.wakes × AreRung 0 others self.old.bells.hands self.new.bells.hands }
-        ensures same { self.new.connections ≡ record self.old.connections { wakes = self.new.connections.wakes } }
-    {
-        self.outfit.note_each(&self.connections.messages());
-        let others = self.connections.keep_own();
-        self.outfit.ring_each(&others);
-    }
-
     /// Tells the others what its connections did that they may wait for: it rings for as many workers as there are messages for each group, and calls whom a
     /// session concerns.
     pub(crate) fn tell(&mut self)
@@ -48,7 +37,7 @@ impl<
         tell_whether_waiting(&mut self.waits, waits, self.roster, self.number);
         let wakes = self.connections.take_wakes();
         self.outfit.note_each(&wakes.messages);
-        self.outfit.ring_each(&wakes.messages);
+        self.outfit.ring_each(&wakes.messages, &[0; SLOTS]);
         call(self.roster, wakes.asked_back, wakes.has_freed_session);
     }
 

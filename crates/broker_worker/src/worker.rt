@@ -1,12 +1,15 @@
 //! A worker: what it has, and its turns.
-ghost use Rattle.std.specs.Prelude.{◌≡◌, [], None, length, replicate, IfOk};
-ghost use Rattle.worker_connections.specs.Serving.{AreFresh, AreServed, IsDone, StaysOf, live};
+ghost use Rattle.std.specs.Prelude.{◌≡◌, [], None, true, length, replicate, IfOk};
+ghost use Rattle.worker_connections.specs.Serving.{AreFresh, AreServed, IsDone, Rounds, StaysOf, live};
+ghost use Rattle.broker_worker.specs.Offering.{OffersEach, OffersInSweep};
+ghost use Rattle.shared_supply.specs.Waking.{no_wakes};
 ghost use Rattle.broker_worker.specs.Resting.{MayWait};
-ghost use Rattle.worker_connections.specs.Sweeping.{AreTicked};
+ghost use Rattle.worker_connections.specs.Sweeping.{AreTicked, IsInTime};
 
 use crate::kit::{Gear, Kit};
 use crate::marks::Marks;
 use crate::rounds::mark_ready;
+use crate::sharing::Sharing;
 use bell::Wake;
 use broker_groups::{Broker, BrokerPlace};
 use call_history::HistoryName;
@@ -43,6 +46,7 @@ pub struct Worker<'a, 'g, B: Broker, N: HistoryName, T: Transport + Drop, Q, W, 
     pub(crate) closing: bool,
     // It is known to others that a connection of it waits for a session.
     pub(crate) waits: bool,
+    pub(crate) sharing: Sharing,
 }
 
 impl<'a, 'g, B: Broker, N: HistoryName, T: Transport + Drop, Q, W, X, C, R: Wait> Model
@@ -131,6 +135,7 @@ impl<
             due,
             closing: false,
             waits: false,
+            sharing: Sharing::NONE,
         }
     }
 
@@ -159,24 +164,47 @@ impl<
         ensures same { StaysOf self.old.connections self.new.connections }
         ensures rests { MayWait result self.new }
         ensures ticked { AreTicked self.new.connections.sweeps.latest self.new.connections.cells }
+        ensures offered { OffersInSweep B.group T.counts T.given T.accepted self.old.connections self.new.connections }
     {
         self.wait(rt, pause);
         mark_ready(&mut self.poller, &mut self.due, self.connections.len());
         self.hear();
+        self.serve(buffer);
+        self.outlook()
+    }
+
+    /// Goes on with the connections that are due, or with all of them where a sweep begins.
+    fn serve(&mut self, buffer: &mut [u8; READ_SIZE])
+        ensures same { StaysOf self.old.connections self.new.connections }
+        ensures in_time { IsInTime self.new.connections.sweeps }
+        ensures told { self.new.connections.wakes ≡ no_wakes }
+        ensures offered { OffersInSweep B.group T.counts T.given T.accepted self.old.connections self.new.connections }
+    {
         let all = self.connections.begin_sweep();
         self.serve_due(all, buffer);
+        self.share_out(all, buffer);
+    }
+
+    /// Hands out jobs, and calls others for those that are theirs; then the replies are written. In a sweep, something is offered to the members of each group.
+    fn share_out(&mut self, sweeps: bool, buffer: &mut [u8; READ_SIZE])
+        ensures goes { Rounds self.old.connections self.new.connections }
+        ensures told { self.new.connections.wakes ≡ no_wakes }
+        ensures offered { sweeps ≡ true → OffersEach B.group T.counts T.given T.accepted self.old.connections self.new.connections }
+    {
+        self.plan();
         self.tell_beyond();
         self.hand_out(buffer);
+        self.offer_if(sweeps, buffer);
         self.tell();
         self.reply(buffer);
         self.tell();
-        self.outlook()
     }
 
     /// Waits for so many milliseconds at most, looks at the clock, and takes the connections that were sent for it.
     fn wait(&mut self, rt: &R, pause: u64)
         requires { MayWait pause self.old }
-        ensures { StaysOf self.old.connections self.new.connections }
+        ensures same { StaysOf self.old.connections self.new.connections }
+        ensures begun { self.new.connections.sweeps.begun ≡ self.old.connections.sweeps.begun }
     {
         let called = self.poller.wait(rt, pause);
         self.connections.look(self.clock.now());
@@ -188,7 +216,8 @@ impl<
 
     /// Receives its end mark, where the broker closes and all connections were received.
     fn receive_end(&mut self, rt: &R)
-        ensures { StaysOf self.old.connections self.new.connections }
+        ensures same { StaysOf self.old.connections self.new.connections }
+        ensures begun { self.new.connections.sweeps.begun ≡ self.old.connections.sweeps.begun }
     {
         if self.closing && self.roster.is_all_received() {
             self.receive(rt);
@@ -197,7 +226,8 @@ impl<
 
     /// Answers the call of others: takes the connections that were sent for it.
     fn answer(&mut self, rt: &R)
-        ensures { StaysOf self.old.connections self.new.connections }
+        ensures same { StaysOf self.old.connections self.new.connections }
+        ensures begun { self.new.connections.sweeps.begun ≡ self.old.connections.sweeps.begun }
     {
         let calls = self.roster.take_calls(self.number);
         'invited: for _ in 0..calls.invited {
@@ -213,7 +243,8 @@ impl<
 
     /// Receives what comes through the channel: a connection for which this worker was invited, or its end mark once all connections were received.
     fn receive(&mut self, rt: &R)
-        ensures { StaysOf self.old.connections self.new.connections }
+        ensures same { StaysOf self.old.connections self.new.connections }
+        ensures begun { self.new.connections.sweeps.begun ≡ self.old.connections.sweeps.begun }
     {
         let came = self.connections.receive(rt, &mut self.poller);
         note_came(&mut self.due, self.roster, self.number, came);
@@ -235,6 +266,7 @@ impl<
             due,
             closing: _,
             waits: _,
+            sharing: _,
         } = self;
         drop(poller);
         drop(outfit);

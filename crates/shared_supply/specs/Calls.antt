@@ -1,5 +1,5 @@
 -- What each call of a connection makes of its worker, and what it answers.
-use Rattle.std.specs.Prelude.{◌≡◌, ◌⊎◌, ℕ, true, List, Option, None, Result, Ok, Err}
+use Rattle.std.specs.Prelude.{◌≡◌, ◌⊎◌, ℕ, ◌<◌, Bool, true, false, List, Option, None, Result, Ok, Err}
 use Rattle.mqtt_topic.specs.Names.{Share}
 use Rattle.mqtt_topic.specs.Routes.{slot_of, routed, places_of}
 use Rattle.group_jobs.specs.Stamps.{Held}
@@ -12,7 +12,7 @@ use Rattle.shared_desk.specs.Histories.{IsTold}
 use Rattle.conn_supply.specs.declared.supply.BindRefusal.{BindRefusal}
 use Rattle.conn_supply.specs.declared.supply.BindRefusal.TheVariants as bind
 use Rattle.conn_supply.specs.Facts.{Fact}
-use Rattle.conn_supply.specs.Facts.Fact.{Attach, Withdraw, Kicked, Park, ParkAsIs, Keep, Bury, Sweep, LendPlace, TakePlace, Bind, Find, Match, Offer, Take, TakeBack, Settle, GiveBack}
+use Rattle.conn_supply.specs.Facts.Fact.{Attach, Withdraw, Kicked, Park, ParkAsIs, Keep, Bury, Sweep, LendPlace, TakePlace, Bind, Find, Match, Offer, MayTake, Take, TakeBack, Settle, GiveBack}
 use Rattle.group_queue.specs.Ports.{GroupId}
 use Rattle.group_queue.specs.Places.{PlaceState, GiveBackAnswers, TakeAnswers, TakeBackAnswers}
 use Rattle.broker_groups.specs.Answers.{in_group, seen_main, seen_returns}
@@ -20,7 +20,7 @@ use Rattle.broker_groups.specs.Offering.{OffersTo}
 use Rattle.broker_groups.specs.Outs.{HasOut}
 use Rattle.shared_routes.specs.Known.{KnownState, BindAnswers, HasNoSlot}
 use Rattle.shared_supply.specs.declared.wakes.Wakes.{Wakes}
-use Rattle.shared_supply.specs.Waking.{asking_back, freeing, one_more_if, one_taken_if}
+use Rattle.shared_supply.specs.Waking.{asking_back, freeing, one_more_if, one_taken_if, one_fewer_if}
 use Rattle.shared_supply.specs.Workers.{Worker}
 use Rattle.shared_supply.specs.Settling.{SettlesAndGathers}
 
@@ -31,6 +31,15 @@ IsToldOfDesk known call now = IsTold HasOut (λ (p : PlaceState). p.group) (λ (
 -- the same worker, who has these to wake
 abbrev pub waking : Worker → Wakes → Worker
 waking worker wakes = record worker { wakes = wakes }
+
+-- the same worker, where this answer may have handed out a message of the group of this slot
+abbrev pub handing : {E : Type 0} → Result (Option Held) E → ℕ → Worker → Worker
+handing answer slot worker = record worker { wakes = one_taken_if answer slot worker.wakes; allowance = one_fewer_if answer worker.allowance }
+
+-- a message more may be handed out, just where the allowance is not used up
+abbrev pub IsAllowed : Bool → ℕ → Type 0
+IsAllowed true allowance = 0 < allowance
+IsAllowed false allowance = allowance ≡ 0
 
 -- a call of the desk, which the worker knows of from then on; the rest of the worker is as it was
 abbrev pub AsksDesk : Worker → Call Held PlaceState → Worker → Type 0
@@ -72,8 +81,9 @@ module _ (group : ℕ → GroupId) where
   Calls old (Match topic slots) new = (slots ≡ places_of 0 (routed topic old.known.shares)) × (new ≡ old)
   Calls old (Offer slot connection message answer) new =
       OffersTo group old.ports slot message answer new.ports × (new ≡ waking (record old { ports = new.ports }) (one_more_if answer slot old.wakes))
-  Calls old (Take place place' answer) new = TakeAnswers seen_main place (in_group answer) place' × (new ≡ waking old (one_taken_if answer place.group old.wakes))
-  Calls old (TakeBack place place' answer) new = TakeBackAnswers seen_returns place (in_group answer) place' × (new ≡ waking old (one_taken_if answer place.group old.wakes))
+  Calls old (MayTake place answer) new = IsAllowed answer old.allowance × (new ≡ old)
+  Calls old (Take place place' answer) new = TakeAnswers seen_main place (in_group answer) place' × (new ≡ handing answer place.group old)
+  Calls old (TakeBack place place' answer) new = TakeBackAnswers seen_returns place (in_group answer) place' × (new ≡ handing answer place.group old)
   Calls old (Settle place place' envelope fate) new = SettlesAndGathers place envelope fate place' × (new ≡ old)
   Calls old (GiveBack place place' envelope answer) new =
       GiveBackAnswers place envelope answer place' × (new ≡ waking old (one_more_if answer place.group old.wakes))

@@ -36,6 +36,12 @@ one_taken_if (Ok (Some envelope)) slot wakes = one_taken slot wakes
 one_taken_if (Ok None) slot wakes = wakes
 one_taken_if (Err refusal) slot wakes = wakes
 
+-- and then one fewer of those that are still to be handed out
+abbrev pub one_fewer_if : {T E : Type 0} → Result (Option T) E → ℕ → ℕ
+one_fewer_if (Ok (Some envelope)) allowance = allowance - 1
+one_fewer_if (Ok None) allowance = allowance
+one_fewer_if (Err refusal) allowance = allowance
+
 -- of the messages of each group so many are kept at most, and the others are these
 pub record KeepsAtMost (most others : List ℕ) (old new : Wakes) : Type 0 where
   pub kept : (slot : ℕ) → slot < 8 → slice_index new.messages slot ≡ min (slice_index old.messages slot) (slice_index most slot)

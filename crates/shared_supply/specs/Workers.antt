@@ -1,5 +1,5 @@
 -- What a worker of a broker has: where it stands at the gate, what it publishes through, what it knows of the routes and of the calls of the desk, and whom it has to wake.
-use Rattle.std.specs.Prelude.{◌≡◌, ◌⊎◌, Bool, true, false, List, Option, Some, None}
+use Rattle.std.specs.Prelude.{◌≡◌, ◌⊎◌, ℕ, Bool, true, false, List, Option, Some, None}
 use Rattle.gate_word.specs.declared.visitor.Visitor.{Visitor}
 use Rattle.gate_word.specs.declared.visitor.Visitor.TheVariants.{Outside, Inside}
 use Rattle.gate_word.specs.Seats.{GateId, Seat, new_seat}
@@ -19,6 +19,8 @@ pub record Worker : Type 0 where
   -- in the order of the desk's lock, up to the worker's own last one
   pub desk : List (Call Held PlaceState)
   pub wakes : Wakes
+  -- how many more messages it may be handed for its members, until it is allowed others
+  pub allowance : ℕ
 
 -- a visit is going on
 abbrev pub is_inside : Visitor → Bool
@@ -46,6 +48,7 @@ pub record Begins (old new : Worker) : Type 0 where
   pub told : AreFirst old.known.told new.known.shares
   pub desk : new.desk ≡ old.desk
   pub wakes : new.wakes ≡ old.wakes
+  pub allowance : new.allowance ≡ old.allowance
 
 -- the worker leaves
 pub record Leaves (old new : Worker) : Type 0 where

@@ -167,18 +167,22 @@ impl<'a, 'g, B: Broker, N: HistoryName, R: Wait> Supply<BrokerPlace<B>>
         let turn = turn_of(&self.visitor);
         match self.ports.offer(&hall.groups, self.rt, turn, slot, message) {
             Ok(stamp) => {
-                self.wakes.count(slot);
+                self.note_brought(slot);
                 Ok(stamp)
             }
             Err(refusal) => Err(refusal),
         }
     }
 
+    fn may_take(&self, _place: &BrokerPlace<B>) -> bool {
+        self.allowance > 0
+    }
+
     fn take(&mut self, place: &mut BrokerPlace<B>) -> Result<Option<Envelope>, NoMemory> {
         let hall = self.hall;
         let slot = place.slot();
         let taken = place.take(&hall.groups, self.rt, turn_of(&self.visitor));
-        self.wakes.note_taken(slot, &taken);
+        self.note_handed(slot, &taken);
         taken
     }
 
@@ -186,7 +190,7 @@ impl<'a, 'g, B: Broker, N: HistoryName, R: Wait> Supply<BrokerPlace<B>>
         let hall = self.hall;
         let slot = place.slot();
         let taken = place.take_back(&hall.groups, self.rt, turn_of(&self.visitor));
-        self.wakes.note_taken(slot, &taken);
+        self.note_handed(slot, &taken);
         taken
     }
 
@@ -204,7 +208,7 @@ impl<'a, 'g, B: Broker, N: HistoryName, R: Wait> Supply<BrokerPlace<B>>
         let slot = place.slot();
         match place.give_back(&hall.groups, self.rt, envelope) {
             Ok(()) => {
-                self.wakes.count(slot);
+                self.note_brought(slot);
                 Ok(())
             }
             Err(envelope) => Err(envelope),

@@ -7,9 +7,11 @@ mod hall;
 mod letting_go;
 mod settling;
 mod supply;
+mod tallies;
 mod wakes;
 
 pub use ending::StillOpen;
 pub use hall::Hall;
 pub use supply::SharedSupply;
+pub use tallies::Tally;
 pub use wakes::{AskedBack, Wakes};

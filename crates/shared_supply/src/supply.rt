@@ -2,14 +2,18 @@
 ghost use Rattle.std.specs.Prelude.{◌≡◌, ◌<◌, true};
 ghost use Rattle.gate_word.specs.Visits.{Ends};
 ghost use Rattle.gate_word.specs.declared.visitor.Visitor.TheVariants.{Inside, Outside};
-ghost use Rattle.shared_supply.specs.Waking.{KeepsAtMost, no_wakes, one_called};
+ghost use Rattle.shared_supply.specs.Calls.{handing};
+ghost use Rattle.shared_supply.specs.Waking.{KeepsAtMost, no_wakes, one_called, one_more};
 ghost use Rattle.shared_supply.specs.Workers.{Begins, Leaves, standing, is_inside};
 
 use crate::hall::Hall;
+use crate::tallies::{Tallies, Tally};
 use crate::wakes::Wakes;
 use broker_groups::{Broker, BrokerPlace, Key, Ports};
 use call_history::HistoryName;
+use conn_supply::NoMemory;
 use gate_word::{Turn, Visitor};
+use group_jobs::Envelope;
 use shared_desk::DeskPass;
 use shared_routes::KnownRoutes;
 use std::alloc::Global;
@@ -18,7 +22,7 @@ use std::mem;
 use std::sync::Wait;
 
 /// What a worker asks: the hall that it shares with the others, and what it has for itself, a visitor of the broker's gate, a port of each group,
-/// what it knows of the routes and of the calls of the desk, and what it did that others may wait for.
+/// what it knows of the routes and of the calls of the desk, what it did that others may wait for, and how many more messages it may be handed.
 ///
 /// Contracts see it as a `Worker`.
 pub struct SharedSupply<'a, 'g, B: Broker, N: HistoryName, R: Wait> {
@@ -31,6 +35,9 @@ pub struct SharedSupply<'a, 'g, B: Broker, N: HistoryName, R: Wait> {
     pub(crate) desk: DeskPass<BrokerPlace<B>, N>,
     pub(crate) alloc: Global,
     pub(crate) wakes: Wakes,
+    // How many more messages are to be handed to its members, until it is allowed others.
+    pub(crate) allowance: u32,
+    pub(crate) tallies: Tallies,
 }
 
 impl<'a, 'g, B: Broker, N: HistoryName, R: Wait> Model for SharedSupply<'a, 'g, B, N, R> {
@@ -39,13 +46,13 @@ impl<'a, 'g, B: Broker, N: HistoryName, R: Wait> Model for SharedSupply<'a, 'g, 
 
     ghost Value = { Worker };
 
-    ghost view = { λ s. record { visitor = standing s.visitor; ports = s.ports; known = s.known; desk = s.desk; wakes = s.wakes } };
+    ghost view = { λ s. record { visitor = standing s.visitor; ports = s.ports; known = s.known; desk = s.desk; wakes = s.wakes; allowance = s.allowance } };
 
     ghost invariant = { λ s. IsVisitorOf B.gate s.visitor × (s.known.table ≡ s.hall.now) };
 }
 
 impl<'a, 'g, B: Broker, N: HistoryName, R: Wait> SharedSupply<'a, 'g, B, N, R> {
-    /// A worker's, which is outside the gate. Its places gather with this memory, and so does what it binds. It waits while another thread is in the desk.
+    /// A worker's, which is outside the gate; until [`SharedSupply::allow`] says otherwise, 2^32 - 1 messages may be handed to its members. Its places gather with this memory, and so does what it binds. It waits while another thread is in the desk.
     pub fn new(
         rt: &'a R,
         alloc: Global,
@@ -55,7 +62,7 @@ impl<'a, 'g, B: Broker, N: HistoryName, R: Wait> SharedSupply<'a, 'g, B, N, R> {
         known: KnownRoutes<'a>,
     ) -> SharedSupply<'a, 'g, B, N, R>
         requires { known.table ≡ hall.now }
-        ensures { result ≡ record { visitor = Outside key; ports = ports; known = known.entry; desk = result.desk; wakes = no_wakes } }
+        ensures { result ≡ record { visitor = Outside key; ports = ports; known = known.entry; desk = result.desk; wakes = no_wakes; allowance = u32.MAX } }
     {
         SharedSupply {
             rt,
@@ -66,6 +73,49 @@ impl<'a, 'g, B: Broker, N: HistoryName, R: Wait> SharedSupply<'a, 'g, B, N, R> {
             desk: hall.desk.know(rt),
             alloc,
             wakes: Wakes::none(),
+            allowance: u32::MAX,
+            tallies: Tallies::NONE,
+        }
+    }
+
+    /// So many messages at most are to be handed to its members from now on, until it is allowed others. Of a message that was given back and of one that waits
+    /// in the queue each counts as one; one that is sent again does not count.
+    pub fn allow(&mut self, most: u32)
+        ensures { self.new ≡ record self.old { allowance = most } }
+    {
+        self.allowance = most;
+    }
+
+    /// How many more messages are to be handed to its members.
+    pub fn allowance(&self) -> u32
+        ensures { result ≡ self.now.allowance }
+    {
+        self.allowance
+    }
+
+    /// How many messages of the group of this slot it brought there and handed out.
+    pub fn tally(&self, slot: usize) -> Tally {
+        self.tallies.of(slot)
+    }
+
+    /// One message more is in the group of this slot.
+    pub(crate) fn note_brought(&mut self, slot: u8)
+        requires { slot < 8 }
+        ensures { self.new ≡ record self.old { wakes = one_more slot self.old.wakes } }
+    {
+        self.wakes.count(slot);
+        self.tallies.count_brought(slot);
+    }
+
+    /// Where an answer has a message of the group of this slot, that is handed out.
+    pub(crate) fn note_handed(&mut self, slot: u8, answer: &Result<Option<Envelope>, NoMemory>)
+        requires { slot < 8 }
+        ensures { self.new ≡ handing answer.now slot self.old }
+    {
+        self.wakes.note_taken(slot, answer);
+        if let Ok(Some(_)) = answer {
+            self.tallies.count_handed(slot);
+            self.allowance = self.allowance.saturating_sub(1);
         }
     }
 
@@ -122,6 +172,8 @@ impl<'a, 'g, B: Broker, N: HistoryName, R: Wait> SharedSupply<'a, 'g, B, N, R> {
             desk: _,
             alloc: _,
             wakes: _,
+            allowance: _,
+            tallies: _,
         } = self;
         let Some(visitor) = visitor else {
             unreachable!()

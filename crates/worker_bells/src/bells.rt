@@ -131,6 +131,8 @@ pub struct Ringing<W> {
     ringer: Ringer,
     alarms: Arc<Vec<W>, Global>,
     slot: usize,
+    // The number of the first worker that listens to it.
+    first: usize,
     ghost own: { ringer.bell ≡ (arc_value bell).word },
     ghost all: { length (arc_value alarms).items ≡ (arc_value bell).workers },
 }
@@ -145,12 +147,13 @@ impl<W> Model for Ringing<W> {
 }
 
 impl<W: Wake> Ringing<W> {
-    /// A hand at the bell of the group of this slot, whose listeners these alarms wake.
+    /// A hand at the bell of the group of this slot, whose listeners, the workers from this number on, these alarms wake.
     pub fn new(
         bell: Arc<Bell, Global>,
         ringer: Ringer,
         alarms: Arc<Vec<W>, Global>,
         slot: usize,
+        first: usize,
     ) -> Ringing<W>
         requires own { ringer.bell ≡ (arc_value bell).word }
         requires all { length (arc_value alarms).items ≡ (arc_value bell).workers }
@@ -161,17 +164,23 @@ impl<W: Wake> Ringing<W> {
             ringer,
             alarms,
             slot,
+            first,
         }
     }
 
-    /// Rings for so many workers, where it is at a bell of this group. How many are still to be woken.
-    pub fn ring(&mut self, slot: usize, left: usize) -> usize
+    /// Rings for so many workers, where it is at a bell of this group: for those first whose bits are set, the lowest that of worker 0. How many are still to be woken.
+    pub fn ring(&mut self, slot: usize, left: usize, these: u64) -> usize
         ensures { RingsFor slot left result self.old self.new }
     {
         if self.slot != slot || left == 0 {
             return left;
         }
         let alarms = self.alarms.as_slice();
-        left - self.bell.ring(&mut self.ringer, left, alarms)
+        let these = if self.first < 64 {
+            these >> self.first
+        } else {
+            0
+        };
+        left - self.bell.ring_first(&mut self.ringer, left, these, alarms)
     }
 }

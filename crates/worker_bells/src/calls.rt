@@ -1,5 +1,6 @@
 //! What workers call one another for, and how many connections each has.
 
+use crate::hints::Hints;
 use crate::shares::share_of;
 use bell::{MOST_WORKERS, Wake};
 use conn_supply::NoMemory;
@@ -57,6 +58,7 @@ pub struct Roster<W> {
     begun: AtomicU64,
     // How many connections were sent that the worker for which each was sent has not received.
     underway: AtomicU64,
+    hints: Hints,
 }
 
 impl<W: Wake> Roster<W> {
@@ -79,6 +81,7 @@ impl<W: Wake> Roster<W> {
             share: u64::from(share_of(count)),
             begun: AtomicU64::new(0),
             underway: AtomicU64::new(0),
+            hints: Hints::new(alloc, count)?,
         })
     }
 
@@ -90,6 +93,11 @@ impl<W: Wake> Roster<W> {
     /// How many workers there are.
     pub fn len(&self) -> usize {
         self.posts.len()
+    }
+
+    /// What they tell one another of their members.
+    pub fn hints(&self) -> &Hints {
+        &self.hints
     }
 
     /// A worker has begun.

@@ -7,11 +7,15 @@
 
 mod bells;
 mod calls;
+mod hints;
+mod loads;
 mod members;
 mod outfit;
 mod shares;
 
 pub use calls::{Calls, Roster};
-pub use members::{Members, Wish};
+pub use hints::{Hint, Hints};
+pub use loads::{HeldCounts, Level, Load};
+pub use members::{Held, Members, Wish};
 pub use outfit::{Outfit, SLOTS, outfits};
 pub use shares::{MOST_CONNECTIONS, share_of};

@@ -2,6 +2,7 @@
 ghost use Rattle.std.specs.Prelude.{◌≡◌, ◌<◌, ◌≤◌, ◌+◌, ℕ, false, length, replicate, slice_set, slice_index_or};
 ghost use Rattle.worker_bells.specs.Wishing.{IsWished, no_wish, none_or_one};
 
+use crate::loads::{HeldCounts, Load};
 use std::marker::Model;
 
 /// What a connection would do if others did something.
@@ -21,6 +22,26 @@ impl Wish {
     };
 }
 
+/// What a member has, by which it is told when it is handed a message.
+#[derive(Clone, Copy, Debug, PartialEq, Eq)]
+pub struct Held {
+    /// How many messages it has not acknowledged.
+    pub count: u16,
+    /// How many messages of its group had been handed out when it was handed its latest, counted from 0 again at 2^32.
+    pub served: u32,
+    /// What was written to it last did not go out whole: it does not read now.
+    pub is_blocked: bool,
+}
+
+impl Held {
+    /// That of who has nothing.
+    pub const NONE: Held = Held {
+        count: 0,
+        served: 0,
+        is_blocked: false,
+    };
+}
+
 /// The wishes of a worker's connections, by their cells. Contracts see them as that list.
 #[derive(Drop)]
 pub struct Members {
@@ -28,8 +49,14 @@ pub struct Members {
     // How many would be handed a job of each group.
     takers: [u32; 8],
     waiting: u32,
-    // Where the next hand-out begins.
-    next: usize,
+    // What each of them has. What it is used for is a hint, of which no contract speaks.
+    held: Vec<Held>,
+    // For each group, where the next hand-out begins.
+    next: [usize; 8],
+    // For each group, whether something has changed among those who would be handed a job.
+    changed: [bool; 8],
+    // No cell from this one on ever had one who would be.
+    top: usize,
 }
 
 impl Model for Members {
@@ -45,8 +72,8 @@ impl Model for Members {
 }
 
 impl Members {
-    /// No connection has a wish.
-    pub fn new(wishes: Vec<Wish>) -> Members
+    /// No connection has a wish, and none has anything.
+    pub fn new(wishes: Vec<Wish>, held: Vec<Held>) -> Members
         requires few { length wishes.items ≤ 65535 }
         requires none { wishes.items ≡ replicate (length wishes.items) no_wish }
         ensures { result ≡ wishes.items }
@@ -55,7 +82,10 @@ impl Members {
             wishes,
             takers: [0; 8],
             waiting: 0,
-            next: 0,
+            held,
+            next: [0; 8],
+            changed: [false; 8],
+            top: 0,
         }
     }
 
@@ -68,6 +98,11 @@ impl Members {
         };
         let old = *place;
         *place = wish;
+        if old != wish {
+            mark(&mut self.changed, old.takes);
+            mark(&mut self.changed, wish.takes);
+            self.top = self.top.max(cell.saturating_add(1));
+        }
         one_less(&mut self.takers, old.takes);
         one_more(&mut self.takers, wish.takes);
         if old.waits {
@@ -108,16 +143,176 @@ impl Members {
         self.waiting > 0
     }
 
-    /// The cell at which the next hand-out begins.
-    pub fn next(&self) -> usize {
-        self.next
-    }
-
-    /// The next hand-out begins at this cell.
-    pub fn begin_at(&mut self, cell: usize)
+    /// Notes how many messages the client in a cell has not acknowledged.
+    pub fn note_held(&mut self, cell: usize, count: usize)
         ensures { self.new ≡ self.old }
     {
-        self.next = cell;
+        let Some(held) = self.held.get_mut(cell) else {
+            return;
+        };
+        let count = u16::try_from(count).unwrap_or(u16::MAX);
+        if held.count != count {
+            held.count = count;
+            self.mark_changed(cell);
+        }
+    }
+
+    /// Notes whether the client in a cell reads what is written to it.
+    pub fn note_blocked(&mut self, cell: usize, is_blocked: bool)
+        ensures { self.new ≡ self.old }
+    {
+        let Some(held) = self.held.get_mut(cell) else {
+            return;
+        };
+        if held.is_blocked != is_blocked {
+            held.is_blocked = is_blocked;
+            self.mark_changed(cell);
+        }
+    }
+
+    /// Notes that the client in a cell was handed a message after so many of its group, and that those in the cells after it come next.
+    pub fn note_served(&mut self, cell: usize, slot: usize, served: u32)
+        ensures { self.new ≡ self.old }
+    {
+        if let Some(held) = self.held.get_mut(cell) {
+            held.served = served;
+        }
+        if let Some(next) = self.next.get_mut(slot) {
+            *next = cell.saturating_add(1);
+        }
+    }
+
+    /// Something has changed in a cell.
+    fn mark_changed(&mut self, cell: usize)
+        ensures { self.new ≡ self.old }
+    {
+        if let Some(wish) = self.wishes.get(cell) {
+            mark(&mut self.changed, wish.takes);
+        }
+    }
+
+    /// Whether something has changed among those who would be handed a job of a group since this was asked last.
+    pub fn take_changed(&mut self, slot: usize) -> bool
+        ensures { self.new ≡ self.old }
+    {
+        match self.changed.get_mut(slot) {
+            Some(changed) => {
+                let was = *changed;
+                *changed = false;
+                was
+            }
+            None => false,
+        }
+    }
+
+    /// What the connection in a cell has, where it would be handed a job of this group, and reads.
+    pub fn held_at(&self, cell: usize, slot: usize) -> Option<Held> {
+        if !self.takes(cell, slot) {
+            return None;
+        }
+        match self.held.get(cell) {
+            Some(held) => if held.is_blocked { None } else { Some(*held) },
+            None => None,
+        }
+    }
+
+    /// The cell at which the next hand-outs of a group begin.
+    pub fn next(&self, slot: usize) -> usize {
+        match self.next.get(slot) {
+            Some(next) => *next,
+            None => 0,
+        }
+    }
+
+    /// The cell that comes so many behind this one, where the first cell comes behind the last.
+    pub fn cell_behind(&self, first: usize, step: usize) -> usize {
+        let cell = first.saturating_add(step);
+        if cell < self.top {
+            cell
+        } else {
+            cell.saturating_sub(self.top)
+        }
+    }
+
+    /// How many cells there are at most in which there was one who would be handed a job.
+    pub fn top(&self) -> usize {
+        self.top
+    }
+
+    /// Counts for those who would be handed a job of a group, and read, how many messages they have not acknowledged.
+    pub fn count_held(&self, slot: usize, counts: &mut HeldCounts) {
+        counts.clear();
+        if !self.has_taker(slot) {
+            return;
+        }
+        for cell in 0..self.top {
+            if let Some(held) = self.held_at(cell, slot) {
+                counts.count(held.count);
+            }
+        }
+    }
+
+    /// The cell of one of them that has the fewest messages; 0 where there is none.
+    pub fn cell_of_fewest(&self, slot: usize) -> usize {
+        let mut fewest = u16::MAX;
+        let mut found = 0;
+        let next = self.next(slot);
+        for step in 0..self.top {
+            let cell = self.cell_behind(next, step);
+            if let Some(held) = self.held_at(cell, slot) {
+                if held.count < fewest {
+                    fewest = held.count;
+                    found = cell;
+                }
+            }
+        }
+        found
+    }
+
+    /// What its worker tells the others of them: their load, and when the one who comes next was handed its latest message.
+    pub fn load(&self, slot: usize) -> (Load, u32) {
+        let mut load = Load::NONE;
+        let mut served = 0;
+        if !self.has_taker(slot) {
+            return (load, served);
+        }
+        let mut sum = 0u32;
+        let next = self.next(slot);
+        for step in 0..self.top {
+            if let Some(held) = self.held_at(self.cell_behind(next, step), slot) {
+                if load.members == 0 || held.count < load.least {
+                    load.least = held.count;
+                    load.at_least = 0;
+                    served = held.served;
+                }
+                if held.count == load.least {
+                    load.at_least = load.at_least.saturating_add(1);
+                }
+                load.members = load.members.saturating_add(1);
+                sum = sum.saturating_add(u32::from(held.count));
+            }
+        }
+        load.rest = rest_of(load, sum);
+        (load, served)
+    }
+}
+
+/// How many messages those who have more than the least have on the average, where all together have so many.
+fn rest_of(load: Load, sum: u32) -> u16 {
+    let others = u32::from(load.members.saturating_sub(load.at_least));
+    if others == 0 {
+        return load.least;
+    }
+    let least = u32::from(load.least).saturating_mul(u32::from(load.at_least));
+    u16::try_from(sum.saturating_sub(least) / others).unwrap_or(u16::MAX)
+}
+
+/// Something has changed in the group of a slot, if that is one.
+fn mark(changed: &mut [bool; 8], slot: Option<u8>) {
+    if let Some(slot) = slot {
+        if let Some(changed) = changed.get_mut(usize::from(slot)) {
+            *changed = true;
+        }
     }
 }
 

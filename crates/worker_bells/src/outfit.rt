@@ -102,33 +102,33 @@ impl<W: Wake> Outfit<W> {
         }
     }
 
-    /// Rings for so many workers that have members of a group.
-    pub fn ring(&mut self, slot: usize, wanted: usize)
+    /// Rings for so many workers that have members of a group: for those first whose bits are set, the lowest that of worker 0.
+    pub fn ring(&mut self, slot: usize, wanted: usize, first: u64)
         ensures rung { IsRung slot wanted self.old.hands self.new.hands }
         ensures ears { self.new.ears ≡ self.old.ears }
     {
         let mut left = wanted;
         'hands: for hand in 0..self.hands.len() {
-            left = self.ring_by(hand, slot, left);
+            left = self.ring_by(hand, slot, left, first);
         }
     }
 
-    /// Rings for so many workers that have members of each group, one group after the other.
-    pub fn ring_each(&mut self, wanted: &[u32; SLOTS])
+    /// Rings for so many workers that have members of each group, one group after the other, and for these of them first.
+    pub fn ring_each(&mut self, wanted: &[u32; SLOTS], first: &[u64; SLOTS])
         ensures { AreRung 0 wanted.now self.old.hands self.new.hands }
     {
         'slots: for slot in 0..SLOTS {
-            self.ring(slot, wanted[slot] as usize);
+            self.ring(slot, wanted[slot] as usize, first[slot]);
         }
     }
 
     /// Rings by one of its hands, where that is at a bell of this group. How many are still to be woken.
-    fn ring_by(&mut self, hand: usize, slot: usize, left: usize) -> usize
+    fn ring_by(&mut self, hand: usize, slot: usize, left: usize, first: u64) -> usize
         requires { hand < length self.old.hands }
         ensures rung { RingsAt hand slot left result self.old.hands self.new.hands }
         ensures ears { self.new.ears ≡ self.old.ears }
     {
-        self.hands[hand].ring(slot, left)
+        self.hands[hand].ring(slot, left, first)
     }
 }
 
@@ -187,7 +187,7 @@ fn fit_ward<W: Wake + Drop>(
     }
     let (bell, listeners, ringers) = bell_of(alloc, count, all.len())?;
     seat_ears(&bell, slot, listeners, first, all)?;
-    seat_hands(&bell, ward, slot, ringers, all)?;
+    seat_hands(&bell, ward, slot, first, ringers, all)?;
     Ok(count)
 }
 
@@ -270,6 +270,7 @@ fn seat_hands<W: Wake + Drop>(
     bell: &Arc<Bell, Global>,
     ward: &Arc<Vec<W>, Global>,
     slot: usize,
+    first: usize,
     ringers: Vec<Ringer>,
     all: &mut [Outfit<W>],
 ) -> Result<(), NoMemory>
@@ -279,7 +280,7 @@ fn seat_hands<W: Wake + Drop>(
 {
     let mut worker = 0usize;
     'ringers: for ringer in ringers {
-        seat_hand(&mut all[worker], bell, ward, slot, ringer)?;
+        seat_hand(&mut all[worker], bell, ward, slot, first, ringer)?;
         worker += 1;
     }
     Ok(())
@@ -291,6 +292,7 @@ fn seat_hand<W: Wake + Drop>(
     bell: &Arc<Bell, Global>,
     ward: &Arc<Vec<W>, Global>,
     slot: usize,
+    first: usize,
     ringer: Ringer,
 ) -> Result<(), NoMemory>
     requires ringer { ringer.bell ≡ (arc_value bell.now).word }
@@ -299,7 +301,11 @@ fn seat_hand<W: Wake + Drop>(
     ensures ears { OnOk result (outfit.new.ears ≡ outfit.old.ears) }
 {
     match (Arc::try_clone(bell), Arc::try_clone(ward)) {
-        (Ok(bell), Ok(ward)) => Ok(outfit.hands.push(Ringing::new(bell, ringer, ward, slot))?),
+        (Ok(bell), Ok(ward)) => Ok(
+            outfit
+                .hands
+                .push(Ringing::new(bell, ringer, ward, slot, first))?,
+        ),
         _ => {
             drop(ringer);
             Err(NoMemory)

@@ -38,15 +38,15 @@ stays_in_time old new keeps in_time = omega (arith, keeps.latest, keeps.swept, i
 
 -- a note keeps the moment
 pub note_keeps : (cell count : ℕ) (old new : Sweeps) → old.swept ≤ old.begun → Notes cell count old new → KeepsMoment old new
-note_keeps cell count old new le (inl same) = record { latest = ap (λ (s : Sweeps). s.latest) same.1; swept = omega (arith, ap (λ (s : Sweeps). s.swept) same.1) }
-note_keeps cell count old new le (inr (inl more)) = record { latest = ap (λ (s : Sweeps). s.latest) more.2; swept = omega (arith, ap (λ (s : Sweeps). s.swept) more.2) }
-note_keeps cell count old new le (inr (inr last)) = record { latest = ap (λ (s : Sweeps). s.latest) last.2; swept = omega (arith, ap (λ (s : Sweeps). s.swept) last.2, le) }
+note_keeps cell count old new le (inl same) = record { latest = ap (λ (s : Sweeps). s.latest) same.1; begun = ap (λ (s : Sweeps). s.begun) same.1; swept = omega (arith, ap (λ (s : Sweeps). s.swept) same.1) }
+note_keeps cell count old new le (inr (inl more)) = record { latest = ap (λ (s : Sweeps). s.latest) more.2; begun = ap (λ (s : Sweeps). s.begun) more.2; swept = omega (arith, ap (λ (s : Sweeps). s.swept) more.2) }
+note_keeps cell count old new le (inr (inr last)) = record { latest = ap (λ (s : Sweeps). s.latest) last.2; begun = ap (λ (s : Sweeps). s.begun) last.2; swept = omega (arith, ap (λ (s : Sweeps). s.swept) last.2, le) }
 
 -- rounds behind rounds
 pub rounds_on : {T : Type 0} (a b c : ConnectionsState T) → Rounds a b → Rounds b c → Rounds a c
 rounds_on a b c first then = record {
   stays = then.stays ∙ first.stays;
-  keeps = record { latest = then.keeps.latest ∙ first.keeps.latest; swept = omega (arith, first.keeps.swept, then.keeps.swept) };
+  keeps = record { latest = then.keeps.latest ∙ first.keeps.latest; begun = then.keeps.begun ∙ first.keeps.begun; swept = omega (arith, first.keeps.swept, then.keeps.swept) };
   count = then.count ∙ first.count;
 }
 

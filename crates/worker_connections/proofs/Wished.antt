@@ -15,8 +15,8 @@ use Rattle.conn_service.specs.Services.{ServiceState, opened}
 use Rattle.service_table.specs.Cells.{InCell, Opens, TakesFrom}
 use Rattle.worker_bells.specs.declared.members.Wish.{Wish}
 use Rattle.worker_connections.specs.declared.served.ServedCounts.{ServedCounts}
-use Rattle.worker_connections.specs.Members.{AreWished, HasTaker}
-use Rattle.worker_connections.specs.Serving.{TakesIn}
+use Rattle.worker_connections.specs.Members.{AreWished, HasTaker, TakesIn}
+use Rattle.worker_connections.specs.Serving.{TakesIn as TakesInOne}
 use Rattle.worker_bells.specs.Wishing.{IsWished}
 use Rattle.worker_bells.proofs.Places.{others_stay, put_there}
 
@@ -37,6 +37,19 @@ module _ {T : Type 0} where
   wish_tells service place None none takes = absurd (none place takes)
   wish_tells service place (Some slot) some takes =
       ap (λ (n : ℕ). Some n) (sym some.2 ∙ ap (λ (p : PlaceState). p.group) (takes_same service.client.conn.standing some.0 place some.1 takes))
+
+  -- the client in a cell is a member with room of just the group that is told
+  pub would_take : (cells : List (Option (ServiceState PlaceState T))) (cell slot taken : ℕ) (here : Option (ServiceState PlaceState T)) → slice_get cells cell ≡ Some here
+      → TakesFrom (λ (p : PlaceState). p.group) here (Some taken) → taken ≡ slot → TakesIn slot cell cells
+  would_take cells cell slot taken None has tells is = absurd (cc tells)
+  would_take cells cell slot taken (Some service) has tells is = record { service = service; place = tells.0; here = has; takes = tells.1; group = tells.2 ∙ is }
+
+  pub would_not_take : (cells : List (Option (ServiceState PlaceState T))) (cell slot : ℕ) (taken : Option ℕ) (here : Option (ServiceState PlaceState T)) → slice_get cells cell ≡ Some here
+      → TakesFrom (λ (p : PlaceState). p.group) here taken → taken ≢ Some slot → TakesIn slot cell cells → ⊥
+  would_not_take cells cell slot taken here has tells other takes =
+      let is : here ≡ Some takes.service = some_is here (Some takes.service) (sym has ∙ takes.here) in
+      let told = subst (λ (c : Option (ServiceState PlaceState T)). TakesFrom (λ (p : PlaceState). p.group) c taken) is tells in
+      other (wish_tells takes.service takes.place taken told takes.takes ∙ ap (λ (n : ℕ). Some n) takes.group)
 
   -- no cell has a connection
   pub none_wished : (count : ℕ) (cells : List (Option (ServiceState PlaceState T))) (wishes : List Wish) → cells ≡ replicate count None → AreWished cells wishes
@@ -72,7 +85,7 @@ module _ {T : Type 0} where
 
   -- nor would one that came
   pub wished_came : (counts : T → Counts) (cells cells' : List (Option (ServiceState PlaceState T))) (served served' : ServedCounts) (wishes : List Wish) (now : ℕ) → length wishes ≡ length cells
-      → AreWished cells wishes → TakesIn counts now cells served cells' served' → (length wishes ≡ length cells') × AreWished cells' wishes
+      → AreWished cells wishes → TakesInOne counts now cells served cells' served' → (length wishes ≡ length cells') × AreWished cells' wishes
   wished_came counts cells cells' served served' wishes now long are (inl opened) = (
     omega (arith, long, ap length opened.1.2.is, length-set cells opened.0 opened.1.2.after),
     wished_opened cells cells' wishes opened.0 now opened.1.0 are opened.1.2,

@@ -16,6 +16,14 @@ pub record HasTaker {T : Type 0} (slot : ℕ) (cells : List (Option (ServiceStat
   pub takes : TakesAt service.client.conn.standing place
   pub group : place.group ≡ slot
 
+-- the client in this very cell is one
+pub record TakesIn {T : Type 0} (slot cell : ℕ) (cells : List (Option (ServiceState PlaceState T))) : Type 0 where
+  pub service : ServiceState PlaceState T
+  pub place : PlaceState
+  pub here : slice_get cells cell ≡ Some (Some service)
+  pub takes : TakesAt service.client.conn.standing place
+  pub group : place.group ≡ slot
+
 -- each of them stands among the wishes
 abbrev pub AreWished : {T : Type 0} → List (Option (ServiceState PlaceState T)) → List Wish → Type 0
 AreWished {T} cells wishes =

@@ -9,11 +9,17 @@ use Rattle.conn_channel.specs.Ends.{ReceiverState}
 use Rattle.conn_service.specs.declared.served.Served.{Served}
 use Rattle.conn_service.specs.declared.served.Served.TheVariants.{Memory}
 use Rattle.conn_service.specs.Services.{ServiceState}
-use Rattle.service_table.specs.Cells.{InCell, Opens, occupied}
+use Rattle.service_table.specs.Cells.{FollowsIn, InCell, Opens, Turns as TurnsIn, occupied}
+use Rattle.service_table.specs.declared.turned.Turned.{Turned}
+use Rattle.service_table.specs.declared.turned.Turned.TheVariants.{Vacant, Goes, Ended}
+use Rattle.conn_service.specs.declared.served.Direction.{Direction}
+use Rattle.conn_service.specs.declared.served.Round.{Round}
 use Rattle.shared_supply.specs.Calls.{Calls}
 use Rattle.shared_supply.specs.Waking.{no_wakes}
-use Rattle.shared_supply.specs.Workers.{Turns, is_visiting}
+use Rattle.shared_supply.specs.Workers.{Worker, Turns, is_visiting}
 use Rattle.shared_supply.specs.declared.wakes.Wakes.{Wakes}
+use Rattle.worker_connections.specs.declared.connections.Went.{Went}
+use Rattle.worker_connections.specs.declared.connections.Went.TheVariants as went
 use Rattle.worker_connections.specs.declared.served.ServedCounts.{ServedCounts}
 use Rattle.worker_connections.specs.declared.sweeps.Sweeps.{Sweeps}
 use Rattle.worker_connections.specs.Counting.{counted, counts_of, none_served}
@@ -66,6 +72,23 @@ abbrev pub TakesIn : {T : Type 0} → (T → Counts) → ℕ → List (Option (S
 TakesIn counts now old served new served' =
     ((cell : ℕ) × Admits counts now old (Some cell) new × (served' ≡ served)) ⊎ (Admits counts now old None new × (served' ≡ counted Memory served))
 
+-- what a connection waits for behind a round; none where there is none, or it has ended
+abbrev pub round_of : {T : Type 0} → Turned T → Option Round
+round_of Vacant = None
+round_of (Goes round) = Some round
+round_of (Ended how transport) = None
+
+abbrev pub round_told : Went → Option Round
+round_told went.Nowhere = None
+round_told (went.On round) = Some round
+round_told went.ToItsEnd = None
+
+-- what is told of a round that was made in a cell
+abbrev pub Tells : {T : Type 0} → Turned T → Went → Type 0
+Tells Vacant told = told ≡ went.Nowhere
+Tells (Goes round) told = told ≡ went.On round
+Tells (Ended how transport) told = told ≡ went.ToItsEnd
+
 module _ {T : Type 0} (group : ℕ → GroupId) (counts : T → Counts) (given accepted : T → Option (List ℕ)) where
   -- in a broker with these groups, the connection in a cell has lived, where there is one
   abbrev pub IfLives : Option (ServiceState PlaceState T) → Type 0
@@ -89,3 +112,11 @@ module _ {T : Type 0} (group : ℕ → GroupId) (counts : T → Counts) (given a
     pub lived : AllByRecursion EndsLife endings
     pub counted : served ≡ counts_of endings
     pub all : received ≡ length endings
+
+  -- the connection in a cell, where there is one, went by a round this way at the worker's moment, and so many messages at most were handed to its client
+  pub record GoesBy (cell : ℕ) (direction : Direction) (most : ℕ) (turned : Turned T) (old new : ConnectionsState T) : Type 0 where
+    pub before : Worker
+    pub behind : Worker
+    pub allowed : before.allowance ≡ most
+    pub turns : InCell old.cells cell (λ one other. TurnsIn (Calls group) Turns is_visiting (λ (p : PlaceState). p.group) counts given accepted old.sweeps.latest one before turned other behind) new.cells
+    pub way : InCell old.cells cell (λ one other. FollowsIn given accepted direction old.sweeps.latest one turned other) new.cells

@@ -42,9 +42,10 @@ abbrev pub HasGone : (gone count : ℕ) → Sweeps → Type 0
 HasGone gone count sweeps =
     ((gone < count) × (sweeps.gone ≡ gone) × (sweeps.begun ≡ sweeps.latest)) ⊎ ((count ≤ gone) × (sweeps.swept ≡ sweeps.latest))
 
--- the moment is the same, and whoever went on did so then or later
+-- the moment is the same, no sweep began, and whoever went on did so then or later
 pub record KeepsMoment (old new : Sweeps) : Type 0 where
   pub latest : new.latest ≡ old.latest
+  pub begun : new.begun ≡ old.begun
   pub swept : old.swept ≤ new.swept
 
 module _ {P T : Type 0} where

@@ -2,14 +2,15 @@
 ghost use Rattle.std.specs.Prelude.{◌≡◌, ◌<◌, ◌+◌, ℕ, List, [], None, true, false, replicate, length, slice_set, slice_index_or};
 ghost use Rattle.transport.specs.Counting.{no_counts};
 ghost use Rattle.group_queue.specs.Places.{PlaceState};
-ghost use Rattle.service_table.specs.Cells.{InCell, TakesFrom, Turns, ended_by, occupied};
+ghost use Rattle.service_table.specs.Cells.{FollowsIn, InCell, TakesFrom, Turns, ended_by, occupied};
+ghost use Rattle.service_table.specs.declared.turned.Turned.{Turned as AnyTurned};
 ghost use Rattle.shared_supply.specs.Calls.{Calls};
 ghost use Rattle.shared_supply.specs.Waking.{KeepsAtMost, no_wakes};
 ghost use Rattle.shared_supply.specs.Workers.{Turns as Visits, is_visiting};
 ghost use Rattle.worker_bells.specs.declared.members.Wish.{Wish as AnyWish};
 ghost use Rattle.worker_connections.specs.Counting.{none_served};
-ghost use Rattle.worker_connections.specs.Serving.{Admits, AreFresh, AreServed, IsDone, Rounds, StaysOf, TakesIn, live};
-ghost use Rattle.worker_connections.specs.Members.{HasTaker, one_called_if};
+ghost use Rattle.worker_connections.specs.Serving.{Admits, AreFresh, AreServed, GoesBy, IsDone, Rounds, StaysOf, TakesIn, Tells, live};
+ghost use Rattle.worker_connections.specs.Members.{HasTaker, TakesIn as WouldTake, one_called_if};
 ghost use Rattle.worker_bells.specs.Wishing.{IsWished};
 ghost use Rattle.worker_connections.specs.Sweeping.{AreTicked, Begins, HasGone, IsInTime, Notes, WaitsInTime, looked};
 
@@ -23,7 +24,7 @@ use call_history::HistoryName;
 use conn_channel::{Received, Receiver};
 use conn_service::{Direction, Round, Served};
 use service_table::{ServiceTable, Turned};
-use shared_supply::{SharedSupply, Wakes};
+use shared_supply::{SharedSupply, Tally, Wakes};
 use std::marker::Model;
 use std::sync::Wait;
 use transport::{Crossing, Transport};
@@ -164,11 +165,42 @@ impl<'a, 'g, B: Broker, N: HistoryName, T: Transport + Drop, R: Wait> Connection
         &self.members
     }
 
-    /// The next hand-out begins at this cell.
-    pub fn begin_at(&mut self, cell: usize)
+    /// Whether the client in a cell is a member of the group of this slot, and there is room for a job.
+    pub fn would_take(&self, cell: usize, slot: usize) -> bool
+        ensures yes { result ≡ true → WouldTake slot cell self.now.cells }
+        ensures no { result ≡ false → ¬ WouldTake slot cell self.now.cells }
+    {
+        if cell >= self.table.len() {
+            return false;
+        }
+        match self.table.takes_from(cell) {
+            Some(taken) => usize::from(taken) == slot,
+            None => false,
+        }
+    }
+
+    /// Whether something has changed among those who would be handed a job of a group since this was asked last.
+    pub fn take_changed(&mut self, slot: usize) -> bool
         ensures { self.new ≡ self.old }
     {
-        self.members.begin_at(cell);
+        self.members.take_changed(slot)
+    }
+
+    /// Notes that the client in a cell was handed a message after so many of its group.
+    pub fn note_served(&mut self, cell: usize, slot: usize, served: u32)
+        ensures { self.new ≡ self.old }
+    {
+        self.members.note_served(cell, slot, served);
+    }
+
+    /// How many messages of the group of a slot they brought there and handed out.
+    pub fn tally(&self, slot: usize) -> Tally {
+        self.supply.tally(slot)
+    }
+
+    /// How many of the messages that the latest round might have handed out it did not.
+    pub fn unused(&self) -> u32 {
+        self.supply.allowance()
     }
 
     /// Counts, where a ring was heard, that another worker called this one for a message of the group of this slot.
@@ -188,12 +220,12 @@ impl<'a, 'g, B: Broker, N: HistoryName, T: Transport + Drop, R: Wait> Connection
         self.supply.wakes().messages
     }
 
-    /// Keeps of these messages as many as there are members here that would be handed one, and gives back how many more there are.
-    pub fn keep_own(&mut self) -> [u32; SLOTS]
-        ensures kept { (most : List ℕ) × KeepsAtMost most result self.old.wakes self.new.wakes }
+    /// Keeps of these messages so many of each group at most, and gives back how many more there are.
+    pub fn keep(&mut self, most: &[u32; SLOTS]) -> [u32; SLOTS]
+        ensures kept { KeepsAtMost most.now result self.old.wakes self.new.wakes }
         ensures same { self.new ≡ record self.old { wakes = self.new.wakes } }
     {
-        self.supply.keep_messages(self.members.takers())
+        self.supply.keep_messages(most)
     }
 
     /// What they did since it was last asked that others may wait for.
@@ -207,7 +239,8 @@ impl<'a, 'g, B: Broker, N: HistoryName, T: Transport + Drop, R: Wait> Connection
     /// Receives what comes through the channel. A connection is watched by the poller and opened at the worker's moment; where there is no memory for it, or the
     /// system does not watch it, it has ended at once.
     pub fn receive<Q: Poller<T>>(&mut self, rt: &R, poller: &mut Q) -> Came
-        ensures { StaysOf self.old self.new }
+        ensures same { StaysOf self.old self.new }
+        ensures sweeps { self.new.sweeps ≡ self.old.sweeps }
     {
         if self.receiver.is_ended() {
             return Came::Nothing;
@@ -228,7 +261,8 @@ impl<'a, 'g, B: Broker, N: HistoryName, T: Transport + Drop, R: Wait> Connection
         }
     }
 
-    /// The connection in a cell goes on by a round this way, at the worker's moment. Where that ends it, it is not watched any more.
+    /// The connection in a cell goes on by a round this way, at the worker's moment, in which so many messages at most are handed to its client for the first time. Where
+    /// that ends it, it is not watched any more.
     pub fn round<X: Crossing, Q: Poller<T>>(
         &mut self,
         cell: usize,
@@ -237,15 +271,17 @@ impl<'a, 'g, B: Broker, N: HistoryName, T: Transport + Drop, R: Wait> Connection
         worker: u32,
         buffer: &mut [u8],
         direction: Direction,
+        most: u32,
     ) -> Went
         requires room { 0 < length buffer.old }
         ensures goes { Rounds self.old self.new }
         ensures notes { cell < length self.old.cells → Notes cell (length self.old.cells) self.old.sweeps self.new.sweeps }
+        ensures made { cell < length self.old.cells → (turned : AnyTurned T) × Tells turned result × GoesBy B.group T.counts T.given T.accepted cell direction most turned self.old self.new }
     {
         if cell >= self.table.len() {
             return Went::Nowhere;
         }
-        match self.go_on(cell, crossing, worker, buffer, direction) {
+        match self.go_on(cell, crossing, worker, buffer, direction, most) {
             Turned::Vacant => Went::Nowhere,
             Turned::Goes(round) => Went::On(round),
             Turned::Ended(_, transport) => {
@@ -263,13 +299,16 @@ impl<'a, 'g, B: Broker, N: HistoryName, T: Transport + Drop, R: Wait> Connection
         worker: u32,
         buffer: &mut [u8],
         direction: Direction,
+        most: u32,
     ) -> Turned<T>
         requires cell { cell < length self.old.cells }
         requires room { 0 < length buffer.old }
         ensures goes { Rounds self.old self.new }
         ensures notes { Notes cell (length self.old.cells) self.old.sweeps self.new.sweeps }
+        ensures made { GoesBy B.group T.counts T.given T.accepted cell direction most result self.old self.new }
     {
         let now = self.sweeps.latest;
+        self.supply.allow(most);
         let turned = turn(
             &mut self.table,
             &mut self.supply,
@@ -283,6 +322,7 @@ impl<'a, 'g, B: Broker, N: HistoryName, T: Transport + Drop, R: Wait> Connection
         self.served.count_behind(&turned);
         self.sweeps.note(cell, self.table.len());
         note_wish(&self.table, cell, &mut self.members);
+        note_held(&self.table, cell, direction, &turned, &mut self.members);
         turned
     }
 
@@ -320,6 +360,7 @@ fn turn<'a, 'g, B: Broker, N: HistoryName, T: Transport, R: Wait, X: Crossing>(
     requires cell { cell < length table.old }
     requires room { 0 < length buffer.old }
     ensures turns { InCell table.old cell (λ before after. Turns (Calls B.group) Visits is_visiting (λ (p : PlaceState). p.group) T.counts T.given T.accepted now before supply.old result after supply.new) table.new }
+    ensures way { InCell table.old cell (λ before after. FollowsIn T.given T.accepted direction now before result after) table.new }
     ensures len { length table.new ≡ length table.old }
     ensures count { occupied table.old ≡ occupied table.new + ended_by result }
 {
@@ -348,6 +389,30 @@ fn note_wish<B: Broker, T: Transport>(
         waits: table.is_waiting(cell),
     };
     members.note(cell, wish);
+}
+
+/// Notes how many messages the client in a cell has not acknowledged, and whether it reads, behind a round this way.
+fn note_held<B: Broker, T: Transport>(
+    table: &ServiceTable<BrokerPlace<B>, T>,
+    cell: usize,
+    direction: Direction,
+    turned: &Turned<T>,
+    members: &mut Members,
+)
+    requires cell { cell < length table.now }
+    ensures { members.new ≡ members.old }
+{
+    members.note_held(cell, table.held(cell));
+    match turned {
+        Turned::Goes(Round::Writing) => {
+            if matches!(direction, Direction::Outbound) {
+                members.note_blocked(cell, true);
+            }
+        }
+        Turned::Goes(_) => members.note_blocked(cell, false),
+        Turned::Ended(_, _) => members.note_blocked(cell, false),
+        Turned::Vacant => {}
+    }
 }
 
 /// Opens a connection that came; where it can't, it counts it as ended.

@@ -1,0 +1,46 @@
+-- In a sweep something is offered to the members of each group: one that reads and has room may be handed a message then, whatever the other workers have.
+use Rattle.std.specs.Prelude.{◌≡◌, ◌≢◌, ◌⊎◌, ℕ, ◌<◌, ◌≤◌, List, length, Option}
+use Rattle.transport.specs.declared.counts.Counts.{Counts}
+use Rattle.group_queue.specs.Ports.{GroupId}
+use Rattle.conn_service.specs.declared.served.Direction.TheVariants.{Outbound}
+use Rattle.conn_service.specs.declared.served.Round.{Round}
+use Rattle.conn_service.specs.declared.served.Round.TheVariants.{Writing}
+use Rattle.service_table.specs.declared.turned.Turned.{Turned}
+use Rattle.service_table.specs.declared.turned.Turned.TheVariants.{Goes}
+use Rattle.worker_connections.specs.Members.{TakesIn}
+use Rattle.worker_connections.specs.Serving.{ConnectionsState, GoesBy, Rounds, StaysOf}
+
+-- it was so somewhere between rounds of these connections
+abbrev pub Amid : {T : Type 0} → (ConnectionsState T → ConnectionsState T → Type 0) → ConnectionsState T → ConnectionsState T → Type 0
+Amid {T} Does old new = (before after : ConnectionsState T) × Rounds old before × Does before after × Rounds after new
+
+module _ {T : Type 0} (group : ℕ → GroupId) (counts : T → Counts) (given accepted : T → Option (List ℕ)) where
+  -- the client in a cell had an outbound round, in which it might be handed a message
+  pub record MightTake (cell : ℕ) (turned : Turned T) (old new : ConnectionsState T) : Type 0 where
+    pub most : ℕ
+    pub some : 1 ≤ most
+    pub goes : GoesBy group counts given accepted cell Outbound most turned old new
+
+  -- the client in a cell is no member of the group of this slot that has room; or it had such a round
+  abbrev pub IsAsked : (slot cell : ℕ) → ConnectionsState T → ConnectionsState T → Type 0
+  IsAsked slot cell old new = (¬ TakesIn slot cell old.cells × (new ≡ old)) ⊎ ((turned : Turned T) × MightTake cell turned old new)
+
+  -- a member that has room had such a round, and neither ended nor has to wait until it reads
+  pub record IsOffered (slot : ℕ) (old new : ConnectionsState T) : Type 0 where
+    pub cell : ℕ
+    pub round : Round
+    pub takes : TakesIn slot cell old.cells
+    pub might : MightTake cell (Goes round) old new
+    pub reads : round ≢ Writing
+
+  -- a member of the group was offered one; or each client was asked, and those that are members with room do not read
+  abbrev pub Offers : (slot : ℕ) → ConnectionsState T → ConnectionsState T → Type 0
+  Offers slot old new = Amid (IsOffered slot) old new ⊎ ((cell : ℕ) → cell < length old.cells → Amid (IsAsked slot cell) old new)
+
+  -- the same of each group
+  abbrev pub OffersEach : ConnectionsState T → ConnectionsState T → Type 0
+  OffersEach old new = (slot : ℕ) → slot < 8 → Amid (Offers slot) old new
+
+  -- where a sweep began in a turn of a worker, it was so at a moment of that turn
+  abbrev pub OffersInSweep : ConnectionsState T → ConnectionsState T → Type 0
+  OffersInSweep old new = (new.sweeps.begun ≡ old.sweeps.begun) ⊎ ((from : ConnectionsState T) × StaysOf old from × OffersEach from new)
