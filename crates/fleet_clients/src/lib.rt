@@ -9,7 +9,7 @@ mod rule;
 mod wrong;
 
 pub use jobs::{Counts, Jobs, PUBLISHERS};
-pub use link::{Asks, connect, open, send, wanted};
+pub use link::{Asks, PINGREQ, SUBSCRIBE, connect, join, next, open, publish, send, wanted};
 pub use member::{Ending, Member};
 pub use publisher::Publisher;
 pub use rule::Rule;

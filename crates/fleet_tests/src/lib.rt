@@ -12,3 +12,5 @@ mod fleet;
 mod pacing;
 #[cfg(test)]
 mod seeds;
+#[cfg(test)]
+mod spread;
