@@ -1,34 +1,34 @@
 //! The connections of a worker: those that it received are open, or have ended and are counted.
-ghost use Rattle.std.specs.Prelude.{◌≡◌, ◌<◌, ◌+◌, ℕ, List, [], None, true, false, replicate, length, slice_set, slice_index_or};
-ghost use Rattle.transport.specs.Counting.{no_counts};
+ghost use Rattle.std.specs.Prelude.{◌≡◌, ◌<◌, ◌+◌, ℕ, [], None, true, false, replicate, length};
 ghost use Rattle.group_queue.specs.Places.{PlaceState};
-ghost use Rattle.service_table.specs.Cells.{FollowsIn, InCell, TakesFrom, Turns, ended_by, occupied};
+ghost use Rattle.service_table.specs.Cells.{FollowsIn, InCell, Turns, ended_by, occupied};
 ghost use Rattle.service_table.specs.declared.turned.Turned.{Turned as AnyTurned};
 ghost use Rattle.shared_supply.specs.Calls.{Calls};
 ghost use Rattle.shared_supply.specs.Waking.{KeepsAtMost, no_wakes};
 ghost use Rattle.shared_supply.specs.Workers.{Turns as Visits, is_visiting};
-ghost use Rattle.worker_bells.specs.declared.members.Wish.{Wish as AnyWish};
 ghost use Rattle.worker_connections.specs.Counting.{none_served};
-ghost use Rattle.worker_connections.specs.Serving.{Admits, AreFresh, AreServed, GoesBy, IsDone, Rounds, StaysOf, TakesIn, Tells, live};
+ghost use Rattle.worker_connections.specs.Serving.{AreFresh, AreServed, GoesBy, IsDone, Rounds, StaysOf, Tells, live};
 ghost use Rattle.worker_connections.specs.Members.{HasTaker, TakesIn as WouldTake, one_called_if};
 ghost use Rattle.worker_bells.specs.Wishing.{IsWished};
 ghost use Rattle.worker_connections.specs.Sweeping.{AreTicked, Begins, HasGone, IsInTime, Notes, WaitsInTime, looked};
 
+use crate::admitting::{close, take_in};
 use crate::arrived::Arrived;
 use crate::hand::Hand;
+use crate::noting::{note_held, note_wish};
 use crate::poller::Poller;
 use crate::served::ServedCounts;
 use crate::sweeps::Sweeps;
 use broker_groups::{Broker, BrokerPlace};
 use call_history::HistoryName;
 use conn_channel::{Received, Receiver};
-use conn_service::{Direction, Round, Served};
+use conn_service::{Direction, Round};
 use service_table::{ServiceTable, Turned};
 use shared_supply::{SharedSupply, Tally, Wakes};
 use std::marker::Model;
 use std::sync::Wait;
 use transport::{Crossing, Transport};
-use worker_bells::{Members, SLOTS, Wish};
+use worker_bells::{Members, SLOTS};
 
 /// The connections that a worker received, each in a cell of its table as long as it is open, and what they ask of the broker.
 ///
@@ -373,95 +373,4 @@ fn abandon<'a, 'g, B: Broker, N: HistoryName, T: Transport + Drop, R: Wait>(
     supply: &mut SharedSupply<'a, 'g, B, N, R>,
 ) {
     table.abandon(supply, 0);
-}
-
-/// Notes what the connection in a cell would do if others did something.
-fn note_wish<B: Broker, T: Transport>(
-    table: &ServiceTable<BrokerPlace<B>, T>,
-    cell: usize,
-    members: &mut Members,
-)
-    requires cell { cell < length table.now }
-    ensures { (wish : AnyWish) × TakesFrom (λ (p : PlaceState). p.group) (slice_index_or table.now cell None) wish.takes × (members.new ≡ slice_set members.old cell wish) }
-{
-    let wish = Wish {
-        takes: table.takes_from(cell),
-        waits: table.is_waiting(cell),
-    };
-    members.note(cell, wish);
-}
-
-/// Notes how many messages the client in a cell has not acknowledged, and whether it reads, behind a round this way.
-fn note_held<B: Broker, T: Transport>(
-    table: &ServiceTable<BrokerPlace<B>, T>,
-    cell: usize,
-    direction: Direction,
-    turned: &Turned<T>,
-    members: &mut Members,
-)
-    requires cell { cell < length table.now }
-    ensures { members.new ≡ members.old }
-{
-    members.note_held(cell, table.held(cell));
-    match turned {
-        Turned::Goes(Round::Writing) => {
-            if matches!(direction, Direction::Outbound) {
-                members.note_blocked(cell, true);
-            }
-        }
-        Turned::Goes(_) => members.note_blocked(cell, false),
-        Turned::Ended(_, _) => members.note_blocked(cell, false),
-        Turned::Vacant => {}
-    }
-}
-
-/// Opens a connection that came; where it can't, it counts it as ended.
-fn take_in<B: Broker, T: Transport + Drop, Q: Poller<T>>(
-    table: &mut ServiceTable<BrokerPlace<B>, T>,
-    served: &mut ServedCounts,
-    poller: &mut Q,
-    transport: T,
-    now: u64,
-) -> Came
-    requires new { T.counts transport ≡ no_counts }
-    ensures { TakesIn T.counts now table.old served.old table.new served.new }
-{
-    match admit(table, poller, transport, now) {
-        Some(cell) => Came::Opened(cell),
-        None => {
-            served.count(Served::Memory);
-            Came::Refused
-        }
-    }
-}
-
-/// Opens a connection in the cell of the number under which the poller watches it. That cell; `None` where it was closed.
-fn admit<B: Broker, T: Transport + Drop, Q: Poller<T>>(
-    table: &mut ServiceTable<BrokerPlace<B>, T>,
-    poller: &mut Q,
-    transport: T,
-    now: u64,
-) -> Option<usize>
-    requires new { T.counts transport ≡ no_counts }
-    ensures { Admits T.counts now table.old result table.new }
-{
-    let mut transport = transport;
-    let cell = poller.register(&mut transport)?;
-    if cell >= table.len() {
-        close(poller, cell, transport);
-        return None;
-    }
-    match table.open(cell, now, transport) {
-        Ok(()) => Some(cell),
-        Err(transport) => {
-            close(poller, cell, transport);
-            None
-        }
-    }
-}
-
-/// Closes a connection that was watched.
-fn close<T: Transport + Drop, Q: Poller<T>>(poller: &mut Q, cell: usize, transport: T) {
-    let mut transport = transport;
-    poller.let_go(cell, &mut transport);
 }

@@ -5,9 +5,11 @@
 //! a worker has of the broker it asks by its supply, and gives back as a [`Hand`].
 #![tactic(auto)]
 
+mod admitting;
 mod arrived;
 mod connections;
 mod hand;
+mod noting;
 mod poller;
 mod served;
 mod sweeps;
