@@ -25,4 +25,4 @@ pub use ending::{
 pub use packets::{accepting, disconnect, job, message_of, puback, refusing, suback, unsuback};
 pub use publishing::{PublishAnswer, answer_to_publish, closing_code, puback_code};
 pub use subscribing::{EntryAnswer, answer_to_entry, subscribe_refusal, unsubscribe_refusal};
-pub use terms::{Terms, terms_of};
+pub use terms::{MaxInflight, Terms, terms_of};

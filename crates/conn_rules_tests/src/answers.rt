@@ -1,8 +1,8 @@
 //! What packets, faults and time bring about, in rows of bytes worked out by hand from the standard.
 use crate::reading::{answers, answers_in, packet, published, refusal};
 use conn_rules::{
-    EntryAnswer, FirstAnswer, PublishAnswer, Terms, answer_to_entry, fate_of, fault_code,
-    fault_refusal, is_late, is_overdue, puback_code,
+    EntryAnswer, FirstAnswer, MaxInflight, PublishAnswer, Terms, answer_to_entry, fate_of,
+    fault_code, fault_refusal, is_late, is_overdue, puback_code,
 };
 use group_jobs::Fate;
 use mqtt_fields::{Fault, StreamFault};
@@ -68,15 +68,45 @@ fn longest_identifier(rt: HostRuntime) -> Result<(), Fail> {
     Ok(())
 }
 
-// What the client of a CONNECT asked for.
-fn terms(alloc: Global, digits: &str) -> Result<Option<Terms>, Fault> {
+// What the client of a CONNECT asked for, with the limits 256 and 2.
+fn terms(alloc: Global, digits: &str) -> Result<Option<(Terms, Terms)>, Fault> {
     Ok(answers_in(alloc, digits)?.and_then(|answers| answers.terms))
+}
+
+#[test]
+fn limits(rt: HostRuntime) -> Result<(), Fail> {
+    for number in &[0, 257, 65_535] {
+        assert!(rt; MaxInflight::new(*number).is_none());
+    }
+    for number in &[1, 256] {
+        assert!(rt; MaxInflight::new(*number).is_some_and(|limit| limit.get() == *number));
+    }
+    assert_eq!(rt; MaxInflight::most().get(), 256);
+    Ok(())
+}
+
+// The Receive Maximum of a CONNECT, none, 1 and 5, and what it comes to with the limits 256 and 2.
+#[test]
+fn least_of_receive_maximum_and_limit(rt: HostRuntime) -> Result<(), Fail> {
+    let rows = [
+        (PLAIN, (256, 2)),
+        ("101200044D5154540502003C0321000100027731", (1, 1)),
+        ("101200044D5154540502003C0321000500027731", (5, 2)),
+    ];
+    for (digits, wanted) in &rows {
+        let asked = terms(rt.alloc(), digits)?.map(|(most, two)| (
+            most.receive_maximum,
+            two.receive_maximum,
+        ));
+        assert_eq!(rt; asked, Some(*wanted), "{digits}");
+    }
+    Ok(())
 }
 
 #[test]
 fn terms_of_clients(rt: HostRuntime) -> Result<(), Fail> {
     let plain = Terms {
-        receive_maximum: 65_535,
+        receive_maximum: 256,
         session_expiry_interval: 0,
         keep_alive: 60,
         takes_all_packets: true,
@@ -92,7 +122,8 @@ fn terms_of_clients(rt: HostRuntime) -> Result<(), Fail> {
     };
     let asks = "101700044D5154540502003C08110000000521000200027731";
     for (digits, wanted) in &[(PLAIN, plain), (TAKES_65_535, few), (asks, asked)] {
-        assert_eq!(rt; terms(rt.alloc(), digits)?, Some(*wanted), "{digits}");
+        let asked = terms(rt.alloc(), digits)?.map(|(most, _)| most);
+        assert_eq!(rt; asked, Some(*wanted), "{digits}");
     }
     assert!(rt; plain.is_given_expiry(1) && !plain.is_given_expiry(0));
     assert!(rt; !asked.is_given_expiry(1));

@@ -1,7 +1,7 @@
 //! Packets from hex digits, and what the rules answer to them.
 use conn_rules::{
-    FirstAnswer, PublishAnswer, Terms, answer_to_first, answer_to_publish, subscribe_refusal,
-    terms_of, unsubscribe_refusal,
+    FirstAnswer, MaxInflight, PublishAnswer, Terms, answer_to_first, answer_to_publish,
+    subscribe_refusal, terms_of, unsubscribe_refusal,
 };
 use mqtt_fields::Fault;
 use mqtt_packet::{Packet, ReasonCode};
@@ -13,8 +13,8 @@ use std::alloc::Global;
 pub struct Told {
     /// The answer to it.
     pub first: FirstAnswer,
-    /// What the client of a CONNECT asked for.
-    pub terms: Option<Terms>,
+    /// What the client of a CONNECT asked for, where the broker lets it have 256 messages and where it lets it have 2.
+    pub terms: Option<(Terms, Terms)>,
 }
 
 /// The first packet of these bytes; `None` where there is none.
@@ -32,10 +32,14 @@ pub fn packet(alloc: Global, digits: &str) -> Result<Option<Packet>, Fault> {
     }
 }
 
-/// What a client asked for, where its packet is a CONNECT.
-fn terms_in(packet: &Packet) -> Option<Terms> {
+/// What a client asked for, where its packet is a CONNECT, with each of two limits.
+fn terms_in(packet: &Packet) -> Option<(Terms, Terms)> {
+    let two = MaxInflight::new(2)?;
     match packet {
-        Packet::Connect(connect) => Some(terms_of(connect)),
+        Packet::Connect(connect) => Some((
+            terms_of(MaxInflight::most(), connect),
+            terms_of(two, connect),
+        )),
         _ => None,
     }
 }
