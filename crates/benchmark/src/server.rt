@@ -2,6 +2,7 @@
 
 use bytes::Bytes;
 use client_table::Said;
+use conn_rules::MaxInflight;
 use local_server::{ConnectionNumber, Event, Server, Setup};
 use mqtt_topic::Routes;
 use mqtt_wire::encode_into;
@@ -29,6 +30,7 @@ const CONNECTIONS: (u8, u8) = (0, 1);
 pub(crate) fn served(alloc: Global, jobs: u32, window: u16) -> Option<u64> {
     let setup = Setup {
         capacity: 1_024,
+        max_inflight: MaxInflight::most(),
         groups: Routes::new(alloc),
     };
     let mut server = Server::open(alloc, setup).ok()?;

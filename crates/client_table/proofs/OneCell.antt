@@ -3,6 +3,7 @@ use Rattle.std.proofs.Common.{◌≡◌, ℕ, List, [], ◌∷◌, Option, Some,
 use Rattle.std.proofs.lemmas.Option.{same_Some}
 use Rattle.conn_supply.specs.Facts.{Fact}
 use Rattle.conn_engine.specs.declared.input.Input.{Input}
+use Rattle.conn_engine.specs.declared.standing.Opening.{Opening}
 use Rattle.conn_laws.specs.Asking.{OneAnswer}
 use Rattle.conn_laws.specs.Behind.{IsLast}
 use Rattle.conn_laws.proofs.Ended.{ends_by}
@@ -20,9 +21,9 @@ in_cell {P} old new new' number Does Also both h k =
     let one = both h.before h.after k.after h.becomes (subst (λ b. Also b k.after) (sym before) k.becomes) in
     (h.is ∙ ap (slice_set old number) one.0 ∙ sym k.is, one.1)
 
-pub opens : {P : Type 0} (number now : ℕ) (before after then : Option (ClientState P)) → Opens number now before after → Opens number now before then → after ≡ then
-opens number now None after then h k = h ∙ sym k
-opens number now (Some client) after then h k = h ∙ sym k
+pub opens : {P : Type 0} (number : ℕ) (opening : Opening) (before after then : Option (ClientState P)) → Opens number opening before after → Opens number opening before then → after ≡ then
+opens number opening None after then h k = h ∙ sym k
+opens number opening (Some client) after then h k = h ∙ sym k
 
 module _ {S P : Type 0} (call : S → Fact P → S → Type 0) (AreAlike : S → S → Type 0) (answers : OneAnswer call AreAlike) (slot_of : P → ℕ) where
   -- what is said, what becomes of the cell, and of what is shared

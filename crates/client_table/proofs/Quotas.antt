@@ -1,37 +1,44 @@
--- The quota of a client, whatever is done to it.
-use Rattle.std.proofs.Common.{◌≡◌, ℕ, List, [], ◌∷◌, Option, Some, None, Result, Ok, Err, sym, subst, ⊎_elim, inl, inr}
+-- What each step keeps of a client's standing, as its quota, is kept whatever is done to it.
+use Rattle.std.proofs.Common.{◌≡◌, ◌≤◌, ℕ, List, [], ◌∷◌, Option, Some, None, Result, Ok, Err, sym, subst, ⊎_elim, inl, inr}
 use Rattle.conn_supply.specs.declared.supply.NoMemory.{NoMemory}
 use Rattle.conn_supply.specs.Facts.{Fact}
+use Rattle.conn_supply.specs.declared.reply.Then.{Then}
+use Rattle.mqtt_packet.specs.declared.packet.Packet.{Packet}
 use Rattle.conn_engine.specs.declared.input.Input.{Input}
 use Rattle.conn_engine.specs.declared.input.Input.TheVariants as inputs
+use Rattle.conn_engine.specs.declared.standing.Opening.{Opening}
 use Rattle.conn_engine.specs.declared.standing.Standing.{Standing}
 use Rattle.conn_engine.specs.declared.standing.Standing.TheVariants.{Unconnected, Waiting, Connected, Ended}
-use Rattle.conn_laws.specs.Quotas.{IsWithinQuota}
-use Rattle.conn_laws.proofs.Quotas as steps
+use Rattle.conn_engine.specs.Step.{Steps}
 use Rattle.client_table.specs.Cells.{kept, kept_as, Opens, Receives, TicksFor, EndsFor}
 use Rattle.client_table.specs.Clients.{ClientState, moment_of, Said, Moves, FailsToMove, IsGivenUp}
-use Rattle.client_table.specs.Quotas.{IsCellWithinQuota}
+use Rattle.client_table.specs.Quotas.{HoldsInCell, IsCellWithinLimit, IsCellWithinQuota}
 use Rattle.client_table.specs.Streams.{fed, Reads, FailsToRead, Ticks, FailsToTick}
 
-abbrev IsWithin : {P : Type 0} → ClientState P → Type 0
-IsWithin client = IsWithinQuota client.conn.standing
+module _ {S P : Type 0} (call : S → Fact P → S → Type 0) (slot_of : P → ℕ) (Holds : Standing P → Type 0) (over : Holds Ended)
+    (stays : (number now : ℕ) (standing standing' : Standing P) (input : Input) (sent : List Packet) (next : Then) (old new : S)
+    → Steps call slot_of old number standing now input sent next standing' new → Holds standing → Holds standing') where
+  abbrev IsWithin : ClientState P → Type 0
+  IsWithin client = Holds client.conn.standing
 
-kept_within_as : {P : Type 0} (standing : Standing P) (client : ClientState P) → IsWithin client → IsCellWithinQuota (kept_as standing client)
-kept_within_as (Unconnected opened) client within = within
-kept_within_as (Waiting request ticks) client within = within
-kept_within_as (Connected link) client within = within
-kept_within_as Ended client within = tt
+  abbrev IsCellWithin : Option (ClientState P) → Type 0
+  IsCellWithin cell = HoldsInCell Holds cell
 
-becomes_within : {P : Type 0} (client : ClientState P) (after : Option (ClientState P)) → after ≡ kept client → IsWithin client → IsCellWithinQuota after
-becomes_within client after is within = subst IsCellWithinQuota (sym is) (kept_within_as client.conn.standing client within)
+  kept_within_as : (standing : Standing P) (client : ClientState P) → IsWithin client → IsCellWithin (kept_as standing client)
+  kept_within_as (Unconnected opened) client within = within
+  kept_within_as (Waiting request ticks) client within = within
+  kept_within_as (Connected link) client within = within
+  kept_within_as Ended client within = tt
 
-module _ {S P : Type 0} (call : S → Fact P → S → Type 0) (slot_of : P → ℕ) where
+  becomes_within : (client : ClientState P) (after : Option (ClientState P)) → after ≡ kept client → IsWithin client → IsCellWithin after
+  becomes_within client after is within = subst IsCellWithin (sym is) (kept_within_as client.conn.standing client within)
+
   moves : (old new : S) (client after : ClientState P) (now : ℕ) (input : Input) (said : Said) → Moves call slot_of old client now input said after new → IsWithin client → IsWithin after
   moves old new client after now input said moved within =
-      steps.within call slot_of client.conn.number (moment_of client now) client.conn.standing after.conn.standing input said.packets said.next old new moved.stepped within
+      stays client.conn.number (moment_of client now) client.conn.standing after.conn.standing input said.packets said.next old new moved.stepped within
 
   fails_to_move : (old new : S) (client after : ClientState P) (now : ℕ) (input : Input) → FailsToMove call slot_of old client now input after new → IsWithin after
-  fails_to_move old new client after now input fails = subst IsWithinQuota (sym fails.over) tt
+  fails_to_move old new client after now input fails = subst Holds (sym fails.over) over
 
   given_up : (old new : S) (client after : ClientState P) (now : ℕ) (input : Input) → IsGivenUp call slot_of old client now input after new → IsWithin client → IsWithin after
   given_up old new client after now input (inl moved) within = moves old new client after now input moved.0 moved.1 within
@@ -63,8 +70,8 @@ module _ {S P : Type 0} (call : S → Fact P → S → Type 0) (slot_of : P → 
 
   -- what happens to the client in a cell
   pub receives : (result : Result (Unit {0}) NoMemory) (before : Option (ClientState P)) (old new : S) (now : ℕ) (piece : List ℕ) (more : List Said) (after : Option (ClientState P))
-      → Receives call slot_of old before now piece more result after new → IsCellWithinQuota before → IsCellWithinQuota after
-  receives (Ok done) None old new now piece more after does within = subst IsCellWithinQuota (sym does.1) tt
+      → Receives call slot_of old before now piece more result after new → IsCellWithin before → IsCellWithin after
+  receives (Ok done) None old new now piece more after does within = subst IsCellWithin (sym does.1) tt
   receives (Ok done) (Some client) old new now piece more after does within =
       becomes_within does.0 after does.2 (reads more old new (fed client piece) does.0 now does.1 within)
   receives (Err error) None old new now piece more after does within = absurd does
@@ -76,21 +83,27 @@ module _ {S P : Type 0} (call : S → Fact P → S → Type 0) (slot_of : P → 
       does.1)
 
   pub ticks_for : (result : Result (Unit {0}) NoMemory) (before : Option (ClientState P)) (old new : S) (now : ℕ) (more : List Said) (after : Option (ClientState P))
-      → TicksFor call slot_of old before now more result after new → IsCellWithinQuota before → IsCellWithinQuota after
-  ticks_for (Ok done) None old new now more after does within = subst IsCellWithinQuota (sym does.1) tt
+      → TicksFor call slot_of old before now more result after new → IsCellWithin before → IsCellWithin after
+  ticks_for (Ok done) None old new now more after does within = subst IsCellWithin (sym does.1) tt
   ticks_for (Ok done) (Some client) old new now more after does within = becomes_within does.0 after does.2 (ticks more old new client does.0 now does.1 within)
   ticks_for (Err error) None old new now more after does within = absurd does
   ticks_for (Err error) (Some client) old new now more after does within = becomes_within does.0 after does.2 (fails_to_tick more old new client does.0 now does.1 within)
 
   pub ends_for : (result : Result (Unit {0}) NoMemory) (before : Option (ClientState P)) (old new : S) (now : ℕ) (input : Input) (more : List Said) (after : Option (ClientState P))
-      → EndsFor call slot_of old before now input more result after new → IsCellWithinQuota before → IsCellWithinQuota after
-  ends_for (Ok done) None old new now input more after does within = subst IsCellWithinQuota (sym does.1) tt
+      → EndsFor call slot_of old before now input more result after new → IsCellWithin before → IsCellWithin after
+  ends_for (Ok done) None old new now input more after does within = subst IsCellWithin (sym does.1) tt
   ends_for (Ok done) (Some client) old new now input more after does within =
       becomes_within does.0 after does.2 (moves old new client does.0 now input does.1.0 does.1.2 within)
   ends_for (Err error) None old new now input more after does within = absurd does
   ends_for (Err error) (Some client) old new now input more after does within = becomes_within does.0 after does.2 (given_up old new client does.0 now input does.1.1 within)
 
 -- a connection that is opened was sent nothing
-pub opens : {P : Type 0} (number now : ℕ) (before after : Option (ClientState P)) → Opens number now before after → IsCellWithinQuota before → IsCellWithinQuota after
-opens number now None after is within = subst IsCellWithinQuota (sym is) tt
-opens number now (Some client) after is within = subst IsCellWithinQuota (sym is) within
+pub opens : {P : Type 0} (number : ℕ) (opening : Opening) (before after : Option (ClientState P)) → Opens number opening before after → IsCellWithinQuota before → IsCellWithinQuota after
+opens number opening None after is within = subst IsCellWithinQuota (sym is) tt
+opens number opening (Some client) after is within = subst IsCellWithinQuota (sym is) within
+
+-- and it is within the limit that it is opened with
+pub limits : {P : Type 0} (limit number : ℕ) (opening : Opening) (before after : Option (ClientState P)) → Opens number opening before after → opening.max_inflight ≤ limit
+    → IsCellWithinLimit limit before → IsCellWithinLimit limit after
+limits limit number opening None after is allowed within = subst (IsCellWithinLimit limit) (sym is) allowed
+limits limit number opening (Some client) after is allowed within = subst (IsCellWithinLimit limit) (sym is) within

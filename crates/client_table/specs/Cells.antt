@@ -4,6 +4,7 @@ use Rattle.conn_supply.specs.declared.supply.NoMemory.{NoMemory}
 use Rattle.conn_supply.specs.Facts.{Fact}
 use Rattle.conn_engine.specs.declared.input.Input.{Input}
 use Rattle.conn_engine.specs.declared.input.Input.TheVariants as inputs
+use Rattle.conn_engine.specs.declared.standing.Opening.{Opening}
 use Rattle.conn_engine.specs.declared.standing.Standing.{Standing}
 use Rattle.conn_engine.specs.declared.standing.Standing.TheVariants.{Unconnected, Waiting, Connected, Ended}
 use Rattle.client_table.specs.Clients.{ClientState, Said, arrived, Moves, IsGivenUp}
@@ -29,9 +30,9 @@ pub record InCell {P : Type 0} (old : List (Option (ClientState P))) (number : �
   pub is : new ≡ slice_set old number after
 
 -- a connection is opened where none of its number is; else nothing happens
-abbrev pub Opens : {P : Type 0} → ℕ → ℕ → Option (ClientState P) → Option (ClientState P) → Type 0
-Opens number now None after = after ≡ Some (arrived (record { number = number; latest = now; standing = Unconnected now }))
-Opens number now (Some client) after = after ≡ Some client
+abbrev pub Opens : {P : Type 0} → ℕ → Opening → Option (ClientState P) → Option (ClientState P) → Type 0
+Opens number opening None after = after ≡ Some (arrived (record { number = number; latest = opening.at; standing = Unconnected opening }))
+Opens number opening (Some client) after = after ≡ Some client
 
 module _ {S P : Type 0} (Does : ClientState P → List Said → ClientState P → S → Type 0) where
   -- what happens to the client of a number, where there is one: what is said, and what becomes of it

@@ -14,7 +14,7 @@ pub record ClientState (P : Type 0) : Type 0 where
   pub conn : ConnState P
   pub unread : Unread
 
--- a client whose connection was opened at this moment, and that sent nothing yet
+-- a client whose connection was opened, and that sent nothing yet
 abbrev pub arrived : {P : Type 0} → ConnState P → ClientState P
 arrived conn = record { conn = conn; unread = record { bytes = []; fault = None } }
 

@@ -6,6 +6,7 @@ ghost use Rattle.client_table.specs.Cells.{kept, Opens, Receives, TicksFor, Ends
 
 use crate::client::Client;
 use crate::said::Said;
+use conn_engine::Opening;
 use conn_supply::{HoldingPlace, NoMemory, Supply};
 use std::alloc::Global;
 
@@ -27,13 +28,13 @@ pub(crate) fn open<P: HoldingPlace>(
     cell: &mut Option<Client<P>>,
     alloc: Global,
     number: u16,
-    now: u64,
+    opening: Opening,
 )
     requires { number < 1024 }
-    ensures { Opens number now cell.old cell.new }
+    ensures { Opens number opening cell.old cell.new }
 {
     if cell.is_none() {
-        match cell.replace(Client::open(alloc, number, now)) {
+        match cell.replace(Client::open(alloc, number, opening)) {
             None => {}
             Some(_other) => unreachable!(),
         }

@@ -12,7 +12,7 @@ ghost use Rattle.client_table.specs.Streams.{fed, IsRead, IsInFront, FailsToRead
 
 mod reading;
 
-use conn_engine::{Conn, Input};
+use conn_engine::{Conn, Input, Opening};
 use conn_supply::{HoldingPlace, NoMemory, Supply, Then};
 use mqtt_fields::Fault;
 use mqtt_packet::Packet;
@@ -49,14 +49,14 @@ impl<P: HoldingPlace> Model for Client<P> {
 }
 
 impl<P: HoldingPlace> Client<P> {
-    /// A client whose connection, of this number, below 1,024, was opened at this moment in milliseconds.
-    pub fn open(alloc: Global, number: u16, now: u64) -> Client<P>
+    /// A client whose connection, of this number, below 1,024, is opened so.
+    pub fn open(alloc: Global, number: u16, opening: Opening) -> Client<P>
         requires { number < 1024 }
-        ensures { result ≡ arrived (record { number = number; latest = now; standing = standings.Unconnected now }) }
+        ensures { result ≡ arrived (record { number = number; latest = opening.at; standing = standings.Unconnected opening }) }
     {
         Client {
             number,
-            conn: Conn::open(alloc, number, now),
+            conn: Conn::open(alloc, number, opening),
             stream: Splitter::new(alloc),
             is_drained: false,
             packets: Vec::new(alloc),

@@ -1,9 +1,10 @@
 //! Laws: what is done to a client is a list of calls of the supply, whatever comes of it. Each is the contract of a function that does
 //! nothing, stated over the definitions that the contracts of [`Client`](crate::Client) and [`ClientTable`](crate::ClientTable) cite, and
 //! over every [`Supply`]. So what holds of a supply whatever calls are made of it holds behind each of their calls.
-ghost use Rattle.std.specs.Prelude.{◌≡◌, ℕ, List, [], ◌∷◌, Option, Result, Ok};
+ghost use Rattle.std.specs.Prelude.{◌≡◌, ◌≤◌, ℕ, List, [], ◌∷◌, Option, Result, Ok};
 ghost use Rattle.conn_supply.specs.declared.supply.NoMemory.{NoMemory};
 ghost use Rattle.conn_engine.specs.declared.input.Input.{Input};
+ghost use Rattle.conn_engine.specs.declared.standing.Opening.{Opening};
 ghost use Rattle.conn_laws.specs.Asking.{OneAnswer};
 ghost use Rattle.conn_laws.specs.Behind.{IsLast};
 ghost use Rattle.conn_laws.specs.Calls.{CallsLead};
@@ -13,7 +14,7 @@ ghost use Rattle.client_table.specs.Cells.{Opens, Receives, TicksFor, EndsFor, A
 ghost use Rattle.client_table.specs.Clients.{ClientState, Said, Moves, IsGivenUp};
 ghost use Rattle.client_table.specs.Deliveries.{Delivers};
 ghost use Rattle.client_table.specs.Numbers.{IsNumbered};
-ghost use Rattle.client_table.specs.Quotas.{IsCellWithinQuota};
+ghost use Rattle.client_table.specs.Quotas.{IsCellWithinLimit, IsCellWithinQuota};
 ghost use Rattle.client_table.specs.Streams.{Reads, FailsToRead, Ticks, FailsToTick};
 
 use conn_supply::{HoldingPlace, Supply};
@@ -81,16 +82,25 @@ pub fn returned_first_law<P: HoldingPlace, S: Supply<P>>()
 {}
 
 /// **The quota is kept** (section 4.9), whatever happens to the client in a cell, with memory and without: of the PUBLISH packets that it was
-/// sent on its connection, those that wait for their PUBACK are never more than the Receive Maximum of its CONNECT, and never more than 256.
+/// sent on its connection, those that wait for their PUBACK are never more than the Receive Maximum that its terms have, and never more than 256. And
+/// these terms are never more than the limit that the connection was opened with (`opens_limited` .., profile).
 pub fn quota_law<P: HoldingPlace, S: Supply<P>>()
-    ensures opens { (number now : ℕ) (before after : Option (ClientState P)) →
-        Opens number now before after → IsCellWithinQuota before → IsCellWithinQuota after }
+    ensures opens { (number : ℕ) (opening : Opening) (before after : Option (ClientState P)) →
+        Opens number opening before after → IsCellWithinQuota before → IsCellWithinQuota after }
     ensures receives { (now : ℕ) (piece : List ℕ) (more : List Said) (result : Result (Unit {0}) NoMemory) (before after : Option (ClientState P)) (old new : S) →
         Receives S.call P.slot_of old before now piece more result after new → IsCellWithinQuota before → IsCellWithinQuota after }
     ensures ticks { (now : ℕ) (more : List Said) (result : Result (Unit {0}) NoMemory) (before after : Option (ClientState P)) (old new : S) →
         TicksFor S.call P.slot_of old before now more result after new → IsCellWithinQuota before → IsCellWithinQuota after }
     ensures ends { (now : ℕ) (input : Input) (more : List Said) (result : Result (Unit {0}) NoMemory) (before after : Option (ClientState P)) (old new : S) →
         EndsFor S.call P.slot_of old before now input more result after new → IsCellWithinQuota before → IsCellWithinQuota after }
+    ensures opens_limited { (limit number : ℕ) (opening : Opening) (before after : Option (ClientState P)) →
+        Opens number opening before after → opening.max_inflight ≤ limit → IsCellWithinLimit limit before → IsCellWithinLimit limit after }
+    ensures receives_limited { (limit now : ℕ) (piece : List ℕ) (more : List Said) (result : Result (Unit {0}) NoMemory) (before after : Option (ClientState P)) (old new : S) →
+        Receives S.call P.slot_of old before now piece more result after new → IsCellWithinLimit limit before → IsCellWithinLimit limit after }
+    ensures ticks_limited { (limit now : ℕ) (more : List Said) (result : Result (Unit {0}) NoMemory) (before after : Option (ClientState P)) (old new : S) →
+        TicksFor S.call P.slot_of old before now more result after new → IsCellWithinLimit limit before → IsCellWithinLimit limit after }
+    ensures ends_limited { (limit now : ℕ) (input : Input) (more : List Said) (result : Result (Unit {0}) NoMemory) (before after : Option (ClientState P)) (old new : S) →
+        EndsFor S.call P.slot_of old before now input more result after new → IsCellWithinLimit limit before → IsCellWithinLimit limit after }
 {}
 
 /// **What happens to a client comes out in one way** where each call of the supply has one answer and memory is not wanted: the same is

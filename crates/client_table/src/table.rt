@@ -7,6 +7,7 @@ ghost use Rattle.client_table.specs.Cells.{Abandons, AbandonsEach, InCell, Opens
 use crate::cell;
 use crate::client::Client;
 use crate::said::Said;
+use conn_engine::Opening;
 use conn_supply::{HoldingPlace, NoMemory, Supply};
 use std::alloc::Global;
 use std::marker::Model;
@@ -45,16 +46,16 @@ impl<P: HoldingPlace> ClientTable<P> {
         Ok(ClientTable { cells, alloc })
     }
 
-    /// The connection of this number, below [`CLIENTS`], is opened at this moment in milliseconds.
-    pub fn open(&mut self, number: u8, now: u64)
+    /// The connection of this number, below [`CLIENTS`], is opened so.
+    pub fn open(&mut self, number: u8, opening: Opening)
         requires { number < 64 }
-        ensures { InCell self.old number (Opens number now) self.new }
+        ensures { InCell self.old number (Opens number opening) self.new }
     {
         cell::open(
             &mut self.cells[usize::from(number)],
             self.alloc,
             u16::from(number),
-            now,
+            opening,
         );
     }
 }

@@ -3,6 +3,7 @@ ghost use Rattle.std.specs.Prelude.{◌<◌};
 
 use crate::refusing::{Refused, Refusing};
 use client_table::{ClientTable, Said};
+use conn_engine::Opening;
 use conn_supply::{NoMemory, Supply};
 use local_broker::LocalPlace;
 use mqtt_topic::Routes;
@@ -28,7 +29,7 @@ impl Hall {
     pub(crate) fn open(rt: &impl Abort, alloc: Global, refused: Refused) -> Hall {
         let mut clients = ClientTable::new(alloc).expect(rt, "memory");
         for number in 0..CLIENTS {
-            clients.open(number, 0);
+            clients.open(number, Opening::plain(0));
         }
         Hall {
             supply: Refusing::open(alloc, Routes::new(alloc), refused).expect(rt, "memory"),
@@ -48,7 +49,7 @@ impl Hall {
     pub(crate) fn reopen(&mut self, number: u8)
         requires { number < 64 }
     {
-        self.clients.open(number, self.now);
+        self.clients.open(number, Opening::plain(self.now));
     }
 
     /// A piece of a client's stream comes, and these bytes are written.

@@ -8,7 +8,7 @@ use Rattle.conn_engine.specs.declared.standing.Standing.TheVariants.{Unconnected
 
 -- a Tick at this moment ends the connection: no CONNECT came in time (3.1.4), or no packet for one and a half times the keep alive (3.1.2.10)
 abbrev pub IsSilentTooLong : {P : Type 0} → Standing P → ℕ → Type 0
-IsSilentTooLong (Unconnected opened) now = is_late (now - opened) ≡ true
+IsSilentTooLong (Unconnected opened) now = is_late (now - opened.at) ≡ true
 IsSilentTooLong (Waiting request ticks) now = ⊥
 IsSilentTooLong (Connected link) now = is_overdue link.terms.keep_alive (now - link.heard) ≡ true
 IsSilentTooLong Ended now = ⊥

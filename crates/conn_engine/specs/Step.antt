@@ -26,6 +26,7 @@ use Rattle.conn_engine.specs.declared.input.Input.{Input}
 use Rattle.conn_engine.specs.declared.input.Input.TheVariants as inputs
 use Rattle.conn_engine.specs.declared.standing.ConnectRequest.{ConnectRequest}
 use Rattle.conn_engine.specs.declared.standing.Link.{Link}
+use Rattle.conn_engine.specs.declared.standing.Opening.{Opening}
 use Rattle.conn_engine.specs.declared.standing.Standing.{Standing}
 use Rattle.conn_engine.specs.declared.standing.Standing.TheVariants.{Unconnected, Waiting, Connected, Ended}
 use Rattle.conn_engine.specs.Standings.{IsWaiting}
@@ -33,9 +34,10 @@ use Rattle.conn_engine.specs.Ending.{down, Parts, Sweeps}
 use Rattle.conn_engine.specs.Connecting.{IsRefused, Attaches, FailsToAttach, TriesAgain, FailsAgain}
 use Rattle.conn_engine.specs.Answering.{Answers, FailsToAnswer, with_session}
 
--- what a CONNECT asks for that comes at this moment
-abbrev pub request_of : Connect → ℕ → ConnectRequest
-request_of connect now = record { client = connect.client_identifier; clean_start = connect.clean_start; terms = terms_of connect; came = now }
+-- what a CONNECT asks for that comes at this moment, where the broker has this limit
+abbrev pub request_of : ℕ → Connect → ℕ → ConnectRequest
+request_of max_inflight connect now =
+    record { client = connect.client_identifier; clean_start = connect.clean_start; terms = terms_of max_inflight connect; came = now }
 
 -- a packet came at this moment; where the clock went back, the later one stands
 abbrev pub hearing : {P : Type 0} → Link P → ℕ → Link P
@@ -56,7 +58,7 @@ IsRefusedIf (Some refusal) standing reply = IsRefused refusal standing reply
 IsRefusedIf None standing reply = IsClosed standing reply
 
 -- it is closed where the CONNECT has not come in time, and waits for it else
-abbrev pub WaitsForConnect : {P : Type 0} → Bool → ℕ → Standing P → Reply → Type 0
+abbrev pub WaitsForConnect : {P : Type 0} → Bool → Opening → Standing P → Reply → Type 0
 WaitsForConnect true opened standing reply = IsClosed standing reply
 WaitsForConnect false opened standing reply = (standing ≡ Unconnected opened) × (reply ≡ going_on None)
 
@@ -91,11 +93,11 @@ module _ {S P : Type 0} (call : S → Fact P → S → Type 0) (slot_of : P → 
   IsParted old link now standing new = Parts call old link.session now new × (standing ≡ Ended)
 
   -- the first packet
-  abbrev pub AnswersFirst : FirstAnswer → S → ℕ → ℕ → Packet → Standing P → Reply → S → Type 0
-  AnswersFirst first.Close old number now packet standing reply new = IsClosed standing reply × (new ≡ old)
-  AnswersFirst (first.Refuse refusal) old number now packet standing reply new = IsRefused refusal standing reply × (new ≡ old)
-  AnswersFirst first.Attach old number now packet standing reply new =
-      (connect : Connect) × (packet ≡ packets.Connect connect) × Attaches call old number now (request_of connect now) 0 standing reply new
+  abbrev pub AnswersFirst : FirstAnswer → S → ℕ → ℕ → ℕ → Packet → Standing P → Reply → S → Type 0
+  AnswersFirst first.Close old number max_inflight now packet standing reply new = IsClosed standing reply × (new ≡ old)
+  AnswersFirst (first.Refuse refusal) old number max_inflight now packet standing reply new = IsRefused refusal standing reply × (new ≡ old)
+  AnswersFirst first.Attach old number max_inflight now packet standing reply new =
+      (connect : Connect) × (packet ≡ packets.Connect connect) × Attaches call old number now (request_of max_inflight connect now) 0 standing reply new
 
   -- the connection goes on, or its session is parked
   abbrev pub Concludes : S → Link P → ℕ → Then → Standing P → S → Type 0
@@ -129,9 +131,10 @@ module _ {S P : Type 0} (call : S → Fact P → S → Type 0) (slot_of : P → 
 
   -- what an input does: the standing from then on, and the reply
   abbrev pub Reacts : S → ℕ → Standing P → ℕ → Input → Standing P → Reply → S → Type 0
-  Reacts old number (Unconnected opened) now (inputs.Packet packet) standing reply new = AnswersFirst (first_answer packet) old number now packet standing reply new
+  Reacts old number (Unconnected opened) now (inputs.Packet packet) standing reply new =
+      AnswersFirst (first_answer packet) old number opened.max_inflight now packet standing reply new
   Reacts old number (Unconnected opened) now (inputs.Fault fault) standing reply new = IsRefusedIf (fault_refusal fault) standing reply × (new ≡ old)
-  Reacts old number (Unconnected opened) now inputs.Tick standing reply new = Sweeps call old now 256 new × WaitsForConnect (is_late (now - opened)) opened standing reply
+  Reacts old number (Unconnected opened) now inputs.Tick standing reply new = Sweeps call old now 256 new × WaitsForConnect (is_late (now - opened.at)) opened standing reply
   Reacts old number (Unconnected opened) now inputs.EndOfInput standing reply new = IsClosed standing reply × (new ≡ old)
   Reacts old number (Unconnected opened) now inputs.Closing standing reply new = IsClosed standing reply × (new ≡ old)
   Reacts old number (Waiting request ticks) now (inputs.Packet packet) standing reply new = ⊥
@@ -201,12 +204,13 @@ module _ {S P : Type 0} (call : S → Fact P → S → Type 0) (slot_of : P → 
       (after : Link P) × (mid : S) × FailsToAnswer call slot_of old number (hearing link now) packet after mid × Parts call mid after.session now new
 
   -- where memory was wanted for the first packet
-  abbrev pub FailsFirst : S → ℕ → ℕ → Packet → S → Type 0
-  FailsFirst old number now packet new = (connect : Connect) × (packet ≡ packets.Connect connect) × FailsToAttach call old number now (request_of connect now) new
+  abbrev pub FailsFirst : S → ℕ → ℕ → ℕ → Packet → S → Type 0
+  FailsFirst old number max_inflight now packet new =
+      (connect : Connect) × (packet ≡ packets.Connect connect) × FailsToAttach call old number now (request_of max_inflight connect now) new
 
   -- where memory was wanted for the reply
   abbrev pub FailsToReact : S → ℕ → Standing P → ℕ → Input → S → Type 0
-  FailsToReact old number (Unconnected opened) now (inputs.Packet packet) new = FailsFirst old number now packet new
+  FailsToReact old number (Unconnected opened) now (inputs.Packet packet) new = FailsFirst old number opened.max_inflight now packet new
   FailsToReact old number (Waiting request ticks) now inputs.Tick new = (mid : S) × Sweeps call old now 256 mid × FailsAgain call mid number now request new
   FailsToReact old number (Connected link) now (inputs.Packet packet) new =
       (mid : S) × call old (WasKicked number false) mid × FailsOnPacket mid number link now packet new

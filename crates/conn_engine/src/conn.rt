@@ -13,7 +13,7 @@ use crate::connecting::is_waiting;
 use crate::ending::{cut_off, give_up};
 use crate::input::Input;
 use crate::reacting::react;
-use crate::standing::{Link, Standing};
+use crate::standing::{Link, Opening, Standing};
 use conn_supply::{HoldingPlace, NoMemory, Reply, Supply, Then, hand_out};
 use mqtt_packet::Packet;
 use std::alloc::Global;
@@ -46,16 +46,16 @@ impl<P: HoldingPlace> Model for Conn<P> {
 }
 
 impl<P: HoldingPlace> Conn<P> {
-    /// A connection that was opened at this moment in milliseconds. Its number, below 1,024, tells it apart from the other
-    /// connections of the broker.
-    pub fn open(alloc: Global, number: u16, now: u64) -> Conn<P>
+    /// A connection that is opened so. Its number, below 1,024, tells it apart from the other connections of the broker.
+    pub fn open(alloc: Global, number: u16, opening: Opening) -> Conn<P>
         requires { number < 1024 }
-        ensures { result ≡ record { number = number; latest = now; standing = standings.Unconnected now } }
+        ensures { result ≡ record { number = number; latest = opening.at; standing = standings.Unconnected opening } }
     {
+        let at = opening.at;
         Conn {
             number,
-            latest: now,
-            standing: Standing::Unconnected { opened: now },
+            latest: at,
+            standing: Standing::Unconnected { opened: opening },
             alloc,
         }
     }

@@ -5,7 +5,8 @@
 //! or many may stand behind.
 //!
 //! ```
-//! let mut conn = Conn::open(alloc, 0, now);
+//! let opening = Opening { at: now, max_inflight };
+//! let mut conn = Conn::open(alloc, 0, opening);
 //! let next = conn.step(&mut supply, now, Input::Packet(connect), &mut packets)?; // a CONNACK, and what was sent before
 //! let next = conn.step(&mut supply, now, Input::Tick, &mut packets)?; // what has come for its client since
 //! let next = conn.step(&mut supply, now, Input::EndOfInput, &mut packets)?; // its session is parked: Then::Close
@@ -27,3 +28,4 @@ mod standing;
 pub use conn::Conn;
 pub use ending::retire;
 pub use input::Input;
+pub use standing::Opening;

@@ -14,7 +14,7 @@ impl<P> Standing<P> {
             (λ deadline. (now : ℕ) → IsSilentTooLong self.now now ↔ deadline ≤ now) }
     {
         match self {
-            Standing::Unconnected { opened } => opened.checked_add(CONNECT_TIMEOUT),
+            Standing::Unconnected { opened } => opened.at.checked_add(CONNECT_TIMEOUT),
             Standing::Waiting { .. } => None,
             Standing::Connected(link) => match longest_silence(link.terms.keep_alive) {
                 Some(longest) => link.heard.checked_add(longest),

@@ -14,10 +14,10 @@ use crate::answering::answer;
 use crate::connecting::{attach, refuse, try_again};
 use crate::ending::{give_up, part_as_is, sweep};
 use crate::input::Input;
-use crate::standing::{ConnectRequest, Link, Standing};
+use crate::standing::{ConnectRequest, Link, Opening, Standing};
 use conn_rules::{
-    FirstAnswer, answer_to_first, disconnect, fault_code, fault_refusal, is_late, is_overdue,
-    terms_of,
+    FirstAnswer, MaxInflight, answer_to_first, disconnect, fault_code, fault_refusal, is_late,
+    is_overdue, terms_of,
 };
 use conn_supply::{HoldingPlace, NoMemory, Reply, Supply, Then};
 use mqtt_packet::{Connect, Packet, ReasonCode};
@@ -105,7 +105,7 @@ fn close<P>() -> (Standing<P>, Result<Reply, NoMemory>)
 fn react_unconnected<P: HoldingPlace, S: Supply<P>>(
     supply: &mut S,
     number: u16,
-    opened: u64,
+    opened: Opening,
     now: u64,
     input: Input,
 ) -> (Standing<P>, Result<Reply, NoMemory>)
@@ -119,14 +119,14 @@ fn react_unconnected<P: HoldingPlace, S: Supply<P>>(
     ensures visiting { S.visiting supply.new ≡ S.visiting supply.old }
 {
     match input {
-        Input::Packet(packet) => answer_first(supply, number, now, packet),
+        Input::Packet(packet) => answer_first(supply, number, opened.max_inflight, now, packet),
         Input::Fault(fault) => match fault_refusal(fault) {
             Some(refusal) => refuse(refusal),
             None => close(),
         },
         Input::Tick => {
             sweep(supply, now);
-            if is_late(now.saturating_sub(opened)) {
+            if is_late(now.saturating_sub(opened.at)) {
                 close()
             } else {
                 (Standing::Unconnected { opened }, Ok(Reply::going_on(None)))
@@ -141,13 +141,14 @@ fn react_unconnected<P: HoldingPlace, S: Supply<P>>(
 fn answer_first<P: HoldingPlace, S: Supply<P>>(
     supply: &mut S,
     number: u16,
+    max_inflight: MaxInflight,
     now: u64,
     packet: Packet,
 ) -> (Standing<P>, Result<Reply, NoMemory>)
     requires known { number < 1024 }
     ensures answered { MatchResult result.1
-        (λ reply. AnswersFirst S.call P.slot_of (first_answer packet) supply.old number now packet result.0 reply supply.new)
-        (λ _. (result.0 ≡ standings.Ended) × FailsFirst S.call P.slot_of supply.old number now packet supply.new) }
+        (λ reply. AnswersFirst S.call P.slot_of (first_answer packet) supply.old number max_inflight now packet result.0 reply supply.new)
+        (λ _. (result.0 ≡ standings.Ended) × FailsFirst S.call P.slot_of supply.old number max_inflight now packet supply.new) }
     ensures sound { IsSoundStanding P.has_out result.0 }
     ensures visiting { S.visiting supply.new ≡ S.visiting supply.old }
 {
@@ -160,7 +161,7 @@ fn answer_first<P: HoldingPlace, S: Supply<P>>(
             drop(packet);
             refuse(refusal)
         }
-        FirstAnswer::Attach => connect(supply, number, now, packet),
+        FirstAnswer::Attach => connect(supply, number, max_inflight, now, packet),
     }
 }
 
@@ -169,14 +170,15 @@ fn answer_first<P: HoldingPlace, S: Supply<P>>(
 fn connect<P: HoldingPlace, S: Supply<P>>(
     supply: &mut S,
     number: u16,
+    max_inflight: MaxInflight,
     now: u64,
     packet: Packet,
 ) -> (Standing<P>, Result<Reply, NoMemory>)
     requires known { number < 1024 }
     requires opens { first_answer packet ≡ first.Attach }
     ensures answered { MatchResult result.1
-        (λ reply. AnswersFirst S.call P.slot_of first.Attach supply.old number now packet result.0 reply supply.new)
-        (λ _. (result.0 ≡ standings.Ended) × FailsFirst S.call P.slot_of supply.old number now packet supply.new) }
+        (λ reply. AnswersFirst S.call P.slot_of first.Attach supply.old number max_inflight now packet result.0 reply supply.new)
+        (λ _. (result.0 ≡ standings.Ended) × FailsFirst S.call P.slot_of supply.old number max_inflight now packet supply.new) }
     ensures sound { IsSoundStanding P.has_out result.0 }
     ensures visiting { S.visiting supply.new ≡ S.visiting supply.old }
 {
@@ -186,7 +188,7 @@ fn connect<P: HoldingPlace, S: Supply<P>>(
                 supply,
                 number,
                 now,
-                request_of(connect.into_inner(), now),
+                request_of(max_inflight, connect.into_inner(), now),
                 0,
             )
         }
@@ -195,10 +197,10 @@ fn connect<P: HoldingPlace, S: Supply<P>>(
 }
 
 /// What a CONNECT asks for that comes at this moment.
-fn request_of(connect: Connect, now: u64) -> ConnectRequest
-    ensures { result ≡ request_of connect now }
+fn request_of(max_inflight: MaxInflight, connect: Connect, now: u64) -> ConnectRequest
+    ensures { result ≡ request_of max_inflight connect now }
 {
-    let terms = terms_of(&connect);
+    let terms = terms_of(max_inflight, &connect);
     ConnectRequest {
         client: connect.client_identifier,
         clean_start: connect.clean_start,

@@ -5,7 +5,7 @@ ghost use Rattle.conn_engine.specs.declared.standing.Standing.TheVariants as sta
 ghost use Rattle.conn_engine.specs.Answering.{joining};
 ghost use Rattle.conn_engine.specs.Standings.{IsConnected};
 
-use conn_rules::Terms;
+use conn_rules::{MaxInflight, Terms};
 use group_jobs::Envelope;
 use mqtt_packet::Text;
 use session_desk::{Membership, Session};
@@ -67,12 +67,33 @@ impl<P> Link<P> {
     }
 }
 
+/// What a connection is opened with.
+#[derive(Clone, Copy, Debug, PartialEq, Eq)]
+pub struct Opening {
+    /// The moment, in milliseconds.
+    pub at: u64,
+    /// How many messages its client has unacknowledged at most, whatever its Receive Maximum.
+    pub max_inflight: MaxInflight,
+}
+
+impl Opening {
+    /// One at this moment in milliseconds, with the highest limit.
+    pub fn plain(at: u64) -> Opening
+        ensures { result ≡ record { at = at; max_inflight = 256 } }
+    {
+        Opening {
+            at,
+            max_inflight: MaxInflight::most(),
+        }
+    }
+}
+
 /// How far a connection has come.
 pub(crate) enum Standing<P> {
     /// No packet came yet.
     Unconnected {
-        /// The moment at which the connection was opened, in milliseconds.
-        opened: u64,
+        /// What the connection was opened with.
+        opened: Opening,
     },
     /// Another connection has the session of the client, and is to give it up.
     Waiting {

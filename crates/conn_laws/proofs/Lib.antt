@@ -1,5 +1,6 @@
 pub mod Ended
 pub mod Quotas
+pub mod Limits
 pub mod Eager
 pub mod Replying
 pub mod Aside

@@ -16,6 +16,7 @@ use Rattle.conn_supply.specs.Facts.{Fact}
 use Rattle.conn_engine.specs.declared.input.Input.{Input}
 use Rattle.conn_engine.specs.declared.input.Input.TheVariants as inputs
 use Rattle.conn_engine.specs.declared.standing.Link.{Link}
+use Rattle.conn_engine.specs.declared.standing.Opening.{Opening}
 use Rattle.conn_engine.specs.declared.standing.Standing.{Standing}
 use Rattle.conn_engine.specs.declared.standing.Standing.TheVariants.{Unconnected, Waiting, Connected, Ended}
 use Rattle.conn_laws.specs.Asking.{OneAnswer}
@@ -38,7 +39,7 @@ refused_if : {P : Type 0} (refusal : Option ConnectRefusal) (s t : Standing P) (
 refused_if (Some refusal) s t r u h k = refused refusal s t r u h k
 refused_if None s t r u h k = closed s t r u h k
 
-waited : {P : Type 0} (late : Bool) (opened : ℕ) (s t : Standing P) (r u : Reply) → WaitsForConnect late opened s r → WaitsForConnect late opened t u → IsOne s t r u
+waited : {P : Type 0} (late : Bool) (opened : Opening) (s t : Standing P) (r u : Reply) → WaitsForConnect late opened s r → WaitsForConnect late opened t u → IsOne s t r u
 waited true opened s t r u h k = closed s t r u h k
 waited false opened s t r u h k = (h.0 ∙ sym k.0, h.1 ∙ sym k.1)
 
@@ -123,20 +124,20 @@ module _ {S P : Type 0} (call : S → Fact P → S → Type 0) (AreAlike : S →
   unless_kicked true a a' b b' link now Does Also s t r u alike both h k = taken_over a a' b b' link now s t r u alike h k
   unless_kicked false a a' b b' link now Does Also s t r u alike both h k = both h k
 
-  first_answered : (which : FirstAnswer) (a a' b b' : S) (number now : ℕ) (packet : Packet) (s t : Standing P) (r u : Reply) → AreAlike a b
-      → AnswersFirst call slot_of which a number now packet s r a' → AnswersFirst call slot_of which b number now packet t u b' → Agree s t r u a' b'
-  first_answered first.Close a a' b b' number now packet s t r u alike h k = (closed s t r u h.0 k.0, calls.still call AreAlike answers a a' b b' alike h.1 k.1)
-  first_answered (first.Refuse refusal) a a' b b' number now packet s t r u alike h k = (refused refusal s t r u h.0 k.0, calls.still call AreAlike answers a a' b b' alike h.1 k.1)
-  first_answered first.Attach a a' b b' number now packet s t r u alike h k =
+  first_answered : (which : FirstAnswer) (a a' b b' : S) (number max_inflight now : ℕ) (packet : Packet) (s t : Standing P) (r u : Reply) → AreAlike a b
+      → AnswersFirst call slot_of which a number max_inflight now packet s r a' → AnswersFirst call slot_of which b number max_inflight now packet t u b' → Agree s t r u a' b'
+  first_answered first.Close a a' b b' number max_inflight now packet s t r u alike h k = (closed s t r u h.0 k.0, calls.still call AreAlike answers a a' b b' alike h.1 k.1)
+  first_answered (first.Refuse refusal) a a' b b' number max_inflight now packet s t r u alike h k = (refused refusal s t r u h.0 k.0, calls.still call AreAlike answers a a' b b' alike h.1 k.1)
+  first_answered first.Attach a a' b b' number max_inflight now packet s t r u alike h k =
       let connect = connect_is k.0 h.0 (sym k.1 ∙ h.1) in
-      connecting.attached call AreAlike answers a a' b b' number now (request_of h.0 now) 0 s t r u alike h.2 (subst (λ c. Attaches call b number now (request_of c now) 0 t u b') connect k.2)
+      connecting.attached call AreAlike answers a a' b b' number now (request_of max_inflight h.0 now) 0 s t r u alike h.2 (subst (λ c. Attaches call b number now (request_of max_inflight c now) 0 t u b') connect k.2)
 
   reacted : (standing : Standing P) (input : Input) (a a' b b' : S) (number now : ℕ) (s t : Standing P) (r u : Reply) → AreAlike a b
       → Reacts call slot_of a number standing now input s r a' → Reacts call slot_of b number standing now input t u b' → Agree s t r u a' b'
-  reacted (Unconnected opened) (inputs.Packet packet) a a' b b' number now s t r u alike h k = first_answered (first_answer packet) a a' b b' number now packet s t r u alike h k
+  reacted (Unconnected opened) (inputs.Packet packet) a a' b b' number now s t r u alike h k = first_answered (first_answer packet) a a' b b' number opened.max_inflight now packet s t r u alike h k
   reacted (Unconnected opened) (inputs.Fault fault) a a' b b' number now s t r u alike h k = (refused_if (fault_refusal fault) s t r u h.0 k.0, calls.still call AreAlike answers a a' b b' alike h.1 k.1)
   reacted (Unconnected opened) inputs.Tick a a' b b' number now s t r u alike h k =
-      (waited (is_late (now - opened)) opened s t r u h.1 k.1, endings.swept call AreAlike answers 256 now a a' b b' alike h.0 k.0)
+      (waited (is_late (now - opened.at)) opened s t r u h.1 k.1, endings.swept call AreAlike answers 256 now a a' b b' alike h.0 k.0)
   reacted (Unconnected opened) inputs.EndOfInput a a' b b' number now s t r u alike h k = (closed s t r u h.0 k.0, calls.still call AreAlike answers a a' b b' alike h.1 k.1)
   reacted (Unconnected opened) inputs.Closing a a' b b' number now s t r u alike h k = (closed s t r u h.0 k.0, calls.still call AreAlike answers a a' b b' alike h.1 k.1)
   reacted (Waiting request ticks) (inputs.Packet packet) a a' b b' number now s t r u alike h k = absurd h

@@ -26,6 +26,7 @@ use Rattle.conn_engine.specs.declared.input.Input.{Input}
 use Rattle.conn_engine.specs.declared.input.Input.TheVariants as inputs
 use Rattle.conn_engine.specs.declared.standing.ConnectRequest.{ConnectRequest}
 use Rattle.conn_engine.specs.declared.standing.Link.{Link}
+use Rattle.conn_engine.specs.declared.standing.Opening.{Opening}
 use Rattle.conn_engine.specs.declared.standing.Standing.{Standing}
 use Rattle.conn_engine.specs.declared.standing.Standing.TheVariants.{Unconnected, Waiting, Connected, Ended}
 use Rattle.conn_engine.specs.Answering.{Answers, Disconnects, DisconnectsIf}
@@ -111,18 +112,18 @@ module _ {S P : Type 0} (call : S → Fact P → S → Type 0) (slot_of : P → 
   attached (Err errors.NoName) old new request ticks standing reply attaches = ended standing attaches.0.over
   attached (Err errors.Memory) old new request ticks standing reply attaches = absurd attaches
 
-  answered_first : (answer : FirstAnswer) (old new : S) (number now : ℕ) (packet : Packet) (standing : Standing P) (reply : Reply)
-      → AnswersFirst call slot_of answer old number now packet standing reply new → IsWithinQuota standing
-  answered_first first.Close old new number now packet standing reply answers = ended standing answers.0.over
-  answered_first (first.Refuse refusal) old new number now packet standing reply answers = ended standing answers.0.over
-  answered_first first.Attach old new number now packet standing reply answers =
+  answered_first : (answer : FirstAnswer) (old new : S) (number max_inflight now : ℕ) (packet : Packet) (standing : Standing P) (reply : Reply)
+      → AnswersFirst call slot_of answer old number max_inflight now packet standing reply new → IsWithinQuota standing
+  answered_first first.Close old new number max_inflight now packet standing reply answers = ended standing answers.0.over
+  answered_first (first.Refuse refusal) old new number max_inflight now packet standing reply answers = ended standing answers.0.over
+  answered_first first.Attach old new number max_inflight now packet standing reply answers =
       attached answers.2.answer answers.2.mid new _ 0 standing reply answers.2.answered
 
   refused_if : (refusal : Option ConnectRefusal) (standing : Standing P) (reply : Reply) → IsRefusedIf refusal standing reply → IsWithinQuota standing
   refused_if (Some refusal) standing reply refused = ended standing refused.over
   refused_if None standing reply closed = ended standing closed.over
 
-  waits_for_connect : (late : Bool) (opened : ℕ) (standing : Standing P) (reply : Reply) → WaitsForConnect late opened standing reply → IsWithinQuota standing
+  waits_for_connect : (late : Bool) (opened : Opening) (standing : Standing P) (reply : Reply) → WaitsForConnect late opened standing reply → IsWithinQuota standing
   waits_for_connect true opened standing reply closed = ended standing closed.over
   waits_for_connect false opened standing reply waiting = subst IsWithinQuota (sym waiting.0) tt
 
@@ -182,7 +183,7 @@ module _ {S P : Type 0} (call : S → Fact P → S → Type 0) (slot_of : P → 
 
   reacted : (standing : Standing P) (input : Input) (old new : S) (number now : ℕ) (standing' : Standing P) (reply : Reply)
       → Reacts call slot_of old number standing now input standing' reply new → IsWithinQuota standing → IsWithinQuota standing'
-  reacted (Unconnected opened) (inputs.Packet packet) old new number now standing' reply reacts within = answered_first _ old new number now packet standing' reply reacts
+  reacted (Unconnected opened) (inputs.Packet packet) old new number now standing' reply reacts within = answered_first _ old new number opened.max_inflight now packet standing' reply reacts
   reacted (Unconnected opened) (inputs.Fault fault) old new number now standing' reply reacts within = refused_if _ standing' reply reacts.0
   reacted (Unconnected opened) inputs.Tick old new number now standing' reply reacts within = waits_for_connect _ opened standing' reply reacts.1
   reacted (Unconnected opened) inputs.EndOfInput old new number now standing' reply reacts within = ended standing' reacts.0.over

@@ -34,6 +34,7 @@ use Rattle.conn_supply.specs.Publishing.{Offers, AnswersPublish}
 use Rattle.conn_engine.specs.declared.input.Input.{Input}
 use Rattle.conn_engine.specs.declared.input.Input.TheVariants as inputs
 use Rattle.conn_engine.specs.declared.standing.Link.{Link}
+use Rattle.conn_engine.specs.declared.standing.Opening.{Opening}
 use Rattle.conn_engine.specs.declared.standing.Standing.{Standing}
 use Rattle.conn_engine.specs.declared.standing.Standing.TheVariants.{Unconnected, Waiting, Connected, Ended}
 use Rattle.conn_engine.specs.Answering.{DisconnectsIf, Disconnects, Answers}
@@ -276,18 +277,18 @@ module _ {S P : Type 0} (call : S → Fact P → S → Type 0) where
     over : (old new : S) (number : ℕ) (standing : Standing P) → standing ≡ Ended → Apart call old new → Turn call old number None (link_of standing) new
     over old new number standing is calls = is_at call old new number None standing _ is (stays_out call old new number calls)
 
-    first_answered : (answer : FirstAnswer) (old new : S) (number now : ℕ) (packet : Packet) (standing : Standing P) (reply : Reply)
-        → AnswersFirst call slot_of answer old number now packet standing reply new → Turn call old number None (link_of standing) new
-    first_answered first.Close old new number now packet standing reply is = over old new number standing is.0.over (still call old new is.1)
-    first_answered (first.Refuse refusal) old new number now packet standing reply is = over old new number standing is.0.over (still call old new is.1)
-    first_answered first.Attach old new number now packet standing reply is =
+    first_answered : (answer : FirstAnswer) (old new : S) (number max_inflight now : ℕ) (packet : Packet) (standing : Standing P) (reply : Reply)
+        → AnswersFirst call slot_of answer old number max_inflight now packet standing reply new → Turn call old number None (link_of standing) new
+    first_answered first.Close old new number max_inflight now packet standing reply is = over old new number standing is.0.over (still call old new is.1)
+    first_answered (first.Refuse refusal) old new number max_inflight now packet standing reply is = over old new number standing is.0.over (still call old new is.1)
+    first_answered first.Attach old new number max_inflight now packet standing reply is =
         attached call old old new new number now _ 0 standing reply (still call old old refl) is.2 (still call new new refl)
 
     refused_if : (refusal : Option ConnectRefusal) (standing : Standing P) (reply : Reply) → IsRefusedIf refusal standing reply → standing ≡ Ended
     refused_if (Some refusal) standing reply refused = refused.over
     refused_if None standing reply closed = closed.over
 
-    waits_for_connect : (late : Bool) (old new : S) (number opened : ℕ) (standing : Standing P) (reply : Reply) → WaitsForConnect late opened standing reply → Apart call old new
+    waits_for_connect : (late : Bool) (old new : S) (number : ℕ) (opened : Opening) (standing : Standing P) (reply : Reply) → WaitsForConnect late opened standing reply → Apart call old new
         → Turn call old number None (link_of standing) new
     waits_for_connect true old new number opened standing reply closed calls = over old new number standing closed.over calls
     waits_for_connect false old new number opened standing reply waits calls = is_at call old new number None standing _ waits.0 (stays_out call old new number calls)
@@ -295,11 +296,11 @@ module _ {S P : Type 0} (call : S → Fact P → S → Type 0) where
     pub reacted : (standing : Standing P) (input : Input) (old new : S) (number now : ℕ) (between : Standing P) (reply : Reply) → IsNotEnding standing
         → Reacts call slot_of old number standing now input between reply new → Turned old number standing input reply.next between new
     reacted (Unconnected opened) (inputs.Packet packet) old new number now between reply sound is =
-        turns old new number _ _ reply.next between (λ e f c. absurd c) (first_answered (first_answer packet) old new number now packet between reply is)
+        turns old new number _ _ reply.next between (λ e f c. absurd c) (first_answered (first_answer packet) old new number opened.max_inflight now packet between reply is)
     reacted (Unconnected opened) (inputs.Fault fault) old new number now between reply sound is =
         turns old new number _ _ reply.next between (λ e f c. absurd c) (over old new number between (refused_if (fault_refusal fault) between reply is.0) (still call old new is.1))
     reacted (Unconnected opened) inputs.Tick old new number now between reply sound is =
-        turns old new number _ _ reply.next between (λ e f c. absurd c) (waits_for_connect (is_late (now - opened)) old new number opened between reply is.1 (apart call old new (asides.swept call 256 old new now is.0)))
+        turns old new number _ _ reply.next between (λ e f c. absurd c) (waits_for_connect (is_late (now - opened.at)) old new number opened between reply is.1 (apart call old new (asides.swept call 256 old new now is.0)))
     reacted (Unconnected opened) inputs.EndOfInput old new number now between reply sound is = turns old new number _ _ reply.next between (λ e f c. absurd c) (over old new number between is.0.over (still call old new is.1))
     reacted (Unconnected opened) inputs.Closing old new number now between reply sound is = turns old new number _ _ reply.next between (λ e f c. absurd c) (over old new number between is.0.over (still call old new is.1))
     reacted (Waiting request ticks) (inputs.Packet packet) old new number now between reply sound is = absurd is

@@ -33,6 +33,7 @@ use Rattle.conn_engine.specs.declared.input.Input.{Input}
 use Rattle.conn_engine.specs.declared.input.Input.TheVariants as inputs
 use Rattle.conn_engine.specs.declared.standing.ConnectRequest.{ConnectRequest}
 use Rattle.conn_engine.specs.declared.standing.Link.{Link}
+use Rattle.conn_engine.specs.declared.standing.Opening.{Opening}
 use Rattle.conn_engine.specs.declared.standing.Standing.{Standing}
 use Rattle.conn_engine.specs.declared.standing.Standing.TheVariants.{Unconnected, Waiting, Connected, Ended}
 use Rattle.conn_engine.specs.Answering.{DisconnectsIf, Disconnects, Answers}
@@ -72,7 +73,7 @@ refused_if : {P : Type 0} (refusal : Option ConnectRefusal) (standing : Standing
 refused_if (Some refusal) standing reply is = refuses standing reply refusal is
 refused_if None standing reply is = closes standing reply is
 
-waits_for_connect : {P : Type 0} (late : Bool) (opened : ℕ) (standing : Standing P) (reply : Reply) → WaitsForConnect late opened standing reply → BringsNone reply
+waits_for_connect : {P : Type 0} (late : Bool) (opened : Opening) (standing : Standing P) (reply : Reply) → WaitsForConnect late opened standing reply → BringsNone reply
 waits_for_connect true opened standing reply is = closes standing reply is
 waits_for_connect false opened standing reply is = told reply _ is.1 refl
 
@@ -103,11 +104,11 @@ module _ {S P : Type 0} (call : S → Fact P → S → Type 0) (slot_of : P → 
   attached (Err errors.NoName) old new request ticks standing reply is = refuses standing reply _ is.0
   attached (Err errors.Memory) old new request ticks standing reply is = absurd is
 
-  answers_first : (answer : FirstAnswer) (old new : S) (number now : ℕ) (packet : Packet) (standing : Standing P) (reply : Reply)
-      → AnswersFirst call slot_of answer old number now packet standing reply new → BringsNone reply
-  answers_first first.Close old new number now packet standing reply is = closes standing reply is.0
-  answers_first (first.Refuse refusal) old new number now packet standing reply is = refuses standing reply refusal is.0
-  answers_first first.Attach old new number now packet standing reply is = attached is.2.answer is.2.mid new _ 0 standing reply is.2.answered
+  answers_first : (answer : FirstAnswer) (old new : S) (number max_inflight now : ℕ) (packet : Packet) (standing : Standing P) (reply : Reply)
+      → AnswersFirst call slot_of answer old number max_inflight now packet standing reply new → BringsNone reply
+  answers_first first.Close old new number max_inflight now packet standing reply is = closes standing reply is.0
+  answers_first (first.Refuse refusal) old new number max_inflight now packet standing reply is = refuses standing reply refusal is.0
+  answers_first first.Attach old new number max_inflight now packet standing reply is = attached is.2.answer is.2.mid new _ 0 standing reply is.2.answered
 
   -- what a connection with its session answers
   published : (answer : PublishAnswer) (old new : S) (number : ℕ) (publish : Publish) (reply : Reply) → AnswersPublish call old number publish answer reply new → BringsNone reply
@@ -154,7 +155,7 @@ module _ {S P : Type 0} (call : S → Fact P → S → Type 0) (slot_of : P → 
 
   pub replied : (standing : Standing P) (input : Input) (old new : S) (number now : ℕ) (between : Standing P) (reply : Reply)
       → Reacts call slot_of old number standing now input between reply new → BringsNone reply
-  replied (Unconnected opened) (inputs.Packet packet) old new number now between reply is = answers_first (first_answer packet) old new number now packet between reply is
+  replied (Unconnected opened) (inputs.Packet packet) old new number now between reply is = answers_first (first_answer packet) old new number opened.max_inflight now packet between reply is
   replied (Unconnected opened) (inputs.Fault fault) old new number now between reply is = refused_if (fault_refusal fault) between reply is.0
   replied (Unconnected opened) inputs.Tick old new number now between reply is = waits_for_connect _ opened between reply is.1
   replied (Unconnected opened) inputs.EndOfInput old new number now between reply is = closes between reply is.0

@@ -260,16 +260,16 @@ module _ {S P : Type 0} (call : S → Fact P → S → Type 0) where
     tick_answered false old new link now standing reply answers =
         behind call old answers.0 new (swept call 256 old answers.0 now answers.1) (heard (is_overdue link.terms.keep_alive (now - link.heard)) answers.0 new link now standing reply answers.2)
 
-    first_answered : (answer : FirstAnswer) (old new : S) (number now : ℕ) (packet : Packet) (standing : Standing P) (reply : Reply)
-        → AnswersFirst call slot_of answer old number now packet standing reply new → Plain call [] old new
-    first_answered first.Close old new number now packet standing reply answers = still call old new answers.1
-    first_answered (first.Refuse refusal) old new number now packet standing reply answers = still call old new answers.1
-    first_answered first.Attach old new number now packet standing reply answers = attached call old new number now _ 0 standing reply answers.2
+    first_answered : (answer : FirstAnswer) (old new : S) (number max_inflight now : ℕ) (packet : Packet) (standing : Standing P) (reply : Reply)
+        → AnswersFirst call slot_of answer old number max_inflight now packet standing reply new → Plain call [] old new
+    first_answered first.Close old new number max_inflight now packet standing reply answers = still call old new answers.1
+    first_answered (first.Refuse refusal) old new number max_inflight now packet standing reply answers = still call old new answers.1
+    first_answered first.Attach old new number max_inflight now packet standing reply answers = attached call old new number now _ 0 standing reply answers.2
 
     -- an input of a connection
     pub reacted : (standing : Standing P) (input : Input) (old new : S) (number now : ℕ) (between : Standing P) (reply : Reply)
         → Reacts call slot_of old number standing now input between reply new → Walked [] old number standing input reply.next new
-    reacted (Unconnected opened) (inputs.Packet packet) old new number now between reply is = idle old new number _ _ reply.next (first_answered (first_answer packet) old new number now packet between reply is) (λ p b. b, λ e f c. c)
+    reacted (Unconnected opened) (inputs.Packet packet) old new number now between reply is = idle old new number _ _ reply.next (first_answered (first_answer packet) old new number opened.max_inflight now packet between reply is) (λ p b. b, λ e f c. c)
     reacted (Unconnected opened) (inputs.Fault fault) old new number now between reply is = idle old new number _ _ reply.next (still call old new is.1) (λ p b. b, λ e f c. c)
     reacted (Unconnected opened) inputs.Tick old new number now between reply is = idle old new number _ _ reply.next (swept call 256 old new now is.0) (λ p b. b, λ e f c. c)
     reacted (Unconnected opened) inputs.EndOfInput old new number now between reply is = idle old new number _ _ reply.next (still call old new is.1) (λ p b. b, λ e f c. c)

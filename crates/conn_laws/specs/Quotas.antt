@@ -6,7 +6,7 @@ use Rattle.conn_rules.specs.declared.terms.Terms.{Terms}
 use Rattle.conn_engine.specs.declared.standing.Standing.{Standing}
 use Rattle.conn_engine.specs.declared.standing.Standing.TheVariants.{Unconnected, Waiting, Connected, Ended}
 
--- the Receive Maximum of its CONNECT, and 256 at most (3.1.2.11.3, profile)
+-- the least of the Receive Maximum of its CONNECT, of what the broker allows, and of 256 (3.1.2.11.3, profile)
 abbrev pub quota_of : Terms → ℕ
 quota_of terms = min terms.receive_maximum 256
 
@@ -14,6 +14,13 @@ quota_of terms = min terms.receive_maximum 256
 pub record KeepsQuota (quota : ℕ) (window : Contents Held) : Type 0 where
   pub is : window.quota ≡ Some quota
   pub kept : length window.owed ≤ quota
+
+-- what a connection was opened with, asked for while it waits, or was given, lets no more packets be unacknowledged than this limit
+abbrev pub IsWithinLimit : {P : Type 0} → ℕ → Standing P → Type 0
+IsWithinLimit limit (Unconnected opened) = opened.max_inflight ≤ limit
+IsWithinLimit limit (Waiting request ticks) = request.terms.receive_maximum ≤ limit
+IsWithinLimit limit (Connected link) = link.terms.receive_maximum ≤ limit
+IsWithinLimit limit Ended = ⊤
 
 -- of the PUBLISH packets that were sent on a connection, no more are unacknowledged than its quota
 abbrev pub IsWithinQuota : {P : Type 0} → Standing P → Type 0

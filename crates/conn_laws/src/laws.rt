@@ -12,7 +12,7 @@ ghost use Rattle.conn_laws.specs.Calls.{StepCalls, FailedCalls};
 ghost use Rattle.conn_laws.specs.Behind.{IsLast, KeepsOrEnds, IsAllHandedOut};
 ghost use Rattle.conn_laws.specs.Publishers.{CallsFrom};
 ghost use Rattle.conn_laws.specs.ReturnedFirst.{CallsReturnedFirst};
-ghost use Rattle.conn_laws.specs.Quotas.{IsWithinQuota};
+ghost use Rattle.conn_laws.specs.Quotas.{IsWithinLimit, IsWithinQuota};
 ghost use Rattle.conn_laws.specs.Transcripts.{IsNotEnding, Transcribes};
 ghost use Rattle.conn_engine.specs.Step.{Steps, FailsToStep};
 
@@ -42,11 +42,15 @@ pub fn eager_law<P: HoldingPlace, S: Supply<P>>()
 {}
 
 /// **The quota is kept** (section 4.9): of the PUBLISH packets that a connection sent, those that wait for their PUBACK are never more than the
-/// Receive Maximum of its CONNECT, and never more than 256.
+/// Receive Maximum that its terms have, and never more than 256. And these terms are never more than the limit that the connection was opened with
+/// (`limited`, profile).
 pub fn quota_law<P: HoldingPlace, S: Supply<P>>()
-    ensures { (number now : ℕ) (standing standing' : Standing P) (input : Input) (packets : List Packet) (next : Then) (old new : S) →
+    ensures kept { (number now : ℕ) (standing standing' : Standing P) (input : Input) (packets : List Packet) (next : Then) (old new : S) →
         Steps S.call P.slot_of old number standing now input packets next standing' new →
         IsWithinQuota standing → IsWithinQuota standing' }
+    ensures limited { (number now limit : ℕ) (standing standing' : Standing P) (input : Input) (packets : List Packet) (next : Then) (old new : S) →
+        Steps S.call P.slot_of old number standing now input packets next standing' new →
+        IsWithinLimit limit standing → IsWithinLimit limit standing' }
 {}
 
 /// **A step is a list of calls**, and so is one that wants memory (`failed`): what holds of every list of calls holds behind every

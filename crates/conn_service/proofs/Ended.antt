@@ -10,8 +10,6 @@ use Rattle.conn_supply.specs.Facts.{Fact}
 use Rattle.conn_engine.specs.declared.input.Input.{Input}
 use Rattle.conn_engine.specs.declared.input.Input.TheVariants as inputs
 use Rattle.conn_engine.specs.declared.standing.Standing.TheVariants.{Ended}
-use Rattle.conn_laws.specs.Quotas.{IsWithinQuota}
-use Rattle.conn_laws.proofs.Quotas as steps
 use Rattle.client_table.specs.Clients.{ClientState, moment_of, words, Said, Moves, IsGivenUp}
 use Rattle.conn_service.specs.declared.served.Served.{Served}
 use Rattle.conn_service.specs.Services.{ServiceState}
@@ -87,45 +85,3 @@ module _ {S P T : Type 0} (call : S → Fact P → S → Type 0) (turn : S → S
   quiet [] old new supply supply' ended does = tt
   quiet (act ∷ acts) old new supply supply' ended does =
       (quiet_one act old does.0 supply does.1 ended does.2, quiet acts does.0 new does.1 supply' (stays_ended act old does.0 supply does.1 ended does.2) does.3)
-
-  -- the quota is kept (4.9)
-  abbrev IsWithin : ServiceState P T → Type 0
-  IsWithin service = IsWithinQuota service.client.conn.standing
-
-  same_client : (old new : ServiceState P T) → new.client ≡ old.client → IsWithin old → IsWithin new
-  same_client old new is within = subst (λ (c : ClientState P). IsWithinQuota c.conn.standing) (sym is) within
-
-  moves : (now : ℕ) (input : Input) (said : Said) (client client' : ClientState P) (supply supply' : S) → Moves call slot_of supply client now input said client' supply'
-      → IsWithinQuota client.conn.standing → IsWithinQuota client'.conn.standing
-  moves now input said client client' supply supply' moved within =
-      steps.within call slot_of client.conn.number (moment_of client now) client.conn.standing client'.conn.standing input said.packets said.next supply supply' moved.stepped within
-
-  over_within : (client : ClientState P) → client.conn.standing ≡ Ended → IsWithinQuota client.conn.standing
-  over_within client over = subst IsWithinQuota (sym over) tt
-
-  given_up : (now : ℕ) (input : Input) (client client' : ClientState P) (supply supply' : S) → IsGivenUp call slot_of supply client now input client' supply'
-      → IsWithinQuota client.conn.standing → IsWithinQuota client'.conn.standing
-  given_up now input client client' supply supply' (inl moved) within = moves now input moved.0 client client' supply supply' moved.1 within
-  given_up now input client client' supply supply' (inr fails) within = over_within client' fails.over
-
-  same_standing : (its : Got) (client : ClientState P) (bytes : List ℕ) → (fed_by its client bytes).conn.standing ≡ client.conn.standing
-  same_standing (got.Bytes count) client bytes = refl
-  same_standing got.Idle client bytes = refl
-  same_standing got.End client bytes = refl
-  same_standing got.Failed client bytes = refl
-
-  pub quota_on : (act : Act) (old new : ServiceState P T) (supply supply' : S) → IsWithin old → Does call turn visiting slot_of counts given accepted act old supply new supply' → IsWithin new
-  quota_on (Enters is_open) old new supply supply' within does = same_client old new (ap (λ (s : ServiceState P T). s.client) does.becomes) within
-  quota_on Leaves old new supply supply' within does = same_client old new (ap (λ (s : ServiceState P T). s.client) does.same) within
-  quota_on Others old new supply supply' within does = same_client old new (ap (λ (s : ServiceState P T). s.client) does) within
-  quota_on (Starves its bytes) old new supply supply' within does = same_client old new (ap (λ (s : ServiceState P T). s.client) does.does.becomes) within
-  quota_on (Writes now put) old new supply supply' within does = same_client old new (ap (λ (s : ServiceState P T). s.client) does.does.becomes) within
-  quota_on (Reads size its bytes) old new supply supply' within does = subst IsWithinQuota (sym (ap (λ (s : ServiceState P T). s.client.conn.standing) does.does.becomes ∙ same_standing its old.client bytes)) within
-  quota_on (Steps now input packets next) old new supply supply' within does = moves now input (words old.client.conn.number packets next) old.client new.client supply supply' does.moved within
-  quota_on (Loses now input packets next) old new supply supply' within does = moves now input (words old.client.conn.number packets next) old.client new.client supply supply' does.moved within
-  quota_on (Fails now input) old new supply supply' within does = over_within new.client does.failed.over
-  quota_on (IsFull now) old new supply supply' within does = given_up now inputs.EndOfInput old.client new.client supply supply' does.given_up within
-  quota_on (GivesUp now) old new supply supply' within does = given_up now inputs.EndOfInput old.client new.client supply supply' does.given_up within
-  quota_on IsStopped old new supply supply' within does = same_client old new (ap (λ (s : ServiceState P T). s.client) does.does.becomes) within
-  quota_on (Stalls now) old new supply supply' within does = same_client old new (ap (λ (s : ServiceState P T). s.client) does.does.becomes) within
-  quota_on Ends old new supply supply' within does = same_client old new (ap (λ (s : ServiceState P T). s.client) does.does.becomes) within

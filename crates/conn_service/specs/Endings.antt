@@ -18,8 +18,8 @@ module _ {S P T : Type 0} (call : S → Fact P → S → Type 0) (turn : S → S
     pub over : last.client.conn.standing ≡ Ended
     pub left : transport ≡ last.transport
 
-  -- so it was from its opening, at some moment; or there was no memory to open it, and nothing was asked of its transport
-  abbrev pub IsServedToItsEnd : ℕ → T → S → Served → T → S → Type 0
-  IsServedToItsEnd number transport supply how transport' supply' =
-      ((opening : ℕ) × EndsAs (opened number opening transport) supply how transport' supply')
+  -- so it was from its opening, at some moment, with this limit; or there was no memory to open it, and nothing was asked of its transport
+  abbrev pub IsServedToItsEnd : ℕ → ℕ → T → S → Served → T → S → Type 0
+  IsServedToItsEnd number max_inflight transport supply how transport' supply' =
+      ((now : ℕ) × EndsAs (opened number (record { at = now; max_inflight = max_inflight }) transport) supply how transport' supply')
       ⊎ ((how ≡ served.Memory) × (transport' ≡ transport) × (supply' ≡ supply))

@@ -4,6 +4,7 @@ use Rattle.std.specs.List.{flat_map}
 use Rattle.mqtt_packet.specs.declared.packet.Packet.{Packet}
 use Rattle.mqtt_wire.specs.Writing.{written}
 use Rattle.transport.specs.declared.counts.Counts.{Counts}
+use Rattle.conn_engine.specs.declared.standing.Opening.{Opening}
 use Rattle.conn_engine.specs.declared.standing.Standing.{Standing}
 use Rattle.conn_engine.specs.declared.standing.Standing.TheVariants.{Unconnected, Waiting, Connected, Ended}
 use Rattle.conn_engine.specs.Standings.{IsWaiting}
@@ -71,15 +72,15 @@ pub record IsCounted (counts : Counts) (at_end : Bool) (ending : Option Served) 
   pub unended : at_end ≡ false → counts.ends ≡ 0
   pub once : counts.ends ≤ 1
 
--- a connection that was opened at this moment, over a transport of which nothing was asked yet
-abbrev pub opened : {P T : Type 0} → ℕ → ℕ → T → ServiceState P T
-opened number now transport = record {
-  client = arrived (record { number = number; latest = now; standing = Unconnected now });
+-- a connection that was opened so, over a transport of which nothing was asked yet
+abbrev pub opened : {P T : Type 0} → ℕ → Opening → T → ServiceState P T
+opened number opening transport = record {
+  client = arrived (record { number = number; latest = opening.at; standing = Unconnected opening });
   transport = transport;
   outgoing = [];
-  since = now;
+  since = opening.at;
   refused = 0;
-  ticked = now;
+  ticked = opening.at;
   kept = 0;
   drained = false;
   at_end = false;

@@ -4,7 +4,8 @@
 ghost use Rattle.std.specs.Prelude.{◌≡◌, ◌≢◌, ℕ, List, None};
 ghost use Rattle.std.specs.List.{AllByRecursion};
 ghost use Rattle.std.specs.Option.{option_to_list};
-ghost use Rattle.conn_laws.specs.Quotas.{IsWithinQuota};
+ghost use Rattle.conn_engine.specs.declared.standing.Opening.{Opening};
+ghost use Rattle.conn_laws.specs.Quotas.{IsWithinLimit, IsWithinQuota};
 ghost use Rattle.conn_service.specs.Acts.{Act, endings_of};
 ghost use Rattle.conn_service.specs.Services.{ServiceState, opened};
 ghost use Rattle.conn_service.specs.Lives.{Does, DoesAll};
@@ -18,8 +19,8 @@ use transport::Transport;
 /// spell which reads gave, in their order, and then the fault that stands in front of the rest, if it was met. As long as the connection goes on, that
 /// rest is what its client has not read.
 pub fn reading_law<P: HoldingPlace, T: Transport, S: Supply<P>>()
-    ensures { (number now : ℕ) (first : T) (acts : List Act) (service : ServiceState P T) (supply supply' : S) →
-        DoesAll S.call S.turn S.visiting P.slot_of T.counts T.given T.accepted acts (opened number now first) supply service supply' →
+    ensures { (number : ℕ) (opening : Opening) (first : T) (acts : List Act) (service : ServiceState P T) (supply supply' : S) →
+        DoesAll S.call S.turn S.visiting P.slot_of T.counts T.given T.accepted acts (opened number opening first) supply service supply' →
         ReadsItsStream acts service }
 {}
 
@@ -27,8 +28,8 @@ pub fn reading_law<P: HoldingPlace, T: Transport, S: Supply<P>>()
 /// the written forms of the packets that the steps said, in their order, each packet once; what lacks waits, as long as the connection has not ended; and
 /// nothing lacks where it ended with 0.
 pub fn writing_law<P: HoldingPlace, T: Transport, S: Supply<P>>()
-    ensures { (number now : ℕ) (first : T) (acts : List Act) (service : ServiceState P T) (supply supply' : S) →
-        DoesAll S.call S.turn S.visiting P.slot_of T.counts T.given T.accepted acts (opened number now first) supply service supply' →
+    ensures { (number : ℕ) (opening : Opening) (first : T) (acts : List Act) (service : ServiceState P T) (supply supply' : S) →
+        DoesAll S.call S.turn S.visiting P.slot_of T.counts T.given T.accepted acts (opened number opening first) supply service supply' →
         WritesItsPackets T.accepted first acts service }
 {}
 
@@ -37,19 +38,23 @@ pub fn writing_law<P: HoldingPlace, T: Transport, S: Supply<P>>()
 /// long (905), or that a step closed it and all that was said is written (0). Behind that it is not read, written or stepped, but given up, where its
 /// last step is missing (`quiet`).
 pub fn ending_law<P: HoldingPlace, T: Transport, S: Supply<P>>()
-    ensures once { (number now : ℕ) (first : T) (acts : List Act) (service : ServiceState P T) (supply supply' : S) →
-        DoesAll S.call S.turn S.visiting P.slot_of T.counts T.given T.accepted acts (opened number now first) supply service supply' →
+    ensures once { (number : ℕ) (opening : Opening) (first : T) (acts : List Act) (service : ServiceState P T) (supply supply' : S) →
+        DoesAll S.call S.turn S.visiting P.slot_of T.counts T.given T.accepted acts (opened number opening first) supply service supply' →
         endings_of acts ≡ option_to_list service.ending }
     ensures quiet { (acts : List Act) (old new : ServiceState P T) (supply supply' : S) → old.ending ≢ None →
         DoesAll S.call S.turn S.visiting P.slot_of T.counts T.given T.accepted acts old supply new supply' → AllByRecursion IsQuiet acts }
 {}
 
 /// **The quota is kept** (section 4.9) in every life, with memory and without: of the PUBLISH packets that were sent on a connection, those that
-/// wait for their PUBACK are never more than the Receive Maximum of its CONNECT, and never more than 256.
+/// wait for their PUBACK are never more than the Receive Maximum that its terms have, and never more than 256. And these terms are never more than the
+/// limit that it was opened with (`limited`, profile).
 pub fn quota_law<P: HoldingPlace, T: Transport, S: Supply<P>>()
-    ensures { (number now : ℕ) (first : T) (acts : List Act) (service : ServiceState P T) (supply supply' : S) →
-        DoesAll S.call S.turn S.visiting P.slot_of T.counts T.given T.accepted acts (opened number now first) supply service supply' →
+    ensures kept { (number : ℕ) (opening : Opening) (first : T) (acts : List Act) (service : ServiceState P T) (supply supply' : S) →
+        DoesAll S.call S.turn S.visiting P.slot_of T.counts T.given T.accepted acts (opened number opening first) supply service supply' →
         IsWithinQuota service.client.conn.standing }
+    ensures limited { (number : ℕ) (opening : Opening) (first : T) (acts : List Act) (service : ServiceState P T) (supply supply' : S) →
+        DoesAll S.call S.turn S.visiting P.slot_of T.counts T.given T.accepted acts (opened number opening first) supply service supply' →
+        IsWithinLimit opening.max_inflight service.client.conn.standing }
 {}
 
 /// **Each step of a life keeps its session** (sections 4.4, 4.8.2 and 4.9), as each step of a connection does: its PUBLISH packets are those of the marks
@@ -66,7 +71,7 @@ pub fn session_law<P: HoldingPlace, T: Transport, S: Supply<P>>()
 /// what is sent again has its own identifier, in the order of first sending; only what is held is acknowledged; and no more is unacknowledged than the
 /// Receive Maximum, at each moment. A connection that was given no session sends no PUBLISH.
 pub fn transcript_law<P: HoldingPlace, T: Transport, S: Supply<P>>()
-    ensures { (number now : ℕ) (first : T) (acts : List Act) (service : ServiceState P T) (supply supply' : S) →
-        DoesAll S.call S.turn S.visiting P.slot_of T.counts T.given T.accepted acts (opened number now first) supply service supply' →
+    ensures { (number : ℕ) (opening : Opening) (first : T) (acts : List Act) (service : ServiceState P T) (supply supply' : S) →
+        DoesAll S.call S.turn S.visiting P.slot_of T.counts T.given T.accepted acts (opened number opening first) supply service supply' →
         IsLegalLife S.call number acts }
 {}

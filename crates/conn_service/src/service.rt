@@ -9,6 +9,7 @@ ghost use Rattle.conn_service.specs.Services.{opened};
 use crate::outgoing::Outgoing;
 use crate::served::Served;
 use client_table::Client;
+use conn_engine::Opening;
 use conn_supply::{HoldingPlace, Supply};
 use mqtt_packet::Packet;
 use std::alloc::Global;
@@ -58,22 +59,28 @@ impl<P: HoldingPlace, T: Transport> Model for Service<P, T> {
 }
 
 impl<P: HoldingPlace, T: Transport> Service<P, T> {
-    /// A connection of this number, below 1,024, that was opened at this moment in milliseconds over a transport of which nothing was asked yet.
+    /// A connection of this number, below 1,024, that is opened so over a transport of which nothing was asked yet.
     /// Takes the memory for what waits to be written. A want of memory hands the transport back.
-    pub fn open(alloc: Global, number: u16, now: u64, transport: T) -> Result<Service<P, T>, T>
+    pub fn open(
+        alloc: Global,
+        number: u16,
+        opening: Opening,
+        transport: T,
+    ) -> Result<Service<P, T>, T>
         requires number { number < 1024 }
         requires new { T.counts transport ≡ no_counts }
-        ensures { MatchResult result (λ service. service ≡ opened number now transport) (λ back. back ≡ transport) }
+        ensures { MatchResult result (λ service. service ≡ opened number opening transport) (λ back. back ≡ transport) }
     {
+        let at = opening.at;
         match Outgoing::new(alloc) {
             Ok(outgoing) => Ok(Service {
-                client: Client::open(alloc, number, now),
+                client: Client::open(alloc, number, opening),
                 transport,
                 outgoing,
                 packets: Vec::new(alloc),
-                since: now,
+                since: at,
                 refused: 0,
-                ticked: now,
+                ticked: at,
                 kept: 0,
                 drained: false,
                 at_end: false,

@@ -1,5 +1,6 @@
 //! Streams that end behind each byte, and streams in which each byte is replaced: what is written is what `solo` writes.
 use crate::acting::{Play, STREAM, assert_served, assert_written, serve_alone};
+use conn_rules::MaxInflight;
 use conn_service::Served;
 use line_io::RunError;
 use local_server::Setup;
@@ -15,6 +16,7 @@ fn solo_lines(alloc: Global, stream: &[u8]) -> Result<Vec<u8>, RunError> {
     let digits = hex::encode(alloc, stream)?;
     let setup = Setup {
         capacity: 1_024,
+        max_inflight: MaxInflight::most(),
         groups: Routes::new(alloc),
     };
     let mut output = Vec::new(alloc);

@@ -3,6 +3,8 @@ ghost use Rattle.std.specs.Prelude.{◌≡◌, ◌<◌, IfSome};
 ghost use Rattle.transport.specs.Counting.{no_counts};
 
 use bytes::Bytes;
+use conn_engine::Opening;
+use conn_rules::MaxInflight;
 use conn_service::{Direction, Round, Service};
 use conn_supply::{HoldingPlace, Supply};
 use drive::drive_lines;
@@ -46,7 +48,7 @@ impl<P: HoldingPlace, T: Transport> Line<P, T> {
         requires number { number < 1024 }
         requires new { T.counts transport ≡ no_counts }
     {
-        match Service::open(alloc, number, now, transport) {
+        match Service::open(alloc, number, Opening::plain(now), transport) {
             Ok(service) => Line { service },
             Err(_) => panic!(rt; "out of memory"),
         }
@@ -228,6 +230,7 @@ fn routes_of(alloc: Global, shares: &[&str]) -> Option<Routes> {
 fn driven(alloc: Global, play: &Play<'_>) -> Option<Vec<u8>> {
     let setup = Setup {
         capacity: play.capacity,
+        max_inflight: MaxInflight::most(),
         groups: routes_of(alloc, play.shares)?,
     };
     let mut script = play.script(alloc)?;

@@ -6,6 +6,7 @@ use crate::acting::{
     ANSWERS, CONNECT, Play, assert_served, assert_written, broker, reports, scripted,
 };
 use crate::noting::Noting;
+use conn_engine::Opening;
 use conn_service::{Direction, Round, Served, Service};
 use local_broker::{LocalPlace, LocalSupply};
 use std::alloc::{AllocError, Global};
@@ -24,7 +25,7 @@ fn open<T: Transport + Drop>(
     requires new { T.counts transport ≡ no_counts }
     ensures { result.ending ≡ None }
 {
-    match Service::open(alloc, number, 0, transport) {
+    match Service::open(alloc, number, Opening::plain(0), transport) {
         Ok(service) => service,
         Err(_) => panic!(rt; "out of memory"),
     }

@@ -3,6 +3,7 @@ ghost use Rattle.std.specs.Prelude.{◌≡◌, ◌<◌, None, true, false, IfSom
 ghost use Rattle.conn_engine.specs.declared.standing.Standing.TheVariants.{Ended};
 
 use crate::scripts::{member, publisher};
+use conn_engine::Opening;
 use conn_service::{Direction, Round, Service};
 use conn_supply::{HoldingPlace, Supply};
 use std::alloc::Global;
@@ -35,11 +36,11 @@ pub fn open<P: HoldingPlace, S: Supply<P>>(
 {
     let member = member(alloc, jobs as usize, window).ok()?;
     let publisher = publisher(alloc, jobs as usize).ok()?;
-    let member = match Service::open(alloc, 0, 0, member) {
+    let member = match Service::open(alloc, 0, Opening::plain(0), member) {
         Ok(member) => member,
         Err(_) => return None,
     };
-    match Service::open(alloc, 1, 0, publisher) {
+    match Service::open(alloc, 1, Opening::plain(0), publisher) {
         Ok(publisher) => Some(Pair {
             member,
             takes: true,

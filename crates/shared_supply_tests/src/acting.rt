@@ -5,6 +5,8 @@ use crate::telling::tell;
 use broker_groups::{Broker, BrokerPlace, Key};
 use call_history::HistoryName;
 use client_table::{CLIENTS, ClientTable, Said};
+use conn_engine::Opening;
+use conn_rules::MaxInflight;
 use conn_supply::{HoldingPlace, NoMemory, Supply};
 use drive::drive_lines;
 use gate_word::Gate;
@@ -36,7 +38,7 @@ fn serve<P: HoldingPlace, S: Supply<P>>(
     }
     match &event.what {
         What::Open => {
-            clients.open(number, now);
+            clients.open(number, Opening::plain(now));
             Ok(())
         }
         What::Bytes(piece) => clients.receive(supply, number, now, piece, said),
@@ -184,6 +186,7 @@ fn setup(alloc: Global, play: &Play<'_>) -> Option<Setup> {
     }
     Some(Setup {
         capacity: play.capacity,
+        max_inflight: MaxInflight::most(),
         groups,
     })
 }

@@ -2,6 +2,7 @@
 ghost use Rattle.std.specs.Prelude.{◌<◌};
 
 use client_table::{ClientTable, Said};
+use conn_engine::Opening;
 use conn_supply::{HoldingPlace, NoMemory, Supply};
 use mqtt_wire::encode_into;
 use std::alloc::Global;
@@ -76,8 +77,8 @@ pub(crate) fn two_clients<P: HoldingPlace, S: Supply<P>>(
     supply: &mut S,
 ) -> Option<Vec<u8>> {
     let mut clients = ClientTable::new(alloc).ok()?;
-    clients.open(0, 0);
-    clients.open(1, 0);
+    clients.open(0, Opening::plain(0));
+    clients.open(1, Opening::plain(0));
     let mut said = Vec::new(alloc);
     let worked = work(supply, &mut clients, &mut said);
     clients.abandon(supply, 0);

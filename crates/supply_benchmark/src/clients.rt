@@ -2,6 +2,7 @@
 ghost use Rattle.std.specs.Prelude.{◌<◌};
 
 use client_table::{ClientTable, Said};
+use conn_engine::Opening;
 use conn_supply::{HoldingPlace, Supply};
 use std::alloc::Global;
 use test_broker::packets::{acknowledge, connect, publish, subscribe};
@@ -92,8 +93,8 @@ impl Clients {
         table: &mut ClientTable<P>,
     ) -> Option<()> {
         let (publisher, member) = (self.publisher(), self.member());
-        table.open(publisher, 0);
-        table.open(member, 0);
+        table.open(publisher, Opening::plain(0));
+        table.open(member, Opening::plain(0));
         self.say(supply, table, member, &connect(b'm', self.number))?;
         self.say(supply, table, member, &subscribe(self.group))?;
         self.say(supply, table, publisher, &connect(b'p', self.number))

@@ -2,6 +2,7 @@
 ghost use Rattle.std.specs.Prelude.{◌<◌};
 
 use client_table::{ClientTable, Said};
+use conn_engine::Opening;
 use conn_supply::{HoldingPlace, Supply};
 use std::alloc::Global;
 use test_broker::packets::{DISCONNECT, acknowledge, connect, publish, refuse, subscribe};
@@ -95,7 +96,7 @@ impl Pair {
     ) -> Option<()> {
         let (member, number) = (self.member(), self.number);
         let group = number % self.groups.max(1);
-        table.open(member, 0);
+        table.open(member, Opening::plain(0));
         self.say(supply, table, member, &connect(b'm', number))?;
         self.say(supply, table, member, &subscribe(group))
     }
@@ -159,7 +160,7 @@ impl Pair {
         table: &mut ClientTable<P>,
     ) -> Option<()> {
         let (publisher, number) = (self.publisher(), self.number);
-        table.open(publisher, 0);
+        table.open(publisher, Opening::plain(0));
         self.say(supply, table, publisher, &connect(b'p', number))?;
         self.come(supply, table)?;
         for round in 0..ROUNDS {

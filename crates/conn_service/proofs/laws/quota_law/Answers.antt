@@ -1,14 +1,24 @@
--- The quota is kept.
-use Rattle.std.proofs.Common.{[]}
-use Rattle.conn_laws.specs.Quotas.{IsWithinQuota}
+-- The quota is kept, and the limit of the opening.
+use Rattle.std.proofs.Common.{[], arith}
+use Rattle.conn_laws.specs.Quotas.{IsWithinLimit, IsWithinQuota}
+use Rattle.conn_laws.proofs.Limits as limited
+use Rattle.conn_laws.proofs.Quotas as steps
 use Rattle.conn_service.specs.Services.{opened}
 use Rattle.conn_service.proofs.Folding.{folded}
-use Rattle.conn_service.proofs.Ended.{quota_on}
+use Rattle.conn_service.proofs.Standings.{kept_on}
 use Rattle.conn_service.proofs.laws.quota_law.Goals as goal
 
-pub returns : goal.returns
-returns g c number now first acts service supply supply' does =
+pub returns-clause-kept : goal.returns-clause-kept
+returns-clause-kept g c number opening first acts service supply supply' does =
     folded g.S.Supply.call g.S.Supply.turn g.S.Supply.visiting g.P.Place.slot_of g.T.Transport.counts g.T.Transport.given g.T.Transport.accepted
     (λ done service supply. IsWithinQuota service.client.conn.standing)
-    (λ done act old new supply supply' within one. quota_on g.S.Supply.call g.S.Supply.turn g.S.Supply.visiting g.P.Place.slot_of g.T.Transport.counts g.T.Transport.given g.T.Transport.accepted
-    act old new supply supply' within one) acts [] (opened number now first) service supply supply' tt does
+    (λ done act old new supply supply' within one. kept_on g.S.Supply.call g.S.Supply.turn g.S.Supply.visiting g.P.Place.slot_of g.T.Transport.counts g.T.Transport.given g.T.Transport.accepted
+    IsWithinQuota tt (steps.within g.S.Supply.call g.P.Place.slot_of) act old new supply supply' within one) acts [] (opened number opening first) service supply supply' tt does
+
+pub returns-clause-limited : goal.returns-clause-limited
+returns-clause-limited g c number opening first acts service supply supply' does =
+    folded g.S.Supply.call g.S.Supply.turn g.S.Supply.visiting g.P.Place.slot_of g.T.Transport.counts g.T.Transport.given g.T.Transport.accepted
+    (λ done service supply. IsWithinLimit opening.max_inflight service.client.conn.standing)
+    (λ done act old new supply supply' within one. kept_on g.S.Supply.call g.S.Supply.turn g.S.Supply.visiting g.P.Place.slot_of g.T.Transport.counts g.T.Transport.given g.T.Transport.accepted
+    (IsWithinLimit opening.max_inflight) tt (limited.within g.S.Supply.call g.P.Place.slot_of opening.max_inflight) act old new supply supply' within one)
+    acts [] (opened number opening first) service supply supply' (omega arith) does

@@ -6,11 +6,11 @@ use Rattle.conn_service.proofs.Read.{HasRead, so_far, read_on, unread_yet}
 use Rattle.conn_service.proofs.laws.reading_law.Goals as goal
 
 pub returns : goal.returns
-returns g c number now first acts service supply supply' does =
+returns g c number opening first acts service supply supply' does =
     so_far acts service
     (folded g.S.Supply.call g.S.Supply.turn g.S.Supply.visiting g.P.Place.slot_of g.T.Transport.counts g.T.Transport.given g.T.Transport.accepted
     (λ done service supply. HasRead done service)
     (λ done act old new supply supply' has one.
     read_on g.S.Supply.call g.S.Supply.turn g.S.Supply.visiting g.P.Place.slot_of g.T.Transport.counts g.T.Transport.given g.T.Transport.accepted done act old new supply
-    supply' has one) acts [] (opened number now first) service supply supply'
-    (unread_yet g.S.Supply.call g.S.Supply.turn g.S.Supply.visiting g.P.Place.slot_of g.T.Transport.counts g.T.Transport.given g.T.Transport.accepted (opened number now first) refl) does)
+    supply' has one) acts [] (opened number opening first) service supply supply'
+    (unread_yet g.S.Supply.call g.S.Supply.turn g.S.Supply.visiting g.P.Place.slot_of g.T.Transport.counts g.T.Transport.given g.T.Transport.accepted (opened number opening first) refl) does)
