@@ -1,5 +1,5 @@
 -- Words ask for one thing.
-use Rattle.std.proofs.Common.{◌≡◌, ◌∙◌, ℕ, List, [], ◌∷◌, Option, Some, None, Ok, Err, ap, arith, codes, inl, inr, ap₂, rules, subst, sym}
+use Rattle.std.proofs.Common.{◌≡◌, ◌∙◌, ℕ, List, [], ◌∷◌, Option, Some, None, Ok, Err, ap, arith, codes, inl, inr, rules, subst, sym}
 use Rattle.std.specs.Prelude.{IsSome, unwrap_or}
 use Rattle.std.specs.Str.Parse.{digits_value, without_leading_plus}
 use Rattle.mqtt_topic.specs.Names.{Share}
@@ -8,7 +8,7 @@ use Rattle.clap.specs.Kinds.{Kinds}
 use Rattle.clap.specs.declared.error.kind.ErrorKind.{ErrorKind}
 use Rattle.local_server.specs.declared.setup.Setup.{Setup}
 use Rattle.arguments.specs.Groups.{Adds, AddsEach, RefusesOne, share_named}
-use Rattle.arguments.specs.CommandLine.{AreReadAs, AskFor, HaveCapacity, IsSetupBy, SpellNoRequest, command_line, pairs_in}
+use Rattle.arguments.specs.CommandLine.{AreReadAs, AskFor, HaveNumber, IsSetupBy, SpellNoRequest, command_line, pairs_in}
 use Rattle.arguments.specs.declared.command.Request.{Request}
 use Rattle.arguments.specs.declared.command.Request.TheVariants.{Drive, Solo}
 use Rattle.arguments.specs.declared.groups.Refusal.{Refusal}
@@ -38,16 +38,19 @@ each_or_refused (pair ∷ pairs) old new refusal (next, first, others) (inl refu
 each_or_refused (pair ∷ pairs) old new refusal (next, first, others) (inr (next', first', refused)) =
     each_or_refused pairs next new refusal others (subst (λ groups. RefusesOne groups pairs refusal) (adds_one old (share_named pair) next next' first first') refused)
 
-one_number : (rows : List Row) (a b : ℕ) → HaveCapacity rows a → HaveCapacity rows b → a ≡ b
-one_number rows a b h i =
+one_number : (id : Text) (most : ℕ) (rows : List Row) (a b : ℕ) → HaveNumber id most rows a → HaveNumber id most rows b → a ≡ b
+one_number id most rows a b h i =
     let both : Some h.text ≡ Some i.text = sym h.value ∙ i.value in
     let same : h.text ≡ i.text = ap (λ (o : Option Text). unwrap_or o h.text) both in
     h.spelled.1 ∙ ap (λ (text : Text). digits_value 10 (without_leading_plus text)) same ∙ sym i.spelled.1
 
 one_setup : (rows : List Row) (a b : Setup) → IsSetupBy rows a → IsSetupBy rows b → a ≡ b
 one_setup rows a b h i =
-    let made : ℕ → List Share → Setup = λ capacity groups. record { capacity = capacity; groups = groups } in
-    ap₂ made (one_number rows a.capacity b.capacity h.0 i.0) (each_one (pairs_in rows) [] a.groups b.groups h.1 i.1)
+    let made : ℕ → ℕ → List Share → Setup = λ capacity max_inflight groups. record { capacity = capacity; max_inflight = max_inflight; groups = groups } in
+    let capacity = one_number (codes "capacity") 65536 rows a.capacity b.capacity h.0 i.0 in
+    let max_inflight = one_number (codes "max-inflight") 256 rows a.max_inflight b.max_inflight h.1 i.1 in
+    let groups = each_one (pairs_in rows) [] a.groups b.groups h.2 i.2 in
+    (λ i. made (capacity i) (max_inflight i) (groups i))
 
 one_reading : (words : List Text) (a b : Text) (x y : List Row) → AreReadAs words a x → AreReadAs words b y → (a ≡ b) × (y ≡ x)
 one_reading words a b x y h i = same_pair (subcommand_of command_line words) a b x y h.1 i.1
@@ -73,7 +76,7 @@ read_exclusive : (words : List Text) (kind : ErrorKind) (name : Text) (rows : Li
 read_exclusive words kind name rows setup read by (inl fault) = among_none kind (fault_of command_line words) read.0 fault
 read_exclusive words kind name rows setup read by (inr (is, (name', rows', refusal, read', refused))) =
     let same = one_reading words name name' rows rows' read read' in
-    each_or_refused (pairs_in rows) [] setup.groups refusal by.1 (subst (λ rows. RefusesOne [] (pairs_in rows) refusal) same.1 refused)
+    each_or_refused (pairs_in rows) [] setup.groups refusal by.2 (subst (λ rows. RefusesOne [] (pairs_in rows) refusal) same.1 refused)
 
 pub exclusive : (words : List Text) (request : Request) (kind : ErrorKind) → AskFor words request → SpellNoRequest words kind → ⊥
 exclusive words (Solo setup) kind (rows, read, by) none = read_exclusive words kind (codes "solo") rows setup read by none

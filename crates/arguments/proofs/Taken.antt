@@ -14,15 +14,15 @@ use Rattle.clap.specs.declared.parser.matches.ArgMatches.{ArgMatches, out-ArgMat
 use Rattle.clap.proofs.OnLiterals.{clap_on_literals}
 use Rattle.arguments.specs.CommandLine.{AreReadAs, command_line}
 use Rattle.arguments.proofs.Faultless.{level_parts}
-use Rattle.arguments.proofs.Numbers.{HasCapacity, leaf, leaf_capacity, options}
+use Rattle.arguments.proofs.Numbers.{HasNumbers, leaf, leaf_numbers, options}
 use Rattle.arguments.proofs.Stops.{IsNoHelp, walk_stop}
 
 abbrev line : App
 line = built command_line
 
--- one of the two commands, with a capacity
+-- one of the two commands, with its numbers
 abbrev IsCommand : Option (Text × List Row) → Type 0
-IsCommand o = (rows : List Row) × ((o ≡ Some (codes "solo", rows)) ⊎ (o ≡ Some (codes "drive", rows))) × HasCapacity rows
+IsCommand o = (rows : List Row) × ((o ≡ Some (codes "solo", rows)) ⊎ (o ≡ Some (codes "drive", rows))) × HasNumbers rows
 
 abbrev chosen : Bool → Bool → Bool → Option Shape
 chosen solo drive help = cond (solo || false) (Some (leaf (codes "solo")))
@@ -34,8 +34,8 @@ enters (Some p) good e some = go (bytes_eq (codes "solo") p.0) (bytes_eq (codes 
   where
     go : (a b c : Bool) → bytes_eq (codes "help") p.0 ≡ c → option_map_or (λ s. level_fault s [] nothing_held p.1 false []) (chosen a b c) [] ≡ []
         → is_some (option_map (λ s. rows_at s p.1) (chosen a b c)) ≡ true → IsCommand (option_map (λ s. rows_at s p.1) (chosen a b c))
-    go true b c is e some = (rows_after options [] p.1, inl refl, leaf_capacity (codes "solo") p.1 e)
-    go false true c is e some = (rows_after options [] p.1, inr refl, leaf_capacity (codes "drive") p.1 e)
+    go true b c is e some = (rows_after options [] p.1, inl refl, leaf_numbers (codes "solo") p.1 e)
+    go false true c is e some = (rows_after options [] p.1, inr refl, leaf_numbers (codes "drive") p.1 e)
     go false false true is e some = absurd (good (sym ((bytes_eq-Decides (codes "help") p.0).0 is)))
     go false false false is e some = cc
 
@@ -45,7 +45,7 @@ wanted false rows e =
     let bad : MissingSubcommand ∷ [] ≡ [] = e in
     cc
 
--- words without a fault name one of the two commands, with a capacity
+-- words without a fault name one of the two commands, with its numbers
 taken : (words : List Text) → fault_of command_line words ≡ [] → IsCommand (subcommand_of command_line words)
 taken words e =
     let stop = (walk line.top.rules (names_of line) nothing_held (drop 1 words)).stopped in
@@ -100,8 +100,8 @@ some_command command words matches line fault has none = go (taken words (no_fau
     none_here = none ∙ ap (option_map (λ (p : Text × List Row). p.1)) (entered_is command words matches line has)
 
     go : IsCommand (subcommand_of command_line words) → ⊥
-    go (rows, inl is, capacity) = none_some (subcommand_of command_line words) (codes "solo", rows) none_here is
-    go (rows, inr is, capacity) = none_some (subcommand_of command_line words) (codes "drive", rows) none_here is
+    go (rows, inl is, numbers) = none_some (subcommand_of command_line words) (codes "solo", rows) none_here is
+    go (rows, inr is, numbers) = none_some (subcommand_of command_line words) (codes "drive", rows) none_here is
 
 pub same_pair : (o : Option (Text × List Row)) (a b : Text) (x y : List Row) → o ≡ Some (a, x) → o ≡ Some (b, y) → (a ≡ b) × (y ≡ x)
 same_pair o a b x y e f =
@@ -110,14 +110,14 @@ same_pair o a b x y e f =
       sym (ap (λ (o : Option (Text × List Row)). (unwrap_or o (a, x)).1) both),
     )
 
--- it is one of the two commands, with a capacity
-pub command_facts : (words : List Text) (name : Text) (rows : List Row) → AreReadAs words name rows → ((name ≡ codes "solo") ⊎ (name ≡ codes "drive")) × HasCapacity rows
+-- it is one of the two commands, with its numbers
+pub command_facts : (words : List Text) (name : Text) (rows : List Row) → AreReadAs words name rows → ((name ≡ codes "solo") ⊎ (name ≡ codes "drive")) × HasNumbers rows
 command_facts words name rows (faultless, is) = go (taken words faultless)
   where
-    go : IsCommand (subcommand_of command_line words) → ((name ≡ codes "solo") ⊎ (name ≡ codes "drive")) × HasCapacity rows
-    go (held, inl solo, capacity) =
+    go : IsCommand (subcommand_of command_line words) → ((name ≡ codes "solo") ⊎ (name ≡ codes "drive")) × HasNumbers rows
+    go (held, inl solo, numbers) =
         let p = same_pair (subcommand_of command_line words) name (codes "solo") rows held is solo in
-        (inl p.0, subst HasCapacity p.1 capacity)
-    go (held, inr drive, capacity) =
+        (inl p.0, subst HasNumbers p.1 numbers)
+    go (held, inr drive, numbers) =
         let p = same_pair (subcommand_of command_line words) name (codes "drive") rows held is drive in
-        (inr p.0, subst HasCapacity p.1 capacity)
+        (inr p.0, subst HasNumbers p.1 numbers)

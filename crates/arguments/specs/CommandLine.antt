@@ -24,6 +24,15 @@ capacity_option = record (new_rule (codes "capacity")) {
   defaults = codes "1024" ∷ [];
 }
 
+-- `--max-inflight N`, at most once: a number from 1 to 256, and 256 where it is not given
+abbrev pub max_inflight_option : Rule
+max_inflight_option = record (new_rule (codes "max-inflight")) {
+  long = Some (codes "max-inflight");
+  value_names = 1;
+  parser = Some (Signed (pos 1) (pos 256));
+  defaults = codes "256" ∷ [];
+}
+
 -- `--group NAME:FILTER`, any number of times
 abbrev pub group_option : Rule
 group_option = record (new_rule (codes "group")) {
@@ -32,9 +41,9 @@ group_option = record (new_rule (codes "group")) {
   action = Some Append;
 }
 
--- a command with the two options
+-- a command with the three options
 abbrev pub command_named : Text → App
-command_named name = with_rule (with_rule (new_app name) capacity_option) group_option
+command_named name = with_rule (with_rule (with_rule (new_app name) capacity_option) max_inflight_option) group_option
 
 -- `share_broker`, which has a version, and wants a command
 abbrev pub share_broker : App
@@ -51,13 +60,21 @@ command_line =
 abbrev pub Spells : Text → ℕ → Type 0
 Spells text number = IsNumeral 10 (without_leading_plus text) × (number ≡ digits_value 10 (without_leading_plus text))
 
--- the value of `--capacity`, as given or as left out, is a number from 1 to 65536
-pub record HaveCapacity (rows : List Row) (number : ℕ) : Type 0 where
+-- the value of an option, as given or as left out, is a number from 1 to the most
+pub record HaveNumber (id : Text) (most : ℕ) (rows : List Row) (number : ℕ) : Type 0 where
   pub text : Text
-  pub value : first_of (codes "capacity") rows ≡ Some text
+  pub value : first_of id rows ≡ Some text
   pub spelled : Spells text number
-  pub least : 1 ≤ number
-  pub most : number ≤ 65536
+  pub from : 1 ≤ number
+  pub to : number ≤ most
+
+-- that of `--capacity` is one from 1 to 65536
+abbrev pub HaveCapacity : List Row → ℕ → Type 0
+HaveCapacity rows number = HaveNumber (codes "capacity") 65536 rows number
+
+-- that of `--max-inflight` is one from 1 to 256
+abbrev pub HaveMaxInflight : List Row → ℕ → Type 0
+HaveMaxInflight rows number = HaveNumber (codes "max-inflight") 256 rows number
 
 -- the pairs NAME:FILTER that were given, in order
 abbrev pub pairs_in : List Row → List Text
@@ -65,7 +82,7 @@ pairs_in rows = unwrap_or (all_of (codes "group") rows) []
 
 -- what a server begins with, by the values that the options of a command have
 abbrev pub IsSetupBy : List Row → Setup → Type 0
-IsSetupBy rows setup = HaveCapacity rows setup.capacity × AddsEach [] (pairs_in rows) setup.groups
+IsSetupBy rows setup = HaveCapacity rows setup.capacity × HaveMaxInflight rows setup.max_inflight × AddsEach [] (pairs_in rows) setup.groups
 
 -- clap finds no fault in the words, and reads the command of that name in them, with these values of its options
 abbrev pub AreReadAs : List Text → Text → List Row → Type 0

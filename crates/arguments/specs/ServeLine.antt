@@ -5,7 +5,7 @@ use Rattle.clap.specs.Words.{App, IsAmong, Row, Rule, Text, fault_of, matches_of
 use Rattle.clap.specs.declared.builder.value_parser.ValueParser.TheVariants.{Signed}
 use Rattle.clap.specs.declared.error.kind.ErrorKind.{ErrorKind}
 use Rattle.clap.specs.declared.error.kind.ErrorKind.TheVariants.{ValueValidation}
-use Rattle.arguments.specs.CommandLine.{Spells, capacity_option, group_option, pairs_in}
+use Rattle.arguments.specs.CommandLine.{Spells, capacity_option, group_option, max_inflight_option, pairs_in}
 use Rattle.arguments.specs.Groups.{AddsEach}
 use Rattle.arguments.specs.declared.service.Service.{Service}
 
@@ -39,7 +39,9 @@ workers_option = record (new_rule (codes "workers")) {
 
 -- `serve`
 abbrev pub serve_line : App
-serve_line = with_rule (with_rule (with_rule (with_rule (with_rule (new_app (codes "share_broker serve")) port_option) address_option) workers_option) capacity_option) group_option
+serve_line =
+    with_rule (with_rule (with_rule (with_rule (with_rule (with_rule (new_app (codes "share_broker serve")) port_option) address_option) workers_option) capacity_option) max_inflight_option)
+    group_option
 
 -- ---- what the words ask for
 
@@ -59,6 +61,7 @@ pub record IsServiceBy (rows : List Row) (service : Service) : Type 0 where
   pub port : HasNumber (codes "port") 0 65535 rows service.port
   pub workers : HasNumber (codes "workers") 1 64 rows service.workers
   pub capacity : HasNumber (codes "capacity") 1 65536 rows service.setup.capacity
+  pub max_inflight : HasNumber (codes "max-inflight") 1 256 rows service.setup.max_inflight
   pub groups : AddsEach [] (pairs_in rows) service.setup.groups
 
 -- the words, of which the first is `serve`, ask for this: clap finds no fault in them, and reads these values of the options

@@ -1,15 +1,16 @@
 //! The command line.
-ghost use Rattle.std.specs.Prelude.{◌≡◌, ◌⊎◌, ℕ, codes, IfOk, IfErr, [], map};
+ghost use Rattle.std.specs.Prelude.{◌≡◌, ◌≤◌, ◌⊎◌, ℕ, codes, IfOk, IfErr, [], map};
 ghost use Rattle.std.specs.String.{string_bytes};
 ghost use Rattle.clap.specs.Words.{app_of, first_of, found_of, kind_of, one_of, rows_of, rule_of};
 ghost use Rattle.arguments.specs.Groups.{RefusesOne};
-ghost use Rattle.arguments.specs.CommandLine.{capacity_option, group_option, command_named};
-ghost use Rattle.arguments.specs.CommandLine.{command_line, pairs_in, HaveCapacity, IsSetupBy};
+ghost use Rattle.arguments.specs.CommandLine.{capacity_option, group_option, max_inflight_option, command_named};
+ghost use Rattle.arguments.specs.CommandLine.{command_line, pairs_in, HaveCapacity, HaveMaxInflight, IsSetupBy};
 ghost use Rattle.arguments.specs.CommandLine.{AskFor, SpellNoRequest};
 
 use crate::groups::groups_of;
 use clap::error::ErrorKind;
 use clap::{Arg, ArgAction, ArgMatches, Command, Error, value_parser};
+use conn_rules::MaxInflight;
 use local_server::Setup;
 use std::alloc::{AllocError, Global};
 
@@ -66,7 +67,7 @@ fn command<'a>(alloc: Global) -> Result<Command<'a>, AllocError>
         .subcommand(drive)
 }
 
-/// A command with the two options.
+/// A command with the three options.
 fn command_named<'a>(
     alloc: Global,
     name: &'a str,
@@ -77,6 +78,7 @@ fn command_named<'a>(
     Command::new(alloc, name)
         .about(about)
         .arg(capacity(alloc))?
+        .arg(max_inflight(alloc))?
         .arg(group(alloc))
 }
 
@@ -90,6 +92,18 @@ pub(crate) fn capacity<'a>(alloc: Global) -> Arg<'a>
         .value_parser(value_parser!(u32).range(1..=65_536))
         .default_value("1024")
         .help("How many messages may wait in the queue of a group, 1 to 65536")
+}
+
+/// `--max-inflight N`.
+pub(crate) fn max_inflight<'a>(alloc: Global) -> Arg<'a>
+    ensures { rule_of result ≡ max_inflight_option }
+{
+    Arg::new(alloc, "max-inflight")
+        .long("max-inflight")
+        .value_name("N")
+        .value_parser(value_parser!(u32).range(1..=256))
+        .default_value("256")
+        .help("How many messages a client has unacknowledged at most, 1 to 256")
 }
 
 /// `--group NAME:FILTER`.
@@ -108,17 +122,43 @@ fn setup(alloc: Global, options: &ArgMatches) -> Result<Setup, Error>
     requires capacity { (number : ℕ) × HaveCapacity (rows_of (found_of options.now)) number }
     requires as_written { one_of (codes "capacity") (rows_of (found_of options.now))
         ≡ first_of (codes "capacity") (rows_of (found_of options.now)) }
+    requires max_inflight { (number : ℕ) × HaveMaxInflight (rows_of (found_of options.now)) number }
+    requires max_inflight_as_written { one_of (codes "max-inflight") (rows_of (found_of options.now))
+        ≡ first_of (codes "max-inflight") (rows_of (found_of options.now)) }
     ensures ok { IfOk result (IsSetupBy (rows_of (found_of options.now))) }
     ensures err { IfErr result (λ error. (kind_of error ≡ ErrorKind.OutOfMemory)
         ⊎ ((kind_of error ≡ ErrorKind.ValueValidation)
         × ((refusal : _) × RefusesOne [] (pairs_in (rows_of (found_of options.now))) refusal))) }
 {
     let capacity = options.get_one::<u32>("capacity").unwrap_or(1_024);
+    let packets = packets(options);
     match groups_of(alloc, options.get_strs("group").unwrap_or(&[]))? {
         Ok(groups) => Ok(Setup {
             capacity: capacity as usize,
+            max_inflight: limit_of(packets),
             groups,
         }),
         Err(refusal) => { Err(command(alloc)?.error(ErrorKind::ValueValidation, refusal.text())?) }
     }
+}
+
+/// The limit of so many unacknowledged messages.
+pub(crate) fn limit_of(packets: u32) -> MaxInflight
+    requires { (1 ≤ packets) × (packets ≤ 256) }
+    ensures { result ≡ packets }
+{
+    match MaxInflight::new(packets as u16) {
+        Some(max_inflight) => max_inflight,
+        None => unreachable!(),
+    }
+}
+
+/// The number of `--max-inflight`.
+fn packets(options: &ArgMatches) -> u32
+    requires number { (number : ℕ) × HaveMaxInflight (rows_of (found_of options.now)) number }
+    requires as_written { one_of (codes "max-inflight") (rows_of (found_of options.now))
+        ≡ first_of (codes "max-inflight") (rows_of (found_of options.now)) }
+    ensures { HaveMaxInflight (rows_of (found_of options.now)) result }
+{
+    options.get_one::<u32>("max-inflight").unwrap_or(256)
 }

@@ -6,7 +6,7 @@ ghost use Rattle.arguments.specs.ServeLine.{AskForService, HasNumber, IsServiceB
 ghost use Rattle.arguments.specs.declared.service.Service.{Service as AnyService};
 ghost use Rattle.arguments.specs.ServeLine.{address_option, port_option, serve_line, workers_option};
 
-use crate::command::{capacity, group};
+use crate::command::{capacity, group, limit_of, max_inflight};
 use crate::groups::groups_of;
 use crate::service::Service;
 use clap::error::ErrorKind;
@@ -16,7 +16,7 @@ use std::alloc::{AllocError, Global};
 use std::net::Ipv4Addr;
 
 /// What the words behind `share_broker` ask for, of which the first is `serve`: `serve --port P [--address IP] [--workers W] [--capacity N]
-/// [--group NAME:FILTER]..`.
+/// [--max-inflight N] [--group NAME:FILTER]..`.
 ///
 /// # Errors
 ///
@@ -43,7 +43,7 @@ fn service_of(alloc: Global, options: &ArgMatches) -> Result<Service, Error>
             "an address is four numbers from 0 to 255 with dots between",
         )?);
     };
-    let Some((port, workers, capacity)) = numbers(options) else {
+    let Some((port, workers, capacity, packets)) = numbers(options) else {
         return Err(wrong(alloc, "a number is out of its range")?);
     };
     match groups_of(alloc, options.get_strs("group").unwrap_or(&[]))? {
@@ -53,6 +53,7 @@ fn service_of(alloc: Global, options: &ArgMatches) -> Result<Service, Error>
             workers: workers as u8,
             setup: Setup {
                 capacity: capacity as usize,
+                max_inflight: limit_of(packets),
                 groups,
             },
         }),
@@ -60,18 +61,20 @@ fn service_of(alloc: Global, options: &ArgMatches) -> Result<Service, Error>
     }
 }
 
-/// The port, how many workers, and the capacity.
-fn numbers(options: &ArgMatches) -> Option<(u32, u32, u32)>
+/// The port, how many workers, the capacity, and the limit of unacknowledged messages.
+fn numbers(options: &ArgMatches) -> Option<(u32, u32, u32, u32)>
     ensures { MatchOption result
         ((service : AnyService) → ¬ IsServiceBy (rows_of (found_of options.now)) service)
         (λ numbers. HasNumber (codes "port") 0 65535 (rows_of (found_of options.now)) numbers.0
         × HasNumber (codes "workers") 1 64 (rows_of (found_of options.now)) numbers.1
-        × HasNumber (codes "capacity") 1 65536 (rows_of (found_of options.now)) numbers.2) }
+        × HasNumber (codes "capacity") 1 65536 (rows_of (found_of options.now)) numbers.2
+        × HasNumber (codes "max-inflight") 1 256 (rows_of (found_of options.now)) numbers.3) }
 {
     let port = number(options, "port", 0, 65_535)?;
     let workers = number(options, "workers", 1, 64)?;
     let capacity = number(options, "capacity", 1, 65_536)?;
-    Some((port, workers, capacity))
+    let packets = number(options, "max-inflight", 1, 256)?;
+    Some((port, workers, capacity, packets))
 }
 
 /// The number in this range that an option has, as it was given or is left out.
@@ -98,6 +101,7 @@ fn serve_command<'a>(alloc: Global) -> Result<Command<'a>, AllocError>
         .arg(address(alloc))?
         .arg(workers(alloc))?
         .arg(capacity(alloc))?
+        .arg(max_inflight(alloc))?
         .arg(group(alloc))
 }
 

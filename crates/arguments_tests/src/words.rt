@@ -13,7 +13,7 @@ pub(crate) fn words_of(alloc: Global, line: &str) -> Result<Vec<String>, AllocEr
     Ok(words)
 }
 
-/// What a line asks for: the command, its capacity and its shares; or the status of its fault.
+/// What a line asks for: the command, its capacity, its limit of unacknowledged messages and its shares; or the status of its fault.
 fn asked(alloc: Global, line: &str) -> Result<String, AllocError> {
     let words = words_of(alloc, line)?;
     match arguments(alloc, &words) {
@@ -25,7 +25,7 @@ fn asked(alloc: Global, line: &str) -> Result<String, AllocError> {
 
 /// A command, and what its server begins with: the shares in the order of their slots.
 pub(crate) fn told(alloc: Global, command: &str, setup: &Setup) -> Result<String, AllocError> {
-    let mut text = format!(in alloc; "{command} {}", setup.capacity)?;
+    let mut text = format!(in alloc; "{command} {} {}", setup.capacity, setup.max_inflight.get())?;
     for share in setup.groups.shares() {
         text.push(' ')?;
         text.push_str(std::str::from_utf8(share.text()).unwrap_or("no text"))?;
@@ -36,24 +36,33 @@ pub(crate) fn told(alloc: Global, command: &str, setup: &Setup) -> Result<String
 #[test]
 fn what_words_ask_for(rt: HostRuntime) -> Result<(), Fail> {
     let rows = [
-        ("share_broker solo", "solo 1024"),
+        ("share_broker solo", "solo 1024 256"),
         (
             "share_broker solo --capacity 2 --group g:job",
-            "solo 2 $share/g/job",
+            "solo 2 256 $share/g/job",
         ),
-        ("share_broker drive", "drive 1024"),
-        ("share_broker drive --capacity 1", "drive 1"),
+        ("share_broker drive", "drive 1024 256"),
+        ("share_broker drive --capacity 1", "drive 1 256"),
+        ("share_broker drive --max-inflight 1", "drive 1024 1"),
+        (
+            "share_broker solo --max-inflight 256 --capacity 2",
+            "solo 2 256",
+        ),
+        (
+            "share_broker drive --group g:job --max-inflight=2",
+            "drive 1024 2 $share/g/job",
+        ),
         (
             "share_broker drive --capacity 65536 --group g:job",
-            "drive 65536 $share/g/job",
+            "drive 65536 256 $share/g/job",
         ),
         (
             "share_broker drive --group g:job --group h:# --group g:a:b",
-            "drive 1024 $share/g/job $share/h/# $share/g/a:b",
+            "drive 1024 256 $share/g/job $share/h/# $share/g/a:b",
         ),
         (
             "share_broker drive --group a:8 --group a:7 --group a:6 --group a:5 --group a:4 --group a:3 --group a:2 --group a:1",
-            "drive 1024 $share/a/8 $share/a/7 $share/a/6 $share/a/5 $share/a/4 $share/a/3 $share/a/2 $share/a/1",
+            "drive 1024 256 $share/a/8 $share/a/7 $share/a/6 $share/a/5 $share/a/4 $share/a/3 $share/a/2 $share/a/1",
         ),
         // faults
         (
@@ -68,6 +77,10 @@ fn what_words_ask_for(rt: HostRuntime) -> Result<(), Fail> {
         ("share_broker drive --capacity 0", "2"),
         ("share_broker drive --capacity 65537", "2"),
         ("share_broker drive --capacity one", "2"),
+        ("share_broker drive --max-inflight 0", "2"),
+        ("share_broker drive --max-inflight 257", "2"),
+        ("share_broker solo --max-inflight two", "2"),
+        ("share_broker solo --max-inflight 1 --max-inflight 1", "2"),
         ("share_broker drive --capacity 1 --capacity 1", "2"),
         ("share_broker drive --group job", "2"),
         ("share_broker drive --group :job", "2"),

@@ -1,5 +1,6 @@
 //! Plays: lines of events, and behind `> ` what is written then.
 use bytes::Bytes;
+use conn_rules::MaxInflight;
 use drive::drive_lines;
 use line_io::RunError;
 use local_server::Setup;
@@ -12,6 +13,17 @@ use std::process::Abort;
 
 /// A server in each of whose groups so many messages may wait, and on which these shares are bound.
 pub fn setup(rt: &impl Abort, alloc: Global, capacity: usize, shares: &[&'static str]) -> Setup {
+    limited(rt, alloc, capacity, MaxInflight::most(), shares)
+}
+
+/// The same, where a client has so many messages unacknowledged at most.
+fn limited(
+    rt: &impl Abort,
+    alloc: Global,
+    capacity: usize,
+    max_inflight: MaxInflight,
+    shares: &[&'static str],
+) -> Setup {
     let mut groups = Routes::new(alloc);
     for share in shares {
         let bytes = Vec::from_slice(alloc, share.as_bytes())
@@ -22,13 +34,18 @@ pub fn setup(rt: &impl Abort, alloc: Global, capacity: usize, shares: &[&'static
         let share = Share::parse(text).ok().expect(rt, "a share");
         let _slot = groups.bind(share).ok().expect(rt, "a slot");
     }
-    Setup { capacity, groups }
+    Setup {
+        capacity,
+        max_inflight,
+        groups,
+    }
 }
 
 /// A server in each of whose groups 1,024 messages may wait, and on which no share is bound.
 pub fn plain(alloc: Global) -> Setup {
     Setup {
         capacity: 1_024,
+        max_inflight: MaxInflight::most(),
         groups: Routes::new(alloc),
     }
 }
@@ -66,6 +83,18 @@ pub fn play_alone(rt: &impl Abort, alloc: Global, lines: &str) {
 /// Plays a play: up to each of its events, and whole. What is written behind an event is all that is new in the output, but for
 /// the reports.
 pub fn play(rt: &impl Abort, alloc: Global, capacity: usize, shares: &[&'static str], play: &str) {
+    play_limited(rt, alloc, capacity, MaxInflight::most(), shares, play);
+}
+
+/// The same, where a client has so many messages unacknowledged at most.
+pub fn play_limited(
+    rt: &impl Abort,
+    alloc: Global,
+    capacity: usize,
+    max_inflight: MaxInflight,
+    shares: &[&'static str],
+    play: &str,
+) {
     let mut events = String::new(alloc);
     let mut said = String::new(alloc);
     for line in play.lines() {
@@ -76,7 +105,7 @@ pub fn play(rt: &impl Abort, alloc: Global, capacity: usize, shares: &[&'static 
                 compare(
                     rt,
                     alloc,
-                    setup(rt, alloc, capacity, shares),
+                    limited(rt, alloc, capacity, max_inflight, shares),
                     &events,
                     &said,
                 );
@@ -87,11 +116,17 @@ pub fn play(rt: &impl Abort, alloc: Global, capacity: usize, shares: &[&'static 
     compare(
         rt,
         alloc,
-        setup(rt, alloc, capacity, shares),
+        limited(rt, alloc, capacity, max_inflight, shares),
         &events,
         &said,
     );
-    conclude(rt, alloc, setup(rt, alloc, capacity, shares), &events, play);
+    conclude(
+        rt,
+        alloc,
+        limited(rt, alloc, capacity, max_inflight, shares),
+        &events,
+        play,
+    );
 }
 
 /// Adds a line.

@@ -1,5 +1,6 @@
 //! What becomes of jobs.
-use crate::acting::{play, play_alone};
+use crate::acting::{play, play_alone, play_limited};
+use conn_rules::MaxInflight;
 use std::test::Fail;
 
 #[test]
@@ -44,6 +45,38 @@ fn receive_maximum_of_one(rt: HostRuntime) -> Result<(), Fail> {
         0 end 0
         > 0 close
         > $share/g/job accepted 3 acknowledged 1 refused 0 held 0 queued 1 returned 1",
+    );
+    Ok(())
+}
+
+// A client that says nothing of a Receive Maximum, on a server that lets it have two messages.
+#[test]
+fn limit_of_two(rt: HostRuntime) -> Result<(), Fail> {
+    let two = MaxInflight::new(2).ok_or("2 is a limit")?;
+    play_limited(
+        &rt,
+        rt.alloc(),
+        1_024,
+        two,
+        &[],
+        "0 open 0
+        0 bytes 0 100F00044D5154540502003C0000027731
+        > 0 200e00000b2401250027000100002900
+        0 bytes 0 8212000100000C2473686172652F672F6A6F6201
+        > 0 900400010001
+        0 bytes 0 320900036A6F6200070041
+        > 0 40020007
+        > 0 320900036a6f6200010041
+        0 bytes 0 320900036A6F6200080042
+        > 0 40020008
+        > 0 320900036a6f6200020042
+        0 bytes 0 320900036A6F6200090043
+        > 0 40020009
+        0 bytes 0 40020001
+        > 0 320900036a6f6200010043
+        0 end 0
+        > 0 close
+        > $share/g/job accepted 3 acknowledged 1 refused 0 held 0 queued 0 returned 2",
     );
     Ok(())
 }

@@ -18,6 +18,7 @@ use Rattle.conn_engine.specs.declared.input.Input.{Input}
 use Rattle.conn_engine.specs.declared.input.Input.TheVariants as inputs
 use Rattle.conn_engine.specs.declared.standing.ConnectRequest.{ConnectRequest}
 use Rattle.conn_engine.specs.declared.standing.Link.{Link}
+use Rattle.conn_engine.specs.declared.standing.Opening.{Opening}
 use Rattle.conn_engine.specs.declared.standing.Standing.{Standing}
 use Rattle.conn_engine.specs.declared.standing.Standing.TheVariants.{Unconnected, Waiting, Connected, Ended}
 use Rattle.conn_engine.specs.Connecting.{TriesAgain, Withdraws}
@@ -149,17 +150,17 @@ module _ (ledger : Ledger) (number : ℕ) where
       (enter link new done.owns, done.adds)
 
 -- a connection that has no session
-first_answered : (answer : FirstAnswer) (ledger : Ledger) (old new : Broker) (number now : ℕ) (packet : Packet) (standing : Standing GroupPlace) (reply : Reply)
-    → AnswersFirst Calls slot_of answer old number now packet standing reply new → Owns ledger old → Quiet ledger old (link_of standing) new
-first_answered first.Close ledger old new number now packet standing reply does was = stays_over ledger old new standing does.0.over does.1 was
-first_answered (first.Refuse refusal) ledger old new number now packet standing reply does was = stays_over ledger old new standing does.0.over does.1 was
-first_answered first.Attach ledger old new number now packet standing reply does was = attaches ledger old new number now _ 0 standing reply does.2 was
+first_answered : (answer : FirstAnswer) (ledger : Ledger) (old new : Broker) (number max_inflight now : ℕ) (packet : Packet) (standing : Standing GroupPlace) (reply : Reply)
+    → AnswersFirst Calls slot_of answer old number max_inflight now packet standing reply new → Owns ledger old → Quiet ledger old (link_of standing) new
+first_answered first.Close ledger old new number max_inflight now packet standing reply does was = stays_over ledger old new standing does.0.over does.1 was
+first_answered (first.Refuse refusal) ledger old new number max_inflight now packet standing reply does was = stays_over ledger old new standing does.0.over does.1 was
+first_answered first.Attach ledger old new number max_inflight now packet standing reply does was = attaches ledger old new number now _ 0 standing reply does.2 was
 
 refused_if : (refusal : Option ConnectRefusal) (standing : Standing GroupPlace) (reply : Reply) → IsRefusedIf refusal standing reply → standing ≡ Ended
 refused_if None standing reply is = is.over
 refused_if (Some refusal) standing reply is = is.over
 
-waits_for : (late : Bool) (ledger : Ledger) (old new : Broker) (opened : ℕ) (standing : Standing GroupPlace) (reply : Reply) → WaitsForConnect late opened standing reply
+waits_for : (late : Bool) (ledger : Ledger) (old new : Broker) (opened : Opening) (standing : Standing GroupPlace) (reply : Reply) → WaitsForConnect late opened standing reply
     → Went ledger old new
     → Quiet ledger old (link_of standing) new
 waits_for true ledger old new opened standing reply waits went_on = over ledger old new standing waits.over went_on
@@ -228,7 +229,7 @@ reacted : (standing : Standing GroupPlace) (input : Input) (ledger : Ledger) (nu
     → Reacts Calls slot_of old number standing now input standing' reply new → HoldsAs (with_hand ledger number None) old (link_of standing)
     → Done (with_hand ledger number None) old number (link_of standing) input (link_of standing') new
 reacted (Unconnected opened) (inputs.Packet packet) ledger number old new now standing' reply does was =
-    quietly _ old new number None (link_of standing') (inputs.Packet packet) tt (first_answered (first_answer packet) _ old new number now packet standing' reply does was)
+    quietly _ old new number None (link_of standing') (inputs.Packet packet) tt (first_answered (first_answer packet) _ old new number opened.max_inflight now packet standing' reply does was)
 reacted (Unconnected opened) (inputs.Fault fault) ledger number old new now standing' reply does was =
     quietly _ old new number None (link_of standing') (inputs.Fault fault) tt (stays_over _ old new standing' (refused_if (fault_refusal fault) standing' reply does.0) does.1 was)
 reacted (Unconnected opened) inputs.Tick ledger number old new now standing' reply does was =

@@ -6,6 +6,7 @@ use Rattle.dispatch_core.proofs.Spots.{slice_get-set_same, slice_get-set_other}
 use Rattle.conn_supply.specs.declared.supply.NoMemory.{NoMemory}
 use Rattle.conn_engine.specs.declared.input.Input.{Input}
 use Rattle.conn_engine.specs.declared.input.Input.TheVariants as inputs
+use Rattle.conn_engine.specs.declared.standing.Opening.{Opening}
 use Rattle.conn_engine.specs.declared.standing.Standing.{Standing}
 use Rattle.conn_engine.specs.declared.standing.Standing.TheVariants.{Unconnected, Waiting, Connected, Ended}
 use Rattle.client_table.specs.Clients.{ClientState, Said, IsGivenUp}
@@ -85,9 +86,9 @@ becomes number said client after is keeps = (subst (IsNumbered number) (sym is) 
 nobody : (number : ℕ) (said : List Said) (after : Option (ClientState GroupPlace)) → said ≡ [] → after ≡ None → Cell number said after
 nobody number said after silent is = (subst (IsNumbered number) (sym is) tt, subst (AreSaidTo number) (sym silent) tt)
 
-opens : (number now : ℕ) (before after : Option (ClientState GroupPlace)) → IsNumbered number before → Opens number now before after → IsNumbered number after
-opens number now None after is does = subst (IsNumbered number) (sym does) refl
-opens number now (Some client) after is does = subst (IsNumbered number) (sym does) is
+opens : (number : ℕ) (opening : Opening) (before after : Option (ClientState GroupPlace)) → IsNumbered number before → Opens number opening before after → IsNumbered number after
+opens number opening None after is does = subst (IsNumbered number) (sym does) refl
+opens number opening (Some client) after is does = subst (IsNumbered number) (sym does) is
 
 receives : (result : Result (Unit {0}) NoMemory) (before : Option (ClientState GroupPlace)) (number : ℕ) (old new : Broker) (now : ℕ) (piece : List ℕ) (more : List Said) (after : Option (ClientState GroupPlace))
     → IsNumbered number before → Receives Calls slot_of old before now piece more result after new → Cell number more after
@@ -150,21 +151,21 @@ closed : (result : Result (Unit {0}) NoMemory) (old new : Broker) (clients clien
 closed result old new clients clients' now said all closes = first_ended closes.2 closes.0 new clients clients' now said result all closes.4
 
 -- an event: those that are open keep their numbers, and it is answered
-does : (event : Event) (old new : Broker) (clients clients' : Clients) (now : ℕ) (said : List Said) (result : Result (Unit {0}) NoMemory)
-    → AreNumbered clients → Does event old clients now said result clients' new → AreNumbered clients' × Answers event said
-does (events.Open number) old new clients clients' now said result all done =
+does : (max_inflight : ℕ) (event : Event) (old new : Broker) (clients clients' : Clients) (now : ℕ) (said : List Said) (result : Result (Unit {0}) NoMemory)
+    → AreNumbered clients → Does event max_inflight old clients now said result clients' new → AreNumbered clients' × Answers event said
+does max_inflight (events.Open number) old new clients clients' now said result all done =
     let cell = done.0 in
-    (in_cell clients clients' number _ cell all (opens number now cell.before cell.after (at cell.before clients number all cell.has) cell.becomes), subst (AreSaidTo number) (sym done.2) tt)
-does (events.Bytes number piece) old new clients clients' now said result all cell =
+    (in_cell clients clients' number _ cell all (opens number _ cell.before cell.after (at cell.before clients number all cell.has) cell.becomes), subst (AreSaidTo number) (sym done.2) tt)
+does max_inflight (events.Bytes number piece) old new clients clients' now said result all cell =
     let is = receives result cell.before number old new now piece said cell.after (at cell.before clients number all cell.has) cell.becomes in
     (in_cell clients clients' number _ cell all is.0, is.1)
-does (events.Tick number) old new clients clients' now said result all cell =
+does max_inflight (events.Tick number) old new clients clients' now said result all cell =
     let is = ticks_for result cell.before number old new now said cell.after (at cell.before clients number all cell.has) cell.becomes in
     (in_cell clients clients' number _ cell all is.0, is.1)
-does (events.End number) old new clients clients' now said result all cell =
+does max_inflight (events.End number) old new clients clients' now said result all cell =
     let is = ends_for result cell.before number old new now inputs.EndOfInput said cell.after (at cell.before clients number all cell.has) cell.becomes in
     (in_cell clients clients' number _ cell all is.0, is.1)
-does events.Close old new clients clients' now said result all closes = (closed result old new clients clients' now said all closes, tt)
+does max_inflight events.Close old new clients clients' now said result all closes = (closed result old new clients clients' now said all closes, tt)
 
 silent : (event : Event) (said : List Said) → said ≡ [] → Answers event said
 silent (events.Open number) said none = subst (AreSaidTo number) (sym none) tt
@@ -173,14 +174,14 @@ silent (events.Tick number) said none = subst (AreSaidTo number) (sym none) tt
 silent (events.End number) said none = subst (AreSaidTo number) (sym none) tt
 silent events.Close said none = tt
 
-does_if : (open? : Bool) (event : Event) (old new : Broker) (clients clients' : Clients) (now : ℕ) (said : List Said) (result : Result (Unit {0}) NoMemory)
-    → AreNumbered clients → DoesIf open? event old clients now said result clients' new → AreNumbered clients' × Answers event said
-does_if true event old new clients clients' now said result all done = does event old new clients clients' now said result all done
-does_if false event old new clients clients' now said result all done = (subst AreNumbered (sym done.2) all, silent event said done.0)
+does_if : (max_inflight : ℕ) (open? : Bool) (event : Event) (old new : Broker) (clients clients' : Clients) (now : ℕ) (said : List Said) (result : Result (Unit {0}) NoMemory)
+    → AreNumbered clients → DoesIf open? event max_inflight old clients now said result clients' new → AreNumbered clients' × Answers event said
+does_if max_inflight true event old new clients clients' now said result all done = does max_inflight event old new clients clients' now said result all done
+does_if max_inflight false event old new clients clients' now said result all done = (subst AreNumbered (sym done.2) all, silent event said done.0)
 
 pub answered : (moment : ℕ) (event : Event) (said : List Said) (result : Result (Unit {0}) NoMemory) (old new : ServerState) → AreNumbered old.clients → Happens old moment event said result new
     → AreNumbered new.clients × Answers event said
-answered moment event said result old new all happens = does_if (is_open old.broker) event old.broker new.broker old.clients new.clients new.clock said result all happens.does
+answered moment event said result old new all happens = does_if _ (is_open old.broker) event old.broker new.broker old.clients new.clients new.clock said result all happens.does
 
 nobody_at : (count number : ℕ) (client : ClientState GroupPlace) → slice_get (replicate {A = Option (ClientState GroupPlace)} count None) number ≡ Some (Some client) → ⊥
 nobody_at zero number client has = cc has

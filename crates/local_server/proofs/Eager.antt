@@ -27,27 +27,27 @@ all_end (suc number) old new clients clients' now said result ends all =
     stays_first ends.0 new (ends_for Calls slot_of ends.5 ends.7.before ends.0 new now inputs.Closing ends.3 ends.7.after ends.7.becomes)
     (all_end number old ends.0 clients ends.1 now ends.2 ends.4 ends.6 all)
 
-does : (event : Event) (old new : Broker) (clients clients' : Clients) (now : ℕ) (said : List Said) (result : Result (Unit {0}) NoMemory)
-    → Does event old clients now said result clients' new → AllServeReturnedFirst old → AllServeReturnedFirst new
-does (events.Open number) old new clients clients' now said result done all = unchanged old new done.1 all
-does (events.Bytes number piece) old new clients clients' now said result done all =
+does : (max_inflight : ℕ) (event : Event) (old new : Broker) (clients clients' : Clients) (now : ℕ) (said : List Said) (result : Result (Unit {0}) NoMemory)
+    → Does event max_inflight old clients now said result clients' new → AllServeReturnedFirst old → AllServeReturnedFirst new
+does max_inflight (events.Open number) old new clients clients' now said result done all = unchanged old new done.1 all
+does max_inflight (events.Bytes number piece) old new clients clients' now said result done all =
     stays_first old new (receives Calls slot_of result done.before old new now piece said done.after done.becomes) all
-does (events.Tick number) old new clients clients' now said result done all =
+does max_inflight (events.Tick number) old new clients clients' now said result done all =
     stays_first old new (ticks_for Calls slot_of result done.before old new now said done.after done.becomes) all
-does (events.End number) old new clients clients' now said result done all =
+does max_inflight (events.End number) old new clients clients' now said result done all =
     stays_first old new (ends_for Calls slot_of result done.before old new now inputs.EndOfInput said done.after done.becomes) all
-does events.Close old new clients clients' now said result done all =
+does max_inflight events.Close old new clients clients' now said result done all =
     all_end done.2 done.0 new clients clients' now said result done.4 (stays_first_closed old done.0 done.1 all)
 
-does_if : (going : Bool) (event : Event) (old new : Broker) (clients clients' : Clients) (now : ℕ) (said : List Said) (result : Result (Unit {0}) NoMemory)
-    → DoesIf going event old clients now said result clients' new → AllServeReturnedFirst old → AllServeReturnedFirst new
-does_if true event old new clients clients' now said result done all = does event old new clients clients' now said result done all
-does_if false event old new clients clients' now said result done all = unchanged old new done.3 all
+does_if : (max_inflight : ℕ) (going : Bool) (event : Event) (old new : Broker) (clients clients' : Clients) (now : ℕ) (said : List Said) (result : Result (Unit {0}) NoMemory)
+    → DoesIf going event max_inflight old clients now said result clients' new → AllServeReturnedFirst old → AllServeReturnedFirst new
+does_if max_inflight true event old new clients clients' now said result done all = does max_inflight event old new clients clients' now said result done all
+does_if max_inflight false event old new clients clients' now said result done all = unchanged old new done.3 all
 
 happens : (moment : ℕ) (event : Event) (said : List Said) (result : Result (Unit {0}) NoMemory) (old new : ServerState) → Happens old moment event said result new
     → AllServeReturnedFirst old.broker → AllServeReturnedFirst new.broker
 happens moment event said result old new happened all =
-    does_if (is_open old.broker) event old.broker new.broker old.clients new.clients new.clock said result happened.does all
+    does_if _ (is_open old.broker) event old.broker new.broker old.clients new.clients new.clock said result happened.does all
 
 stays : (events : List TimedEvent) (said : List Said) (old new : ServerState) → HappensAll old events said new → AllServeReturnedFirst old.broker → AllServeReturnedFirst new.broker
 stays [] said old new run all = unchanged old.broker new.broker (ap (λ s. s.broker) run.1) all

@@ -59,7 +59,7 @@ gone_below (suc number) old new clients clients' now said result ends =
     (one_more_gone number ends.1 cell.before cell.has (gone_below number old ends.0 clients ends.1 now ends.2 ends.4 ends.6))
 
 emptied_if : (going : Bool) (old new : ServerState) (said : List Said) (result : Result (Unit {0}) NoMemory) → going ≡ true
-    → DoesIf going events.Close old.broker old.clients new.clock said result new.clients new.broker → HasNoneBelow 64 new.clients
+    → DoesIf going events.Close old.max_inflight old.broker old.clients new.clock said result new.clients new.broker → HasNoneBelow 64 new.clients
 emptied_if true old new said result is closes = subst (λ n. HasNoneBelow n new.clients) closes.3 (gone_below closes.2 closes.0 new.broker old.clients new.clients new.clock said result closes.4)
 emptied_if false old new said result is closes = absurd (cc)
 

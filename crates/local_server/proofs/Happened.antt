@@ -127,21 +127,21 @@ closed : (result : Result (Unit {0}) NoMemory) (old new : Broker) (clients clien
 closed result old new clients clients' now said closes =
     behind (Ok tt) result old closes.0 new [] said said refl (all_closed old closes.0 closes.1) (first_ended closes.2 closes.0 new clients clients' now said result closes.4)
 
-does : (event : Event) (old new : Broker) (clients clients' : Clients) (now : ℕ) (said : List Said) (result : Result (Unit {0}) NoMemory)
-    → Does event old clients now said result clients' new → Ran result old said new
-does (events.Open number) old new clients clients' now said result done = still result old new said done.2 done.1
-does (events.Bytes number piece) old new clients clients' now said result done = received result old new done.before done.after now piece said done.becomes
-does (events.Tick number) old new clients clients' now said result done = ticked result old new done.before done.after now said done.becomes
-does (events.End number) old new clients clients' now said result done = ended result old new done.before done.after now inputs.EndOfInput said done.becomes
-does events.Close old new clients clients' now said result done = closed result old new clients clients' now said done
+does : (max_inflight : ℕ) (event : Event) (old new : Broker) (clients clients' : Clients) (now : ℕ) (said : List Said) (result : Result (Unit {0}) NoMemory)
+    → Does event max_inflight old clients now said result clients' new → Ran result old said new
+does max_inflight (events.Open number) old new clients clients' now said result done = still result old new said done.2 done.1
+does max_inflight (events.Bytes number piece) old new clients clients' now said result done = received result old new done.before done.after now piece said done.becomes
+does max_inflight (events.Tick number) old new clients clients' now said result done = ticked result old new done.before done.after now said done.becomes
+does max_inflight (events.End number) old new clients clients' now said result done = ended result old new done.before done.after now inputs.EndOfInput said done.becomes
+does max_inflight events.Close old new clients clients' now said result done = closed result old new clients clients' now said done
 
-does_if : (open? : Bool) (event : Event) (old new : Broker) (clients clients' : Clients) (now : ℕ) (said : List Said) (result : Result (Unit {0}) NoMemory)
-    → DoesIf open? event old clients now said result clients' new → Ran result old said new
-does_if true event old new clients clients' now said result done = does event old new clients clients' now said result done
-does_if false event old new clients clients' now said result done = still result old new said done.0 done.3
+does_if : (max_inflight : ℕ) (open? : Bool) (event : Event) (old new : Broker) (clients clients' : Clients) (now : ℕ) (said : List Said) (result : Result (Unit {0}) NoMemory)
+    → DoesIf open? event max_inflight old clients now said result clients' new → Ran result old said new
+does_if max_inflight true event old new clients clients' now said result done = does max_inflight event old new clients clients' now said result done
+does_if max_inflight false event old new clients clients' now said result done = still result old new said done.0 done.3
 
 ran : (moment : ℕ) (event : Event) (said : List Said) (result : Result (Unit {0}) NoMemory) (old new : ServerState) → Happens old moment event said result new → Ran result old.broker said new.broker
-ran moment event said result old new happens = does_if (is_open old.broker) event old.broker new.broker old.clients new.clients new.clock said result happens.does
+ran moment event said result old new happens = does_if _ (is_open old.broker) event old.broker new.broker old.clients new.clients new.clock said result happens.does
 
 pub happened : (moment : ℕ) (event : Event) (said : List Said) (result : Result (Unit {0}) NoMemory) (old new : ServerState) → Happens old moment event said result new → HaveLed old.broker new.broker
 happened moment event said result old new happens = let run = ran moment event said result old new happens in (run.happenings, run.led)
@@ -191,8 +191,8 @@ desk setup events first last new all =
 passed : (moment : ℕ) (event : Event) (said : List Said) (old new : ServerState) → is_open old.broker ≡ false → Happens old moment event said (Ok tt) new
     → (said ≡ []) × (new.broker ≡ old.broker) × (new.clients ≡ old.clients)
 passed moment event said old new shut happens =
-    let done : DoesIf false event old.broker old.clients new.clock said (Ok tt) new.clients new.broker =
-    subst (λ b. DoesIf b event old.broker old.clients new.clock said (Ok tt) new.clients new.broker) shut happens.does in
+    let done : DoesIf false event old.max_inflight old.broker old.clients new.clock said (Ok tt) new.clients new.broker =
+    subst (λ b. DoesIf b event old.max_inflight old.broker old.clients new.clock said (Ok tt) new.clients new.broker) shut happens.does in
     (done.0, done.3, done.2)
 
 pub all_passed : (events : List TimedEvent) (said : List Said) (old new : ServerState) → is_open old.broker ≡ false → HappensAll old events said new

@@ -95,7 +95,7 @@ added old mid new adds keeps =
     }
 
 closes_if : (going : Bool) (old new : ServerState) (said : List Said) → going ≡ true → is_open old.broker ≡ true
-    → DoesIf going events.Close old.broker old.clients new.clock said (Ok tt) new.clients new.broker → AllAddTheClose old.broker new.broker
+    → DoesIf going events.Close old.max_inflight old.broker old.clients new.clock said (Ok tt) new.clients new.broker → AllAddTheClose old.broker new.broker
 closes_if true old new said going opens does =
     added old.broker does.0 new.broker (closed_once old.broker does.0 opens does.1.groups) (all_end does.2 does.0 new.broker old.clients new.clients new.clock said (Ok tt) refl does.4)
 closes_if false old new said going opens does = absurd (cc)

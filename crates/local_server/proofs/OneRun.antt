@@ -4,6 +4,7 @@ use Rattle.std.specs.Result.{result_and}
 use Rattle.session_desk.specs.Hands.{DeskLaw}
 use Rattle.conn_supply.specs.declared.supply.NoMemory.{NoMemory}
 use Rattle.conn_engine.specs.declared.input.Input.TheVariants as inputs
+use Rattle.conn_engine.specs.declared.standing.Opening.{Opening}
 use Rattle.client_table.specs.Clients.{Said}
 use Rattle.client_table.specs.Cells.{Opens, Receives, TicksFor, EndsFor}
 use Rattle.client_table.proofs.OneCell.{in_cell, opens, received, ticked_for, ended_for}
@@ -59,26 +60,27 @@ closed : (a a' b b' : Broker) (clients c d : Clients) (now : ℕ) (xs ys : List 
 closed a a' b b' clients c d now xs ys alike h k =
     ended_first h.2 h.0 a' k.0 b' clients c d now xs ys (closes a b h.0 k.0 alike h.1 k.1) h.4 (subst (λ many. FirstDone many k.0 clients now ys d b') (k.3 ∙ sym h.3) k.4)
 
-done : (event : Event) (a a' b b' : Broker) (clients c d : Clients) (now : ℕ) (xs ys : List Said) → AreLawful a b
-    → Does event a clients now xs (Ok tt) c a' → Does event b clients now ys (Ok tt) d b' → AreOne xs ys c d a' b'
-done (events.Open number) a a' b b' clients c d now xs ys alike h k =
-    let one = in_cell {X = Unit {0}} clients c d number (Opens number now) (Opens number now) (λ before after then does also. (opens number now before after then does also, tt)) h.0 k.0 in
+done : (max_inflight : ℕ) (event : Event) (a a' b b' : Broker) (clients c d : Clients) (now : ℕ) (xs ys : List Said) → AreLawful a b
+    → Does event max_inflight a clients now xs (Ok tt) c a' → Does event max_inflight b clients now ys (Ok tt) d b' → AreOne xs ys c d a' b'
+done max_inflight (events.Open number) a a' b b' clients c d now xs ys alike h k =
+    let opening : Opening = record { at = now; max_inflight = max_inflight } in
+    let one = in_cell {X = Unit {0}} clients c d number (Opens number opening) (Opens number opening) (λ before after then does also. (opens number opening before after then does also, tt)) h.0 k.0 in
     (one.0, (h.2 ∙ sym k.2, subst (λ s. AreLawful s b') (sym h.1) (subst (AreLawful a) (sym k.1) alike)))
-done (events.Bytes number piece) a a' b b' clients c d now xs ys alike h k =
+done max_inflight (events.Bytes number piece) a a' b b' clients c d now xs ys alike h k =
     in_cell clients c d number (λ before after. Receives Calls slot_of a before now piece xs (Ok tt) after a') (λ before after. Receives Calls slot_of b before now piece ys (Ok tt) after b')
     (λ before after then does also. received Calls AreLawful answers slot_of before a a' b b' now piece xs ys after then alike does also) h k
-done (events.Tick number) a a' b b' clients c d now xs ys alike h k =
+done max_inflight (events.Tick number) a a' b b' clients c d now xs ys alike h k =
     in_cell clients c d number (λ before after. TicksFor Calls slot_of a before now xs (Ok tt) after a') (λ before after. TicksFor Calls slot_of b before now ys (Ok tt) after b')
     (λ before after then does also. ticked_for Calls AreLawful answers slot_of before a a' b b' now xs ys after then alike does also) h k
-done (events.End number) a a' b b' clients c d now xs ys alike h k =
+done max_inflight (events.End number) a a' b b' clients c d now xs ys alike h k =
     in_cell clients c d number (λ before after. EndsFor Calls slot_of a before now inputs.EndOfInput xs (Ok tt) after a') (λ before after. EndsFor Calls slot_of b before now inputs.EndOfInput ys (Ok tt) after b')
     (λ before after then does also. ended_for Calls AreLawful answers slot_of before a a' b b' now inputs.EndOfInput xs ys after then tt alike does also) h k
-done events.Close a a' b b' clients c d now xs ys alike h k = closed a a' b b' clients c d now xs ys alike h k
+done max_inflight events.Close a a' b b' clients c d now xs ys alike h k = closed a a' b b' clients c d now xs ys alike h k
 
-done_if : (open? : Bool) (event : Event) (a a' b b' : Broker) (clients c d : Clients) (now : ℕ) (xs ys : List Said) → AreLawful a b
-    → DoesIf open? event a clients now xs (Ok tt) c a' → DoesIf open? event b clients now ys (Ok tt) d b' → AreOne xs ys c d a' b'
-done_if true event a a' b b' clients c d now xs ys alike h k = done event a a' b b' clients c d now xs ys alike h k
-done_if false event a a' b b' clients c d now xs ys alike h k =
+done_if : (max_inflight : ℕ) (open? : Bool) (event : Event) (a a' b b' : Broker) (clients c d : Clients) (now : ℕ) (xs ys : List Said) → AreLawful a b
+    → DoesIf open? event max_inflight a clients now xs (Ok tt) c a' → DoesIf open? event max_inflight b clients now ys (Ok tt) d b' → AreOne xs ys c d a' b'
+done_if max_inflight true event a a' b b' clients c d now xs ys alike h k = done max_inflight event a a' b b' clients c d now xs ys alike h k
+done_if max_inflight false event a a' b b' clients c d now xs ys alike h k =
     (h.2 ∙ sym k.2, (h.0 ∙ sym k.0, subst (λ s. AreLawful s b') (sym h.3) (subst (AreLawful a) (sym k.3) alike)))
 
 -- alike, and the one keeps the desk law
@@ -90,12 +92,13 @@ pub happened : (one other one' other' : ServerState) (moment : ℕ) (event : Eve
 happened one other one' other' moment event xs ys alike h k =
     let like = alike.1 in
     let clock : one'.clock ≡ other'.clock = h.clock ∙ ap (λ c. max c moment) like.clock ∙ sym k.clock in
-    let its : DoesIf (is_open one.broker) event other.broker one.clients one'.clock ys (Ok tt) other'.clients other'.broker =
-    subst (λ b. DoesIf b event other.broker one.clients one'.clock ys (Ok tt) other'.clients other'.broker) (sym (same_open one.broker other.broker like.broker))
-    (subst (λ c. DoesIf (is_open other.broker) event other.broker c one'.clock ys (Ok tt) other'.clients other'.broker) (sym like.clients)
-    (subst (λ n. DoesIf (is_open other.broker) event other.broker other.clients n ys (Ok tt) other'.clients other'.broker) (sym clock) k.does)) in
-    let both = done_if (is_open one.broker) event one.broker one'.broker other.broker other'.broker one.clients one'.clients other'.clients one'.clock xs ys (alike.0, like.broker) h.does its in
-    (both.1.0, (both.1.1.0, record { broker = both.1.1.1; clients = both.0; clock = clock }))
+    let its : DoesIf (is_open one.broker) event one.max_inflight other.broker one.clients one'.clock ys (Ok tt) other'.clients other'.broker =
+    subst (λ b. DoesIf b event one.max_inflight other.broker one.clients one'.clock ys (Ok tt) other'.clients other'.broker) (sym (same_open one.broker other.broker like.broker))
+    (subst (λ limit. DoesIf (is_open other.broker) event limit other.broker one.clients one'.clock ys (Ok tt) other'.clients other'.broker) (sym like.max_inflight)
+    (subst (λ c. DoesIf (is_open other.broker) event other.max_inflight other.broker c one'.clock ys (Ok tt) other'.clients other'.broker) (sym like.clients)
+    (subst (λ n. DoesIf (is_open other.broker) event other.max_inflight other.broker other.clients n ys (Ok tt) other'.clients other'.broker) (sym clock) k.does))) in
+    let both = done_if _ (is_open one.broker) event one.broker one'.broker other.broker other'.broker one.clients one'.clients other'.clients one'.clock xs ys (alike.0, like.broker) h.does its in
+    (both.1.0, (both.1.1.0, record { broker = both.1.1.1; clients = both.0; clock = clock; max_inflight = h.max_inflight ∙ like.max_inflight ∙ sym k.max_inflight }))
 
 pub all_happened : (events : List TimedEvent) (one other one' other' : ServerState) (xs ys : List Said) → AreLawfulServers one other
     → HappensAll one events xs one' → HappensAll other events ys other' → (xs ≡ ys) × AreLawfulServers one' other'
@@ -107,7 +110,12 @@ all_happened (first ∷ others) one other one' other' xs ys alike h k =
 
 pub new : (setup : Setup) (one other : ServerState) → IsNewServer setup one → IsNewServer setup other → AreAlike one other
 new setup one other h k =
-    record { broker = one_new setup.capacity setup.groups one.broker other.broker h.broker k.broker; clients = h.clients ∙ sym k.clients; clock = h.clock ∙ sym k.clock }
+    record {
+      broker = one_new setup.capacity setup.groups one.broker other.broker h.broker k.broker;
+      clients = h.clients ∙ sym k.clients;
+      clock = h.clock ∙ sym k.clock;
+      max_inflight = h.max_inflight ∙ sym k.max_inflight;
+    }
 
 pub one_run : (setup : Setup) (events : List TimedEvent) (xs ys : List Said) (first first' last last' : ServerState) → IsNewServer setup first → IsNewServer setup first'
     → HappensAll first events xs last → HappensAll first' events ys last' → (xs ≡ ys) × AreAlike last last'

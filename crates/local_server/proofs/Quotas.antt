@@ -8,6 +8,7 @@ use Rattle.conn_engine.specs.declared.standing.Link.{Link}
 use Rattle.conn_engine.specs.declared.standing.Standing.{Standing}
 use Rattle.conn_engine.specs.declared.standing.Standing.TheVariants.{Unconnected, Waiting, Connected, Ended}
 use Rattle.conn_laws.specs.Quotas.{quota_of, KeepsQuota, IsWithinQuota}
+use Rattle.conn_laws.proofs.Quotas as steps
 use Rattle.conn_laws.specs.Transcripts.{link_of}
 use Rattle.client_table.specs.Cells.{InCell}
 use Rattle.client_table.specs.Clients.{ClientState, Said}
@@ -52,7 +53,7 @@ in_cell old new number Becomes keeps cell all =
 ended : (number : ℕ) (old new : Broker) (clients clients' : Clients) (now : ℕ) (said : List Said) (result : Result (Unit {0}) NoMemory)
     → EndsAt number old clients now said result clients' new → AllWithinQuota clients → AllWithinQuota clients'
 ended number old new clients clients' now said result ends all =
-    in_cell clients clients' number _ (λ before after is within. ends_for Calls slot_of result before old new now inputs.Closing said after is within) ends all
+    in_cell clients clients' number _ (λ before after is within. ends_for Calls slot_of IsWithinQuota tt (steps.within Calls slot_of) result before old new now inputs.Closing said after is within) ends all
 
 first_ended : (number : ℕ) (old new : Broker) (clients clients' : Clients) (now : ℕ) (said : List Said) (result : Result (Unit {0}) NoMemory)
     → EndsFirst number old clients now said result clients' new → AllWithinQuota clients → AllWithinQuota clients'
@@ -64,26 +65,26 @@ closed : (old new : Broker) (clients clients' : Clients) (now : ℕ) (said : Lis
     → AllWithinQuota clients → AllWithinQuota clients'
 closed old new clients clients' now said result closes all = first_ended closes.2 closes.0 new clients clients' now said result closes.4 all
 
-does : (event : Event) (old new : Broker) (clients clients' : Clients) (now : ℕ) (said : List Said) (result : Result (Unit {0}) NoMemory)
-    → Does event old clients now said result clients' new → AllWithinQuota clients → AllWithinQuota clients'
-does (events.Open number) old new clients clients' now said result done all =
-    in_cell clients clients' number _ (λ before after is within. opens number now before after is within) done.0 all
-does (events.Bytes number piece) old new clients clients' now said result done all =
-    in_cell clients clients' number _ (λ before after is within. receives Calls slot_of result before old new now piece said after is within) done all
-does (events.Tick number) old new clients clients' now said result done all =
-    in_cell clients clients' number _ (λ before after is within. ticks_for Calls slot_of result before old new now said after is within) done all
-does (events.End number) old new clients clients' now said result done all =
-    in_cell clients clients' number _ (λ before after is within. ends_for Calls slot_of result before old new now inputs.EndOfInput said after is within) done all
-does events.Close old new clients clients' now said result done all = closed old new clients clients' now said result done all
+does : (max_inflight : ℕ) (event : Event) (old new : Broker) (clients clients' : Clients) (now : ℕ) (said : List Said) (result : Result (Unit {0}) NoMemory)
+    → Does event max_inflight old clients now said result clients' new → AllWithinQuota clients → AllWithinQuota clients'
+does max_inflight (events.Open number) old new clients clients' now said result done all =
+    in_cell clients clients' number _ (λ before after is within. opens number _ before after is within) done.0 all
+does max_inflight (events.Bytes number piece) old new clients clients' now said result done all =
+    in_cell clients clients' number _ (λ before after is within. receives Calls slot_of IsWithinQuota tt (steps.within Calls slot_of) result before old new now piece said after is within) done all
+does max_inflight (events.Tick number) old new clients clients' now said result done all =
+    in_cell clients clients' number _ (λ before after is within. ticks_for Calls slot_of IsWithinQuota tt (steps.within Calls slot_of) result before old new now said after is within) done all
+does max_inflight (events.End number) old new clients clients' now said result done all =
+    in_cell clients clients' number _ (λ before after is within. ends_for Calls slot_of IsWithinQuota tt (steps.within Calls slot_of) result before old new now inputs.EndOfInput said after is within) done all
+does max_inflight events.Close old new clients clients' now said result done all = closed old new clients clients' now said result done all
 
-does_if : (going : Bool) (event : Event) (old new : Broker) (clients clients' : Clients) (now : ℕ) (said : List Said) (result : Result (Unit {0}) NoMemory)
-    → DoesIf going event old clients now said result clients' new → AllWithinQuota clients → AllWithinQuota clients'
-does_if true event old new clients clients' now said result done all = does event old new clients clients' now said result done all
-does_if false event old new clients clients' now said result done all = subst AllWithinQuota (sym done.2) all
+does_if : (max_inflight : ℕ) (going : Bool) (event : Event) (old new : Broker) (clients clients' : Clients) (now : ℕ) (said : List Said) (result : Result (Unit {0}) NoMemory)
+    → DoesIf going event max_inflight old clients now said result clients' new → AllWithinQuota clients → AllWithinQuota clients'
+does_if max_inflight true event old new clients clients' now said result done all = does max_inflight event old new clients clients' now said result done all
+does_if max_inflight false event old new clients clients' now said result done all = subst AllWithinQuota (sym done.2) all
 
 pub happened : (moment : ℕ) (event : Event) (said : List Said) (result : Result (Unit {0}) NoMemory) (old new : ServerState) → Happens old moment event said result new
     → AllWithinQuota old.clients → AllWithinQuota new.clients
-happened moment event said result old new happens all = does_if (is_open old.broker) event old.broker new.broker old.clients new.clients new.clock said result happens.does all
+happened moment event said result old new happens all = does_if _ (is_open old.broker) event old.broker new.broker old.clients new.clients new.clock said result happens.does all
 
 undergone : (events : List TimedEvent) (old new : ServerState) → Undergoes old events new → AllWithinQuota old.clients → AllWithinQuota new.clients
 undergone [] old new same all = subst AllWithinQuota (sym (ap (λ s. s.clients) same)) all

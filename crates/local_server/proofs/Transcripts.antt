@@ -21,6 +21,7 @@ use Rattle.session_desk.specs.Books.{Books}
 use Rattle.conn_supply.specs.declared.supply.NoMemory.{NoMemory}
 use Rattle.conn_engine.specs.declared.input.Input.TheVariants as inputs
 use Rattle.conn_engine.specs.declared.standing.Link.{Link}
+use Rattle.conn_engine.specs.declared.standing.Opening.{Opening}
 use Rattle.client_table.specs.Cells.{InCell, Opens}
 use Rattle.client_table.specs.Clients.{ClientState, Said}
 use Rattle.local_broker.specs.Places.{GroupPlace}
@@ -92,9 +93,9 @@ in_cell first turns said clients clients' number old new Becomes Answers cell ke
     (does (subst (λ (l : Links). Keeps first turns l old) (sym (with_same (links_at clients) number (link_in (Some cell.before)) (ap link_in cell.has))) keeps))
 
 -- a connection is opened: it has no session
-opened : (number now : ℕ) (before after : Option (ClientState GroupPlace)) → Opens number now before after → link_in (Some before) ≡ link_in (Some after)
-opened number now None after does = ap (λ (c : Option (ClientState GroupPlace)). link_in (Some c)) (sym does)
-opened number now (Some client) after does = ap (λ (c : Option (ClientState GroupPlace)). link_in (Some c)) (sym does)
+opened : (number : ℕ) (opening : Opening) (before after : Option (ClientState GroupPlace)) → Opens number opening before after → link_in (Some before) ≡ link_in (Some after)
+opened number opening None after does = ap (λ (c : Option (ClientState GroupPlace)). link_in (Some c)) (sym does)
+opened number opening (Some client) after does = ap (λ (c : Option (ClientState GroupPlace)). link_in (Some c)) (sym does)
 
 -- the close
 ended : (number : ℕ) (first : Broker) (turns : List Turn) (old new : Broker) (clients clients' : Clients) (now : ℕ) (said : List Said) (result : Result (Unit {0}) NoMemory)
@@ -150,29 +151,29 @@ shut first turns links old closed closes keeps =
     }
 
 -- an event, where memory was not wanted
-does : (event : Event) (first : Broker) (turns : List Turn) (old new : Broker) (clients clients' : Clients) (now : ℕ) (said : List Said) (result : Result (Unit {0}) NoMemory)
-    → IsOk result → AreNumbered clients → AreUnfaulted clients → Keeps first turns (links_at clients) old → Does event old clients now said result clients' new
+does : (max_inflight : ℕ) (event : Event) (first : Broker) (turns : List Turn) (old new : Broker) (clients clients' : Clients) (now : ℕ) (said : List Said) (result : Result (Unit {0}) NoMemory)
+    → IsOk result → AreNumbered clients → AreUnfaulted clients → Keeps first turns (links_at clients) old → Does event max_inflight old clients now said result clients' new
     → Says first turns said (λ more. Came event clients more clients') (links_at clients') new
-does (events.Open number) first turns old new clients clients' now said result ok all sound keeps done =
+does max_inflight (events.Open number) first turns old new clients clients' now said result ok all sound keeps done =
     let cell = done.0 in
     let Silent : List Turn → Type 0 = λ more. more ≡ [] in
     in_cell first turns said clients clients' number old new _ Silent cell keeps
     (λ has.
-    subst (λ (l : Option (Link GroupPlace)). Says first turns said Silent (with_link (links_at clients) number l) new) (opened number now cell.before cell.after cell.becomes)
+    subst (λ (l : Option (Link GroupPlace)). Says first turns said Silent (with_link (links_at clients) number l) new) (opened number _ cell.before cell.after cell.becomes)
     (silent first turns Silent (with_link (links_at clients) number (link_in (Some cell.before))) old new said refl done.2 done.1 has))
-does (events.Bytes number piece) first turns old new clients clients' now said result ok all sound keeps cell =
+does max_inflight (events.Bytes number piece) first turns old new clients clients' now said result ok all sound keeps cell =
     cell_heard clients clients' number _ cell (λ before after. Says first turns said (λ more. HearsPiece before piece more after) (links_at clients') new)
     (in_cell first turns said clients clients' number old new _ (λ more. HearsPiece cell.before piece more cell.after) cell keeps
     (λ has.
     receives result cell.before cell.after first turns (links_at clients) number old new now piece said ok (at cell.before clients number all cell.has)
     (unfaulted_at cell.before clients number sound cell.has) has cell.becomes))
-does (events.Tick number) first turns old new clients clients' now said result ok all sound keeps cell =
+does max_inflight (events.Tick number) first turns old new clients clients' now said result ok all sound keeps cell =
     cell_heard clients clients' number _ cell (λ before after. Says first turns said (λ more. HearsTick before more after) (links_at clients') new)
     (in_cell first turns said clients clients' number old new _ (λ more. HearsTick cell.before more cell.after) cell keeps
     (λ has.
     ticks_for result cell.before cell.after first turns (links_at clients) number old new now said ok (at cell.before clients number all cell.has)
     (unfaulted_at cell.before clients number sound cell.has) has cell.becomes))
-does (events.End number) first turns old new clients clients' now said result ok all sound keeps cell =
+does max_inflight (events.End number) first turns old new clients clients' now said result ok all sound keeps cell =
     cell_heard clients clients' number _ cell (λ before after. Says first turns said (HearsLast inputs.EndOfInput before) (links_at clients') new)
     (says_so first turns said (EndsTurns number inputs.EndOfInput cell.before) (HearsLast inputs.EndOfInput cell.before) (links_at clients') new
     (λ these ends. ends_heard number inputs.EndOfInput cell.before these ends)
@@ -180,18 +181,18 @@ does (events.End number) first turns old new clients clients' now said result ok
     (λ has.
     ends_for result cell.before cell.after first turns (links_at clients) number old new now inputs.EndOfInput said ok tt
     (at cell.before clients number all cell.has) has cell.becomes)))
-does events.Close first turns old new clients clients' now said result ok all sound keeps closes =
+does max_inflight events.Close first turns old new clients clients' now said result ok all sound keeps closes =
     says_so first turns said (EndsBelow closes.2 clients) (λ more. Came events.Close clients more clients') (links_at clients') new
     (λ these below number less. ends_heard number inputs.Closing (client_at clients number) _ ((below number).0 (let is = closes.3 in omega arith)))
     (first_ended closes.2 first turns closes.0 new clients clients' now said result ok all (shut first turns (links_at clients) old closes.0 closes.1 keeps) closes.4)
 
-does_if : (open? : Bool) (event : Event) (first : Broker) (turns : List Turn) (old new : Broker) (clients clients' : Clients) (now : ℕ) (said : List Said)
+does_if : (max_inflight : ℕ) (open? : Bool) (event : Event) (first : Broker) (turns : List Turn) (old new : Broker) (clients clients' : Clients) (now : ℕ) (said : List Said)
     (result : Result (Unit {0}) NoMemory)
-    → IsOk result → AreNumbered clients → AreUnfaulted clients → Keeps first turns (links_at clients) old → DoesIf open? event old clients now said result clients' new
+    → IsOk result → AreNumbered clients → AreUnfaulted clients → Keeps first turns (links_at clients) old → DoesIf open? event max_inflight old clients now said result clients' new
     → Says first turns said (λ more. CameIf open? event clients more clients') (links_at clients') new
-does_if true event first turns old new clients clients' now said result ok all sound keeps done =
-    does event first turns old new clients clients' now said result ok all sound keeps done
-does_if false event first turns old new clients clients' now said result ok all sound keeps done =
+does_if max_inflight true event first turns old new clients clients' now said result ok all sound keeps done =
+    does max_inflight event first turns old new clients clients' now said result ok all sound keeps done
+does_if max_inflight false event first turns old new clients clients' now said result ok all sound keeps done =
     subst (λ (c : Clients). Says first turns said (λ more. more ≡ []) (links_at c) new) (sym done.2)
     (silent first turns (λ more. more ≡ []) (links_at clients) old new said refl done.0 done.3 keeps)
 
@@ -214,10 +215,10 @@ happened (event ∷ others) first turns said old new all sound keeps run =
     (λ more. AllCame mid others run.2 new run.4 more) (λ more. AllCame old (event ∷ others) said new run more) (links_at mid.clients) (links_at new.clients)
     mid.broker new.broker (λ these those one other. (these, those, one.0, one.1, other, refl))
     (and_told first turns run.1 (λ more. CameIf (is_open old.broker) event.event old.clients more mid.clients) (links_at mid.clients) mid.broker
-    (does_if (is_open old.broker) event.event first turns old.broker mid.broker old.clients mid.clients mid.clock run.1 (Ok tt) refl all sound keeps run.3.does))
+    (does_if _ (is_open old.broker) event.event first turns old.broker mid.broker old.clients mid.clients mid.clock run.1 (Ok tt) refl all sound keeps run.3.does))
     (λ before kept.
     happened others first before run.2 mid new (answered event.moment event.event run.1 (Ok tt) old mid all run.3).0
-    (still_unfaulted (is_open old.broker) event.event old.broker mid.broker old.clients mid.clients mid.clock run.1 (Ok tt) refl sound run.3.does) kept run.4))
+    (still_unfaulted _ (is_open old.broker) event.event old.broker mid.broker old.clients mid.clients mid.clock run.1 (Ok tt) refl sound run.3.does) kept run.4))
 
 -- a new server: no session, and nobody has one
 none_at : (count connection : ℕ) → link_in (slice_get (replicate {A = Option (ClientState GroupPlace)} count None) connection) ≡ None
@@ -324,13 +325,13 @@ moments : (setup : Setup) (first : ServerState) (events : List TimedEvent) (turn
 moments setup first [] turns said old new is all sound keeps within run = account setup first turns old is keeps within
 moments setup first (event ∷ others) turns said old new is all sound keeps within run =
     let mid = run.0 in
-    let says = does_if (is_open old.broker) event.event first.broker turns old.broker mid.broker old.clients mid.clients mid.clock run.1 (Ok tt) refl all sound keeps run.3.does in (
+    let says = does_if _ (is_open old.broker) event.event first.broker turns old.broker mid.broker old.clients mid.clients mid.clock run.1 (Ok tt) refl all sound keeps run.3.does in (
       account setup first turns old is keeps within,
       says.more,
       says.told,
       says.answers,
       moments setup first others (turns ++ says.more) run.2 mid new is (answered event.moment event.event run.1 (Ok tt) old mid all run.3).0
-          (still_unfaulted (is_open old.broker) event.event old.broker mid.broker old.clients mid.clients mid.clock run.1 (Ok tt) refl sound run.3.does) says.keeps
+          (still_unfaulted _ (is_open old.broker) event.event old.broker mid.broker old.clients mid.clients mid.clock run.1 (Ok tt) refl sound run.3.does) says.keeps
           (quotas.happened event.moment event.event run.1 (Ok tt) old mid run.3 within) run.4,
     )
 

@@ -7,6 +7,7 @@ use Rattle.dispatch_core.proofs.Spots.{slice_get-set_same, slice_get-set_other}
 use Rattle.mqtt_wire.specs.Stream.{Unread}
 use Rattle.conn_supply.specs.declared.supply.NoMemory.{NoMemory}
 use Rattle.conn_engine.specs.declared.input.Input.TheVariants as inputs
+use Rattle.conn_engine.specs.declared.standing.Opening.{Opening}
 use Rattle.conn_engine.specs.declared.standing.Standing.{Standing}
 use Rattle.conn_engine.specs.declared.standing.Standing.TheVariants.{Unconnected, Waiting, Connected, Ended}
 use Rattle.client_table.specs.Cells.{kept_as, kept, InCell, Opens, Receives, TicksFor, EndsFor}
@@ -54,9 +55,9 @@ ticks (said ∷ rest) old new client after now sound (inl last) = gone (kept aft
 ticks (said ∷ rest) old new client after now sound (inr more) = reads rest more.1 new more.0 after now (ap (λ (u : Unread). u.fault) more.5 ∙ sound) more.4
 
 -- a cell
-opens : (number now : ℕ) (before after : Option (ClientState GroupPlace)) → IsUnfaulted before → Opens number now before after → IsUnfaulted after
-opens number now None after is does = subst IsUnfaulted (sym does) refl
-opens number now (Some client) after is does = subst IsUnfaulted (sym does) is
+opens : (number : ℕ) (opening : Opening) (before after : Option (ClientState GroupPlace)) → IsUnfaulted before → Opens number opening before after → IsUnfaulted after
+opens number opening None after is does = subst IsUnfaulted (sym does) refl
+opens number opening (Some client) after is does = subst IsUnfaulted (sym does) is
 
 receives : (result : Result (Unit {0}) NoMemory) (before after : Option (ClientState GroupPlace)) (old new : Broker) (now : ℕ) (piece : List ℕ) (said : List Said) → IsOk result
     → IsUnfaulted before → Receives Calls slot_of old before now piece said result after new → IsUnfaulted after
@@ -107,25 +108,25 @@ first_ended (suc number) old new clients clients' now said result ok all ends =
     in_cell ends.1 clients' number _ cell (first_ended number old ends.0 clients ends.1 now ends.2 ends.4 (first_ok ends.4 ends.5 both) all ends.6)
     (ends_by_closing ends.5 cell.before cell.after ends.0 new now ends.3 (then_ok ends.4 ends.5 both) cell.becomes)
 
-does : (event : Event) (old new : Broker) (clients clients' : Clients) (now : ℕ) (said : List Said) (result : Result (Unit {0}) NoMemory) → IsOk result
-    → AreUnfaulted clients → Does event old clients now said result clients' new → AreUnfaulted clients'
-does (events.Open number) old new clients clients' now said result ok all done =
+does : (max_inflight : ℕ) (event : Event) (old new : Broker) (clients clients' : Clients) (now : ℕ) (said : List Said) (result : Result (Unit {0}) NoMemory) → IsOk result
+    → AreUnfaulted clients → Does event max_inflight old clients now said result clients' new → AreUnfaulted clients'
+does max_inflight (events.Open number) old new clients clients' now said result ok all done =
     let cell = done.0 in
-    in_cell clients clients' number _ cell all (opens number now cell.before cell.after (unfaulted_at cell.before clients number all cell.has) cell.becomes)
-does (events.Bytes number piece) old new clients clients' now said result ok all cell =
+    in_cell clients clients' number _ cell all (opens number _ cell.before cell.after (unfaulted_at cell.before clients number all cell.has) cell.becomes)
+does max_inflight (events.Bytes number piece) old new clients clients' now said result ok all cell =
     in_cell clients clients' number _ cell all
     (receives result cell.before cell.after old new now piece said ok (unfaulted_at cell.before clients number all cell.has) cell.becomes)
-does (events.Tick number) old new clients clients' now said result ok all cell =
+does max_inflight (events.Tick number) old new clients clients' now said result ok all cell =
     in_cell clients clients' number _ cell all
     (ticks_for result cell.before cell.after old new now said ok (unfaulted_at cell.before clients number all cell.has) cell.becomes)
-does (events.End number) old new clients clients' now said result ok all cell =
+does max_inflight (events.End number) old new clients clients' now said result ok all cell =
     in_cell clients clients' number _ cell all (ends_by_end result cell.before cell.after old new now said ok cell.becomes)
-does events.Close old new clients clients' now said result ok all closes = first_ended closes.2 closes.0 new clients clients' now said result ok all closes.4
+does max_inflight events.Close old new clients clients' now said result ok all closes = first_ended closes.2 closes.0 new clients clients' now said result ok all closes.4
 
-pub still_unfaulted : (open? : Bool) (event : Event) (old new : Broker) (clients clients' : Clients) (now : ℕ) (said : List Said) (result : Result (Unit {0}) NoMemory) → IsOk result
-    → AreUnfaulted clients → DoesIf open? event old clients now said result clients' new → AreUnfaulted clients'
-still_unfaulted true event old new clients clients' now said result ok all done = does event old new clients clients' now said result ok all done
-still_unfaulted false event old new clients clients' now said result ok all done = subst AreUnfaulted (sym done.2) all
+pub still_unfaulted : (max_inflight : ℕ) (open? : Bool) (event : Event) (old new : Broker) (clients clients' : Clients) (now : ℕ) (said : List Said) (result : Result (Unit {0}) NoMemory) → IsOk result
+    → AreUnfaulted clients → DoesIf open? event max_inflight old clients now said result clients' new → AreUnfaulted clients'
+still_unfaulted max_inflight true event old new clients clients' now said result ok all done = does max_inflight event old new clients clients' now said result ok all done
+still_unfaulted max_inflight false event old new clients clients' now said result ok all done = subst AreUnfaulted (sym done.2) all
 
 nobody_at : (count number : ℕ) (client : ClientState GroupPlace) → slice_get (replicate {A = Option (ClientState GroupPlace)} count None) number ≡ Some (Some client) → ⊥
 nobody_at zero number client has = cc has

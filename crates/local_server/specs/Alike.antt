@@ -7,3 +7,4 @@ pub record AreAlike (one other : ServerState) : Type 0 where
   pub broker : brokers.AreAlike one.broker other.broker
   pub clients : one.clients ≡ other.clients
   pub clock : one.clock ≡ other.clock
+  pub max_inflight : one.max_inflight ≡ other.max_inflight

@@ -36,28 +36,29 @@ abbrev pub ClosesAll : Broker → Clients → ℕ → List Said → Result (Unit
 ClosesAll old clients now said result clients' new =
     (closed : Broker) × Closes old closed × (many : ℕ) × (many ≡ 64) × EndsFirst many closed clients now said result clients' new
 
--- an event, at this moment, of a server that is open: what is said, and what becomes of the server; or memory was wanted
-abbrev pub Does : Event → Broker → Clients → ℕ → List Said → Result (Unit {0}) NoMemory → Clients → Broker → Type 0
-Does (events.Open number) old clients now said result clients' new =
-    InCell clients number (Opens number now) clients' × (new ≡ old) × (said ≡ []) × (result ≡ Ok tt)
-Does (events.Bytes number piece) old clients now said result clients' new =
+-- an event, at this moment, of a server that is open, where a connection is opened with this limit: what is said, and what becomes of the server; or memory was wanted
+abbrev pub Does : Event → ℕ → Broker → Clients → ℕ → List Said → Result (Unit {0}) NoMemory → Clients → Broker → Type 0
+Does (events.Open number) max_inflight old clients now said result clients' new =
+    InCell clients number (Opens number (record { at = now; max_inflight = max_inflight })) clients' × (new ≡ old) × (said ≡ []) × (result ≡ Ok tt)
+Does (events.Bytes number piece) max_inflight old clients now said result clients' new =
     InCell clients number (λ before after. Receives Calls slot_of old before now piece said result after new) clients'
-Does (events.Tick number) old clients now said result clients' new =
+Does (events.Tick number) max_inflight old clients now said result clients' new =
     InCell clients number (λ before after. TicksFor Calls slot_of old before now said result after new) clients'
-Does (events.End number) old clients now said result clients' new =
+Does (events.End number) max_inflight old clients now said result clients' new =
     InCell clients number (λ before after. EndsFor Calls slot_of old before now inputs.EndOfInput said result after new) clients'
-Does events.Close old clients now said result clients' new = ClosesAll old clients now said result clients' new
+Does events.Close max_inflight old clients now said result clients' new = ClosesAll old clients now said result clients' new
 
 -- behind the close events are passed over
-abbrev pub DoesIf : Bool → Event → Broker → Clients → ℕ → List Said → Result (Unit {0}) NoMemory → Clients → Broker → Type 0
-DoesIf true event old clients now said result clients' new = Does event old clients now said result clients' new
-DoesIf false event old clients now said result clients' new = (said ≡ []) × (result ≡ Ok tt) × (clients' ≡ clients) × (new ≡ old)
+abbrev pub DoesIf : Bool → Event → ℕ → Broker → Clients → ℕ → List Said → Result (Unit {0}) NoMemory → Clients → Broker → Type 0
+DoesIf true event max_inflight old clients now said result clients' new = Does event max_inflight old clients now said result clients' new
+DoesIf false event max_inflight old clients now said result clients' new = (said ≡ []) × (result ≡ Ok tt) × (clients' ≡ clients) × (new ≡ old)
 
 -- an event at a moment
 pub record Happens (old : ServerState) (moment : ℕ) (event : Event) (said : List Said) (result : Result (Unit {0}) NoMemory) (new : ServerState) : Type 0 where
   -- where the clock went back, the later moment stands
   pub clock : new.clock ≡ max old.clock moment
-  pub does : DoesIf (is_open old.broker) event old.broker old.clients new.clock said result new.clients new.broker
+  pub max_inflight : new.max_inflight ≡ old.max_inflight
+  pub does : DoesIf (is_open old.broker) event old.max_inflight old.broker old.clients new.clock said result new.clients new.broker
 
 -- one event after another, and what is said in them
 abbrev pub HappensAll : ServerState → List TimedEvent → List Said → ServerState → Type 0

@@ -9,6 +9,8 @@ ghost use Rattle.local_server.specs.Happening.{ClosesAll, Does, Happens};
 use crate::event::Event;
 use crate::setup::Setup;
 use client_table::{CLIENTS, ClientTable, Said};
+use conn_engine::Opening;
+use conn_rules::MaxInflight;
 use conn_supply::{NoMemory, Supply};
 use local_broker::{LocalPlace, LocalSupply};
 use mqtt_topic::Share;
@@ -20,6 +22,7 @@ pub struct Server {
     supply: LocalSupply,
     clients: ClientTable<LocalPlace>,
     clock: u64,
+    max_inflight: MaxInflight,
 }
 
 impl Model for Server {
@@ -32,7 +35,7 @@ impl Model for Server {
 
     ghost coded = { server_code (broker_code (books_code (Prim.hlevel codes) (Prim.hlevel codes)) (Prim.hlevel codes) (Prim.hlevel codes)) (Prim.hlevel codes) };
 
-    ghost view = { λ s. record { broker = s.supply; clients = s.clients; clock = s.clock } };
+    ghost view = { λ s. record { broker = s.supply; clients = s.clients; clock = s.clock; max_inflight = s.max_inflight } };
 }
 
 impl Server {
@@ -44,12 +47,18 @@ impl Server {
     pub fn open(alloc: Global, setup: Setup) -> Result<Server, NoMemory>
         ensures { IfOk result (IsNewServer setup) }
     {
-        let supply = LocalSupply::open(alloc, setup.capacity, setup.groups)?;
+        let Setup {
+            capacity,
+            max_inflight,
+            groups,
+        } = setup;
+        let supply = LocalSupply::open(alloc, capacity, groups)?;
         match ClientTable::new(alloc) {
             Ok(clients) => Ok(Server {
                 supply,
                 clients,
                 clock: 0,
+                max_inflight,
             }),
             Err(refused) => {
                 supply.abandon();
@@ -80,7 +89,11 @@ impl Server {
         if !self.supply.begin() {
             return Ok(());
         }
-        let served = serve(&mut self.supply, &mut self.clients, self.clock, event, said);
+        let opening = Opening {
+            at: self.clock,
+            max_inflight: self.max_inflight,
+        };
+        let served = serve(&mut self.supply, &mut self.clients, opening, event, said);
         self.supply.end();
         served
     }
@@ -110,27 +123,29 @@ impl Server {
             mut supply,
             clients,
             clock,
+            max_inflight: _,
         } = self;
         clients.abandon(&mut supply, clock);
         supply.abandon();
     }
 }
 
-/// An event at this moment, where the server is open.
+/// An event at the moment of this opening, where the server is open; a connection is opened so.
 fn serve(
     supply: &mut LocalSupply,
     clients: &mut ClientTable<LocalPlace>,
-    now: u64,
+    opening: Opening,
     event: &Event,
     said: &mut Vec<Said>,
 ) -> Result<(), NoMemory>
     requires { is_open supply.old ≡ true }
     ensures { (more : List Words) × (said.new.items ≡ said.old.items ++ more)
-        × Does event.now supply.old clients.old now more result clients.new supply.new }
+        × Does event.now opening.max_inflight supply.old clients.old opening.at more result clients.new supply.new }
 {
+    let now = opening.at;
     match event {
         Event::Open(number) => {
-            clients.open(number.get(), now);
+            clients.open(number.get(), opening);
             Ok(())
         }
         Event::Bytes(number, piece) => clients.receive(supply, number.get(), now, piece, said),

@@ -1,4 +1,5 @@
 //! What a server begins with.
+use conn_rules::MaxInflight;
 use mqtt_topic::Routes;
 
 /// What a server begins with.
@@ -6,6 +7,8 @@ use mqtt_topic::Routes;
 pub struct Setup {
     /// How many messages may wait in the queue of each group.
     pub capacity: usize,
+    /// How many messages a client has unacknowledged at most, whatever its Receive Maximum.
+    pub max_inflight: MaxInflight,
     /// The shares that are bound, each to the slot of its group.
     pub groups: Routes,
 }

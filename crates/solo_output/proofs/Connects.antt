@@ -53,8 +53,8 @@ unfolding is_text is_utf8 chars lib.Utf8.encode
 first_name number = refl
 
 -- a new broker shows the story before the first packet
-pub opens : (capacity : ℕ) (shares : List Share) (b : Broker) → length shares ≤ 8 → IsNewBroker capacity shares b → ShowsBroker (opening capacity shares) [] b
-opens capacity shares b few new =
+pub opens : (capacity max_inflight : ℕ) (shares : List Share) (b : Broker) → length shares ≤ 8 → IsNewBroker capacity shares b → ShowsBroker (opening capacity max_inflight shares) [] b
+opens capacity max_inflight shares b few new =
     record {
       routes = new.routes ∙ sym (shares_first shares);
       few = omega (arith, few, Rattle.std.proofs.lemmas.List.length-map shares bound);
@@ -170,7 +170,7 @@ module _ (old new : Books Held GroupPlace) (all : HasAllPlaces old) where
 
 -- the story from then on
 abbrev pub begun : Connect → Story → Story
-begun connect story = record story { phase = Connected; terms = terms_of connect }
+begun connect story = record story { phase = Connected; terms = terms_of story.max_inflight connect }
 
 pub record Began (connect : Connect) (story : Story) (standing : Standing GroupPlace) (reply : Told) (new : Broker) : Type 0 where
   pub link : Link GroupPlace
@@ -181,25 +181,25 @@ pub record Began (connect : Connect) (story : Story) (standing : Standing GroupP
 not_memory : (mid new : Broker) (request : ConnectRequest) (answer : Result (Attached Held GroupPlace) DeskError) (standing : Standing GroupPlace) (reply : Told) → AttachedAs Calls mid request 0 answer standing reply new → answer ≢ Err errors.Memory
 not_memory mid new request answer standing reply does is = absurd (subst (λ a. AttachedAs Calls mid request 0 a standing reply new) is does)
 
-pub attaches : (connect : Connect) (capacity : ℕ) (shares : List Share) (now : ℕ) (standing : Standing GroupPlace) (reply : Told) (old new : Broker) → IsNewBroker capacity shares old → length shares ≤ 8
-    → EngineAttaches Calls old 0 now (request_of connect now) 0 standing reply new → Began connect (opening capacity shares) standing reply new
-attaches connect capacity shares now standing reply old new is_new few does =
-    let story = opening capacity shares in
+pub attaches : (connect : Connect) (capacity max_inflight : ℕ) (shares : List Share) (now : ℕ) (standing : Standing GroupPlace) (reply : Told) (old new : Broker) → IsNewBroker capacity shares old → length shares ≤ 8
+    → EngineAttaches Calls old 0 now (request_of max_inflight connect now) 0 standing reply new → Began connect (opening capacity max_inflight shares) standing reply new
+attaches connect capacity max_inflight shares now standing reply old new is_new few does =
+    let story = opening capacity max_inflight shares in
     let client = connect.client_identifier in
     let request = asked 0 client connect.clean_start now in
     let mid = does.mid in
-    let first = named old.desk mid.desk is_new.desk client request does.answer refl (not_memory mid new (request_of connect now) does.answer standing reply does.answered) does.asked_for.makes in
-    let begins_as = subst (λ a. AttachedAs Calls mid (request_of connect now) 0 a standing reply new) first.answer_is does.answered in
+    let first = named old.desk mid.desk is_new.desk client request does.answer refl (not_memory mid new (request_of max_inflight connect now) does.answer standing reply does.answered) does.asked_for.makes in
+    let begins_as = subst (λ a. AttachedAs Calls mid (request_of max_inflight connect now) 0 a standing reply new) first.answer_is does.answered in
     let same : new ≡ mid = begins_as.0 in
     let accepts = begins_as.1 in
-    let session = opened {P = GroupPlace} (new_session first.who) (terms_of connect) in
-    let start = opens capacity shares old few is_new in
+    let session = opened {P = GroupPlace} (new_session first.who) (terms_of max_inflight connect) in
+    let start = opens capacity max_inflight shares old few is_new in
     let now_shows : ShowsBroker (begun connect story) [] old = record { routes = start.routes; few = start.few; eight = start.eight; groups = start.groups } in
     let then_shows : ShowsBroker (begun connect story) [] new =
     subst (ShowsBroker (begun connect story) []) (sym same) (broker_moved (begun connect story) [] old mid does.asked_for.routes does.asked_for.groups now_shows) in
     let desk : ShowsDesk NotMember mid.desk = record { not_kicked = first.kicked; places = subst AllFree (sym first.free) is_new.desk.free } in
     record {
-      link = record { session = session; terms = terms_of connect; heard = now };
+      link = record { session = session; terms = terms_of max_inflight connect; heard = now };
       stands = accepts.begun;
       told = accepts.told ∙ ap (λ (n : Option (List ℕ)). going_on (Some (accepting false n))) first.name;
       shows = record {

@@ -78,7 +78,7 @@ slots_all setup packets more =
 pub groups_all : (setup : Setup) (packets : List Packet) → length setup.groups ≤ 8 → AreDistinct setup.groups → let shares = shares_of (run_of setup packets).story.groups in (length shares ≤ 8) × AreDistinct shares
 groups_all setup packets few distinct =
     let story = (run_of setup packets).story in
-    let grows = groups_ran packets (opening setup.capacity setup.groups) in
+    let grows = groups_ran packets (opening setup.capacity setup.max_inflight setup.groups) in
     let small : length story.groups ≤ 8 = grows.few (omega (arith, length-map setup.groups bound, few)) in
     (omega (arith, length-shares story.groups, small), grows.distinct (subst AreDistinct (sym (shares_first setup.groups)) distinct))
 

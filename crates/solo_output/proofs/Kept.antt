@@ -41,8 +41,8 @@ pub record Kept (story : Story) : Type 0 where
   pub own : AllByRecursion (IsOwn story.membership) story.handed_out
   pub bound : (slot : ℕ) → IsInGroup story.membership slot → slot < length story.groups
 
-pub kept_first : (capacity : ℕ) (shares : List Share) → Kept (opening capacity shares)
-kept_first capacity shares =
+pub kept_first : (capacity max_inflight : ℕ) (shares : List Share) → Kept (opening capacity max_inflight shares)
+kept_first capacity max_inflight shares =
     record {
       small = tt;
       distinct = tt;

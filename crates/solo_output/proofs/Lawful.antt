@@ -31,7 +31,7 @@ use Rattle.solo_output.proofs.Lasting.{settles_its, lasts_delivering}
 use Rattle.solo_output.proofs.Turned.{ComesBy, turn_accepts, turn_codes, is_connected, turn_published, closed_turns}
 
 pub kept_of : (setup : Setup) (packets : List Packet) → Kept (run_of setup packets).story
-kept_of setup packets = kept_ran packets (opening setup.capacity setup.groups) (kept_first setup.capacity setup.groups)
+kept_of setup packets = kept_ran packets (opening setup.capacity setup.max_inflight setup.groups) (kept_first setup.capacity setup.max_inflight setup.groups)
 
 -- the capacity stays
 abbrev HoldsAsMuch : Story → Story → Type 0
@@ -54,7 +54,7 @@ holds_as_much =
 pub fits_all : (setup : Setup) (packets : List Packet) (slot : ℕ) → length (waiting_in slot (run_of setup packets).story) ≤ setup.capacity
 fits_all setup packets slot =
     let same : (run_of setup packets).story.capacity ≡ setup.capacity =
-    ran HoldsAsMuch holds_as_much (λ at message story within room. refl) (λ identifier code story. refl) (λ at message rest story connected member less waits. refl) packets (opening setup.capacity setup.groups) in
+    ran HoldsAsMuch holds_as_much (λ at message story within room. refl) (λ identifier code story. refl) (λ at message rest story connected member less waits. refl) packets (opening setup.capacity setup.max_inflight setup.groups) in
     omega (arith, same, (kept_of setup packets).fits slot)
 
 -- ---- one run behind another
@@ -77,10 +77,10 @@ accepts_all (packet ∷ packets) story slot =
     ∙ ap (λ (l : List Message). l ++ taken packets slot next) (turn_accepts packet story slot)
     ∙ append_assoc (accepted_in slot story.groups) (taken_in_phase story.phase packet slot story) (taken packets slot next)
 
-pub accepted_all : (setup : Setup) (packets : List Packet) (slot : ℕ) → accepted_in slot (run_of setup packets).story.groups ≡ taken packets slot (opening setup.capacity setup.groups)
+pub accepted_all : (setup : Setup) (packets : List Packet) (slot : ℕ) → accepted_in slot (run_of setup packets).story.groups ≡ taken packets slot (opening setup.capacity setup.max_inflight setup.groups)
 accepted_all setup packets slot =
-    accepts_all packets (opening setup.capacity setup.groups) slot
-    ∙ ap (λ (l : List Message). l ++ taken packets slot (opening setup.capacity setup.groups)) (accepted_first slot setup.groups)
+    accepts_all packets (opening setup.capacity setup.max_inflight setup.groups) slot
+    ∙ ap (λ (l : List Message). l ++ taken packets slot (opening setup.capacity setup.max_inflight setup.groups)) (accepted_first slot setup.groups)
 
 -- ---- what is sent
 
@@ -106,8 +106,8 @@ jobs_nothing (message ∷ messages) = refl
 
 pub told_all : (setup : Setup) (packets : List Packet) → IsTold (published (run_of setup packets).sent) (run_of setup packets).story
 told_all setup packets =
-    let first' = opening setup.capacity setup.groups in
-    told_ran packets first' [] (kept_first setup.capacity setup.groups) (record { many = refl; each = λ slot. jobs_nothing (accepted_in slot first'.groups) })
+    let first' = opening setup.capacity setup.max_inflight setup.groups in
+    told_ran packets first' [] (kept_first setup.capacity setup.max_inflight setup.groups) (record { many = refl; each = λ slot. jobs_nothing (accepted_in slot first'.groups) })
 
 -- ---- what settles a hand-out
 
@@ -172,7 +172,7 @@ settled_ran : (setup : Setup) (packets before : List Packet) → AreSettled setu
 settled_ran setup [] before so = subst (λ (l : List Packet). AreSettled setup l (run_of setup l).story) (sym (append-nil before)) so
 settled_ran setup (packet ∷ packets) before so =
     let now = before ++ packet ∷ [] in
-    let same : (run_of setup now).story ≡ (turn packet (run_of setup before).story).story = ap (λ (t : Turn). t.story) (sent_both before (packet ∷ []) (opening setup.capacity setup.groups)) in
+    let same : (run_of setup now).story ≡ (turn packet (run_of setup before).story).story = ap (λ (t : Turn). t.story) (sent_both before (packet ∷ []) (opening setup.capacity setup.max_inflight setup.groups)) in
     let here : AreSettled setup now (run_of setup now).story = subst (AreSettled setup now) (sym same) (settled_turn setup before packet so) in
     subst (λ (l : List Packet). AreSettled setup l (run_of setup l).story) (append_assoc before (packet ∷ []) packets) (settled_ran setup packets now here)
 
@@ -232,7 +232,7 @@ eager_ran (packet ∷ packets) story kept eager =
     eager_ran packets (turn packet story).story (kept_turning packet story kept) (λ slot connected member. eager_in r.phase r slot refl (kept_replying packet story kept) connected member)
 
 pub eager_all : (setup : Setup) (packets : List Packet) (slot : ℕ) → (run_of setup packets).story.phase ≡ Connected → (run_of setup packets).story.membership ≡ Member slot → IsEager slot (run_of setup packets).story
-eager_all setup packets = eager_ran packets (opening setup.capacity setup.groups) (kept_first setup.capacity setup.groups) (λ slot connected member. absurd cc)
+eager_all setup packets = eager_ran packets (opening setup.capacity setup.max_inflight setup.groups) (kept_first setup.capacity setup.max_inflight setup.groups) (λ slot connected member. absurd cc)
 
 -- ---- the Receive Maximum of the CONNECT
 
@@ -262,10 +262,10 @@ least_of n m = omega arith
 
 module _ (setup : Setup) (connect : Connect) (packets : List Packet) where
   abbrev start : Story
-  start = opening setup.capacity setup.groups
+  start = opening setup.capacity setup.max_inflight setup.groups
 
   abbrev asked : ℕ
-  asked = or_else 65535 connect.properties.receive_maximum
+  asked = min setup.max_inflight (or_else 65535 connect.properties.receive_maximum)
 
   -- no more is unacknowledged than was asked for; and while the client is connected, its quota is that, and 256 at most
   abbrev Within : Story → Type 0

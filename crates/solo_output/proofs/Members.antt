@@ -321,7 +321,7 @@ owes_ran [] story owes = owes
 owes_ran (packet ∷ packets) story owes = owes_ran packets (turn packet story).story (owes_turned packet story owes)
 
 pub owes_all : (setup : Setup) (packets : List Packet) (slot : ℕ) → (run_of setup packets).story.membership ≡ Leaving slot → unacknowledged (run_of setup packets).story ≢ []
-owes_all setup packets = owes_ran packets (opening setup.capacity setup.groups) (λ slot now. absurd cc)
+owes_all setup packets = owes_ran packets (opening setup.capacity setup.max_inflight setup.groups) (λ slot now. absurd cc)
 
 -- ---- who asks
 

@@ -47,7 +47,7 @@ MayJoin (Leaving own) slot = own ≡ slot
 pub record Ways (R : Story → Story → Type 0) : Type 0 where
   pub stays : (story : Story) → R story story
   pub goes_on : (one two three : Story) → R one two → R two three → R one three
-  pub connects : (connect : Connect) (story : Story) → story.phase ≡ Unconnected → R story (record story { phase = Connected; terms = terms_of connect })
+  pub connects : (connect : Connect) (story : Story) → story.phase ≡ Unconnected → R story (record story { phase = Connected; terms = terms_of story.max_inflight connect })
   pub closes : (story : Story) → R story (with_phase Closed story)
   pub expires : (expiry : ℕ) (story : Story) → R story (with_expiry expiry story)
   pub binds : (share : Share) (story : Story) → slot_of share.text (shares_of story.groups) ≡ None → length story.groups < most_routes → R story (with_share share story)

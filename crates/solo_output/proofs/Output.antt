@@ -23,7 +23,7 @@ use Rattle.solo_output.specs.Output.{lines_for, solo_output, IsOutputFor}
 use Rattle.solo_output.proofs.Brokers.{length-shares}
 use Rattle.solo_output.proofs.Ends.{ShowsEnd, line_told}
 use Rattle.solo_output.proofs.Streams.{whole, cut, bad_lines}
-use Rattle.solo_output.proofs.Walk.{sent_in, run}
+use Rattle.solo_output.proofs.Walk.{sent_in, Concluded, run}
 
 -- ---- the reports
 
@@ -67,8 +67,10 @@ closed setup input output few is =
     let cut_up = cut input is.events is.spelled in
     let t = is.transcript in
     let happens = subst (λ (es : List TimedEvent). HappensAll t.first es t.said t.last) cut_up.events_are t.happens in
-    let got = run setup.capacity setup.groups few cut_up.pieces t.first t.last t.said t.new.broker t.new.clients cut_up.bytes happens in
-    let behind = turns got.packets (opening setup.capacity setup.groups) in
+    let got =
+    subst (λ (limit : ℕ). Concluded (opening setup.capacity limit setup.groups) (whole cut_up.pieces) (sent_in t.said) t.last.broker) t.new.max_inflight
+    (run setup.capacity setup.groups few cut_up.pieces t.first t.last t.said t.new.broker t.new.clients cut_up.bytes happens) in
+    let behind = turns got.packets (opening setup.capacity setup.max_inflight setup.groups) in
     record {
       stream = whole cut_up.pieces;
       spelled = cut_up.stream_is;

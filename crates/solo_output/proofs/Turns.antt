@@ -16,6 +16,7 @@ use Rattle.conn_supply.specs.declared.reply.Reply.{Reply as Told}
 use Rattle.conn_engine.specs.declared.input.Input.{Input}
 use Rattle.conn_engine.specs.declared.input.Input.TheVariants as inputs
 use Rattle.conn_engine.specs.declared.standing.Link.{Link}
+use Rattle.conn_engine.specs.declared.standing.Opening.{Opening}
 use Rattle.conn_engine.specs.declared.standing.Standing.{Standing}
 use Rattle.conn_engine.specs.declared.standing.Standing.TheVariants as standings
 use Rattle.conn_engine.specs.Ending.{Parts}
@@ -105,51 +106,51 @@ refused_if None standing told does = (does.over, ap (λ (t : Told). t.packet) do
 refused_if (Some refusal) standing told does = (does.over, ap (λ (t : Told). t.packet) does.told)
 
 -- ---- before the CONNECT
-module _ (capacity : ℕ) (shares : List Share) (old : Broker) (is_new : IsNewBroker capacity shares old) (few : length shares ≤ 8) where
-  ended : ShowsEnd (opening capacity shares) old
-  ended = ends_idle (opening capacity shares) old (opens capacity shares old few is_new)
+module _ (capacity : ℕ) (opened : Opening) (shares : List Share) (old : Broker) (is_new : IsNewBroker capacity shares old) (few : length shares ≤ 8) where
+  ended : ShowsEnd (opening capacity opened.max_inflight shares) old
+  ended = ends_idle (opening capacity opened.max_inflight shares) old (opens capacity opened.max_inflight shares old few is_new)
 
   closed_first : (answer : Option Packet) (standing : Standing GroupPlace) (told : Told) (new : Broker) → standing ≡ standings.Ended → told ≡ record { packet = answer; next = Close } → new ≡ old
-      → Reacted (record { packet = answer; story = with_phase Closed (opening capacity shares) }) standing told new
+      → Reacted (record { packet = answer; story = with_phase Closed (opening capacity opened.max_inflight shares) }) standing told new
   closed_first answer standing told new over is same =
       record {
         packet = ap (λ (t : Told). t.packet) is;
-        stands = inr (over, ap (λ (t : Told). t.next) is, refl, subst (ShowsEnd (with_phase Closed (opening capacity shares))) (sym same) (record { routes = ended.routes; told = λ slot group there. told_in slot group (ended.told slot group there) }));
+        stands = inr (over, ap (λ (t : Told). t.next) is, refl, subst (ShowsEnd (with_phase Closed (opening capacity opened.max_inflight shares))) (sym same) (record { routes = ended.routes; told = λ slot group there. told_in slot group (ended.told slot group there) }));
       }
     where
-      told_in : (slot : ℕ) (group : Group) → IsTold slot (opening capacity shares) group → IsTold slot (with_phase Closed (opening capacity shares)) group
+      told_in : (slot : ℕ) (group : Group) → IsTold slot (opening capacity opened.max_inflight shares) group → IsTold slot (with_phase Closed (opening capacity opened.max_inflight shares)) group
       told_in slot group is_told = record { entries = is_told.entries; returned = is_told.returned; ends = is_told.ends; fates = is_told.fates }
 
-  first_packet : (now : ℕ) (answer : FirstAnswer) (packet : Packet) (standing : Standing GroupPlace) (told : Told) (new : Broker) → AnswersFirst Calls slot_at answer old 0 now packet standing told new
-      → Reacted (first_reply_as answer packet (opening capacity shares)) standing told new
+  first_packet : (now : ℕ) (answer : FirstAnswer) (packet : Packet) (standing : Standing GroupPlace) (told : Told) (new : Broker) → AnswersFirst Calls slot_at answer old 0 opened.max_inflight now packet standing told new
+      → Reacted (first_reply_as answer packet (opening capacity opened.max_inflight shares)) standing told new
   first_packet now first.Close packet standing told new does = closed_first None standing told new does.0.over does.0.told does.1
   first_packet now (first.Refuse refusal) packet standing told new does = closed_first _ standing told new does.0.over does.0.told does.1
   first_packet now first.Attach packet standing told new (connect, is, does) =
-      let b = attaches connect capacity shares now standing told old new is_new few does in
-      subst (λ (p : Packet). Reacted (attach_reply p (opening capacity shares)) standing told new) (sym is)
+      let b = attaches connect capacity opened.max_inflight shares now standing told old new is_new few does in
+      subst (λ (p : Packet). Reacted (attach_reply p (opening capacity opened.max_inflight shares)) standing told new) (sym is)
       (record { packet = ap (λ (t : Told). t.packet) b.told; stands = inl (b.link, b.stands, ap (λ (t : Told). t.next) b.told, b.shows) })
 
-  pub first_step : (opened now : ℕ) (packet : Packet) (all : List Packet) (next : Then) (standing : Standing GroupPlace) (new : Broker)
-      → Steps Calls slot_at old 0 (standings.Unconnected opened) now (inputs.Packet packet) all next standing new → Stepped (turn packet (opening capacity shares)) all next standing new
-  first_step opened now packet all next standing new does =
+  pub first_step : (now : ℕ) (packet : Packet) (all : List Packet) (next : Then) (standing : Standing GroupPlace) (new : Broker)
+      → Steps Calls slot_at old 0 (standings.Unconnected opened) now (inputs.Packet packet) all next standing new → Stepped (turn packet (opening capacity opened.max_inflight shares)) all next standing new
+  first_step now packet all next standing new does =
       let got = first_packet now (first_answer packet) packet does.between does.reply does.mid does.reacts in
-      stepped (first_reply packet (opening capacity shares)) does.between standing does.reply does.mid new does.sent all next got.packet does.hands does.written does.followed got.stands
+      stepped (first_reply packet (opening capacity opened.max_inflight shares)) does.between standing does.reply does.mid new does.sent all next got.packet does.hands does.written does.followed got.stands
 
   -- the last step of a client that never connected
-  pub first_last : (opened now : ℕ) (fault : Option StreamFault) (input : Input) (all : List Packet) (next : Then) (standing : Standing GroupPlace) (new : Broker) → IsLast fault input
-      → Steps Calls slot_at old 0 (standings.Unconnected opened) now input all next standing new → Parted fault (opening capacity shares) all standing new
-  first_last opened now None inputs.EndOfInput all next standing new is does =
+  pub first_last : (now : ℕ) (fault : Option StreamFault) (input : Input) (all : List Packet) (next : Then) (standing : Standing GroupPlace) (new : Broker) → IsLast fault input
+      → Steps Calls slot_at old 0 (standings.Unconnected opened) now input all next standing new → Parted fault (opening capacity opened.max_inflight shares) all standing new
+  first_last now None inputs.EndOfInput all next standing new is does =
       let out = last_out None does.between standing does.reply does.mid new does.sent all does.reacts.0.over (ap (λ (t : Told). t.packet) does.reacts.0.told) does.hands does.written in
-      record { sent_are = out.0; over = out.1; shows = subst (ShowsEnd (opening capacity shares)) (sym (out.2 ∙ does.reacts.1)) ended }
-  first_last opened now None (inputs.Packet packet) all next standing new is does = absurd is
-  first_last opened now None (inputs.Fault fault) all next standing new is does = absurd is
-  first_last opened now None inputs.Tick all next standing new is does = absurd is
-  first_last opened now None inputs.Closing all next standing new is does = absurd is
-  first_last opened now (Some fault) input all next standing new is does =
+      record { sent_are = out.0; over = out.1; shows = subst (ShowsEnd (opening capacity opened.max_inflight shares)) (sym (out.2 ∙ does.reacts.1)) ended }
+  first_last now None (inputs.Packet packet) all next standing new is does = absurd is
+  first_last now None (inputs.Fault fault) all next standing new is does = absurd is
+  first_last now None inputs.Tick all next standing new is does = absurd is
+  first_last now None inputs.Closing all next standing new is does = absurd is
+  first_last now (Some fault) input all next standing new is does =
       let its = subst (λ (i : Input). Steps Calls slot_at old 0 (standings.Unconnected opened) now i all next standing new) is does in
       let refused = refused_if (fault_refusal fault) its.between its.reply its.reacts.0 in
       let out = last_out (refused_by (fault_refusal fault)) its.between standing its.reply its.mid new its.sent all refused.0 refused.1 its.hands its.written in
-      record { sent_are = out.0; over = out.1; shows = subst (ShowsEnd (opening capacity shares)) (sym (out.2 ∙ its.reacts.1)) ended }
+      record { sent_are = out.0; over = out.1; shows = subst (ShowsEnd (opening capacity opened.max_inflight shares)) (sym (out.2 ∙ its.reacts.1)) ended }
 
 -- ---- a client that has its session
 module _ (story : Story) (link : Link GroupPlace) (old : Broker) (shows : ShowsLink story link old) where

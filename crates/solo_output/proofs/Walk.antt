@@ -23,6 +23,7 @@ use Rattle.conn_supply.specs.declared.reply.Then.TheVariants.{Go, Close}
 use Rattle.conn_engine.specs.declared.input.Input.{Input}
 use Rattle.conn_engine.specs.declared.input.Input.TheVariants as inputs
 use Rattle.conn_engine.specs.declared.standing.Link.{Link}
+use Rattle.conn_engine.specs.declared.standing.Opening.{Opening}
 use Rattle.conn_engine.specs.declared.standing.Standing.{Standing}
 use Rattle.conn_engine.specs.declared.standing.Standing.TheVariants as standings
 use Rattle.conn_engine.specs.Standings.{IsWaiting}
@@ -58,7 +59,7 @@ sent_in said = flat_map (λ one. one.packets) said
 -- the connection has not begun, or goes on with its session
 abbrev pub Shown : ℕ → List Share → Story → Standing GroupPlace → Broker → Type 0
 Shown capacity shares story standing b =
-    ((opened : ℕ) × (standing ≡ standings.Unconnected opened) × (story ≡ opening capacity shares) × IsNewBroker capacity shares b)
+    ((opened : Opening) × (standing ≡ standings.Unconnected opened) × (story ≡ opening capacity opened.max_inflight shares) × IsNewBroker capacity shares b)
     ⊎ ((link : Link GroupPlace) × (standing ≡ standings.Connected link) × ShowsLink story link b)
 
 -- what is sent from a story on is that of the packets and the fault that a stream reads as, and the groups have the fates of the story then
@@ -123,7 +124,7 @@ module _ (capacity : ℕ) (shares : List Share) (few : length shares ≤ 8) wher
       → Steps Calls slot_at old 0 standing now (inputs.Packet packet) all next standing' new → Stepped (turn packet story) all next standing' new
   stepped story standing old now packet all next standing' new (inl (opened, is, begins, is_new)) does =
       subst (λ (s : Story). Stepped (turn packet s) all next standing' new) (sym begins)
-      (first_step capacity shares old is_new few opened now packet all next standing' new (subst (λ (s : Standing GroupPlace). Steps Calls slot_at old 0 s now (inputs.Packet packet) all next standing' new) is does))
+      (first_step capacity opened shares old is_new few now packet all next standing' new (subst (λ (s : Standing GroupPlace). Steps Calls slot_at old 0 s now (inputs.Packet packet) all next standing' new) is does))
   stepped story standing old now packet all next standing' new (inr (link, is, shows)) does =
       later_step story link old shows now packet all next standing' new (subst (λ (s : Standing GroupPlace). Steps Calls slot_at old 0 s now (inputs.Packet packet) all next standing' new) is does)
 
@@ -131,7 +132,7 @@ module _ (capacity : ℕ) (shares : List Share) (few : length shares ≤ 8) wher
       → IsLast fault input → Steps Calls slot_at old 0 standing now input all next standing' new → Parted fault story all standing' new
   parted story standing old now fault input all next standing' new (inl (opened, is, begins, is_new)) ends does =
       subst (λ (s : Story). Parted fault s all standing' new) (sym begins)
-      (first_last capacity shares old is_new few opened now fault input all next standing' new ends (subst (λ (s : Standing GroupPlace). Steps Calls slot_at old 0 s now input all next standing' new) is does))
+      (first_last capacity opened shares old is_new few now fault input all next standing' new ends (subst (λ (s : Standing GroupPlace). Steps Calls slot_at old 0 s now input all next standing' new) is does))
   parted story standing old now fault input all next standing' new (inr (link, is, shows)) ends does =
       later_last story link old shows now fault input all next standing' new ends (subst (λ (s : Standing GroupPlace). Steps Calls slot_at old 0 s now input all next standing' new) is does)
 
@@ -235,13 +236,13 @@ in_cell old new Becomes cell there does =
 abbrev Stays : ServerState → List Said → ServerState → Type 0
 Stays old said new = (said ≡ []) × HasCell None new × (new.broker ≡ old.broker)
 
-idle_piece : (b : Bool) (piece : List ℕ) (old new : ServerState) (said : List Said) → HasCell None old → DoesIf b (Bytes 0 piece) old.broker old.clients new.clock said (Ok tt) new.clients new.broker → Stays old said new
+idle_piece : (b : Bool) (piece : List ℕ) (old new : ServerState) (said : List Said) → HasCell None old → DoesIf b (Bytes 0 piece) old.max_inflight old.broker old.clients new.clock said (Ok tt) new.clients new.broker → Stays old said new
 idle_piece true piece old new said cell does =
     let got = in_cell old.clients new.clients _ None cell does in
     (got.1.0, got.2 ∙ ap (λ (c : Option (ClientState GroupPlace)). Some c) got.1.1, got.1.2)
 idle_piece false piece old new said cell does = (does.0, ap (λ (l : Clients). slice_get l 0) does.2 ∙ cell, does.3)
 
-idle_end : (b : Bool) (old new : ServerState) (said : List Said) → HasCell None old → DoesIf b (End 0) old.broker old.clients new.clock said (Ok tt) new.clients new.broker → Stays old said new
+idle_end : (b : Bool) (old new : ServerState) (said : List Said) → HasCell None old → DoesIf b (End 0) old.max_inflight old.broker old.clients new.clock said (Ok tt) new.clients new.broker → Stays old said new
 idle_end true old new said cell does =
     let got = in_cell old.clients new.clients _ None cell does in
     (got.1.0, got.2 ∙ ap (λ (c : Option (ClientState GroupPlace)). Some c) got.1.1, got.1.2)
@@ -268,7 +269,7 @@ open_is story entries b shows =
 
 module _ (capacity : ℕ) (shares : List Share) (few : length shares ≤ 8) where
   shown_open : (story : Story) (standing : Standing GroupPlace) (b : Broker) → Shown capacity shares story standing b → is_open b ≡ true
-  shown_open story standing b (inl (opened, is, begins, is_new)) = open_is (opening capacity shares) [] b (opens capacity shares b few is_new)
+  shown_open story standing b (inl (opened, is, begins, is_new)) = open_is (opening capacity opened.max_inflight shares) [] b (opens capacity opened.max_inflight shares b few is_new)
   shown_open story standing b (inr (link, is, shows)) = open_is story link.session.window.owed b shows.session.broker
 
   -- a client that goes on is kept
@@ -286,7 +287,7 @@ module _ (capacity : ℕ) (shares : List Share) (few : length shares ≤ 8) wher
       → AreBytes (client.unread.bytes ++ whole pieces) → Shown capacity shares story client.conn.standing old.broker → HappensAll old (all_pieces pieces) said last
       → Concluded story (client.unread.bytes ++ whole pieces) (sent_in said) last.broker
   walk [] story client old last said cell number sound open_ bytes shown (mid, now, later, happens, (none, same), all) =
-      let does = subst (λ (b : Bool). DoesIf b (End 0) old.broker old.clients mid.clock now (Ok tt) mid.clients mid.broker) (shown_open story client.conn.standing old.broker shown) happens.does in
+      let does = subst (λ (b : Bool). DoesIf b (End 0) old.max_inflight old.broker old.clients mid.clock now (Ok tt) mid.clients mid.broker) (shown_open story client.conn.standing old.broker shown) happens.does in
       let got = (in_cell old.clients mid.clients _ (Some client) cell does).1 in
       let one = got.1.0 in
       let moved = got.1.2 in
@@ -298,7 +299,7 @@ module _ (capacity : ℕ) (shares : List Share) (few : length shares ≤ 8) wher
       (subst (λ (l : List Packet). Concluded story client.unread.bytes l last.broker) (sym sent)
       (subst (λ (s : ServerState). Concluded story client.unread.bytes one.packets s.broker) (sym same) ended))
   walk (piece ∷ pieces) story client old last said cell number sound open_ bytes shown (mid, now, later, happens, others, all) =
-      let does = subst (λ (b : Bool). DoesIf b (Bytes 0 piece) old.broker old.clients mid.clock now (Ok tt) mid.clients mid.broker) (shown_open story client.conn.standing old.broker shown) happens.does in
+      let does = subst (λ (b : Bool). DoesIf b (Bytes 0 piece) old.max_inflight old.broker old.clients mid.clock now (Ok tt) mid.clients mid.broker) (shown_open story client.conn.standing old.broker shown) happens.does in
       let cell_of = in_cell old.clients mid.clients _ (Some client) cell does in
       let client' = cell_of.1.0 in
       let now_read = cell_of.1.1 in
@@ -328,14 +329,15 @@ module _ (capacity : ℕ) (shares : List Share) (few : length shares ≤ 8) wher
 
   -- from the opening of the connection on
   pub run : (pieces : List (List ℕ)) (first last : ServerState) (said : List Said) → IsNewBroker capacity shares first.broker → first.clients ≡ replicate 64 None → AreBytes (whole pieces)
-      → HappensAll first (at_once (Open 0) ∷ all_pieces pieces) said last → Concluded (opening capacity shares) (whole pieces) (sent_in said) last.broker
+      → HappensAll first (at_once (Open 0) ∷ all_pieces pieces) said last → Concluded (opening capacity first.max_inflight shares) (whole pieces) (sent_in said) last.broker
   run pieces first last said is_new none bytes (mid, now, later, happens, others, all) =
-      let is_open_now = open_is (opening capacity shares) [] first.broker (opens capacity shares first.broker few is_new) in
-      let does = subst (λ (b : Bool). DoesIf b (Open 0) first.broker first.clients mid.clock now (Ok tt) mid.clients mid.broker) is_open_now happens.does in
+      let is_open_now = open_is (opening capacity first.max_inflight shares) [] first.broker (opens capacity first.max_inflight shares first.broker few is_new) in
+      let does = subst (λ (b : Bool). DoesIf b (Open 0) first.max_inflight first.broker first.clients mid.clock now (Ok tt) mid.clients mid.broker) is_open_now happens.does in
       let cell : slice_get first.clients 0 ≡ Some None = ap (λ (l : Clients). slice_get l 0) none ∙ first_none 64 (omega arith) in
       let got = in_cell first.clients mid.clients _ None cell does.0 in
-      let client : ClientState GroupPlace = arrived (record { number = 0; latest = mid.clock; standing = standings.Unconnected mid.clock }) in
+      let opened : Opening = record { at = mid.clock; max_inflight = first.max_inflight } in
+      let client : ClientState GroupPlace = arrived (record { number = 0; latest = mid.clock; standing = standings.Unconnected opened }) in
       let there : slice_get mid.clients 0 ≡ Some (Some client) = got.2 ∙ ap (λ (c : Option (ClientState GroupPlace)). Some c) got.1 in
       let sent : sent_in said ≡ sent_in later = ap sent_in (all ∙ ap (λ (l : List Said). l ++ later) does.2) in
-      subst (λ (l : List Packet). Concluded (opening capacity shares) (whole pieces) l last.broker) (sym sent)
-      (walk pieces (opening capacity shares) client mid last later there refl refl no_byte bytes (inl (mid.clock, refl, refl, subst (IsNewBroker capacity shares) (sym does.1) is_new)) others)
+      subst (λ (l : List Packet). Concluded (opening capacity first.max_inflight shares) (whole pieces) l last.broker) (sym sent)
+      (walk pieces (opening capacity first.max_inflight shares) client mid last later there refl refl no_byte bytes (inl (opened, refl, refl, subst (IsNewBroker capacity shares) (sym does.1) is_new)) others)

@@ -23,13 +23,14 @@ pub data Phase : Type 0 where
   Connected : Phase
   Closed : Phase
 
--- What the client asked for when it connected; how many messages may wait in each group; the groups, that of slot n at place n; the slot
+-- What the client asked for when it connected; how many messages may wait in each group; how many may be unacknowledged, whatever its Receive Maximum; the groups, that of slot n at place n; the slot
 -- of the group whose member the client is, if it is one; and the hand-outs, in order: the first of a slot is that of the first message of
 -- its group, and so on.
 pub record Story : Type 0 where
   pub phase : Phase
   pub terms : Terms
   pub capacity : ℕ
+  pub max_inflight : ℕ
   pub groups : List Bound
   pub membership : Membership ℕ
   pub handed_out : List HandOut
@@ -44,9 +45,9 @@ abbrev pub bound : Share → Bound
 bound share = record { share = share; accepted = [] }
 
 -- before the first packet, with these shares bound
-abbrev pub opening : ℕ → List Share → Story
-opening capacity shares =
-    record { phase = Unconnected; terms = default_terms; capacity = capacity; groups = map bound shares; membership = NotMember; handed_out = [] }
+abbrev pub opening : ℕ → ℕ → List Share → Story
+opening capacity max_inflight shares =
+    record { phase = Unconnected; terms = default_terms; capacity = capacity; max_inflight = max_inflight; groups = map bound shares; membership = NotMember; handed_out = [] }
 
 abbrev pub shares_of : List Bound → List Share
 shares_of groups = map (λ group. group.share) groups

@@ -25,7 +25,7 @@ assigned_to (byte ∷ bytes) = None
 -- 3.2: a new session begins, as the CONNECT asks
 abbrev pub begin : Connect → Story → Reply
 begin connect story =
-    answering (accepting false (assigned_to connect.client_identifier)) (record story { phase = Connected; terms = terms_of connect })
+    answering (accepting false (assigned_to connect.client_identifier)) (record story { phase = Connected; terms = terms_of story.max_inflight connect })
 
 -- what attaches is a CONNECT
 abbrev pub attach_reply : Packet → Story → Reply

@@ -22,7 +22,7 @@ use Rattle.solo_output.specs.Replies.{turn, turns}
 
 -- what the client is sent for these packets, and the story behind them
 abbrev pub run_of : Setup → List Packet → Turn
-run_of setup packets = turns packets (opening setup.capacity setup.groups)
+run_of setup packets = turns packets (opening setup.capacity setup.max_inflight setup.groups)
 
 -- ---- what is accepted
 

@@ -63,7 +63,7 @@ pub fn identifier_law()
 /// **Every run is lawful**: what the story keeps on every setup, whatever packets come, of the client and of each group.
 ///
 /// - `receive_maximum`: no more hand-outs are unacknowledged than the Receive Maximum of the CONNECT, or than 65,535 where it has none
-///   (3.1.2.11.3, 4.9); and while the client is connected, the quota is that, cut to 256 (profile). `quota`: nor more than the quota.
+///   (3.1.2.11.3, 4.9), nor than the limit of the setup (profile); and while the client is connected, the quota is the least of these and of 256 (profile). `quota`: nor more than the quota.
 /// - `identifiers`: the unacknowledged identifiers are 1 to 256 (profile), and no two are equal (2.2.1).
 /// - `groups`: eight shares at most are bound, of differing texts, where those of the setup are so (profile); `slots`: each keeps its slot.
 /// - `accepted`: a group accepted the messages of the PUBLISH packets that were offered when it was among those that take them: its filter matched
@@ -83,7 +83,7 @@ pub fn identifier_law()
 /// - `closed`: once its connection is closed nothing is sent, also to a fault, and nothing changes.
 pub fn every_run_is_lawful()
     ensures receive_maximum { (setup : Setup) (connect : Connect) (packets : List Packet) →
-        let asked = or_else 65535 connect.properties.receive_maximum in
+        let asked = min setup.max_inflight (or_else 65535 connect.properties.receive_maximum) in
         let story = (run_of setup (kinds.Connect connect ∷ packets)).story in
         (length (unacknowledged story) ≤ asked) × (story.phase ≡ Connected → quota story ≡ min asked 256) }
     ensures quota { (setup : Setup) (packets : List Packet) → let story = (run_of setup packets).story in
@@ -95,7 +95,7 @@ pub fn every_run_is_lawful()
     ensures slots { (setup : Setup) (packets more : List Packet) → let story = (run_of setup packets).story in
         (later : List Share) × (shares_of (turns more story).story.groups ≡ shares_of story.groups ++ later) }
     ensures accepted { (setup : Setup) (packets : List Packet) (slot : ℕ) →
-        accepted_in slot (run_of setup packets).story.groups ≡ taken packets slot (opening setup.capacity setup.groups) }
+        accepted_in slot (run_of setup packets).story.groups ≡ taken packets slot (opening setup.capacity setup.max_inflight setup.groups) }
     ensures answered { (story : Story) (publish : Publish) (identifier : ℕ) → story.phase ≡ Connected → publish_answer publish ≡ Offer identifier →
         (reply (kinds.Publish publish) story).packet
         ≡ Some (puback identifier (puback_code (length (matching publish.topic story)) (length (takers publish.topic story)))) }

@@ -11,8 +11,8 @@ setup-requires c =
     let rows = rows_of (found_of c.in-Some.options.now) in
     let parsed = c.in_ok-matches.ensures in
     let read = read_as c.in_ok-command.field-0 words c.in_ok-matches.matches c.in-Some.name.now rows c.in_ok-command.ensures parsed.kinds parsed.matches c.in-Some.ensures.name c.in-Some.ensures.rows in
-    let capacity = (command_facts words c.in-Some.name.now rows read).1 in
-    record { capacity = capacity.0; as_written = capacity.1 }
+    let numbers = (command_facts words c.in-Some.name.now rows read).1 in
+    record { capacity = numbers.0.0; as_written = numbers.0.1; max_inflight = numbers.1.0; max_inflight_as_written = numbers.1.1 }
 
 pub returns-in_default-clause-err : goal.returns-in_default-clause-err
 returns-in_default-clause-err c =

@@ -9,3 +9,6 @@ returns-in_err-workers c = rw c.from_residual-in_err-workers.ensures (λ service
 
 pub returns-in_err-capacity : goal.returns-in_err-capacity
 returns-in_err-capacity c = rw c.from_residual-in_err-capacity.ensures (λ service by. c.in_err-capacity.ensures service.setup.capacity by.capacity)
+
+pub returns-in_err-packets : goal.returns-in_err-packets
+returns-in_err-packets c = rw c.from_residual-in_err-packets.ensures (λ service by. c.in_err-packets.ensures service.setup.max_inflight by.max_inflight)

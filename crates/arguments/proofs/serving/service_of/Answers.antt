@@ -4,6 +4,7 @@ use Rattle.std.specs.Borrow.{Bor}
 use Rattle.std.specs.Net.Grammar.{IsIpv4Text, Parses}
 use Rattle.clap.specs.Words.{Text, all_of, found_of, one_text, rows_of}
 use Rattle.arguments.specs.CommandLine.{pairs_in}
+use Rattle.arguments.specs.ServeLine.{HasNumber}
 use Rattle.arguments.specs.Groups.{AddsEach, RefusesOne}
 use Rattle.arguments.proofs.OneRequest.{each_or_refused}
 use Rattle.arguments.proofs.Read.{all_is, one_is, values_are}
@@ -28,6 +29,7 @@ returns-in-Ok-clause-ok c =
       port = c.in-Some-numbers.ensures.0;
       workers = c.in-Some-numbers.ensures.1;
       capacity = c.in-Some-numbers.ensures.2;
+      max_inflight = subst (HasNumber (codes "max-inflight") 1 256 (rows_of found)) (sym c.limit_of.ensures) c.in-Some-numbers.ensures.3;
       groups = subst (λ texts. AddsEach [] texts c.in-Ok.groups) pairs all;
     }
 
