@@ -1,7 +1,13 @@
 -- What is left of some rows, one after the other.
-use Rattle.std.proofs.Common.{◌≡◌, ℕ, suc, ◌+◌, List, [], ◌∷◌, ◌++◌, length, length-append, slice_get, Some, sym, ap, ◌∙◌, arith}
-use Rattle.group_queue.specs.Ports.{PortState}
-use Rattle.broker_groups.specs.Endings.{joined}
+use Rattle.std.proofs.Common.{◌≡◌, ℕ, suc, ◌+◌, List, [], ◌∷◌, ◌++◌, length, length-append, slice_get, Some, sym, ap, ◌∙◌, subst, All, Result, Ok, Err, arith}
+use Rattle.group_jobs.specs.Stamps.{Held}
+use Rattle.group_jobs.specs.declared.report.Report.{Report}
+use Rattle.group_queue.specs.declared.finish.Unfinished.{Unfinished}
+use Rattle.group_queue.specs.declared.witness.Nobody.{Nobody}
+use Rattle.group_queue.specs.Ports.{GroupId, PortState, IsPortOf}
+use Rattle.group_queue.specs.Places.{PlaceState, IsPlaceOf}
+use Rattle.group_queue.specs.Finishing.{Finishes}
+use Rattle.broker_groups.specs.Endings.{joined, IsItsOwn}
 
 module _ {X : Type 0} where
   -- all but the first of these
@@ -30,3 +36,12 @@ module _ {X : Type 0} where
 pub joined_length : (before : List (List PortState)) (ports : List PortState) → length (joined (before ++ ports ∷ [])) ≡ length (joined before) + length ports
 joined_length [] ports = omega (arith, length-append ports [])
 joined_length (first ∷ before) ports = length-append first (joined (before ++ ports ∷ [])) ∙ omega (arith, joined_length before ports, length-append first (joined before))
+
+-- what comes back of a group that was given its own is its own
+pub own_of : (group : GroupId) (ports : List PortState) (places : List PlaceState) (held : List Held) (answer : Result Report (Unfinished Nobody)) → All (IsPortOf group) ports → All (IsPlaceOf group) places
+    → Finishes group ports places held answer → IsItsOwn answer
+own_of group ports places held (Ok report) of_ports of_places is = tt
+own_of group ports places held (Err left) of_ports of_places is = (
+  subst (λ (one : GroupId). All (IsPortOf one) left.ports.items) (sym is.1) (subst (All (IsPortOf group)) (sym is.2) of_ports),
+  subst (λ (one : GroupId). All (IsPlaceOf one) left.places.items) (sym is.1) (subst (All (IsPlaceOf group)) (sym is.3) of_places),
+)

@@ -1,11 +1,11 @@
 -- The end of a broker's groups: each is ended with what is its own.
-use Rattle.std.specs.Prelude.{◌≡◌, ℕ, ◌<◌, min, List, [], ◌∷◌, ◌++◌, length, slice_get, Some, Result}
+use Rattle.std.specs.Prelude.{◌≡◌, ℕ, ◌<◌, min, List, [], ◌∷◌, ◌++◌, length, slice_get, Some, All, Result, IfErr}
 use Rattle.std.specs.Global.{Vec}
 use Rattle.group_jobs.specs.Stamps.{Held}
 use Rattle.group_jobs.specs.declared.report.Report.{Report}
 use Rattle.group_queue.specs.declared.finish.Unfinished.{Unfinished}
 use Rattle.group_queue.specs.declared.witness.Nobody.{Nobody}
-use Rattle.group_queue.specs.Ports.{GroupId, PortState}
+use Rattle.group_queue.specs.Ports.{GroupId, PortState, IsPortOf}
 use Rattle.group_queue.specs.Places.{PlaceState, IsPlaceOf}
 use Rattle.group_queue.specs.Finishing.{Finishes}
 use Rattle.broker_groups.specs.Sorting.{at_slot}
@@ -47,3 +47,17 @@ pub record AreFinished (group : ℕ → GroupId) (ports : List (Vec PortState)) 
   pub each : (slot : ℕ) (answer : Result Report (Unfinished Nobody)) (its_ports : Vec PortState) (its_places : Vec PlaceState) (its_held : Vec Held)
       → slice_get answers slot ≡ Some answer → slice_get ports slot ≡ Some its_ports → slice_get places slot ≡ Some its_places → slice_get held slot ≡ Some its_held
       → Finishes (group slot) its_ports.items its_places.items its_held.items answer
+
+-- the ports and places of a group that was not ended are that group's
+abbrev pub IsItsOwn : Result Report (Unfinished Nobody) → Type 0
+IsItsOwn answer = IfErr answer (λ left. All (IsPortOf left.group) left.ports.items × All (IsPlaceOf left.group) left.places.items)
+
+-- whatever group it was ended and whatever it was ended with: if this is its answer, so is that
+abbrev pub IsAgain : Result Report (Unfinished Nobody) → Result Report (Unfinished Nobody) → Type 0
+IsAgain first last =
+    (group : GroupId) (ports : List PortState) (places : List PlaceState) (held : List Held) → Finishes group ports places held first → Finishes group ports places held last
+
+-- the same of each group
+pub record AreAgain (first last : List (Result Report (Unfinished Nobody))) : Type 0 where
+  pub all : length last ≡ length first
+  pub each : (slot : ℕ) (answer again : Result Report (Unfinished Nobody)) → slice_get first slot ≡ Some answer → slice_get last slot ≡ Some again → IsAgain answer again

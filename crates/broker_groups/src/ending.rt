@@ -5,7 +5,7 @@ ghost use Rattle.group_queue.specs.Ports.{PortState, IsPortOf};
 ghost use Rattle.group_queue.specs.Places.{PlaceState, IsPlaceOf};
 ghost use Rattle.broker_groups.specs.Brokers.{AreBrokerGroups};
 ghost use Rattle.broker_groups.specs.Sorting.{at_slot, IsEmptyRow};
-ghost use Rattle.broker_groups.specs.Endings.{held_slot, joined, AreEnded, AreFinished};
+ghost use Rattle.broker_groups.specs.Endings.{held_slot, joined, AreAgain, AreEnded, AreFinished, IsAgain, IsItsOwn};
 
 use crate::broker::Broker;
 use crate::groups::{BrokerGroups, SLOTS};
@@ -13,7 +13,7 @@ use crate::place::BrokerPlace;
 use crate::ports::Ports;
 use crate::sorting::{empty_rows, sort_held, sort_places, sort_ports};
 use group_jobs::{Envelope, Report};
-use group_queue::{Place, Port, SharedGroup, Unfinished};
+use group_queue::{FinishError, Place, Port, SharedGroup, Unfinished};
 use std::alloc::{AllocError, Global};
 use std::sync::Wait;
 
@@ -63,13 +63,20 @@ struct Rows {
     held: Vec<Vec<Envelope>>,
 }
 
+/// Where the answer of each group stands: once all were ended, and once it was tried again.
+struct AnswerRows<'a> {
+    first: Vec<Result<Report, Unfinished<'a>>>,
+    last: Vec<Result<Report, Unfinished<'a>>>,
+}
+
 impl<'a, B: Broker> BrokerGroups<'a, B> {
     /// Ends each group with those of these ports, places and envelopes that are of its slot, as
-    /// [`SharedGroup::finish`](group_queue::SharedGroup::finish) says. A step of a queue may wait for another thread's.
+    /// [`SharedGroup::finish`](group_queue::SharedGroup::finish) says. A group that has not the memory for its report is ended
+    /// once more when all others were, since what they had is free by then. A step of a queue may wait for another thread's.
     ///
     /// # Errors
     ///
-    /// [`Unended`]: memory was wanted and refused. All that was given comes back.
+    /// [`Unended`]: an allocation failed before any group was ended. All that was given comes back.
     pub fn finish<R: Wait>(
         self,
         rt: &R,
@@ -100,16 +107,17 @@ fn make_rows<'a, B: Broker>(
     ports: &[Ports<B>],
     places: usize,
     held: usize,
-) -> Result<(Rows, Vec<Result<Report, Unfinished<'a>>>), AllocError>
+) -> Result<(Rows, AnswerRows<'a>), AllocError>
     ensures ports { IfOk result (λ made. (length made.0.ports.items ≡ 8) × All (IsEmptyRow (length (joined ports.now))) made.0.ports.items) }
     ensures places { IfOk result (λ made. (length made.0.places.items ≡ 8) × All (IsEmptyRow places) made.0.places.items) }
     ensures held { IfOk result (λ made. (length made.0.held.items ≡ 9) × All (IsEmptyRow held) made.0.held.items) }
-    ensures answers { IfOk result (λ made. (made.1.items ≡ []) × (8 ≤ vec_capacity made.1)) }
+    ensures first { IfOk result (λ made. (made.1.first.items ≡ []) × (8 ≤ vec_capacity made.1.first)) }
+    ensures last { IfOk result (λ made. (made.1.last.items ≡ []) × (8 ≤ vec_capacity made.1.last)) }
 {
     let count = count_ports(ports).ok_or(AllocError)?;
     let port_rows = empty_rows(alloc, SLOTS, count)?;
     let place_rows = empty_rows(alloc, SLOTS, places)?;
-    let answers = Vec::with_capacity(alloc, usize::from(SLOTS))?;
+    let answers = answer_rows(alloc)?;
     match empty_rows(alloc, SLOTS + 1, held) {
         Ok(held_rows) => Ok((
             Rows {
@@ -120,7 +128,24 @@ fn make_rows<'a, B: Broker>(
             answers,
         )),
         Err(error) => {
-            answers.destroy_empty();
+            let AnswerRows { first, last } = answers;
+            first.destroy_empty();
+            last.destroy_empty();
+            Err(error)
+        }
+    }
+}
+
+/// Makes the room that the answers want.
+fn answer_rows<'a>(alloc: Global) -> Result<AnswerRows<'a>, AllocError>
+    ensures first { IfOk result (λ made. (made.first.items ≡ []) × (8 ≤ vec_capacity made.first)) }
+    ensures last { IfOk result (λ made. (made.last.items ≡ []) × (8 ≤ vec_capacity made.last)) }
+{
+    let first = Vec::with_capacity(alloc, usize::from(SLOTS))?;
+    match Vec::with_capacity(alloc, usize::from(SLOTS)) {
+        Ok(last) => Ok(AnswerRows { first, last }),
+        Err(error) => {
+            first.destroy_empty();
             Err(error)
         }
     }
@@ -137,13 +162,13 @@ fn count_ports<B: Broker>(all: &[Ports<B>]) -> Option<usize>
     Some(count)
 }
 
-/// Sorts all that is given, and ends each group.
+/// Sorts all that is given, and ends each group; and those again that had not the memory for it.
 fn end<'a, B: Broker, R: Wait>(
     rt: &R,
     alloc: Global,
     groups: BrokerGroups<'a, B>,
     rows: Rows,
-    answers: Vec<Result<Report, Unfinished<'a>>>,
+    answers: AnswerRows<'a>,
     ports: Vec<Ports<B>>,
     places: Vec<BrokerPlace<B>>,
     held: Vec<Envelope>,
@@ -151,7 +176,8 @@ fn end<'a, B: Broker, R: Wait>(
     requires ports { (length rows.ports.items ≡ 8) × All (IsEmptyRow (length (joined ports.items))) rows.ports.items }
     requires places { (length rows.places.items ≡ 8) × All (IsEmptyRow (length places.items)) rows.places.items }
     requires held { (length rows.held.items ≡ 9) × All (IsEmptyRow (length held.items)) rows.held.items }
-    requires answers { (answers.items ≡ []) × (8 ≤ vec_capacity answers) }
+    requires first { (answers.first.items ≡ []) × (8 ≤ vec_capacity answers.first) }
+    requires last { (answers.last.items ≡ []) × (8 ≤ vec_capacity answers.last) }
     ensures ended { AreEnded B.group ports.items places.items held.items result.answers.items }
     ensures strangers { result.strangers.items ≡ at_slot held_slot 8 held.items }
 {
@@ -167,7 +193,9 @@ fn end<'a, B: Broker, R: Wait>(
         unreachable!()
     };
     let groups = groups.into_groups();
-    let answers = finish_each::<B, R>(rt, alloc, groups, port_rows, place_rows, held_rows, answers);
+    let AnswerRows { first, last } = answers;
+    let first = finish_each::<B, R>(rt, alloc, groups, port_rows, place_rows, held_rows, first);
+    let answers = finish_again(rt, alloc, first, last);
     Ended { answers, strangers }
 }
 
@@ -208,4 +236,51 @@ fn finish_each<'a, B: Broker, R: Wait>(
     next_groups.destroy_empty();
     next_held.destroy_empty();
     answers
+}
+
+/// Ends those groups again that had not the memory for it.
+fn finish_again<'a, R: Wait>(
+    rt: &R,
+    alloc: Global,
+    first: Vec<Result<Report, Unfinished<'a>>>,
+    answers: Vec<Result<Report, Unfinished<'a>>>,
+) -> Vec<Result<Report, Unfinished<'a>>>
+    requires own { All IsItsOwn first.items }
+    requires answers { (answers.items ≡ []) × (length first.items ≤ vec_capacity answers) }
+    ensures { AreAgain first.entry.items result.items }
+{
+    let mut answers = answers;
+    let mut rest = first.into_iter();
+    'slots: while let Some(answer) = rest.next() {
+        answers.push_reserved(try_again(rt, alloc, answer));
+    }
+    rest.destroy_empty();
+    answers
+}
+
+/// Ends a group again that had not the memory for it, with what came back.
+fn try_again<'a, R: Wait>(
+    rt: &R,
+    alloc: Global,
+    answer: Result<Report, Unfinished<'a>>,
+) -> Result<Report, Unfinished<'a>>
+    requires { IsItsOwn answer }
+    ensures { IsAgain answer.entry result }
+{
+    match answer {
+        Ok(report) => Ok(report),
+        Err(left) => {
+            if left.error != FinishError::Memory {
+                return Err(left);
+            }
+            let Unfinished {
+                error: _,
+                group,
+                ports,
+                places,
+                held,
+            } = left;
+            group.finish(rt, alloc, ports, places, held)
+        }
+    }
 }
