@@ -1,6 +1,7 @@
 //! A broker that is served while its clients do something.
 ghost use Rattle.std.specs.Prelude.{◌≤◌};
 
+use conn_rules::MaxInflight;
 use fleet_clients::{Counts, Wrong};
 use line_io::RunError;
 use mqtt_topic::Routes;
@@ -105,6 +106,7 @@ fn serve<R: Threads + Wait + Net<Listener = TcpListener, Stream = TcpStream> + C
         64,
         Routes::new(alloc),
         workers,
+        MaxInflight::most(),
         Ipv4Addr::LOCALHOST,
         port,
         &mut input,

@@ -129,6 +129,7 @@ fn serve_as<H: Threads + Wait + Net + Clock + Sync, R: Read + Send, W: Write>(
         setup.capacity,
         setup.groups,
         workers,
+        setup.max_inflight,
         address,
         port,
         reader,

@@ -3,6 +3,7 @@ use Rattle.std.specs.Prelude.{◌≡◌, ℕ, Bool, cond, List, Option, Some, No
 use Rattle.transport.specs.declared.counts.Counts.{Counts}
 use Rattle.conn_supply.specs.Facts.{Fact}
 use Rattle.conn_engine.specs.Looking.{TakesAt, held_by}
+use Rattle.conn_engine.specs.declared.standing.Opening.{Opening}
 use Rattle.conn_engine.specs.Standings.{IsWaiting}
 use Rattle.conn_service.specs.declared.served.Round.TheVariants as rounds
 use Rattle.conn_service.specs.Services.{ServiceState, opened, IsTold}
@@ -34,14 +35,14 @@ ended_by Vacant = 0
 ended_by (Goes round) = 0
 ended_by (Ended served transport) = 1
 
--- a connection of some number was opened at this moment
-abbrev pub IsOpened : {P T : Type 0} → ℕ → T → Option (ServiceState P T) → Type 0
-IsOpened now transport None = ⊥
-IsOpened now transport (Some service) = service ≡ opened service.client.conn.number now transport
+-- a connection of some number was opened so
+abbrev pub IsOpened : {P T : Type 0} → Opening → T → Option (ServiceState P T) → Type 0
+IsOpened opening transport None = ⊥
+IsOpened opening transport (Some service) = service ≡ opened service.client.conn.number opening transport
 
 -- a connection is opened in a free cell
-abbrev pub Opens : {P T : Type 0} → ℕ → T → Option (ServiceState P T) → Option (ServiceState P T) → Type 0
-Opens now transport before after = (before ≡ None) × IsOpened now transport after
+abbrev pub Opens : {P T : Type 0} → Opening → T → Option (ServiceState P T) → Option (ServiceState P T) → Type 0
+Opens opening transport before after = (before ≡ None) × IsOpened opening transport after
 
 -- none is: the transport comes back
 abbrev pub Refuses : {P T : Type 0} → T → Option (ServiceState P T) → Option (ServiceState P T) → T → Type 0

@@ -4,6 +4,7 @@ ghost use Rattle.transport.specs.Counting.{no_counts};
 ghost use Rattle.service_table.specs.Cells.{FollowsIn, Opens, Refuses, Turns, ended_by, taken};
 
 use crate::turned::Turned;
+use conn_engine::Opening;
 use conn_service::{Direction, Round, Service};
 use conn_supply::{HoldingPlace, Supply};
 use std::alloc::Global;
@@ -55,21 +56,21 @@ fn taken<P: HoldingPlace, T: Transport>(service: Service<P, T>) -> Seat<P, T>
     Seat { service }
 }
 
-/// A connection is opened in a free cell, at this moment in milliseconds.
+/// A connection is opened in a free cell, with this opening.
 pub(crate) fn open<P: HoldingPlace, T: Transport>(
     cell: &mut Option<Seat<P, T>>,
     alloc: Global,
     number: usize,
-    now: u64,
+    opening: Opening,
     transport: T,
 ) -> Result<(), T>
     requires new { T.counts transport ≡ no_counts }
-    ensures { MatchResult result (λ _. Opens now transport cell.old cell.new) (Refuses transport cell.old cell.new) }
+    ensures { MatchResult result (λ _. Opens opening transport cell.old cell.new) (Refuses transport cell.old cell.new) }
 {
     if cell.is_some() || number >= MOST_CONNECTIONS {
         return Err(transport);
     }
-    match Service::open(alloc, number as u16, now, transport) {
+    match Service::open(alloc, number as u16, opening, transport) {
         Ok(service) => {
             put(cell, service);
             Ok(())

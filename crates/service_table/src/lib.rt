@@ -5,7 +5,7 @@
 //!
 //! ```
 //! let mut table = ServiceTable::new(alloc, first, cells)?;
-//! match table.open(3, now, transport) {
+//! match table.open(3, opening, transport) {
 //!     Ok(()) => {}
 //!     Err(transport) => drop(transport), // no memory for it
 //! }

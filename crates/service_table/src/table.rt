@@ -6,6 +6,7 @@ ghost use Rattle.service_table.specs.Cells.{FollowsIn, InCell, Opens, Refuses, T
 use crate::cell;
 use crate::cell::Seat;
 use crate::turned::Turned;
+use conn_engine::Opening;
 use conn_service::Direction;
 use conn_supply::{HoldingPlace, NoMemory, Supply};
 use std::alloc::{AllocError, Global};
@@ -55,20 +56,21 @@ impl<P: HoldingPlace, T: Transport> ServiceTable<P, T> {
         self.cells.len()
     }
 
-    /// Opens a connection in a cell, at this moment in milliseconds, over a transport of which nothing was asked yet.
+    /// Opens a connection in a cell, with this opening, over a transport of which nothing was asked yet.
     ///
     /// # Errors
     ///
     /// The transport, where the cell has a connection, its number is not below 1,024, or memory is wanted. Nothing has changed then.
-    pub fn open(&mut self, cell: usize, now: u64, transport: T) -> Result<(), T>
+    pub fn open(&mut self, cell: usize, opening: Opening, transport: T) -> Result<(), T>
         requires cell { cell < length self.old }
         requires new { T.counts transport ≡ no_counts }
-        ensures cell { InCell self.old cell (λ before after. MatchResult result (λ _. Opens now transport before after) (Refuses transport before after)) self.new }
+        ensures cell { InCell self.old cell (λ before after. MatchResult result (λ _. Opens opening transport before after) (Refuses transport before after)) self.new }
         ensures len { length self.new ≡ length self.old }
         ensures count { MatchResult result (λ _. occupied self.new ≡ occupied self.old + 1) (λ _. self.new ≡ self.old) }
     {
         let number = usize::from(self.first).saturating_add(cell);
-        cell::open(&mut self.cells[cell], self.alloc, number, now, transport)
+        let alloc = self.alloc;
+        cell::open(&mut self.cells[cell], alloc, number, opening, transport)
     }
 
     /// The connection in a cell goes on by a round, at this moment in milliseconds: see [`Service::round`](conn_service::Service::round). Where that ends it, it

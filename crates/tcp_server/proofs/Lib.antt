@@ -1,3 +1,3 @@
-pub mod Gathered
 pub mod Served
 pub mod Lines
+pub mod Ends

@@ -1,5 +1,5 @@
 -- What was written, one part after another.
-use Rattle.std.proofs.Common.{◌≡◌, ◌⊎◌, ℕ, List, ◌++◌, get_or, Option, Err, sym, ap, subst, ◌∙◌, append_assoc, inl, inr, arith}
+use Rattle.std.proofs.Common.{◌≡◌, ℕ, List, ◌++◌, get_or, map, Option, Result, Ok, Err, sym, ap, subst, ◌∙◌, append_assoc, inl, inr, arith}
 use Rattle.std.proofs.lemmas.Option.{slice_get-get_or}
 use Rattle.std.specs.Io.KnownBytes.{Appends}
 use Rattle.line_io.proofs.PassingLaws.{Appends-then, Keeps-refl}
@@ -12,12 +12,33 @@ use Rattle.group_queue.specs.Ports.{GroupId}
 use Rattle.broker_groups.specs.declared.opening.Opened.{Opened}
 use Rattle.broker_groups.specs.Brokers.{no_group}
 use Rattle.broker_groups.specs.Openings.{IsBrokerOpened, named_by, or_none}
-use Rattle.tcp_server.specs.Reporting.{AreReports, HaveCapacity}
+use Rattle.group_jobs.specs.declared.report.Report.{Report}
+use Rattle.group_queue.specs.declared.error.FinishError.{FinishError}
+use Rattle.tcp_server.specs.Lines.{report_of, EndsBy}
+use Rattle.tcp_server.specs.Reporting.{AreReports, AreReportsAt, HaveCapacity}
 use Rattle.tcp_server.specs.Serving.{WritesAll, BeginsToWrite, EndsUnreported, IsServed}
 
-pub all : (line : List ℕ) (capacity workers : ℕ) (given : List Share) (old mid new : Option (List ℕ)) (text : List ℕ) → AreReports capacity workers given text → Appends old mid line → Appends mid new text
-    → WritesAll line capacity workers given old new
-all line capacity workers given old mid new text reports first second = record { text = text; reports = reports; written = Appends-then old mid new line text first second }
+-- where the reports were written, that is what is written by how the broker ends
+pub whole : (line : List ℕ) (capacity workers : ℕ) (given : List Share) (result : Result (Unit {0}) RunError) (old new : Option (List ℕ)) → WritesAll line capacity workers given result old new
+    → IsServed line capacity workers given result old new
+whole line capacity workers given (Ok done) old new written = written
+whole line capacity workers given (Err ReadFailed) old new written = written
+whole line capacity workers given (Err TooManyReads) old new written = absurd written.reports.ends
+whole line capacity workers given (Err WriteFailed) old new written = absurd written.reports.ends
+whole line capacity workers given (Err Network) old new written = inr written
+whole line capacity workers given (Err Memory) old new written = inr written
+whole line capacity workers given (Err Unfinished) old new written = written
+whole line capacity workers given (Err (Line number)) old new written = absurd written.reports.ends
+
+pub all : {X : Type 0} (line : List ℕ) (capacity workers : ℕ) (given : List Share) (end : Result X RunError) (result : Result (Unit {0}) RunError) (old mid new : Option (List ℕ)) (text : List ℕ)
+    → ((reports : List (Result Report FinishError)) → EndsBy end reports → EndsBy result reports) → AreReportsAt end capacity workers given text → Appends old mid line → Appends mid new text
+    → IsServed line capacity workers given result old new
+all line capacity workers given end result old mid new text how told first second =
+    whole line capacity workers given result old new (record {
+      text = text;
+      reports = record { reports = told.reports; ends = how (map report_of told.reports.answers) told.ends };
+      written = Appends-then old mid new line text first second;
+    })
 
 pub begun : (line : List ℕ) (capacity workers : ℕ) (given : List Share) (old mid new : Option (List ℕ)) (text : List ℕ) → AreReports capacity workers given text → Appends old mid line → Begins mid new text
     → BeginsToWrite line capacity workers given old new
@@ -37,8 +58,8 @@ unreported line capacity workers given ReadFailed old new ends = absurd ends
 unreported line capacity workers given TooManyReads old new ends = absurd ends
 unreported line capacity workers given WriteFailed old new ends = inl ends
 unreported line capacity workers given Network old new ends = absurd ends
-unreported line capacity workers given Memory old new ends = ends
-unreported line capacity workers given Unfinished old new ends = ends
+unreported line capacity workers given Memory old new ends = inl ends
+unreported line capacity workers given Unfinished old new ends = absurd ends
 unreported line capacity workers given (Line number) old new ends = absurd ends
 
 pub no_memory : (line : List ℕ) (error : RunError) (known : Option (List ℕ)) → error ≡ Memory → EndsUnreported line error known known
@@ -47,9 +68,8 @@ no_memory line error known is = subst (λ e. EndsUnreported line e known known) 
 pub not_written : (line : List ℕ) (error : RunError) (old new : Option (List ℕ)) → error ≡ WriteFailed → Begins old new line → EndsUnreported line error old new
 not_written line error old new is begins = subst (λ e. EndsUnreported line e old new) (sym is) begins
 
-pub not_told : (line : List ℕ) (error : RunError) (old new : Option (List ℕ)) → (error ≡ Memory) ⊎ (error ≡ Unfinished) → Appends old new line → EndsUnreported line error old new
-not_told line error old new (inl is) written = subst (λ e. EndsUnreported line e old new) (sym is) (inr written)
-not_told line error old new (inr is) written = subst (λ e. EndsUnreported line e old new) (sym is) written
+pub not_told : (line : List ℕ) (error : RunError) (old new : Option (List ℕ)) → error ≡ Memory → Appends old new line → EndsUnreported line error old new
+not_told line error old new is written = subst (λ e. EndsUnreported line e old new) (sym is) (inr written)
 
 -- the groups of a broker that was opened have the capacity that they were opened with
 pub opened_with : (gate : GateId) (capacity workers : ℕ) (opened : Opened) → IsBrokerOpened gate capacity workers opened → HaveCapacity (named_by opened.groups.items) capacity
@@ -61,6 +81,6 @@ pub same_capacity : (group : ℕ → GroupId) (capacity : ℕ) → HaveCapacity 
 same_capacity group capacity have slot few = have slot few ∙ sym (have 0 (omega arith))
 
 -- and so have those of its reports
-pub of_capacity : (group : ℕ → GroupId) (capacity workers : ℕ) (given : List Share) (text : List ℕ) → HaveCapacity group capacity → AreReports (group 0).capacity workers given text
-    → AreReports capacity workers given text
-of_capacity group capacity workers given text have reports = subst (λ n. AreReports n workers given text) (have 0 (omega arith)) reports
+pub of_capacity : {X : Type 0} (end : Result X RunError) (group : ℕ → GroupId) (capacity workers : ℕ) (given : List Share) (text : List ℕ) → HaveCapacity group capacity
+    → AreReportsAt end (group 0).capacity workers given text → AreReportsAt end capacity workers given text
+of_capacity end group capacity workers given text have reports = subst (λ n. AreReportsAt end n workers given text) (have 0 (omega arith)) reports

@@ -7,16 +7,16 @@ use Rattle.line_io.specs.declared.error.RunError.{RunError}
 use Rattle.line_io.specs.declared.error.RunError.TheVariants.{ReadFailed, TooManyReads, WriteFailed, Network, Memory, Unfinished, Line}
 use Rattle.mqtt_topic.specs.Names.{Share}
 use Rattle.tcp_edge.specs.Sources.{IsPortFor}
-use Rattle.tcp_server.specs.Reporting.{AreReports}
+use Rattle.tcp_server.specs.Reporting.{AreReports, AreReportsAt}
 
 -- the line that is written before the first connection is served
 abbrev pub listening_line : ℕ → List ℕ
 listening_line port = codes "listening " ++ decimal port ++ codes "\n"
 
--- the line and the lines of the reports were written
-pub record WritesAll (line : List ℕ) (capacity workers : ℕ) (given : List Share) (old new : Option (List ℕ)) : Type 0 where
+-- the line and the lines of the reports were written, of a broker that ends so
+pub record WritesAll (line : List ℕ) (capacity workers : ℕ) (given : List Share) (end : Result (Unit {0}) RunError) (old new : Option (List ℕ)) : Type 0 where
   pub text : List ℕ
-  pub reports : AreReports capacity workers given text
+  pub reports : AreReportsAt end capacity workers given text
   pub written : Appends old new (line ++ text)
 
 -- a beginning of that was written
@@ -25,25 +25,25 @@ pub record BeginsToWrite (line : List ℕ) (capacity workers : ℕ) (given : Lis
   pub reports : AreReports capacity workers given text
   pub begun : Begins old new (line ++ text)
 
--- why there are no reports, and what was written then: a beginning of the line; nothing, or the line; the line
+-- why no report is written, and what was written then: a beginning of the line; nothing, or the line
 abbrev pub EndsUnreported : List ℕ → RunError → Option (List ℕ) → Option (List ℕ) → Type 0
 EndsUnreported line ReadFailed old new = ⊥
 EndsUnreported line TooManyReads old new = ⊥
 EndsUnreported line WriteFailed old new = Begins old new line
 EndsUnreported line Network old new = ⊥
 EndsUnreported line Memory old new = Keeps old new ⊎ Appends old new line
-EndsUnreported line Unfinished old new = Appends old new line
+EndsUnreported line Unfinished old new = ⊥
 EndsUnreported line (Line number) old new = ⊥
 
 -- what a broker whose first line is this has written, by how it ended
 abbrev pub IsServed : List ℕ → ℕ → ℕ → List Share → Result (Unit {0}) RunError → Option (List ℕ) → Option (List ℕ) → Type 0
-IsServed line capacity workers given (Ok done) old new = WritesAll line capacity workers given old new
-IsServed line capacity workers given (Err ReadFailed) old new = WritesAll line capacity workers given old new
+IsServed line capacity workers given (Ok done) old new = WritesAll line capacity workers given (Ok done) old new
+IsServed line capacity workers given (Err ReadFailed) old new = WritesAll line capacity workers given (Err ReadFailed) old new
 IsServed line capacity workers given (Err TooManyReads) old new = ⊥
 IsServed line capacity workers given (Err WriteFailed) old new = Begins old new line ⊎ BeginsToWrite line capacity workers given old new
-IsServed line capacity workers given (Err Network) old new = Keeps old new ⊎ WritesAll line capacity workers given old new
-IsServed line capacity workers given (Err Memory) old new = Keeps old new ⊎ Appends old new line
-IsServed line capacity workers given (Err Unfinished) old new = Appends old new line
+IsServed line capacity workers given (Err Network) old new = Keeps old new ⊎ WritesAll line capacity workers given (Err Network) old new
+IsServed line capacity workers given (Err Memory) old new = (Keeps old new ⊎ Appends old new line) ⊎ WritesAll line capacity workers given (Err Memory) old new
+IsServed line capacity workers given (Err Unfinished) old new = WritesAll line capacity workers given (Err Unfinished) old new
 IsServed line capacity workers given (Err (Line number)) old new = ⊥
 
 -- the same at the port that was asked for, or at any where that is 0; or it was not listened at, and nothing was written

@@ -1,16 +1,18 @@
 //! Serving the connections of a broker that is open, to its reports.
-ghost use Rattle.std.specs.Prelude.{◌≡◌, ◌≤◌, ◌⊎◌, true, [], length, vec_capacity, IfOk, IfErr};
+ghost use Rattle.std.specs.Prelude.{◌≡◌, ◌≤◌, true, [], length, map, vec_capacity, Ok, IfOk, IfErr};
 ghost use Rattle.std.specs.Io.KnownBytes.{IsAtEnd};
-ghost use Rattle.line_io.specs.declared.error.RunError.TheVariants.{Memory, Unfinished as NotKnown};
-ghost use Rattle.tcp_server.specs.Reporting.{AreLines, AreReports, HaveCapacity};
+ghost use Rattle.line_io.specs.declared.error.RunError.TheVariants.{Memory};
+ghost use Rattle.tcp_server.specs.Lines.{lines_of, report_of, EndsBy};
+ghost use Rattle.tcp_server.specs.Reporting.{AreReportsAt, HaveCapacity};
 
 use crate::crew::Crew;
 use crate::listening::Awaited;
-use crate::reporting::{let_go_of_all, lines, reports_in};
+use crate::reporting::{end_by, let_go_of_all, lines, reports_in};
 use crate::serving::Served;
 use crate::watching::Watching;
 use broker_groups::{Broker, Ended, Ports};
 use call_history::HistoryName;
+use conn_rules::MaxInflight;
 use line_io::RunError;
 use mqtt_topic::Routes;
 use shared_supply::Hall;
@@ -35,7 +37,20 @@ pub(crate) struct Closers<'a, B: Broker> {
     pub(crate) ending: Closer<'a, B>,
 }
 
-/// Serves the connections of a source until the input ends. The lines of the reports, and how the broker came to its end.
+/// What is written of a broker that has ended, and how it ends.
+#[derive(Drop)]
+pub(crate) struct Reported {
+    /// The lines of the reports.
+    pub(crate) text: Vec<u8>,
+    /// How it came to its end, where its groups gave all reports; or why they did not.
+    pub(crate) end: Result<Served, RunError>,
+}
+
+/// Serves the connections of a source until the input ends, and ends the broker.
+///
+/// # Errors
+///
+/// [`RunError::Memory`]: nothing is written of it.
 pub(crate) fn attend<
     B: Broker + Send + Sync,
     N: HistoryName + Send + Sync,
@@ -50,16 +65,17 @@ pub(crate) fn attend<
     room: Vec<Ports<B>>,
     crew: Crew<'_, R>,
     source: Awaited<TcpSource>,
+    max_inflight: MaxInflight,
     closers: Closers<'_, B>,
     input: &mut I,
-) -> Result<(Vec<u8>, Served), RunError>
+) -> Result<Reported, RunError>
     requires capacity { HaveCapacity B.group (B.group 0).capacity }
     requires hands { (1 ≤ length hands.items) × (length hands.items ≤ 64) }
     requires room { (room.items ≡ []) × (length hands.items ≤ vec_capacity room) }
     requires crew { length crew.gear.items ≡ length hands.items }
-    ensures told { IfOk result (λ told. AreReports (B.group 0).capacity (length hands.items) groups.now told.0.items) }
-    ensures read { IfOk result (λ told. told.1 ≡ Served.Ended → IsAtEnd (I.remaining input.new)) }
-    ensures cause { IfErr result (λ error. (error ≡ Memory) ⊎ (error ≡ NotKnown)) }
+    ensures reported { IfOk result (λ reported. AreReportsAt reported.end (B.group 0).capacity (length hands.items) groups.now reported.text.items) }
+    ensures read { IfOk result (λ reported. reported.end ≡ Ok Served.Ended → IsAtEnd (I.remaining input.new)) }
+    ensures cause { IfErr result (λ error. error ≡ Memory) }
 {
     let ends = AtomicBool::new(false);
     let Closers {
@@ -84,6 +100,7 @@ pub(crate) fn attend<
         gear,
         alarms,
         source,
+        max_inflight,
         &OpenCrossing,
         accepting,
         ending,
@@ -92,14 +109,20 @@ pub(crate) fn attend<
     ) else {
         return Err(RunError::Memory);
     };
-    let (text, end) = tell(alloc, outcome)?;
-    Ok((text, end_of(end, watching.is_read)?))
+    let reported = tell(alloc, outcome, watching.is_read)?;
+    Ok(reported)
 }
 
-/// The lines of the reports of a broker that has ended, and how its source did.
-fn tell<S: Drop>(alloc: Global, outcome: Outcome<'_, S>) -> Result<(Vec<u8>, SourceEnd), RunError>
-    ensures lines { IfOk result (λ told. AreLines outcome.entry.ended.answers.items outcome.entry.shares.items told.0.items) }
-    ensures cause { IfErr result (λ error. (error ≡ Memory) ⊎ (error ≡ NotKnown)) }
+/// What is written of a broker that has ended, and how it ends.
+fn tell<S: Drop>(
+    alloc: Global,
+    outcome: Outcome<'_, S>,
+    is_read: bool,
+) -> Result<Reported, RunError>
+    ensures lines { IfOk result (λ reported. reported.text.items ≡ lines_of outcome.entry.shares.items (map report_of outcome.entry.ended.answers.items)) }
+    ensures ends { IfOk result (λ reported. EndsBy reported.end (map report_of outcome.entry.ended.answers.items)) }
+    ensures read { IfOk result (λ reported. reported.end ≡ Ok Served.Ended → is_read ≡ true) }
+    ensures cause { IfErr result (λ error. error ≡ Memory) }
 {
     let Outcome {
         ended: Ended { answers, strangers },
@@ -111,7 +134,19 @@ fn tell<S: Drop>(alloc: Global, outcome: Outcome<'_, S>) -> Result<(Vec<u8>, Sou
     let_go_of_all(strangers);
     let reports = reports_in(alloc, answers)?;
     let text = lines(alloc, &shares, &reports)?;
-    Ok((text, taken.end))
+    match end_by(&reports) {
+        Ok(()) => {
+            let served = end_of(taken.end, is_read)?;
+            Ok(Reported {
+                text,
+                end: Ok(served),
+            })
+        }
+        Err(error) => Ok(Reported {
+            text,
+            end: Err(error),
+        }),
+    }
 }
 
 /// How a broker came to its end; no thread for one of its workers is want of memory.

@@ -1,17 +1,21 @@
 //! Serving, from the listener to the last line.
-ghost use Rattle.std.specs.Prelude.{◌≡◌, ◌+◌, ◌≤◌, ◌⊎◌, length, IfOk, IfErr};
+ghost use Rattle.std.specs.Prelude.{◌≡◌, ◌+◌, ◌≤◌, List, length, Ok, Result, IfOk, IfErr};
 ghost use Rattle.std.specs.Io.KnownBytes.{Appends, IsAtEnd};
-ghost use Rattle.tcp_server.specs.Reporting.{AreReports, HaveCapacity};
+ghost use Rattle.group_jobs.specs.declared.report.Report.{Report};
+ghost use Rattle.group_queue.specs.declared.error.FinishError.{FinishError};
+ghost use Rattle.tcp_server.specs.Lines.{EndsBy};
+ghost use Rattle.tcp_server.specs.Reporting.{AreReportsAt, HaveCapacity};
 ghost use Rattle.tcp_server.specs.Serving.{EndsUnreported, IsServed, IsServedAt, listening_line};
 ghost use Rattle.gate_word.specs.Seats.{AreSeatsOf};
 ghost use Rattle.broker_groups.specs.Naming.{IsOfBroker};
 
-use crate::attending::{Closers, attend};
+use crate::attending::{Closers, Reported, attend};
 use crate::broker::{OpenBroker, open, take_seat};
 use crate::crew::crew_of;
 use crate::listening::Awaited;
 use broker_groups::{Broker, BrokerPlace, Opened};
 use call_history::HistoryName;
+use conn_rules::MaxInflight;
 use gate_word::{Gate, GateSeat};
 use line_io::{RunError, write_all};
 use mqtt_topic::Routes;
@@ -38,20 +42,22 @@ pub enum Served {
     NotAccepted,
 }
 
-/// Serves a broker at an address and port of this machine, which the system chooses where the port is 0, with so many workers. Writes `listening PORT` on a
+/// Serves a broker at an address and port of this machine, which the system chooses where the port is 0, with so many workers. No client has more messages unacknowledged than `max_inflight`. Writes `listening PORT` on a
 /// line, serves until the input has ended, closes, and writes the lines of the reports of the groups whose shares are bound, in the order of their slots.
 ///
 /// # Errors
 ///
 /// [`RunError::Network`]: the address was not listened at, and nothing was written; or connections were not accepted any more: then the broker closed at once,
-/// and all was written. [`RunError::ReadFailed`]: the input failed, and all was written. [`RunError::WriteFailed`]; [`RunError::Memory`];
-/// [`RunError::Unfinished`]: a beginning was written.
+/// and all was written. [`RunError::ReadFailed`]: the input failed, and all was written. [`RunError::WriteFailed`]: a beginning was written.
+/// [`RunError::Unfinished`]: the end of a group was refused; [`RunError::Memory`]: there was no memory for the report of a group: then the lines of the
+/// others were written. [`RunError::Memory`]: an allocation failed before that, and at most the first line was written.
 pub fn serve_at<R: Threads + Wait + Net + SystemClock + Sync, I: Read + Send, O: Write>(
     rt: &R,
     alloc: Global,
     capacity: usize,
     groups: Routes,
     workers: u8,
+    max_inflight: MaxInflight,
     address: Ipv4Addr,
     port: u16,
     input: &mut I,
@@ -63,7 +69,17 @@ pub fn serve_at<R: Threads + Wait + Net + SystemClock + Sync, I: Read + Send, O:
     ensures read { IfOk result (λ _. IsAtEnd (I.remaining input.new)) }
 {
     match TcpSource::open(rt, address, port) {
-        Ok(source) => serve_with(rt, alloc, capacity, groups, workers, source, input, output),
+        Ok(source) => serve_with(
+            rt,
+            alloc,
+            capacity,
+            groups,
+            workers,
+            max_inflight,
+            source,
+            input,
+            output,
+        ),
         Err(_) => Err(RunError::Network),
     }
 }
@@ -75,6 +91,7 @@ pub fn serve_with<R: Threads + Wait + Net + SystemClock + Sync, I: Read + Send, 
     capacity: usize,
     groups: Routes,
     workers: u8,
+    max_inflight: MaxInflight,
     source: TcpSource,
     input: &mut I,
     output: &mut O,
@@ -97,7 +114,7 @@ pub fn serve_with<R: Threads + Wait + Net + SystemClock + Sync, I: Read + Send, 
         return Err(RunError::Memory);
     };
     let line = format!(in alloc; "listening {port}\n");
-    let (text, ended) = match line {
+    let reported = match line {
         Ok(line) => live::<Brand, R, I, O>(
             rt,
             alloc,
@@ -105,6 +122,7 @@ pub fn serve_with<R: Threads + Wait + Net + SystemClock + Sync, I: Read + Send, 
             seats,
             opened,
             workers,
+            max_inflight,
             &groups,
             source,
             line.as_bytes(),
@@ -116,18 +134,27 @@ pub fn serve_with<R: Threads + Wait + Net + SystemClock + Sync, I: Read + Send, 
             return Err(RunError::Memory);
         }
     };
+    let Reported { text, end } = reported;
     match write_all(output, &text) {
-        Ok(()) => {}
-        Err(error) => return Err(error),
-    }
-    match ended {
-        Served::Ended => Ok(()),
-        Served::InputFailed => Err(RunError::ReadFailed),
-        Served::NotAccepted => Err(RunError::Network),
+        Ok(()) => answer_of(end),
+        Err(error) => Err(error),
     }
 }
 
-/// Opens the desk of a broker, serves, and ends it. The lines of its reports, and how it came to its end.
+/// What is answered of a broker that came to its end so.
+fn answer_of(end: Result<Served, RunError>) -> Result<(), RunError>
+    ensures ends { (reports : List (Result Report FinishError)) → EndsBy end reports → EndsBy result reports }
+    ensures read { IfOk result (λ _. end ≡ Ok Served.Ended) }
+{
+    match end {
+        Ok(Served::Ended) => Ok(()),
+        Ok(Served::InputFailed) => Err(RunError::ReadFailed),
+        Ok(Served::NotAccepted) => Err(RunError::Network),
+        Err(error) => Err(error),
+    }
+}
+
+/// Opens the desk of a broker, serves, and ends it.
 fn live<
     B: Broker + Send + Sync,
     R: Threads + Wait + Net + SystemClock + Sync,
@@ -140,24 +167,38 @@ fn live<
     seats: Vec<GateSeat>,
     opened: Opened<'_>,
     workers: u8,
+    max_inflight: MaxInflight,
     groups: &Routes,
     source: Awaited<TcpSource>,
     line: &[u8],
     input: &mut I,
     output: &mut O,
-) -> Result<(Vec<u8>, Served), RunError>
+) -> Result<Reported, RunError>
     requires gate { gate.now ≡ B.gate }
     requires workers { (1 ≤ workers) × (workers ≤ 64) }
     requires seats { AreSeatsOf gate.now seats.items × (length seats.items ≡ workers + 3) }
     requires opened { IsOfBroker B.gate B.group workers opened }
     requires capacity { HaveCapacity B.group (B.group 0).capacity }
-    ensures told { IfOk result (λ told. AreReports (B.group 0).capacity workers groups.now told.0.items × Appends (O.contents output.old) (O.contents output.new) line.now) }
-    ensures read { IfOk result (λ told. told.1 ≡ Served.Ended → IsAtEnd (I.remaining input.new)) }
+    ensures reported { IfOk result (λ reported. AreReportsAt reported.end (B.group 0).capacity workers groups.now reported.text.items) }
+    ensures written { IfOk result (λ reported. Appends (O.contents output.old) (O.contents output.new) line.now) }
+    ensures read { IfOk result (λ reported. reported.end ≡ Ok Served.Ended → IsAtEnd (I.remaining input.new)) }
     ensures failed { IfErr result (λ error. EndsUnreported line.now error (O.contents output.old) (O.contents output.new)) }
 {
     match OpenedDesk::open(alloc) {
         Ok(desk) => live_with::<B, Brand, R, I, O>(
-            rt, alloc, gate, seats, opened, desk, workers, groups, source, line, input, output,
+            rt,
+            alloc,
+            gate,
+            seats,
+            opened,
+            desk,
+            workers,
+            max_inflight,
+            groups,
+            source,
+            line,
+            input,
+            output,
         ),
         Err(_) => {
             opened.abandon();
@@ -181,20 +222,22 @@ fn live_with<
     opened: Opened<'_>,
     desk: OpenedDesk<BrokerPlace<B>>,
     workers: u8,
+    max_inflight: MaxInflight,
     groups: &Routes,
     source: Awaited<TcpSource>,
     line: &[u8],
     input: &mut I,
     output: &mut O,
-) -> Result<(Vec<u8>, Served), RunError>
+) -> Result<Reported, RunError>
     requires gate { gate.now ≡ B.gate }
     requires desk { desk ≡ N.history }
     requires workers { (1 ≤ workers) × (workers ≤ 64) }
     requires seats { AreSeatsOf gate.now seats.items × (length seats.items ≡ workers + 3) }
     requires opened { IsOfBroker B.gate B.group workers opened }
     requires capacity { HaveCapacity B.group (B.group 0).capacity }
-    ensures told { IfOk result (λ told. AreReports (B.group 0).capacity workers groups.now told.0.items × Appends (O.contents output.old) (O.contents output.new) line.now) }
-    ensures read { IfOk result (λ told. told.1 ≡ Served.Ended → IsAtEnd (I.remaining input.new)) }
+    ensures reported { IfOk result (λ reported. AreReportsAt reported.end (B.group 0).capacity workers groups.now reported.text.items) }
+    ensures written { IfOk result (λ reported. Appends (O.contents output.old) (O.contents output.new) line.now) }
+    ensures read { IfOk result (λ reported. reported.end ≡ Ok Served.Ended → IsAtEnd (I.remaining input.new)) }
     ensures failed { IfErr result (λ error. EndsUnreported line.now error (O.contents output.old) (O.contents output.new)) }
 {
     let mut seats = seats;
@@ -208,7 +251,17 @@ fn live_with<
     };
     match write_all(output, line) {
         Ok(()) => attend(
-            rt, alloc, hall, groups, hands, room, crew, source, closers, input,
+            rt,
+            alloc,
+            hall,
+            groups,
+            hands,
+            room,
+            crew,
+            source,
+            max_inflight,
+            closers,
+            input,
         ),
         Err(error) => {
             give_up(hall, room);

@@ -2,6 +2,7 @@
 ghost use Rattle.std.specs.Prelude.{◌≤◌};
 
 use crate::input::Held;
+use conn_rules::MaxInflight;
 use line_io::RunError;
 use mqtt_topic::Routes;
 use std::alloc::Global;
@@ -84,6 +85,7 @@ fn serve<R: Threads + Wait + Net<Listener = TcpListener, Stream = TcpStream> + C
         1_024,
         Routes::new(alloc),
         workers,
+        MaxInflight::most(),
         Ipv4Addr::LOCALHOST,
         port,
         &mut input,

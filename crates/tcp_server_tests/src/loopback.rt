@@ -4,6 +4,7 @@ ghost use Rattle.std.specs.Prelude.{◌≤◌};
 use crate::client::{connect, ends, gets, send};
 use crate::day::{Day, live};
 use crate::frames;
+use conn_rules::MaxInflight;
 use line_io::RunError;
 use mqtt_topic::Routes;
 use std::alloc::Global;
@@ -243,6 +244,7 @@ fn served_twice<R: Threads + Wait + Net<Listener = TcpListener, Stream = TcpStre
         1_024,
         Routes::new(alloc),
         1,
+        MaxInflight::most(),
         Ipv4Addr::LOCALHOST,
         18_834,
         &mut input,

@@ -11,6 +11,7 @@ use bell::Wake;
 use broker_groups::{Broker, BrokerPlace, Ended, Ports};
 use broker_worker::Gear;
 use call_history::HistoryName;
+use conn_rules::MaxInflight;
 use conn_service::laws::quota_law;
 use conn_supply::NoMemory;
 use final_report::end_broker;
@@ -41,7 +42,8 @@ pub struct Outcome<'g, S> {
 
 /// Serves the connections of a source with the workers of a broker, each in a thread of its own, until the source has ended or failed, the broker's gate is
 /// shut, and all connections have ended; then ends its groups. Who watches is given the input, and shuts the gate and ends the source, in a thread of its own. There is room for the
-/// ports of all workers. The shares that are given are bound before the first connection is served, in their order.
+/// ports of all workers. The shares that are given are bound before the first connection is served, in their order. The client of each connection has at most so many
+/// messages unacknowledged, whatever its Receive Maximum.
 ///
 /// **What a broker promises**, in every schedule of its threads, whatever its transports do (`headline`). Of each group whose report is given:
 ///
@@ -82,6 +84,7 @@ pub fn serve<
     gear: Vec<Gear<Q, C>>,
     alarms: Vec<W>,
     source: S,
+    max_inflight: MaxInflight,
     crossing: &X,
     closer: Closer<'_, B>,
     stopper: Closer<'_, B>,
@@ -100,7 +103,19 @@ pub fn serve<
     quota_law::<BrokerPlace<B>, T, SharedSupply<'_, '_, B, N, R>>();
     let mut stopper = stopper;
     let ran = run_bound(
-        rt, alloc, &hall, shares, hands, gear, alarms, source, crossing, closer, watch, input,
+        rt,
+        alloc,
+        &hall,
+        shares,
+        hands,
+        gear,
+        alarms,
+        source,
+        max_inflight,
+        crossing,
+        closer,
+        watch,
+        input,
     );
     let drained = close(rt, &mut stopper);
     match ran {
@@ -154,6 +169,7 @@ fn run_bound<
     gear: Vec<Gear<Q, C>>,
     alarms: Vec<W>,
     source: S,
+    max_inflight: MaxInflight,
     crossing: &X,
     closer: Closer<'_, B>,
     watch: &mut D,
@@ -174,7 +190,18 @@ fn run_bound<
         return Err(hands);
     };
     match run(
-        rt, alloc, hall, hands, gear, alarms, source, crossing, closer, watch, input,
+        rt,
+        alloc,
+        hall,
+        hands,
+        gear,
+        alarms,
+        source,
+        max_inflight,
+        crossing,
+        closer,
+        watch,
+        input,
     ) {
         Ok(pooled) => {
             known.learn();

@@ -7,6 +7,7 @@ use crate::in_memory::{AlwaysReady, Meeting, NothingToWatch, Silent};
 use broker_groups::{Broker, BrokerPlace, Ended, Key, Named, Opened, Ports};
 use broker_worker::Gear;
 use call_history::HistoryName;
+use conn_rules::MaxInflight;
 use gate_word::{Gate, GateSeat};
 use group_jobs::Envelope;
 use shared_desk::OpenedDesk;
@@ -199,6 +200,7 @@ fn attend<
         gear,
         alarms,
         source,
+        MaxInflight::most(),
         &crossing,
         accepting,
         ending,

@@ -6,6 +6,7 @@ use Rattle.std.proofs.lemmas.List.Elements.{All-set, All-replicate}
 use Rattle.transport.specs.declared.counts.Counts.{Counts}
 use Rattle.group_queue.specs.Ports.{GroupId}
 use Rattle.group_queue.specs.Places.{PlaceState}
+use Rattle.conn_engine.specs.declared.standing.Opening.{Opening}
 use Rattle.conn_service.specs.declared.served.Served.{Served}
 use Rattle.conn_service.specs.declared.served.Served.TheVariants.{Memory}
 use Rattle.conn_service.specs.Services.{ServiceState}
@@ -92,12 +93,12 @@ module _ {T : Type 0} (group : ℕ → GroupId) (counts : T → Counts) (given a
       ends_one received cells cells' served served' now cell supply supply' how transport old made fewer counts_it
 
   -- one more was received, and is open
-  opened_one : (received received' : ℕ) (cells cells' : Table) (served : ServedCounts) (now cell : ℕ) (supply : Worker) → received' ≡ received + 1
-      → IsAccounted group counts given accepted received cells served → Admits counts now cells (Some cell) cells' → IsAccounted group counts given accepted received' cells' served
-  opened_one received received' cells cells' served now cell supply more old admitted =
+  opened_one : (received received' : ℕ) (cells cells' : Table) (served : ServedCounts) (opening : Opening) (cell : ℕ) (supply : Worker) → received' ≡ received + 1
+      → IsAccounted group counts given accepted received cells served → Admits counts opening cells (Some cell) cells' → IsAccounted group counts given accepted received' cells' served
+  opened_one received received' cells cells' served opening cell supply more old admitted =
       let Living : Table → Type 0 = λ cells. All (IfLives group counts given accepted) cells in
       let made = admitted.2 in
-      let lives = opens (Calls group) Visits is_visiting (λ (p : PlaceState). p.group) counts given accepted now admitted.0 made.before made.after supply admitted.1 made.becomes in
+      let lives = opens (Calls group) Visits is_visiting (λ (p : PlaceState). p.group) counts given accepted opening admitted.0 made.before made.after supply admitted.1 made.becomes in
       record {
         living = subst Living (sym made.is) (All-set (IfLives group counts given accepted) cells cell made.after lives old.living);
         endings = old.endings;
@@ -108,9 +109,9 @@ module _ {T : Type 0} (group : ℕ → GroupId) (counts : T → Counts) (given a
 
   -- one more was received, and was not opened
   refused_one : (received received' : ℕ) (cells cells' : Table) (served served' : ServedCounts) → received' ≡ received + 1
-      → IsAccounted group counts given accepted received cells served → (now : ℕ) → Admits counts now cells None cells' → served' ≡ counted Memory served
+      → IsAccounted group counts given accepted received cells served → (opening : Opening) → Admits counts opening cells None cells' → served' ≡ counted Memory served
       → IsAccounted group counts given accepted received' cells' served'
-  refused_one received received' cells cells' served served' more old now same counts_it =
+  refused_one received received' cells cells' served served' more old opening same counts_it =
       let Living : Table → Type 0 = λ cells. All (IfLives group counts given accepted) cells in
       record {
         living = subst Living (sym same) old.living;
@@ -121,13 +122,13 @@ module _ {T : Type 0} (group : ℕ → GroupId) (counts : T → Counts) (given a
       }
 
   -- one more was received, and is open or counted
-  pub came_one : (received received' : ℕ) (cells cells' : Table) (served served' : ServedCounts) (now : ℕ) (supply : Worker) → received' ≡ received + 1
-      → IsAccounted group counts given accepted received cells served → TakesIn counts now cells served cells' served' → IsAccounted group counts given accepted received' cells' served'
-  came_one received received' cells cells' served served' now supply more old (inl opened) =
+  pub came_one : (received received' : ℕ) (cells cells' : Table) (served served' : ServedCounts) (opening : Opening) (supply : Worker) → received' ≡ received + 1
+      → IsAccounted group counts given accepted received cells served → TakesIn counts opening cells served cells' served' → IsAccounted group counts given accepted received' cells' served'
+  came_one received received' cells cells' served served' opening supply more old (inl opened) =
       let Accounted : ServedCounts → Type 0 = λ counts_now. IsAccounted group counts given accepted received' cells' counts_now in
-      subst Accounted (sym opened.2) (opened_one received received' cells cells' served now opened.0 supply more old opened.1)
-  came_one received received' cells cells' served served' now supply more old (inr refused) =
-      refused_one received received' cells cells' served served' more old now refused.0 refused.1
+      subst Accounted (sym opened.2) (opened_one received received' cells cells' served opening opened.0 supply more old opened.1)
+  came_one received received' cells cells' served served' opening supply more old (inr refused) =
+      refused_one received received' cells cells' served served' more old opening refused.0 refused.1
 
   -- where no connection is open, all that were received have ended
   pub settled : (received : ℕ) (cells : Table) (served : ServedCounts) → IsAccounted group counts given accepted received cells served → occupied cells ≡ 0

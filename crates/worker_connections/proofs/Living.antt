@@ -3,6 +3,7 @@ use Rattle.std.proofs.Common.{◌≡◌, ℕ, Bool, List, [], ◌∷◌, ◌++�
 use Rattle.transport.specs.declared.counts.Counts.{Counts}
 use Rattle.transport.specs.Counting.{no_counts}
 use Rattle.conn_supply.specs.Facts.{Fact}
+use Rattle.conn_engine.specs.declared.standing.Opening.{Opening}
 use Rattle.conn_service.specs.declared.served.Served.{Served}
 use Rattle.conn_service.specs.Services.{ServiceState, opened}
 use Rattle.conn_service.specs.Acts.{Act, Others}
@@ -39,12 +40,12 @@ module _ {S P T : Type 0} (call : S → Fact P → S → Type 0) (turn : S → S
   }
 
   -- one that is opened lives, over any supply
-  pub opens : (now : ℕ) (transport : T) (before after : Option (ServiceState P T)) (supply : S) → counts transport ≡ no_counts → Opens now transport before after
+  pub opens : (opening : Opening) (transport : T) (before after : Option (ServiceState P T)) (supply : S) → counts transport ≡ no_counts → Opens opening transport before after
       → IfLived call turn visiting slot_of counts given accepted after
-  opens now transport before None supply fresh opened_so = tt
-  opens now transport before (Some service) supply fresh opened_so = record {
+  opens opening transport before None supply fresh opened_so = tt
+  opens opening transport before (Some service) supply fresh opened_so = record {
     number = service.client.conn.number;
-    opening = now;
+    opening = opening;
     transport = transport;
     fresh = fresh;
     before = supply;

@@ -8,6 +8,7 @@ use Rattle.std.proofs.lemmas.List.Elements.{All-set, All-replicate}
 use Rattle.std.proofs.lemmas.List.{get_or-set_same, get_or-set_other, get_or_default}
 use Rattle.transport.specs.declared.counts.Counts.{Counts}
 use Rattle.conn_supply.specs.Facts.{Fact}
+use Rattle.conn_engine.specs.declared.standing.Opening.{Opening}
 use Rattle.conn_service.specs.Services.{ServiceState}
 use Rattle.service_table.specs.Cells.{InCell, Opens, Tells, Turns}
 use Rattle.service_table.specs.declared.turned.Turned.{Turned}
@@ -28,9 +29,9 @@ module _ {P T : Type 0} where
   earlier since before (Some service) le fresh = (fresh.0, omega (arith, le, fresh.1), fresh.2)
 
   -- one that is opened goes on
-  pub opens : (now : ℕ) (transport : T) (before after : Option (ServiceState P T)) → Opens now transport before after → IfFreshSince now after
-  opens now transport before None opened_so = tt
-  opens now transport before (Some service) opened_so = (now, omega arith, inl (transport, opened_so.1))
+  pub opens : (now : ℕ) (opening : Opening) (transport : T) (before after : Option (ServiceState P T)) → opening.at ≡ now → Opens opening transport before after → IfFreshSince now after
+  opens now opening transport before None at opened_so = tt
+  opens now opening transport before (Some service) at opened_so = (now, omega arith, inl (transport, opening, at, opened_so.1))
 
   -- all cells are free
   pub free : (count : ℕ) (cells : List (Option (ServiceState P T))) (sweeps : Sweeps) → cells ≡ replicate count None → sweeps.swept ≡ 0 → sweeps.begun ≡ 0 → sweeps.gone ≡ 0 → AreSwept sweeps cells
@@ -90,10 +91,10 @@ module _ {P T : Type 0} where
       (subst (IfFreshSince since) (sym (get_or-set_same cells cell after None (slice_get_within cells cell before has))) fresh)
 
   -- behind one that was opened
-  opened_one : (cells cells' : List (Option (ServiceState P T))) (cell : ℕ) (transport : T) (sweeps : Sweeps) → AreSwept sweeps cells → InCell cells cell (Opens sweeps.latest transport) cells'
-      → AreSwept sweeps cells'
-  opened_one cells cells' cell transport sweeps are made =
-      touched cells cells' cell made.before made.after sweeps are made.has made.is (opens sweeps.latest transport made.before made.after made.becomes)
+  opened_one : (cells cells' : List (Option (ServiceState P T))) (cell : ℕ) (opening : Opening) (transport : T) (sweeps : Sweeps) → opening.at ≡ sweeps.latest → AreSwept sweeps cells
+      → InCell cells cell (Opens opening transport) cells' → AreSwept sweeps cells'
+  opened_one cells cells' cell opening transport sweeps at are made =
+      touched cells cells' cell made.before made.after sweeps are made.has made.is (opens sweeps.latest opening transport made.before made.after at made.becomes)
 
   -- that it went on is noted
   pub noted : (cells : List (Option (ServiceState P T))) (cell : ℕ) (old new : Sweeps) → AreSwept old cells → IfFreshSince old.latest (get_or cells cell None)
@@ -146,7 +147,7 @@ module _ {S P T : Type 0} (call : S → Fact P → S → Type 0) (turn : S → S
       (subst (λ n. Notes cell n old new) long notes)
 
 -- behind one that came
-pub came_one : {T : Type 0} (counts : T → Counts) (cells cells' : List (Option (ServiceState PlaceState T))) (served served' : ServedCounts) (sweeps : Sweeps) → AreSwept sweeps cells
-    → TakesIn counts sweeps.latest cells served cells' served' → AreSwept sweeps cells'
-came_one counts cells cells' served served' sweeps are (inl opened) = opened_one cells cells' opened.0 opened.1.0 sweeps are opened.1.2
-came_one counts cells cells' served served' sweeps are (inr refused) = subst (λ those. AreSwept sweeps those) (sym refused.0) are
+pub came_one : {T : Type 0} (counts : T → Counts) (cells cells' : List (Option (ServiceState PlaceState T))) (served served' : ServedCounts) (sweeps : Sweeps) (opening : Opening) → opening.at ≡ sweeps.latest
+    → AreSwept sweeps cells → TakesIn counts opening cells served cells' served' → AreSwept sweeps cells'
+came_one counts cells cells' served served' sweeps opening at are (inl opened) = opened_one cells cells' opened.0 opening opened.1.0 sweeps at are opened.1.2
+came_one counts cells cells' served served' sweeps opening at are (inr refused) = subst (λ those. AreSwept sweeps those) (sym refused.0) are

@@ -60,7 +60,7 @@ module _ {P T : Type 0} where
   told_in_time (rounds.Ended served) service moment told going none = absurd (cc (told.0, going))
 
   went_in_time : (service : ServiceState P T) (moment : ℕ) → WentOnAt service moment → service.ending ≡ None → service.outgoing ≡ [] → moment - service.ticked < sweep_period
-  went_in_time service moment (inl opened_so) going none = omega (arith, ap (λ (s : ServiceState P T). s.ticked) opened_so.1)
+  went_in_time service moment (inl opened_so) going none = omega (arith, opened_so.2, ap (λ (s : ServiceState P T). s.ticked) opened_so.3)
   went_in_time service moment (inr told) going none = told_in_time told.0 service moment told.1 going none
 
   ticked_one : (sweeps : Sweeps) (cell : Option (ServiceState P T)) → IsInTime sweeps → IfFreshSince sweeps.swept cell → IfTicked sweeps.latest cell

@@ -9,6 +9,7 @@ use Rattle.std.proofs.lemmas.Option.{slice_get_within, get_or_from_slice_get}
 use Rattle.transport.specs.declared.counts.Counts.{Counts}
 use Rattle.group_queue.specs.Places.{PlaceState}
 use Rattle.conn_engine.specs.Looking.{TakesAt}
+use Rattle.conn_engine.specs.declared.standing.Opening.{Opening}
 use Rattle.conn_engine.specs.declared.standing.Standing.{Standing}
 use Rattle.conn_engine.specs.declared.standing.Standing.TheVariants.{Unconnected, Waiting, Connected, Ended}
 use Rattle.conn_service.specs.Services.{ServiceState, opened}
@@ -60,37 +61,37 @@ module _ {T : Type 0} where
       let none = subst IsNone (get_or_from_slice_get (replicate count None) cell (Some service) None has') (all cell None (slice_get_within (replicate count None) cell (Some service) has')) in
       absurd (cc none)
 
-  opened_takes : (service : ServiceState PlaceState T) (number now : ℕ) (transport : T) (place : PlaceState) → service ≡ opened number now transport → TakesAt service.client.conn.standing place → ⊥
-  opened_takes service number now transport place is takes =
+  opened_takes : (service : ServiceState PlaceState T) (number : ℕ) (opening : Opening) (transport : T) (place : PlaceState) → service ≡ opened number opening transport → TakesAt service.client.conn.standing place → ⊥
+  opened_takes service number opening transport place is takes =
       subst (λ (s : ServiceState PlaceState T). TakesAt s.client.conn.standing place) is takes
 
-  opened_one : (now : ℕ) (transport : T) (before after : Option (ServiceState PlaceState T)) (service : ServiceState PlaceState T) (place : PlaceState) → Opens now transport before after
+  opened_one : (opening : Opening) (transport : T) (before after : Option (ServiceState PlaceState T)) (service : ServiceState PlaceState T) (place : PlaceState) → Opens opening transport before after
       → after ≡ Some service → TakesAt service.client.conn.standing place → ⊥
-  opened_one now transport before None service place opened_so is takes = absurd opened_so.1
-  opened_one now transport before (Some other) service place opened_so is takes =
-      opened_takes service other.client.conn.number now transport place (sym (some_is other service is) ∙ opened_so.1) takes
+  opened_one opening transport before None service place opened_so is takes = absurd opened_so.1
+  opened_one opening transport before (Some other) service place opened_so is takes =
+      opened_takes service other.client.conn.number opening transport place (sym (some_is other service is) ∙ opened_so.1) takes
 
   -- one that is opened would not be handed a job
-  wished_opened : (cells cells' : List (Option (ServiceState PlaceState T))) (wishes : List Wish) (cell now : ℕ) (transport : T) → AreWished cells wishes
-      → InCell cells cell (Opens now transport) cells' → AreWished cells' wishes
-  wished_opened cells cells' wishes cell now transport are made k service place has takes =
+  wished_opened : (cells cells' : List (Option (ServiceState PlaceState T))) (wishes : List Wish) (cell : ℕ) (opening : Opening) (transport : T) → AreWished cells wishes
+      → InCell cells cell (Opens opening transport) cells' → AreWished cells' wishes
+  wished_opened cells cells' wishes cell opening transport are made k service place has takes =
       let has' = subst (λ (cs : List (Option (ServiceState PlaceState T))). slice_get cs k ≡ Some (Some service)) made.is has in
       ⊎_elim
       (λ (is : k ≡ cell).
       let here = subst (λ n. slice_get (slice_set cells cell made.after) n ≡ Some (Some service)) is has' in
       let after = some_is made.after (Some service) (sym (put_there cells cell made.after (slice_get_within cells cell made.before made.has)) ∙ here) in
-      absurd (opened_one now transport made.before made.after service place made.becomes after takes))
+      absurd (opened_one opening transport made.before made.after service place made.becomes after takes))
       (λ (other : k ≢ cell). are k service place (sym (others_stay cells cell k made.after other) ∙ has') takes)
       (cases_eq k cell)
 
   -- nor would one that came
-  pub wished_came : (counts : T → Counts) (cells cells' : List (Option (ServiceState PlaceState T))) (served served' : ServedCounts) (wishes : List Wish) (now : ℕ) → length wishes ≡ length cells
-      → AreWished cells wishes → TakesInOne counts now cells served cells' served' → (length wishes ≡ length cells') × AreWished cells' wishes
-  wished_came counts cells cells' served served' wishes now long are (inl opened) = (
+  pub wished_came : (counts : T → Counts) (cells cells' : List (Option (ServiceState PlaceState T))) (served served' : ServedCounts) (wishes : List Wish) (opening : Opening) → length wishes ≡ length cells
+      → AreWished cells wishes → TakesInOne counts opening cells served cells' served' → (length wishes ≡ length cells') × AreWished cells' wishes
+  wished_came counts cells cells' served served' wishes opening long are (inl opened) = (
     omega (arith, long, ap length opened.1.2.is, length-set cells opened.0 opened.1.2.after),
-    wished_opened cells cells' wishes opened.0 now opened.1.0 are opened.1.2,
+    wished_opened cells cells' wishes opened.0 opening opened.1.0 are opened.1.2,
   )
-  wished_came counts cells cells' served served' wishes now long are (inr refused) =
+  wished_came counts cells cells' served served' wishes opening long are (inr refused) =
       subst (λ those. (length wishes ≡ length those) × AreWished those wishes) (sym refused.0) (long, are)
 
   -- behind a round the wish of the connection in its cell is noted

@@ -3,6 +3,7 @@ use Rattle.std.specs.Prelude.{◌≡◌, ◌⊎◌, ℕ, ⊤, Bool, List, Option
 use Rattle.transport.specs.declared.counts.Counts.{Counts}
 use Rattle.transport.specs.Counting.{no_counts}
 use Rattle.conn_supply.specs.Facts.{Fact}
+use Rattle.conn_engine.specs.declared.standing.Opening.{Opening}
 use Rattle.conn_engine.specs.declared.standing.Standing.TheVariants.{Ended}
 use Rattle.conn_service.specs.declared.served.Served.{Served}
 use Rattle.conn_service.specs.declared.served.Served.TheVariants.{Memory}
@@ -14,7 +15,7 @@ module _ {S P T : Type 0} (call : S → Fact P → S → Type 0) (turn : S → S
   -- acts led a connection here from its opening, over a transport of which nothing was asked before
   pub record HasLived (service : ServiceState P T) : Type 0 where
     pub number : ℕ
-    pub opening : ℕ
+    pub opening : Opening
     pub transport : T
     pub fresh : counts transport ≡ no_counts
     pub before : S

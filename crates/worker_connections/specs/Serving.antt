@@ -6,6 +6,7 @@ use Rattle.transport.specs.Counting.{no_counts}
 use Rattle.group_queue.specs.Ports.{GroupId}
 use Rattle.group_queue.specs.Places.{PlaceState}
 use Rattle.conn_channel.specs.Ends.{ReceiverState}
+use Rattle.conn_engine.specs.declared.standing.Opening.{Opening}
 use Rattle.conn_service.specs.declared.served.Served.{Served}
 use Rattle.conn_service.specs.declared.served.Served.TheVariants.{Memory}
 use Rattle.conn_service.specs.Services.{ServiceState}
@@ -61,16 +62,16 @@ pub record IsDone {T : Type 0} (connections : ConnectionsState T) : Type 0 where
   pub mark : connections.receiver.end_marks_received ≡ 1
   pub none_live : live connections ≡ 0
 
--- a connection that came is opened in a cell at this moment, or in none
-abbrev pub Admits : {T : Type 0} → (T → Counts) → ℕ → List (Option (ServiceState PlaceState T)) → Option ℕ → List (Option (ServiceState PlaceState T)) → Type 0
-Admits counts now old None new = new ≡ old
-Admits {T} counts now old (Some cell) new =
-    (transport : T) × (counts transport ≡ no_counts) × InCell old cell (Opens now transport) new × (occupied new ≡ occupied old + 1)
+-- a connection that came is opened so in a cell, or in none
+abbrev pub Admits : {T : Type 0} → (T → Counts) → Opening → List (Option (ServiceState PlaceState T)) → Option ℕ → List (Option (ServiceState PlaceState T)) → Type 0
+Admits counts opening old None new = new ≡ old
+Admits {T} counts opening old (Some cell) new =
+    (transport : T) × (counts transport ≡ no_counts) × InCell old cell (Opens opening transport) new × (occupied new ≡ occupied old + 1)
 
 -- it is open then, or has ended and is counted as one for which there was no memory
-abbrev pub TakesIn : {T : Type 0} → (T → Counts) → ℕ → List (Option (ServiceState PlaceState T)) → ServedCounts → List (Option (ServiceState PlaceState T)) → ServedCounts → Type 0
-TakesIn counts now old served new served' =
-    ((cell : ℕ) × Admits counts now old (Some cell) new × (served' ≡ served)) ⊎ (Admits counts now old None new × (served' ≡ counted Memory served))
+abbrev pub TakesIn : {T : Type 0} → (T → Counts) → Opening → List (Option (ServiceState PlaceState T)) → ServedCounts → List (Option (ServiceState PlaceState T)) → ServedCounts → Type 0
+TakesIn counts opening old served new served' =
+    ((cell : ℕ) × Admits counts opening old (Some cell) new × (served' ≡ served)) ⊎ (Admits counts opening old None new × (served' ≡ counted Memory served))
 
 -- what a connection waits for behind a round; none where there is none, or it has ended
 abbrev pub round_of : {T : Type 0} → Turned T → Option Round

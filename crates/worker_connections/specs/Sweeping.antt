@@ -1,5 +1,6 @@
 -- When the connections of a worker went on: each does so at least every 50 milliseconds of its worker's clock, and has a Tick at least every 100.
 use Rattle.std.specs.Prelude.{◌≡◌, ◌≢◌, ◌⊎◌, ℕ, ◌+◌, ◌-◌, ◌<◌, ◌≤◌, max, ⊤, List, [], Option, Some, None, All, slice_index_or}
+use Rattle.conn_engine.specs.declared.standing.Opening.{Opening}
 use Rattle.conn_service.specs.declared.served.Round.{Round}
 use Rattle.conn_service.specs.Services.{ServiceState, opened, IsTold}
 use Rattle.worker_connections.specs.declared.sweeps.Sweeps.{Sweeps}
@@ -52,7 +53,7 @@ module _ {P T : Type 0} where
   -- it was opened at this moment, or a round at it told what it waits for: where it does not wait to write, its latest Tick was then less than 50 milliseconds ago
   abbrev pub WentOnAt : ServiceState P T → ℕ → Type 0
   WentOnAt service moment =
-      ((transport : T) × (service ≡ opened service.client.conn.number moment transport)) ⊎ ((round : Round) × IsTold round service moment)
+      ((transport : T) × (opening : Opening) × (opening.at ≡ moment) × (service ≡ opened service.client.conn.number opening transport)) ⊎ ((round : Round) × IsTold round service moment)
 
   -- the connection in a cell, where there is one, went on at this moment or later
   abbrev pub IfFreshSince : ℕ → Option (ServiceState P T) → Type 0

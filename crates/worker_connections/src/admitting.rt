@@ -7,6 +7,7 @@ use crate::connections::Came;
 use crate::poller::Poller;
 use crate::served::ServedCounts;
 use broker_groups::{Broker, BrokerPlace};
+use conn_engine::Opening;
 use conn_service::Served;
 use service_table::ServiceTable;
 use transport::Transport;
@@ -17,12 +18,12 @@ pub(crate) fn take_in<B: Broker, T: Transport + Drop, Q: Poller<T>>(
     served: &mut ServedCounts,
     poller: &mut Q,
     transport: T,
-    now: u64,
+    opening: Opening,
 ) -> Came
     requires new { T.counts transport ≡ no_counts }
-    ensures { TakesIn T.counts now table.old served.old table.new served.new }
+    ensures { TakesIn T.counts opening table.old served.old table.new served.new }
 {
-    match admit(table, poller, transport, now) {
+    match admit(table, poller, transport, opening) {
         Some(cell) => Came::Opened(cell),
         None => {
             served.count(Served::Memory);
@@ -36,10 +37,10 @@ fn admit<B: Broker, T: Transport + Drop, Q: Poller<T>>(
     table: &mut ServiceTable<BrokerPlace<B>, T>,
     poller: &mut Q,
     transport: T,
-    now: u64,
+    opening: Opening,
 ) -> Option<usize>
     requires new { T.counts transport ≡ no_counts }
-    ensures { Admits T.counts now table.old result table.new }
+    ensures { Admits T.counts opening table.old result table.new }
 {
     let mut transport = transport;
     let cell = poller.register(&mut transport)?;
@@ -47,7 +48,7 @@ fn admit<B: Broker, T: Transport + Drop, Q: Poller<T>>(
         close(poller, cell, transport);
         return None;
     }
-    match table.open(cell, now, transport) {
+    match table.open(cell, opening, transport) {
         Ok(()) => Some(cell),
         Err(transport) => {
             close(poller, cell, transport);

@@ -22,6 +22,7 @@ use crate::sweeps::Sweeps;
 use broker_groups::{Broker, BrokerPlace};
 use call_history::HistoryName;
 use conn_channel::{Received, Receiver};
+use conn_engine::Opening;
 use conn_service::{Direction, Round};
 use service_table::{ServiceTable, Turned};
 use shared_supply::{SharedSupply, Tally, Wakes};
@@ -248,12 +249,17 @@ impl<'a, 'g, B: Broker, N: HistoryName, T: Transport + Drop, R: Wait> Connection
         let now = self.sweeps.latest;
         match self.receiver.receive(rt) {
             Received::Connection(arrived) => {
+                let (transport, max_inflight) = arrived.into_parts();
+                let opening = Opening {
+                    at: now,
+                    max_inflight,
+                };
                 take_in(
                     &mut self.table,
                     &mut self.served,
                     poller,
-                    arrived.into_transport(),
-                    now,
+                    transport,
+                    opening,
                 )
             }
             Received::EndMark => Came::EndMark,

@@ -7,6 +7,7 @@ use bell::Wake;
 use broker_groups::Broker;
 use broker_worker::Roster;
 use conn_channel::Sender;
+use conn_rules::MaxInflight;
 use gate_word::{Drained, Gate, GateSeat};
 use std::marker::{Model, PhantomData};
 use std::rt::Clock;
@@ -94,7 +95,7 @@ impl<'a, B: Broker> Closer<'a, B> {
     }
 }
 
-/// Who takes connections from a source.
+/// Who takes connections from a source, and says how many messages the client of each may have unacknowledged.
 ///
 /// Contracts see it as an `AcceptorState`.
 #[derive(Drop)]
@@ -103,6 +104,7 @@ pub(crate) struct Acceptor<'a, B: Broker, T: Transport + Drop, S: Source<T>, W> 
     sender: Sender<Arrived<T>>,
     roster: &'a Roster<W>,
     closer: Closer<'a, B>,
+    max_inflight: MaxInflight,
     is_closed: bool,
     // How many connections came.
     came: u64,
@@ -122,12 +124,13 @@ impl<'a, B: Broker, T: Transport + Drop, S: Source<T>, W> Model for Acceptor<'a,
 }
 
 impl<'a, B: Broker, T: Transport + Drop, S: Source<T>, W> Acceptor<'a, B, T, S, W> {
-    /// Takes from this source, and sends through this end.
+    /// Takes from this source, and sends through this end; the client of each may have so many messages unacknowledged.
     pub(crate) fn new(
         source: S,
         sender: Sender<Arrived<T>>,
         roster: &'a Roster<W>,
         closer: Closer<'a, B>,
+        max_inflight: MaxInflight,
     ) -> Acceptor<'a, B, T, S, W>
         requires { (sender.sent ≡ []) × (sender.end_marks_sent ≡ 0) }
         ensures { result ≡ record { source = source; sender = sender } }
@@ -137,6 +140,7 @@ impl<'a, B: Broker, T: Transport + Drop, S: Source<T>, W> Acceptor<'a, B, T, S, 
             sender,
             roster,
             closer,
+            max_inflight,
             is_closed: false,
             came: 0,
             end: SourceEnd::Untouched,
@@ -161,6 +165,7 @@ impl<'a, B: Broker, T: Transport + Drop, S: Source<T>, W> Acceptor<'a, B, T, S, 
             sender,
             roster: _,
             closer: _,
+            max_inflight: _,
             is_closed: _,
             came,
             end,
@@ -214,7 +219,8 @@ impl<'a, B: Broker, T: Transport + Drop, S: Source<T>, W: Wake> Acceptor<'a, B, 
         match self.source.next() {
             Arrival::Came(transport) => {
                 self.came += 1;
-                deliver(rt, &mut self.sender, Arrived::new(transport));
+                let arrived = Arrived::new(transport, self.max_inflight);
+                deliver(rt, &mut self.sender, arrived);
                 self.roster.invite(worker);
                 None
             }

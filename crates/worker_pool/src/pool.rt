@@ -13,6 +13,7 @@ use broker_groups::Broker;
 use broker_worker::{Gear, Kit, Roster, Worker};
 use call_history::HistoryName;
 use conn_channel::{Receiver, Sender};
+use conn_rules::MaxInflight;
 use shared_supply::Hall;
 use std::alloc::Global;
 use std::rt::Clock as SystemClock;
@@ -40,7 +41,8 @@ pub struct Unbegun<B: Broker, S> {
 
 /// Serves the connections of a source with as many workers as there are hands, each in a thread of its own, until the source has ended or failed, the
 /// broker's gate is shut, and all connections have ended. A thread of its own takes the connections, and another one watches the input. The gear and the
-/// alarms are in the order of workers: a worker waits at its gear's poller, which its alarm wakes. Where the source fails, the gate is shut.
+/// alarms are in the order of workers: a worker waits at its gear's poller, which its alarm wakes. Where the source fails, the gate is shut. The client of each
+/// connection has at most so many messages unacknowledged.
 ///
 /// All that workers had of the broker comes back. Each connection that came was served by one worker, once: it lived as a connection is served, from its opening to its
 /// end, and is counted by that.
@@ -68,6 +70,7 @@ pub fn run<
     gear: Vec<Gear<Q, C>>,
     alarms: Vec<W>,
     source: S,
+    max_inflight: MaxInflight,
     crossing: &X,
     closer: Closer<'_, B>,
     watch: &mut D,
@@ -98,7 +101,7 @@ pub fn run<
         Ok(hired) => hired,
         Err(hands) => return Err(Unbegun { hands, source }),
     };
-    let mut acceptor = Acceptor::new(source, sender, &roster, closer);
+    let mut acceptor = Acceptor::new(source, sender, &roster, closer, max_inflight);
     let mut workers = workers;
     run_all(rt, &mut acceptor, watch, input, &mut workers);
     Ok(retire(acceptor, workers, hands, receivers, served))

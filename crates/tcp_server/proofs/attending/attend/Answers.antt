@@ -3,16 +3,19 @@ use Rattle.std.proofs.Common.{All, subst}
 use Rattle.threaded_broker.specs.Shares.{IsBoundIn}
 use Rattle.tcp_server.proofs.attending.attend.Goals as goal
 
-pub returns-clause-told : goal.returns-clause-told
-returns-clause-told g c = record {
-  group = g.B.Broker.group;
-  room = c.requires.capacity;
-  answers = c.in-Ok.outcome.ended.answers.items;
-  strangers = c.in-Ok.outcome.ended.strangers.items;
-  came = c.in-Ok.outcome.taken.came;
-  served = c.in-Ok.outcome.served.items;
-  headline = c.in-Ok.ensures.headline;
-  shares = c.in-Ok.outcome.shares.items;
-  bound = subst (λ these. All (IsBoundIn c.in-Ok.outcome.shares.items) these) c.shares.ensures.value c.in-Ok.ensures.shares;
-  lines = c.in_ok-text.ensures.lines;
+pub returns-clause-reported : goal.returns-clause-reported
+returns-clause-reported g c = record {
+  reports = record {
+    group = g.B.Broker.group;
+    room = c.requires.capacity;
+    answers = c.in-Ok.outcome.ended.answers.items;
+    strangers = c.in-Ok.outcome.ended.strangers.items;
+    came = c.in-Ok.outcome.taken.came;
+    served = c.in-Ok.outcome.served.items;
+    headline = c.in-Ok.ensures.headline;
+    shares = c.in-Ok.outcome.shares.items;
+    bound = subst (λ these. All (IsBoundIn c.in-Ok.outcome.shares.items) these) c.shares.ensures.value c.in-Ok.ensures.shares;
+    lines = c.in_ok-reported.ensures.lines;
+  };
+  ends = c.in_ok-reported.ensures.ends;
 }

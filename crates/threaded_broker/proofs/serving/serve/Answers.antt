@@ -9,5 +9,5 @@ returns-in-Ok-clause-headline g c = record {
   every_worker = c.ports_of.ensures ∙ c.in-Ok.ensures.hands;
   promises = c.in_ok-ended-in-Ok.ensures;
   within_receive_maximum =
-      within g.B.Broker.group g.T.Transport.counts g.T.Transport.given g.T.Transport.accepted c.quota_law.ensures c.in-Ok.field-0.pooled.taken.came c.in-Ok.field-0.pooled.served.items c.in-Ok.ensures.served;
+      within g.B.Broker.group g.T.Transport.counts g.T.Transport.given g.T.Transport.accepted c.quota_law.ensures.kept c.in-Ok.field-0.pooled.taken.came c.in-Ok.field-0.pooled.served.items c.in-Ok.ensures.served;
 }
