@@ -2,6 +2,7 @@
 ghost use Rattle.std.specs.Prelude.{◌≡◌};
 ghost use Rattle.transport.specs.Counting.{no_counts};
 
+use conn_rules::MaxInflight;
 use conn_service::{Served, serve};
 use local_broker::LocalSupply;
 use mqtt_topic::Routes;
@@ -135,6 +136,7 @@ pub(crate) fn serve_over<R: Abort + Wait>(
         rt,
         alloc,
         0,
+        MaxInflight::most(),
         transport,
         supply,
         &OpenCrossing,

@@ -4,6 +4,7 @@ ghost use Rattle.std.specs.Prelude.{⊤};
 use crate::acting::{
     ANSWERS, CONNACK, CONNECT, Moments, Play, assert_served, broker, scripted, serves,
 };
+use conn_rules::MaxInflight;
 use conn_service::{Served, serve};
 use std::test::Fail;
 use transport::{Crossing, ReadTurn};
@@ -80,6 +81,7 @@ fn no_crossing(rt: HostRuntime) {
         &rt,
         rt.alloc(),
         0,
+        MaxInflight::most(),
         transport,
         &mut supply,
         &ShutCrossing,

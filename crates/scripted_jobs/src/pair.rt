@@ -34,13 +34,14 @@ pub fn open<P: HoldingPlace, S: Supply<P>>(
     ensures takes { IfSome result (λ pair. (pair.takes ≡ true) × (pair.member.ending ≡ None)) }
     ensures gives { IfSome result (λ pair. (pair.gives ≡ true) × (pair.publisher.ending ≡ None)) }
 {
+    let (first, second) = (Opening::plain(0), Opening::plain(0));
     let member = member(alloc, jobs as usize, window).ok()?;
     let publisher = publisher(alloc, jobs as usize).ok()?;
-    let member = match Service::open(alloc, 0, Opening::plain(0), member) {
+    let member = match Service::open(alloc, 0, first, member) {
         Ok(member) => member,
         Err(_) => return None,
     };
-    match Service::open(alloc, 1, Opening::plain(0), publisher) {
+    match Service::open(alloc, 1, second, publisher) {
         Ok(publisher) => Some(Pair {
             member,
             takes: true,
