@@ -11,31 +11,34 @@ use call_history::HistoryName;
 use conn_service::Direction;
 use std::sync::Wait;
 use transport::{Clock, Crossing, Transport};
-use worker_bells::{HeldCounts, Hint, Level, Load, SLOTS};
+use worker_bells::{Average, HeldCounts, Hint, Level, Load, SLOTS};
 use worker_connections::Poller;
 
 /// Of so many workers at most it is told what they have: no broker has more.
 const MOST_WORKERS: usize = 64;
 
+/// For so many messages each, on the average, a worker's own members may be ahead of another worker's before those come first where all have as few.
+const MOST_AHEAD: u32 = 1;
+
 /// What a worker is to do for a group in a turn.
 #[derive(Clone, Copy)]
 struct Plan {
-    // So many were handed out by all workers, counted from 0 again at 2^32.
-    handed: u32,
     // So many are for its own members.
     share: u32,
     // The workers, by their bits, whose members have the fewest.
     fewest: u64,
     // It was called for one of them.
     is_called: bool,
+    // So many of its own members may be handed one.
+    members: u16,
 }
 
 impl Plan {
     const NONE: Plan = Plan {
-        handed: 0,
         share: 0,
         fewest: 0,
         is_called: false,
+        members: 0,
     };
 }
 
@@ -45,9 +48,11 @@ pub(crate) struct Sharing {
     plans: [Plan; SLOTS],
     // How many of its own members have how many.
     own: HeldCounts,
-    // What the other workers told of theirs, and when the one that comes next was handed its latest.
+    // For each group, how many messages each of its own members was handed.
+    averages: [Average; SLOTS],
+    // What the other workers told of theirs.
     others: [Load; MOST_WORKERS],
-    served: [u32; MOST_WORKERS],
+    theirs: [Average; MOST_WORKERS],
 }
 
 impl Sharing {
@@ -55,8 +60,9 @@ impl Sharing {
     pub(crate) const NONE: Sharing = Sharing {
         plans: [Plan::NONE; SLOTS],
         own: HeldCounts::NONE,
+        averages: [Average::NONE; SLOTS],
         others: [Load::NONE; MOST_WORKERS],
-        served: [0; MOST_WORKERS],
+        theirs: [Average::NONE; MOST_WORKERS],
     };
 
     /// The shares of all groups.
@@ -77,35 +83,76 @@ impl Sharing {
         fewest
     }
 
-    /// How many of the messages that wait are the share of a worker that was called for one of them: its members come before those of others that have as few.
-    fn share_of_called(&self, level: Level, waiting: u32) -> u32 {
-        u32::try_from(level.share(&self.own, u64::from(waiting), 0)).unwrap_or(u32::MAX)
+    /// How many messages each of its own members of a group was handed.
+    fn average(&self, slot: usize) -> Average {
+        match self.averages.get(slot) {
+            Some(average) => *average,
+            None => Average::NONE,
+        }
     }
 
-    /// The same of another worker, whose next member was handed its latest message so many messages ago.
+    /// So many of its own members of a group were handed so many messages more.
+    fn note_handed(&mut self, slot: usize, messages: u32, members: u16) {
+        if let Some(average) = self.averages.get_mut(slot) {
+            *average = average.with(messages, members);
+        }
+    }
+
+    /// What its own members of a group were handed counts beside what those of another worker were that were handed most.
+    fn keep_near(&mut self, slot: usize, workers: usize, own: usize) {
+        let mut most: Option<Average> = None;
+        for worker in 0..workers.min(MOST_WORKERS) {
+            let theirs = self.theirs[worker];
+            if worker != own && self.others[worker].members > 0 {
+                most = match most {
+                    Some(most) if !theirs.leads(most, 0) => Some(most),
+                    _ => Some(theirs),
+                };
+            }
+        }
+        if let (Some(most), Some(average)) = (most, self.averages.get_mut(slot)) {
+            *average = average.near(most);
+        }
+    }
+
+    /// How far so many messages fill the members of all workers.
+    fn level(&self, workers: usize, waiting: u32) -> Level {
+        Level::of(
+            &self.others[..workers.min(MOST_WORKERS)],
+            &self.own,
+            u64::from(waiting),
+        )
+    }
+
+    /// How many of the messages of a group that wait are the share of a worker: of those members that have as few, its own come first where it was called for one of
+    /// them, or where they are not ahead of the others'.
     fn share(
         &self,
         workers: usize,
         own: usize,
+        slot: usize,
         level: Level,
         waiting: u32,
-        age: u32,
-        handed: u32,
+        is_called: bool,
     ) -> u32 {
         let count = u64::from(waiting);
-        if level.keeps_all(&self.own, count) {
+        if !is_called && level.keeps_all(&self.own, count) {
             return waiting;
         }
-        let earlier = self.earlier(workers, own, level.level, age, handed);
+        let earlier = if is_called {
+            0
+        } else {
+            self.earlier(workers, own, slot, level.level)
+        };
         u32::try_from(level.share(&self.own, count, earlier)).unwrap_or(u32::MAX)
     }
 
-    /// How many members of other workers that are below a level come before those of this one: of whom the next waits for longer, by the hand-outs of the group since.
-    fn earlier(&self, workers: usize, own: usize, level: u16, age: u32, handed: u32) -> u64 {
+    /// How many members of other workers that are below a level come before those of this one: of whom each was handed fewer.
+    fn earlier(&self, workers: usize, own: usize, slot: usize, level: u16) -> u64 {
+        let average = self.average(slot);
         let mut earlier = 0u64;
         for worker in 0..workers.min(MOST_WORKERS) {
-            let theirs = handed.wrapping_sub(self.served[worker]);
-            if worker != own && (theirs > age || theirs == age && worker < own) {
+            if worker != own && average.leads(self.theirs[worker], MOST_AHEAD) {
                 earlier = earlier.saturating_add(self.others[worker].below(level));
             }
         }
@@ -113,14 +160,14 @@ impl Sharing {
     }
 
     /// The bits of those other workers whose members are below a level and have the fewest, until they can be handed so many messages.
-    fn fewest_for(&self, workers: usize, own: usize, level: u16, count: u64, handed: u32) -> u64 {
+    fn fewest_for(&self, workers: usize, own: usize, level: u16, count: u64) -> u64 {
         let mut found = 0u64;
         let mut covered = 0u64;
         'workers: for _ in 0..workers.min(MOST_WORKERS) {
             if covered >= count {
                 break;
             }
-            let Some(worker) = self.next_fewest(workers, own, level, found, handed) else {
+            let Some(worker) = self.next_fewest(workers, own, level, found) else {
                 break;
             };
             found |= 1 << worker;
@@ -129,30 +176,24 @@ impl Sharing {
         found
     }
 
-    /// Of the other workers that are not found yet the one whose members are below a level and have the fewest, and have waited longest where several have.
-    fn next_fewest(
-        &self,
-        workers: usize,
-        own: usize,
-        level: u16,
-        found: u64,
-        handed: u32,
-    ) -> Option<usize>
+    /// Of the other workers that are not found yet the one whose members are below a level and have the fewest, and were handed fewest where several have.
+    fn next_fewest(&self, workers: usize, own: usize, level: u16, found: u64) -> Option<usize>
         ensures { IfSome result (λ worker. worker < 64) }
     {
         let mut best = None;
         let mut least = level;
-        let mut longest = 0;
+        let mut average = Average::NONE;
         for worker in 0..workers.min(MOST_WORKERS) {
             let load = self.others[worker];
-            let age = handed.wrapping_sub(self.served[worker]);
+            let theirs = self.theirs[worker];
             let is_other = worker != own && found >> worker & 1 == 0 && load.members > 0;
             if is_other
-                && (load.least < least || load.least == least && least < level && age > longest)
+                && (load.least < least
+                    || load.least == least && least < level && average.leads(theirs, 0))
             {
                 best = Some(worker);
                 least = load.least;
-                longest = age;
+                average = theirs;
             }
         }
         best
@@ -203,34 +244,30 @@ impl<
         if !has_changed {
             return Plan::NONE;
         }
-        let (load, served) = self.connections.members().load(slot);
-        self.tell_load(slot, load, served, 0);
+        let load = self.connections.members().load(slot);
+        self.tell_load(slot, load, 0);
         let workers = self.roster.len();
-        let (waiting, handed) = self.roster.hints().waiting(workers, slot);
+        let waiting = self.roster.hints().waiting(workers, slot);
         if waiting == 0 {
             return Plan::NONE;
         }
         self.look_round(slot);
-        let level = Level::of(&self.sharing.others, &self.sharing.own, u64::from(waiting));
-        let age = handed.wrapping_sub(served);
-        let share = if is_called {
-            self.sharing.share_of_called(level, waiting)
-        } else {
-            self.sharing
-                .share(workers, self.number, level, waiting, age, handed)
-        };
+        let level = self.sharing.level(workers, waiting);
+        let share = self
+            .sharing
+            .share(workers, self.number, slot, level, waiting, is_called);
         let left = u64::from(waiting.saturating_sub(share));
         let fewest = self
             .sharing
-            .fewest_for(workers, self.number, level.level, left, handed);
+            .fewest_for(workers, self.number, level.level, left);
         if share > 0 {
-            self.tell_load(slot, filled(load, level.level), served, share);
+            self.tell_load(slot, filled(load, level.level), share);
         }
         Plan {
-            handed,
             share,
             fewest,
             is_called,
+            members: load.members,
         }
     }
 
@@ -239,27 +276,29 @@ impl<
         ensures same { self.new.connections ≡ self.old.connections }
         ensures bells { self.new.bells ≡ self.old.bells }
     {
-        for worker in 0..self.roster.len().min(MOST_WORKERS) {
+        let workers = self.roster.len();
+        for worker in 0..workers.min(MOST_WORKERS) {
             if worker != self.number {
-                let (load, served) = self.roster.hints().load(worker, slot);
+                let (load, average) = self.roster.hints().load(worker, slot);
                 self.sharing.others[worker] = load;
-                self.sharing.served[worker] = served;
+                self.sharing.theirs[worker] = average;
             }
         }
+        self.sharing.keep_near(slot, workers, self.number);
         self.connections
             .members()
             .count_held(slot, &mut self.sharing.own);
     }
 
     /// Tells the others of a group: of its members, and what it brought and handed out, with so many that it is about to hand out.
-    fn tell_load(&self, slot: usize, load: Load, served: u32, share: u32) {
+    fn tell_load(&self, slot: usize, load: Load, share: u32) {
         let tally = self.connections.tally(slot);
         self.roster.hints().tell(
             self.number,
             slot,
             Hint {
                 load,
-                served,
+                average: self.sharing.average(slot),
                 brought: tally.brought,
                 handed: tally.handed.wrapping_add(share),
             },
@@ -310,13 +349,12 @@ impl<
             let cell = self.connections.members().cell_behind(next, step);
             let most = self.most_for(cell, slot, level.level, &mut spare).min(left);
             if most > 0 {
-                let served = plan.handed.wrapping_add(plan.share.saturating_sub(left));
-                left = left.saturating_sub(self.hand_to(cell, slot, most, served, buffer));
+                left = left.saturating_sub(self.hand_to(cell, slot, most, buffer));
             }
         }
-        let (load, served) = self.connections.members().load(slot);
-        self.tell_load(slot, load, served, 0);
-        plan.share.saturating_sub(left)
+        let handed = plan.share.saturating_sub(left);
+        self.tell_handed(slot, handed, plan.members);
+        handed
     }
 
     /// How many messages the client in a cell is handed where all are filled up to a level, of which so many more may have one more.
@@ -332,22 +370,14 @@ impl<
         most
     }
 
-    /// Hands so many messages at most to the client in a cell, after so many of its group. How many it was handed.
-    fn hand_to(
-        &mut self,
-        cell: usize,
-        slot: usize,
-        most: u32,
-        served: u32,
-        buffer: &mut [u8; READ_SIZE],
-    ) -> u32
+    /// Hands so many messages at most to the client in a cell. How many it was handed.
+    fn hand_to(&mut self, cell: usize, slot: usize, most: u32, buffer: &mut [u8; READ_SIZE]) -> u32
         ensures { Rounds self.old.connections self.new.connections }
     {
         let _round = self.round(cell, Direction::Outbound, buffer, most);
         let handed = most.saturating_sub(self.connections.unused());
         if handed > 0 {
-            self.connections
-                .note_served(cell, slot, served.wrapping_add(handed));
+            self.connections.note_served(cell, slot);
         }
         handed
     }
@@ -357,13 +387,19 @@ impl<
         ensures same { self.new.connections ≡ self.old.connections }
         ensures bells { self.new.bells ≡ self.old.bells }
     {
-        if self.connections.unused() > 0 {
-            return;
+        if self.connections.unused() == 0 {
+            self.connections.note_served(cell, slot);
+            self.tell_handed(slot, 1, 1);
         }
-        let (_waiting, handed) = self.roster.hints().waiting(self.roster.len(), slot);
-        self.connections.note_served(cell, slot, handed);
-        let (load, served) = self.connections.members().load(slot);
-        self.tell_load(slot, load, served, 0);
+    }
+
+    /// Tells the others of its members of a group, of which so many were handed so many messages.
+    fn tell_handed(&mut self, slot: usize, messages: u32, members: u16)
+        ensures same { self.new.connections ≡ self.old.connections }
+        ensures bells { self.new.bells ≡ self.old.bells }
+    {
+        self.sharing.note_handed(slot, messages, members);
+        self.tell_load(slot, self.connections.members().load(slot), 0);
     }
 }
 

@@ -1,5 +1,5 @@
 //! What each worker tells the others of its members and of the messages of each group. No contract speaks of it: it may be out of date, and only says who is asked first.
-use crate::loads::Load;
+use crate::loads::{Average, Load};
 use std::alloc::{AllocError, Global};
 use std::sync::atomic::{AtomicU64, Ordering};
 
@@ -11,8 +11,8 @@ const SLOTS: usize = 8;
 pub struct Hint {
     /// Of its members that may be handed a message.
     pub load: Load,
-    /// How many messages of the group had been handed out when the member that comes next was handed its latest.
-    pub served: u32,
+    /// How many messages each of them was handed.
+    pub average: Average,
     /// How many messages its connections brought into the group, counted from 0 again at 2^32.
     pub brought: u32,
     /// How many its members were handed, counted so too.
@@ -24,7 +24,7 @@ pub struct Hint {
 struct Words {
     // The four numbers of its load.
     load: AtomicU64,
-    served: AtomicU64,
+    average: AtomicU64,
     // What was brought, above what was handed out.
     tally: AtomicU64,
 }
@@ -33,7 +33,7 @@ impl Words {
     fn new() -> Words {
         Words {
             load: AtomicU64::new(0),
-            served: AtomicU64::new(0),
+            average: AtomicU64::new(0),
             tally: AtomicU64::new(0),
         }
     }
@@ -74,24 +74,25 @@ impl Hints {
                 &words.tally,
                 u64::from(hint.brought) << 32 | u64::from(hint.handed),
             );
-            put(&words.served, u64::from(hint.served));
+            put(&words.average, u64::from(hint.average.parts));
             put(&words.load, word_of(hint.load));
         }
     }
 
-    /// What a worker told of its members in a group, and when the one that comes next was handed its latest message.
-    pub fn load(&self, worker: usize, slot: usize) -> (Load, u32) {
+    /// What a worker told of its members in a group, and how many messages each of them was handed.
+    pub fn load(&self, worker: usize, slot: usize) -> (Load, Average) {
         match self.at(worker, slot) {
             Some(words) => {
                 let load = load_of(words.load.load(Ordering::SeqCst));
-                (load, low_half(words.served.load(Ordering::SeqCst)))
+                let parts = low_half(words.average.load(Ordering::SeqCst));
+                (load, Average { parts })
             }
-            None => (Load::NONE, 0),
+            None => (Load::NONE, Average::NONE),
         }
     }
 
-    /// About how many messages wait in a group, by what so many workers told, and how many were handed out.
-    pub fn waiting(&self, workers: usize, slot: usize) -> (u32, u32) {
+    /// About how many messages wait in a group, by what so many workers told.
+    pub fn waiting(&self, workers: usize, slot: usize) -> u32 {
         let mut brought = 0u32;
         let mut handed = 0u32;
         for worker in 0..workers {
@@ -103,11 +104,7 @@ impl Hints {
         }
         let waiting = brought.wrapping_sub(handed);
         // Where one was counted out before it was counted in, none waits.
-        if waiting > u32::MAX / 2 {
-            (0, handed)
-        } else {
-            (waiting, handed)
-        }
+        if waiting > u32::MAX / 2 { 0 } else { waiting }
     }
 }
 

@@ -15,7 +15,7 @@ mod shares;
 
 pub use calls::{Calls, Roster};
 pub use hints::{Hint, Hints};
-pub use loads::{HeldCounts, Level, Load};
+pub use loads::{Average, HeldCounts, Level, Load};
 pub use members::{Held, Members, Wish};
 pub use outfit::{Outfit, SLOTS, outfits};
 pub use shares::{MOST_CONNECTIONS, share_of};

@@ -4,6 +4,8 @@
 /// How many messages a member has at most that it has not acknowledged.
 const MOST_HELD: usize = 256;
 
+const MOST_LEVEL: u16 = 256;
+
 /// From this level on a worker may keep a message more for each of its own members, and one more for each further so many, but not more than the other number.
 const SLACK: usize = 8;
 
@@ -104,6 +106,16 @@ impl HeldCounts {
         MOST_HELD
     }
 
+    /// The next number above a level that one of them has; 257 where none has more.
+    fn next_above(&self, level: u16) -> u16 {
+        for held in usize::from(level).saturating_add(1)..self.end {
+            if self.at(held) > 0 {
+                return u16::try_from(held).unwrap_or(u16::MAX);
+            }
+        }
+        MOST_LEVEL + 1
+    }
+
     /// How many messages fill them up to a level.
     fn up_to(&self, level: usize) -> u64 {
         let mut filled = 0u64;
@@ -134,24 +146,38 @@ pub struct Level {
 }
 
 impl Level {
-    /// How far so many messages fill the members of other workers, and a worker's own.
+    /// How far so many messages fill the members of other workers, and a worker's own. It goes on from one number that members have to the next, and not by one.
     pub fn of(others: &[Load], own: &HeldCounts, count: u64) -> Level {
         let mut level = least_of(others, own);
-        let mut below = 0u64;
         let mut left = count;
-        'levels: for _ in 0..=MOST_HELD {
-            if usize::from(level) > MOST_HELD {
+        for _ in 0..MOST_HELD {
+            if level > MOST_LEVEL {
                 break;
             }
-            below = below.saturating_add(own.at(usize::from(level)));
-            level = level.saturating_add(1);
-            let all = below_in(others, level).saturating_add(below);
+            let next = next_above(others, own, level);
+            let members = below_in(others, next).saturating_add(own.below(usize::from(next)));
+            let all = members.saturating_mul(u64::from(next.saturating_sub(level)));
             if all >= left {
-                break;
+                return Level::above(level, members, left);
             }
             left -= all;
+            level = next;
         }
         Level { level, spare: left }
+    }
+
+    /// How far so many messages fill so many members, all of whom have the same number.
+    fn above(held: u16, members: u64, count: u64) -> Level {
+        let full = if members == 0 {
+            0
+        } else {
+            count.saturating_sub(1) / members
+        };
+        let level = u64::from(held).saturating_add(full).saturating_add(1);
+        Level {
+            level: u16::try_from(level).unwrap_or(u16::MAX),
+            spare: count.saturating_sub(full.saturating_mul(members)),
+        }
     }
 
     /// How many of so many messages are a worker's share: its own members are filled up to one less, and of those that are left each of them gets one, after so
@@ -172,6 +198,20 @@ impl Level {
     }
 }
 
+/// The next number above a level that a member of others or of the worker itself has; 257 where none has more.
+fn next_above(others: &[Load], own: &HeldCounts, level: u16) -> u16 {
+    let mut next = own.next_above(level);
+    for load in others {
+        if load.members > 0 && load.least > level {
+            next = next.min(load.least);
+        }
+        if load.members > 0 && load.rest > level {
+            next = next.min(load.rest);
+        }
+    }
+    next
+}
+
 /// The least that a member of others or of the worker itself has.
 fn least_of(others: &[Load], own: &HeldCounts) -> u16 {
     let mut least = u16::try_from(own.least()).unwrap_or(u16::MAX);
@@ -190,4 +230,51 @@ fn below_in(others: &[Load], level: u16) -> u64 {
         below = below.saturating_add(load.below(level));
     }
     below
+}
+
+/// What a message counts in an average.
+const MESSAGE: u32 = 1_024;
+
+/// For how many messages the averages of two workers differ at most.
+const MOST_LEAD: u32 = 4;
+
+/// How many messages each member that a worker has in a group was handed on the average, in 1,024ths, counted from 0 again at 2^32.
+///
+/// Workers compare theirs where members of several have as few messages: so each is handed as many in the long run. What a worker is behind is not made up for
+/// without end, nor is what it is ahead: no two are more than four messages apart ([`Average::near`]).
+#[derive(Clone, Copy, Debug, PartialEq, Eq)]
+pub struct Average {
+    /// In 1,024ths of a message.
+    pub parts: u32,
+}
+
+impl Average {
+    /// That of who was handed none.
+    pub const NONE: Average = Average { parts: 0 };
+
+    /// What it is once so many members were handed so many messages more.
+    pub fn with(self, messages: u32, members: u16) -> Average {
+        let parts = messages.saturating_mul(MESSAGE) / u32::from(members.max(1));
+        Average {
+            parts: self.parts.wrapping_add(parts),
+        }
+    }
+
+    /// Whether it is more than another by more than so many messages.
+    pub fn leads(self, other: Average, messages: u32) -> bool {
+        let lead = self.parts.wrapping_sub(other.parts);
+        lead > messages.saturating_mul(MESSAGE) && lead <= u32::MAX / 2
+    }
+
+    /// What of it counts beside that of another worker: four messages more or less at most.
+    pub fn near(self, other: Average) -> Average {
+        let parts = if self.leads(other, MOST_LEAD) {
+            other.parts.wrapping_add(MOST_LEAD * MESSAGE)
+        } else if other.leads(self, MOST_LEAD) {
+            other.parts.wrapping_sub(MOST_LEAD * MESSAGE)
+        } else {
+            self.parts
+        };
+        Average { parts }
+    }
 }

@@ -27,8 +27,6 @@ impl Wish {
 pub struct Held {
     /// How many messages it has not acknowledged.
     pub count: u16,
-    /// How many messages of its group had been handed out when it was handed its latest, counted from 0 again at 2^32.
-    pub served: u32,
     /// What was written to it last did not go out whole: it does not read now.
     pub is_blocked: bool,
 }
@@ -37,7 +35,6 @@ impl Held {
     /// That of who has nothing.
     pub const NONE: Held = Held {
         count: 0,
-        served: 0,
         is_blocked: false,
     };
 }
@@ -170,13 +167,10 @@ impl Members {
         }
     }
 
-    /// Notes that the client in a cell was handed a message after so many of its group, and that those in the cells after it come next.
-    pub fn note_served(&mut self, cell: usize, slot: usize, served: u32)
+    /// Notes that the client in a cell was handed a message of a group, so that those in the cells after it come next.
+    pub fn note_served(&mut self, cell: usize, slot: usize)
         ensures { self.new ≡ self.old }
     {
-        if let Some(held) = self.held.get_mut(cell) {
-            held.served = served;
-        }
         if let Some(next) = self.next.get_mut(slot) {
             *next = cell.saturating_add(1);
         }
@@ -269,21 +263,18 @@ impl Members {
         found
     }
 
-    /// What its worker tells the others of them: their load, and when the one who comes next was handed its latest message.
-    pub fn load(&self, slot: usize) -> (Load, u32) {
+    /// What its worker tells the others of them.
+    pub fn load(&self, slot: usize) -> Load {
         let mut load = Load::NONE;
-        let mut served = 0;
         if !self.has_taker(slot) {
-            return (load, served);
+            return load;
         }
         let mut sum = 0u32;
-        let next = self.next(slot);
-        for step in 0..self.top {
-            if let Some(held) = self.held_at(self.cell_behind(next, step), slot) {
+        for cell in 0..self.top {
+            if let Some(held) = self.held_at(cell, slot) {
                 if load.members == 0 || held.count < load.least {
                     load.least = held.count;
                     load.at_least = 0;
-                    served = held.served;
                 }
                 if held.count == load.least {
                     load.at_least = load.at_least.saturating_add(1);
@@ -293,7 +284,7 @@ impl Members {
             }
         }
         load.rest = rest_of(load, sum);
-        (load, served)
+        load
     }
 }
 

@@ -187,11 +187,11 @@ impl<'a, 'g, B: Broker, N: HistoryName, T: Transport + Drop, R: Wait> Connection
         self.members.take_changed(slot)
     }
 
-    /// Notes that the client in a cell was handed a message after so many of its group.
-    pub fn note_served(&mut self, cell: usize, slot: usize, served: u32)
+    /// Notes that the client in a cell was handed a message of a group.
+    pub fn note_served(&mut self, cell: usize, slot: usize)
         ensures { self.new ≡ self.old }
     {
-        self.members.note_served(cell, slot, served);
+        self.members.note_served(cell, slot);
     }
 
     /// How many messages of the group of a slot they brought there and handed out.
