@@ -98,7 +98,7 @@ impl Sharing {
         }
     }
 
-    /// What its own members of a group were handed counts beside what those of another worker were that were handed most.
+    /// Brings what its own members of a group were handed near what those of that other worker were who were handed most.
     fn keep_near(&mut self, slot: usize, workers: usize, own: usize) {
         let mut most: Option<Average> = None;
         for worker in 0..workers.min(MOST_WORKERS) {
@@ -124,30 +124,22 @@ impl Sharing {
         )
     }
 
-    /// How many of the messages of a group that wait are the share of a worker: of those members that have as few, its own come first where it was called for one of
-    /// them, or where they are not ahead of the others'.
-    fn share(
-        &self,
-        workers: usize,
-        own: usize,
-        slot: usize,
-        level: Level,
-        waiting: u32,
-        is_called: bool,
-    ) -> u32 {
+    /// How many of the messages of a group that wait are the share of a worker that was called for one of them: of those members that have as few its own come first.
+    fn share_of_called(&self, level: Level, waiting: u32) -> u32 {
+        u32::try_from(level.share(&self.own, u64::from(waiting), 0)).unwrap_or(u32::MAX)
+    }
+
+    /// The same of another worker, whose own members come first unless they are ahead of the others'.
+    fn share(&self, workers: usize, own: usize, slot: usize, level: Level, waiting: u32) -> u32 {
         let count = u64::from(waiting);
-        if !is_called && level.keeps_all(&self.own, count) {
+        if level.keeps_all(&self.own, count) {
             return waiting;
         }
-        let earlier = if is_called {
-            0
-        } else {
-            self.earlier(workers, own, slot, level.level)
-        };
+        let earlier = self.earlier(workers, own, slot, level.level);
         u32::try_from(level.share(&self.own, count, earlier)).unwrap_or(u32::MAX)
     }
 
-    /// How many members of other workers that are below a level come before those of this one: of whom each was handed fewer.
+    /// How many members of other workers that are below a level come before those of this one: of whom each was handed too few beside its own.
     fn earlier(&self, workers: usize, own: usize, slot: usize, level: u16) -> u64 {
         let average = self.average(slot);
         let mut earlier = 0u64;
@@ -253,9 +245,12 @@ impl<
         }
         self.look_round(slot);
         let level = self.sharing.level(workers, waiting);
-        let share = self
-            .sharing
-            .share(workers, self.number, slot, level, waiting, is_called);
+        let share = if is_called {
+            self.sharing.share_of_called(level, waiting)
+        } else {
+            self.sharing
+                .share(workers, self.number, slot, level, waiting)
+        };
         let left = u64::from(waiting.saturating_sub(share));
         let fewest = self
             .sharing
