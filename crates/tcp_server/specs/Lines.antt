@@ -31,7 +31,8 @@ IsRefused (Err (refusals.Missing lack)) = ⊤
 IsRefused (Err (refusals.Stranger stamp)) = ⊤
 IsRefused (Err refusals.Memory) = ⊥
 
--- How a broker ends by the reports of its groups: as unfinished where the end of one was refused; else for want of memory where that was so of one (506); and in any other way only with all reports
+-- How a broker ends by the reports of its groups: as unfinished where the end of one was refused; else as out of memory where there was none for the report of one (506); and in any other way only
+-- with all reports
 abbrev pub EndsBy : {X : Type 0} → Result X RunError → List (Result Report FinishError) → Type 0
 EndsBy (Ok done) reports = All IsOk reports
 EndsBy (Err ReadFailed) reports = All IsOk reports
