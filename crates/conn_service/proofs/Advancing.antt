@@ -1,21 +1,23 @@
--- Acts among which a read gave as much as there was room for, or the transport took something.
-use Rattle.std.proofs.Common.{◌≡◌, ◌≢◌, ◌⊎◌, ℕ, ◌<◌, ◌≤◌, Bool, true, false, List, [], ◌∷◌, ◌++◌, Option, Result, Ok, Err, IfOk, refl, sym, ap, subst, ◌∙◌, inl, inr, append-nil, arith}
+-- What acts tell, one behind the other: that what waits is written first, that a read gave as much as there was room for, or that the transport took something.
+use Rattle.std.proofs.Common.{◌≡◌, ◌≢◌, ◌⊎◌, ℕ, ◌<◌, ◌≤◌, Bool, true, false, List, [], ◌∷◌, ◌++◌, Option, Some, None, Result, Ok, Err, IfOk, refl, sym, ap, subst, ◌∙◌, inl, inr, append-nil, arith}
 use Rattle.std.proofs.lemmas.List.{nil_from_length}
 use Rattle.std.proofs.lemmas.Bool.Decides.{nat_tests}
 use Rattle.transport.specs.declared.counts.Counts.{Counts}
 use Rattle.transport.specs.declared.answers.Got.{Got}
 use Rattle.transport.specs.declared.answers.Got.TheVariants as got
+use Rattle.transport.specs.declared.answers.Put.{Put}
 use Rattle.transport.specs.declared.answers.Put.TheVariants as put
-use Rattle.conn_supply.specs.Facts.{Fact}
 use Rattle.conn_engine.specs.declared.standing.Standing.TheVariants.{Ended}
+use Rattle.client_table.specs.Clients.{ClientState}
 use Rattle.conn_service.specs.declared.served.Served.{Served}
 use Rattle.conn_service.specs.Services.{ServiceState, HasNoMore}
-use Rattle.conn_service.specs.Acts.{Act, Reads, Writes, Enters, Leaves}
-use Rattle.conn_service.specs.Edges.{DoesAtEdge, ReadsOnce, WritesOnce, LeadsAtEdge}
-use Rattle.conn_service.specs.Lives.{Leads}
+use Rattle.conn_service.specs.Acts.{Act, Reads, Writes, Enters, Leaves, BeginsByWriting}
+use Rattle.conn_service.specs.Visits.{Outside}
+use Rattle.conn_service.specs.Edges.{ReadsOnce, WritesOnce, LeadsAtEdge}
 use Rattle.conn_service.specs.Moments.{drained_by}
-use Rattle.conn_service.specs.Advances.{IsFilled, IsAdvance, HasAdvance, AdvancesAtEdge, Advances, IsDoneOrAdvances}
-use Rattle.conn_service.proofs.Leading.{edge_both, both, all_at_edge, leads_one, leads_at_edge}
+use Rattle.conn_service.specs.Advances.{IsFilled, IsTaken, HasAdvance, HasForgotten, IsDoneOrAdvances, IsWrittenOn, WritesFirst, TellsOfVisit, LeadsAtEdgeBy}
+use Rattle.conn_service.proofs.Leading.{edge_one, edge_on}
+use Rattle.conn_service.proofs.Rounds.{writes_on}
 
 pub has_first : (these those : List Act) → HasAdvance these → HasAdvance (these ++ those)
 has_first [] those has = absurd has
@@ -25,6 +27,19 @@ has_first (act ∷ these) those (inr has) = inr (has_first these those has)
 pub has_last : (these those : List Act) → HasAdvance those → HasAdvance (these ++ those)
 has_last [] those has = has
 has_last (act ∷ these) those has = inr (has_last these those has)
+
+forgotten_first : (these those : List Act) → HasForgotten these → HasForgotten (these ++ those)
+forgotten_first [] those has = absurd has
+forgotten_first (act ∷ these) those (inl is) = inl is
+forgotten_first (act ∷ these) those (inr has) = inr (forgotten_first these those has)
+
+forgotten_last : (these those : List Act) → HasForgotten those → HasForgotten (these ++ those)
+forgotten_last [] those has = has
+forgotten_last (act ∷ these) those has = inr (forgotten_last these those has)
+
+pub begins_first : (these those : List Act) → BeginsByWriting these → BeginsByWriting (these ++ those)
+begins_first [] those begins = absurd begins
+begins_first (act ∷ these) those begins = begins
 
 filled : (size : ℕ) (got : Got) → 0 < size → drained_by got size ≡ false → IsFilled size got
 filled size (got.Bytes count) some is = let more : size ≤ count = grind (arith, nat_tests) in (omega arith, more)
@@ -36,136 +51,109 @@ either : (b : Bool) → (b ≡ true) ⊎ (b ≡ false)
 either true = inl refl
 either false = inr refl
 
-module _ {P T : Type 0} (counts : T → Counts) (given accepted : T → Option (List ℕ)) where
-  one_further : (act : Act) (old mid new : ServiceState P T) → LeadsAtEdge counts given accepted old mid → DoesAtEdge counts given accepted act mid new → IsAdvance act
-      → AdvancesAtEdge counts given accepted old new
-  one_further act old mid new led does is = record {
-    acts = led.acts ++ act ∷ [];
-    does = edge_both counts given accepted led.acts (act ∷ []) old mid new led.does (new, does, refl);
-    advance = has_last led.acts (act ∷ []) (inl is);
-  }
+-- nothing was done yet, or the first act was a write, and the transport took something
+abbrev pub IsBegun : {P T : Type 0} → ServiceState P T → ServiceState P T → List Act → Type 0
+IsBegun old new acts = ((new ≡ old) × (acts ≡ [])) ⊎ (BeginsByWriting acts × HasAdvance acts)
 
-  -- one write more, of which the transport took something
-  pub wrote_further : (now count : ℕ) (old mid new : ServiceState P T) → LeadsAtEdge counts given accepted old mid → WritesOnce counts given accepted now (put.Wrote count) mid new
-      → AdvancesAtEdge counts given accepted old new
-  wrote_further now count old mid new led writes = one_further (Writes now (put.Wrote count)) old mid new led writes tt
+begins_on : {P T : Type 0} (now : ℕ) (its : Put) (old mid : ServiceState P T) (acts : List Act) → IsBegun old mid acts → BeginsByWriting (acts ++ Writes now its ∷ [])
+begins_on now its old mid acts (inl nothing) = subst (λ (l : List Act). BeginsByWriting (l ++ Writes now its ∷ [])) (sym nothing.1) tt
+begins_on now its old mid acts (inr begun) = begins_first acts (Writes now its ∷ []) begun.0
+
+-- one write more, of which the transport took something
+pub begun_on : {P T : Type 0} (now : ℕ) (its : Put) (old mid new : ServiceState P T) (acts : List Act) → IsTaken its → IsBegun old mid acts → IsBegun old new (acts ++ Writes now its ∷ [])
+begun_on now its old mid new acts taken begun = inr (begins_on now its old mid acts begun, has_last acts (Writes now its ∷ []) (inl taken))
+
+first_by : {P T : Type 0} (old new : ServiceState P T) (acts : List Act) → new.outgoing ≡ [] → IsBegun old new acts → WritesFirst old new acts
+first_by old new acts none (inl nothing) = λ waits going. absurd (waits (sym (ap (λ s. s.outgoing) nothing.0) ∙ none))
+first_by old new acts none (inr begun) = λ waits going. begun.0
+
+written_by : {P T : Type 0} (old new : ServiceState P T) (acts : List Act) → IsBegun old new acts → IsWrittenOn old new acts
+written_by old new acts (inl nothing) = λ going. inl nothing.0
+written_by old new acts (inr begun) = λ going. inr (inl begun.1)
+
+module _ {P T : Type 0} (counts : T → Counts) (given accepted : T → Option (List ℕ)) where
+  abbrev pub Sends : ℕ → ServiceState P T → ServiceState P T → Type 0
+  Sends now old new = LeadsAtEdgeBy counts given accepted (λ acts. WritesFirst old new acts × IsWrittenOn old new acts) now Outside old new
+
+  -- all is written
+  pub sends_all : (now : ℕ) (old new : ServiceState P T) (led : LeadsAtEdge counts given accepted now Outside old new) → IsBegun old new led.acts → new.outgoing ≡ [] → Sends now old new
+  sends_all now old new led begun none = record { led = led; told = (first_by old new led.acts none begun, written_by old new led.acts begun) }
 
   -- a write of which it took nothing leaves what waits
-  pub still_waits : (now : ℕ) (old new : ServiceState P T) → WritesOnce counts given accepted now put.Idle old new → new.outgoing ≢ []
+  still_waits : (now : ℕ) (old new : ServiceState P T) → WritesOnce counts given accepted now put.Idle old new → new.outgoing ≢ []
   still_waits now old new writes = λ none.
       writes.waits (writes.front ∙ ap (λ (l : List ℕ). writes.taken ++ l) none ∙ append-nil writes.taken ∙ nil_from_length writes.taken writes.count)
 
-module _ {S P T : Type 0} (call : S → Fact P → S → Type 0) (turn : S → S → Type 0) (visiting : S → Bool) (slot_of : P → ℕ)
-    (counts : T → Counts) (given accepted : T → Option (List ℕ)) where
-  at_edge : (old new : ServiceState P T) (supply : S) → AdvancesAtEdge counts given accepted old new → Advances call turn visiting slot_of counts given accepted old supply new supply
-  at_edge old new supply edge =
-      record { acts = edge.acts; does = all_at_edge call turn visiting slot_of counts given accepted edge.acts old new supply edge.does; advance = edge.advance }
-
-  advances_then : (old mid new : ServiceState P T) (supply between supply' : S) → Advances call turn visiting slot_of counts given accepted old supply mid between
-      → Leads call turn visiting slot_of counts given accepted mid between new supply' → Advances call turn visiting slot_of counts given accepted old supply new supply'
-  advances_then old mid new supply between supply' first then = record {
-    acts = first.acts ++ then.acts;
-    does = both call turn visiting slot_of counts given accepted first.acts then.acts old mid new supply between supply' first.does then.does;
-    advance = has_first first.acts then.acts first.advance;
+  pub sends_some : (now : ℕ) (old mid new : ServiceState P T) (led : LeadsAtEdge counts given accepted now Outside old mid) → IsBegun old mid led.acts
+      → WritesOnce counts given accepted now put.Idle mid new → Sends now old new
+  unfolding writes_on edge_on edge_one
+  sends_some now old mid new led begun writes = record {
+    led = writes_on counts given accepted now put.Idle old mid new led writes;
+    told = ((λ waits going. begins_on now put.Idle old mid led.acts begun), (λ going. inr (inr (still_waits now mid new writes))));
   }
 
-  then_advances : (old mid new : ServiceState P T) (supply between supply' : S) → Leads call turn visiting slot_of counts given accepted old supply mid between
-      → Advances call turn visiting slot_of counts given accepted mid between new supply' → Advances call turn visiting slot_of counts given accepted old supply new supply'
-  then_advances old mid new supply between supply' first then = record {
-    acts = first.acts ++ then.acts;
-    does = both call turn visiting slot_of counts given accepted first.acts then.acts old mid new supply between supply' first.does then.does;
-    advance = has_last first.acts then.acts then.advance;
-  }
+  -- it has ended
+  pub sends_ended : (now : ℕ) (old new : ServiceState P T) (how : Served) → LeadsAtEdge counts given accepted now Outside old new → new.ending ≡ Some how → Sends now old new
+  sends_ended now old new how led ended = record { led = led; told = ((λ waits going. cc (ended, going)), (λ going. cc (ended, going))) }
 
   -- a read, and what is done behind it
-  read_by : (size : ℕ) (got : Got) (bytes : List ℕ) (old mid new : ServiceState P T) (supply supply' : S) → ReadsOnce counts given accepted size got bytes old mid
-      → Leads call turn visiting slot_of counts given accepted mid supply new supply' → 0 < size → new.drained ≡ mid.drained → (mid.drained ≡ true) ⊎ (mid.drained ≡ false)
-      → ((true ≡ true) × HasNoMore new) ⊎ Advances call turn visiting slot_of counts given accepted old supply new supply'
-  read_by size got bytes old mid new supply supply' reads led some same (inl drained) = inl (refl, inl (same ∙ drained))
-  read_by size got bytes old mid new supply supply' reads led some same (inr not_drained) =
-      inr (advances_then old mid new supply supply supply'
-      (at_edge old mid supply (record { acts = Reads size got bytes ∷ []; does = (mid, reads, refl); advance = inl (filled size got some (sym (ap (λ (s : ServiceState P T). s.drained) reads.becomes) ∙ not_drained)) })) led)
+  pub read_told : (size : ℕ) (its : Got) (bytes : List ℕ) (old mid new : ServiceState P T) (rest : List Act) → ReadsOnce counts given accepted size its bytes old mid → 0 < size
+      → new.drained ≡ mid.drained → IsDoneOrAdvances true new (Reads size its bytes ∷ rest)
+  read_told size its bytes old mid new rest reads some same = λ none. read_by size its bytes old mid new rest reads some same (either mid.drained) where
+    read_by : (size : ℕ) (its : Got) (bytes : List ℕ) (old mid new : ServiceState P T) (rest : List Act) → ReadsOnce counts given accepted size its bytes old mid → 0 < size
+        → new.drained ≡ mid.drained → (mid.drained ≡ true) ⊎ (mid.drained ≡ false) → ((true ≡ true) × HasNoMore new) ⊎ HasAdvance (Reads size its bytes ∷ rest)
+    read_by size its bytes old mid new rest reads some same (inl drained) = inl (refl, inl (same ∙ drained))
+    read_by size its bytes old mid new rest reads some same (inr not_drained) =
+        inr (inl (filled size its some (sym (ap (λ (s : ServiceState P T). s.drained) reads.becomes) ∙ not_drained)))
 
-  pub read_more : (size : ℕ) (got : Got) (bytes : List ℕ) (old mid new : ServiceState P T) (supply supply' : S) → ReadsOnce counts given accepted size got bytes old mid
-      → Leads call turn visiting slot_of counts given accepted mid supply new supply' → 0 < size → new.drained ≡ mid.drained
-      → IsDoneOrAdvances call turn visiting slot_of counts given accepted true old supply new supply'
-  read_more size got bytes old mid new supply supply' reads led some same = λ none. read_by size got bytes old mid new supply supply' reads led some same (either mid.drained)
-
-  -- the same between what was done before and a last state that is the same
-  between : (all : Bool) (old mid last new : ServiceState P T) (supply a supply' : S) → Leads call turn visiting slot_of counts given accepted old supply mid a → new ≡ last
-      → ((all ≡ true) × HasNoMore last) ⊎ Advances call turn visiting slot_of counts given accepted mid a last supply'
-      → ((all ≡ true) × HasNoMore new) ⊎ Advances call turn visiting slot_of counts given accepted old supply new supply'
-  between all old mid last new supply a supply' led is (inl done) = inl (done.0, subst (λ (s : ServiceState P T). HasNoMore s) (sym is) done.1)
-  between all old mid last new supply a supply' led is (inr advances) =
-      inr (subst (λ (s : ServiceState P T). Advances call turn visiting slot_of counts given accepted old supply s supply') (sym is)
-      (then_advances old mid last supply a supply' led advances))
-
-  ended_by : (old read new : ServiceState P T) (supply b supply' : S) → Leads call turn visiting slot_of counts given accepted read b new supply' → new ≡ read
-      → ((true ≡ true) × HasNoMore read) ⊎ Advances call turn visiting slot_of counts given accepted old supply read b
-      → ((true ≡ true) × HasNoMore new) ⊎ Advances call turn visiting slot_of counts given accepted old supply new supply'
-  ended_by old read new supply b supply' led is (inl done) = inl (refl, subst (λ (s : ServiceState P T). HasNoMore s) (sym is) done.1)
-  ended_by old read new supply b supply' led is (inr advances) = inr (advances_then old read new supply b supply' advances led)
+module _ {P T : Type 0} where
+  done_along : (all : Bool) (new last : ServiceState P T) (acts acts' : List Act) → new ≡ last → (HasAdvance acts → HasAdvance acts') → ((all ≡ true) × HasNoMore last) ⊎ HasAdvance acts
+      → ((all ≡ true) × HasNoMore new) ⊎ HasAdvance acts'
+  done_along all new last acts acts' is along (inl done) = inl (done.0, subst (λ (s : ServiceState P T). HasNoMore s) (sym is) done.1)
+  done_along all new last acts acts' is along (inr has) = inr (along has)
 
   -- the end of the stream, behind a read
-  pub end_more : (old mid read new : ServiceState P T) (supply a b supply' : S) → Leads call turn visiting slot_of counts given accepted old supply mid a
-      → (read.at_end ≡ false → IsDoneOrAdvances call turn visiting slot_of counts given accepted true mid a read b)
-      → Leads call turn visiting slot_of counts given accepted read b new supply' → (new.client.conn.standing ≡ Ended) ⊎ ((new ≡ read) × (read.at_end ≡ false))
-      → IsDoneOrAdvances call turn visiting slot_of counts given accepted true old supply new supply'
-  end_more old mid read new supply a b supply' first more led (inl over) = λ none. inl (refl, inr (inl over))
-  end_more old mid read new supply a b supply' first more led (inr same) = λ none.
-      between true old mid new new supply a supply' first refl
-      (ended_by mid read new a b supply' led same.0 (more same.1 (sym (ap (λ (s : ServiceState P T). s.outgoing) same.0) ∙ none)))
+  pub end_told : (read new : ServiceState P T) (before its behind : List Act) → (read.at_end ≡ false → IsDoneOrAdvances true read its)
+      → (new.client.conn.standing ≡ Ended) ⊎ ((new ≡ read) × (read.at_end ≡ false)) → IsDoneOrAdvances true new ((before ++ its) ++ behind)
+  end_told read new before its behind more (inl over) = λ none. inl (refl, inr (inl over))
+  end_told read new before its behind more (inr same) = λ none.
+      done_along true new read its ((before ++ its) ++ behind) same.0 (λ has. has_first (before ++ its) behind (has_last before its has))
+      (more same.1 (sym (ap (λ (s : ServiceState P T). s.outgoing) same.0) ∙ none))
 
   -- what is done in a visit stands between its beginning and its end
-  visit_by : (is_open all drained : Bool) (old inside new : ServiceState P T) (supply entry mid supply' : S) → inside ≡ old → (drained ≡ true → inside.drained ≡ true)
-      → turn supply entry → visiting entry ≡ is_open → turn mid supply'
-      → ((all ≡ true) × HasNoMore new) ⊎ Advances call turn visiting slot_of counts given accepted (record inside { drained = drained }) entry new mid
-      → ((all ≡ true) × HasNoMore new) ⊎ Advances call turn visiting slot_of counts given accepted old supply new supply'
-  visit_by is_open all drained old inside new supply entry mid supply' is fades entered told left (inl done) = inl done
-  visit_by is_open all drained old inside new supply entry mid supply' is fades entered told left (inr advances) =
-      let begun = record inside { drained = drained } in
-      inr (then_advances old begun new supply entry supply'
-      (leads_one call turn visiting slot_of counts given accepted (Enters is_open) old begun supply entry
-      (record {
-        turned = entered;
-        told = told;
-        becomes = ap (λ (s : ServiceState P T). record s { drained = drained }) is;
-        fades = λ still. sym (ap (λ (s : ServiceState P T). s.drained) is) ∙ fades still;
-      }))
-      (advances_then begun new new entry mid supply' advances
-      (leads_one call turn visiting slot_of counts given accepted Leaves new new mid supply' (record { turned = left; same = refl }))))
-
-  pub visit_more : (result : Result Bool Served) (is_open drained : Bool) (old inside new : ServiceState P T) (supply entry mid supply' : S) → inside ≡ old
-      → (drained ≡ true → inside.drained ≡ true) → turn supply entry → visiting entry ≡ is_open → turn mid supply'
-      → IfOk result (λ all. IsDoneOrAdvances call turn visiting slot_of counts given accepted all (record inside { drained = drained }) entry new mid)
-      → IfOk result (λ all. IsDoneOrAdvances call turn visiting slot_of counts given accepted all old supply new supply')
-  visit_more (Ok all) is_open drained old inside new supply entry mid supply' is fades entered told left more = λ none.
-      visit_by is_open all drained old inside new supply entry mid supply' is fades entered told left (more none)
-  visit_more (Err served) is_open drained old inside new supply entry mid supply' is fades entered told left more = more
+  pub visit_told : (result : Result Bool Served) (is_open reads : Bool) (new : ServiceState P T) (acts : List Act) → reads ≡ true → IfOk result (λ all. IsDoneOrAdvances all new acts)
+      → TellsOfVisit result new (Enters is_open reads ∷ (acts ++ Leaves ∷ []))
+  visit_told (Ok all) is_open reads new acts is more =
+      ((λ none. done_along all new new acts (Enters is_open reads ∷ (acts ++ Leaves ∷ [])) refl (λ has. inr (has_first acts (Leaves ∷ []) has)) (more none)), inr (inl is))
+  visit_told (Err served) is_open reads new acts is more = tt
 
   -- a round: what waits is written before and behind a visit
-  pub round_more : (all : Bool) (old sent visited written new : ServiceState P T) (supply supply' : S) → LeadsAtEdge counts given accepted old sent
-      → Leads call turn visiting slot_of counts given accepted sent supply visited supply'
-      → IsDoneOrAdvances call turn visiting slot_of counts given accepted all sent supply visited supply'
-      → (written ≡ visited) ⊎ (AdvancesAtEdge counts given accepted visited written ⊎ (written.outgoing ≢ [])) → new ≡ written
-      → IsDoneOrAdvances call turn visiting slot_of counts given accepted all old supply new supply'
-  round_more all old sent visited written new supply supply' edge led more (inl same) is = λ none.
-      between all old sent visited new supply supply supply' (leads_at_edge call turn visiting slot_of counts given accepted old sent supply edge) (is ∙ same)
+  round_done : (all : Bool) (visited written new : ServiceState P T) (a b c d : List Act) → IsDoneOrAdvances all visited b
+      → (written ≡ visited) ⊎ (HasAdvance c ⊎ (written.outgoing ≢ [])) → new ≡ written → IsDoneOrAdvances all new (((a ++ b) ++ c) ++ d)
+  round_done all visited written new a b c d more (inl same) is = λ none.
+      done_along all new visited b (((a ++ b) ++ c) ++ d) (is ∙ same) (λ has. has_first ((a ++ b) ++ c) d (has_first (a ++ b) c (has_last a b has)))
       (more (sym (ap (λ (s : ServiceState P T). s.outgoing) (is ∙ same)) ∙ none))
-  round_more all old sent visited written new supply supply' edge led more (inr (inl advances)) is = λ none.
-      inr (subst (λ (s : ServiceState P T). Advances call turn visiting slot_of counts given accepted old supply s supply') (sym is)
-      (then_advances old sent written supply supply supply' (leads_at_edge call turn visiting slot_of counts given accepted old sent supply edge)
-      (then_advances sent visited written supply supply' supply' led (at_edge visited written supply' advances))))
-  round_more all old sent visited written new supply supply' edge led more (inr (inr waits)) is = λ none.
-      absurd (waits (sym (ap (λ (s : ServiceState P T). s.outgoing) is) ∙ none))
+  round_done all visited written new a b c d more (inr (inl advances)) is = λ none. inr (has_first ((a ++ b) ++ c) d (has_last (a ++ b) c advances))
+  round_done all visited written new a b c d more (inr (inr waits)) is = λ none. absurd (waits (sym (ap (λ (s : ServiceState P T). s.outgoing) is) ∙ none))
 
-  told_by : (all : Bool) (old new : ServiceState P T) (supply supply' : S) → (all ≡ true → HasNoMore new → ⊥)
-      → ((all ≡ true) × HasNoMore new) ⊎ Advances call turn visiting slot_of counts given accepted old supply new supply'
-      → Advances call turn visiting slot_of counts given accepted old supply new supply'
-  told_by all old new supply supply' more (inl done) = absurd (more done.0 done.1)
-  told_by all old new supply supply' more (inr advances) = advances
+  round_forgets : (visited written new : ServiceState P T) (a b c d : List Act) → (visited.client.conn.standing ≡ Ended) ⊎ HasForgotten b → new ≡ written → written.client ≡ visited.client
+      → (new.outgoing ≡ [] → new.client.conn.standing ≢ Ended) → new.outgoing ≡ [] → HasForgotten (((a ++ b) ++ c) ++ d)
+  round_forgets visited written new a b c d (inl over) is client_is not_over none =
+      absurd (not_over none (ap (λ (s : ServiceState P T). s.client.conn.standing) is ∙ ap (λ (its : ClientState P). its.conn.standing) client_is ∙ over))
+  round_forgets visited written new a b c d (inr forgotten) is client_is not_over none =
+      forgotten_first ((a ++ b) ++ c) d (forgotten_first (a ++ b) c (forgotten_last a b forgotten))
+
+  pub round_told : (all : Bool) (visited written new : ServiceState P T) (a b c d : List Act)
+      → IsDoneOrAdvances all visited b × ((visited.client.conn.standing ≡ Ended) ⊎ HasForgotten b) → IsWrittenOn visited written c → written.ending ≡ None → new ≡ written
+      → written.client ≡ visited.client → (new.outgoing ≡ [] → new.client.conn.standing ≢ Ended)
+      → IsDoneOrAdvances all new (((a ++ b) ++ c) ++ d) × (new.outgoing ≡ [] → HasForgotten (((a ++ b) ++ c) ++ d))
+  round_told all visited written new a b c d told on going is client_is not_over =
+      (round_done all visited written new a b c d told.0 (on going) is, round_forgets visited written new a b c d told.1 is client_is not_over)
+
+  told_by : (all : Bool) (new : ServiceState P T) (acts : List Act) → (all ≡ true → HasNoMore new → ⊥) → ((all ≡ true) × HasNoMore new) ⊎ HasAdvance acts → HasAdvance acts
+  told_by all new acts more (inl done) = absurd (more done.0 done.1)
+  told_by all new acts more (inr advances) = advances
 
   -- it tells that more can be done only where it advanced
-  pub told_more : (all : Bool) (old new : ServiceState P T) (supply supply' : S) → new.outgoing ≡ [] → (all ≡ true → HasNoMore new → ⊥)
-      → IsDoneOrAdvances call turn visiting slot_of counts given accepted all old supply new supply' → Advances call turn visiting slot_of counts given accepted old supply new supply'
-  told_more all old new supply supply' none more done = told_by all old new supply supply' more (done none)
+  pub told_more : (all : Bool) (new : ServiceState P T) (acts : List Act) → new.outgoing ≡ [] → (all ≡ true → HasNoMore new → ⊥) → IsDoneOrAdvances all new acts → HasAdvance acts
+  told_more all new acts none more done = told_by all new acts more (done none)

@@ -15,6 +15,7 @@ use Rattle.conn_service.specs.declared.served.Served.TheVariants as served
 use Rattle.conn_service.specs.Services.{ServiceState, patience}
 use Rattle.conn_service.specs.Moments.{kept_since}
 use Rattle.conn_service.specs.Acts.{Reads, Starves, IsStopped, Stalls, Ends}
+use Rattle.conn_service.specs.Visits.{Outside, Behind, Inside}
 use Rattle.conn_service.specs.Edges.{MayRead, ReadsOnce, WritesOnce, LeadsAtEdge}
 use Rattle.conn_service.proofs.Leading.{edge_one}
 
@@ -180,63 +181,61 @@ module _ {P T : Type 0} (counts : T → Counts) (given accepted : T → Option (
       (ended_here size inside transport (may_along old inside is may) counted given_is accepted_is)
 
   -- the read failed
-  fails_here : (size : ℕ) (old : ServiceState P T) (transport : T) → MayRead counts given accepted old
+  fails_here : {now : ℕ} (size : ℕ) (old : ServiceState P T) (transport : T) → MayRead counts given accepted old
       → counts transport ≡ after_got got.Failed (counts old.transport) → given transport ≡ given old.transport → accepted transport ≡ accepted old.transport
-      → LeadsAtEdge counts given accepted old (record old { transport = transport; drained = true; ending = Some served.Read })
-  fails_here size old transport may counted given_is accepted_is =
+      → LeadsAtEdge counts given accepted now (Inside true) old (record old { transport = transport; drained = true; ending = Some served.Read })
+  fails_here {now = now} size old transport may counted given_is accepted_is =
       edge_one counts given accepted (Reads size got.Failed []) old (record old { transport = transport; drained = true; ending = Some served.Read })
       (record {
         may = may;
         gives = record { count = refl; counted = counted; given_is = given_is ∙ sym (nothing_known (given old.transport)); accepted_is = accepted_is };
         becomes = λ i. record old { transport = transport; drained = true; at_end = may.not_at_end i; ending = Some served.Read };
-      })
-
-  pub read_failed : (size : ℕ) (old inside : ServiceState P T) (transport : T) → inside ≡ old → MayRead counts given accepted old
+      }) (refl, refl)
+  pub read_failed : {now : ℕ} (size : ℕ) (old inside : ServiceState P T) (transport : T) → inside ≡ old → MayRead counts given accepted old
       → counts transport ≡ after_got got.Failed (counts inside.transport) → given transport ≡ given inside.transport → accepted transport ≡ accepted inside.transport
-      → LeadsAtEdge counts given accepted old (record inside { transport = transport; drained = true; ending = Some served.Read })
-  read_failed size old inside transport is may counted given_is accepted_is =
-      subst (λ (s : ServiceState P T). LeadsAtEdge counts given accepted s (record inside { transport = transport; drained = true; ending = Some served.Read })) is
+      → LeadsAtEdge counts given accepted now (Inside true) old (record inside { transport = transport; drained = true; ending = Some served.Read })
+  read_failed {now = now} size old inside transport is may counted given_is accepted_is =
+      subst (λ (s : ServiceState P T). LeadsAtEdge counts given accepted now (Inside true) s (record inside { transport = transport; drained = true; ending = Some served.Read })) is
       (fails_here size inside transport (may_along old inside is may) counted given_is accepted_is)
 
   -- there was no memory for what came
-  starves_here : (count : ℕ) (old : ServiceState P T) (client : ClientState P) (transport : T) (bytes : List ℕ) → MayRead counts given accepted old → client ≡ old.client
+  starves_here : {now : ℕ} (count : ℕ) (old : ServiceState P T) (client : ClientState P) (transport : T) (bytes : List ℕ) → MayRead counts given accepted old → client ≡ old.client
       → length bytes ≡ count → counts transport ≡ counts old.transport → given transport ≡ append_known (given old.transport) bytes → accepted transport ≡ accepted old.transport
-      → LeadsAtEdge counts given accepted old (record old { client = client; transport = transport; ending = Some served.Memory })
-  starves_here count old client transport bytes may client_is length_is counted given_is accepted_is =
+      → LeadsAtEdge counts given accepted now (Inside true) old (record old { client = client; transport = transport; ending = Some served.Memory })
+  starves_here {now = now} count old client transport bytes may client_is length_is counted given_is accepted_is =
       edge_one counts given accepted (Starves (got.Bytes count) bytes) old (record old { client = client; transport = transport; ending = Some served.Memory })
       (record {
         may = may;
         gives = record { count = length_is; counted = counted; given_is = given_is; accepted_is = accepted_is };
         becomes = λ i. record old { client = client_is i; transport = transport; ending = Some served.Memory };
-      })
-
-  pub starves : (count : ℕ) (old inside : ServiceState P T) (client : ClientState P) (transport : T) (bytes : List ℕ) → inside ≡ old → MayRead counts given accepted old
+      }) (refl, refl)
+  pub starves : {now : ℕ} (count : ℕ) (old inside : ServiceState P T) (client : ClientState P) (transport : T) (bytes : List ℕ) → inside ≡ old → MayRead counts given accepted old
       → client ≡ inside.client → length bytes ≡ count → counts transport ≡ counts inside.transport → given transport ≡ append_known (given inside.transport) bytes
       → accepted transport ≡ accepted inside.transport
-      → LeadsAtEdge counts given accepted old (record inside { client = client; transport = transport; ending = Some served.Memory })
-  starves count old inside client transport bytes is may client_is length_is counted given_is accepted_is =
-      subst (λ (s : ServiceState P T). LeadsAtEdge counts given accepted s (record inside { client = client; transport = transport; ending = Some served.Memory })) is
+      → LeadsAtEdge counts given accepted now (Inside true) old (record inside { client = client; transport = transport; ending = Some served.Memory })
+  starves {now = now} count old inside client transport bytes is may client_is length_is counted given_is accepted_is =
+      subst (λ (s : ServiceState P T). LeadsAtEdge counts given accepted now (Inside true) s (record inside { client = client; transport = transport; ending = Some served.Memory })) is
       (starves_here count inside client transport bytes (may_along old inside is may) client_is length_is counted given_is accepted_is)
 
   -- it ends at the edge, in one of three ways
-  pub held_up : (old inside : ServiceState P T) → inside ≡ old → old.ending ≡ None → old.outgoing ≢ []
-      → LeadsAtEdge counts given accepted old (record inside { ending = Some served.NoCrossing })
+  pub held_up : {now : ℕ} (old inside : ServiceState P T) → inside ≡ old → old.ending ≡ None → old.outgoing ≢ []
+      → LeadsAtEdge counts given accepted now Outside old (record inside { ending = Some served.NoCrossing })
   held_up old inside is going waits =
       edge_one counts given accepted IsStopped old (record inside { ending = Some served.NoCrossing })
-      (record { going = going; waits = waits; becomes = ap (λ (s : ServiceState P T). record s { ending = Some served.NoCrossing }) is })
+      (record { going = going; waits = waits; becomes = ap (λ (s : ServiceState P T). record s { ending = Some served.NoCrossing }) is }) (inl refl)
 
-  pub stalled : (now : ℕ) (old inside : ServiceState P T) → inside ≡ old → old.ending ≡ None → old.outgoing ≢ []
+  pub stalled : (now : ℕ) (old inside : ServiceState P T) → inside ≡ old → old.ending ≡ None → old.outgoing ≢ [] → 1 ≤ old.refused
       → (old.since + patience old.client.conn.standing ≤ now) ⊎ (600 ≤ old.refused)
-      → LeadsAtEdge counts given accepted old (record inside { ending = Some served.Stalled })
-  stalled now old inside is going waits long =
+      → LeadsAtEdge counts given accepted now Behind old (record inside { ending = Some served.Stalled })
+  stalled now old inside is going waits asked long =
       edge_one counts given accepted (Stalls now) old (record inside { ending = Some served.Stalled })
-      (record { going = going; waits = waits; long = long; becomes = ap (λ (s : ServiceState P T). record s { ending = Some served.Stalled }) is })
+      (record { going = going; waits = waits; asked = asked; long = long; becomes = ap (λ (s : ServiceState P T). record s { ending = Some served.Stalled }) is }) (refl, refl)
 
-  pub over : (old inside : ServiceState P T) → inside ≡ old → old.ending ≡ None → old.client.conn.standing ≡ Ended → old.outgoing ≡ []
-      → LeadsAtEdge counts given accepted old (record inside { ending = Some served.Ended })
+  pub over : {now : ℕ} (old inside : ServiceState P T) → inside ≡ old → old.ending ≡ None → old.client.conn.standing ≡ Ended → old.outgoing ≡ []
+      → LeadsAtEdge counts given accepted now Behind old (record inside { ending = Some served.Ended })
   over old inside is going ended nothing =
       edge_one counts given accepted Ends old (record inside { ending = Some served.Ended })
-      (record { going = going; over = ended; nothing_waits = nothing; becomes = ap (λ (s : ServiceState P T). record s { ending = Some served.Ended }) is })
+      (record { going = going; over = ended; nothing_waits = nothing; becomes = ap (λ (s : ServiceState P T). record s { ending = Some served.Ended }) is }) refl
 
   patience_is : (standing : Standing P) (ended : Bool) → (IsTrue ended → standing ≡ Ended) × (standing ≡ Ended → IsTrue ended) → patience standing ≡ (if ended then 1000 else 60000)
   patience_is (Unconnected opened) true is = cc (is.0 refl)
@@ -250,11 +249,11 @@ module _ {P T : Type 0} (counts : T → Counts) (given accepted : T → Option (
 
   -- the transport took nothing for as long as that
   pub stalled_by : (now limit : ℕ) (ended : Bool) (old inside : ServiceState P T) → inside ≡ old → old.ending ≡ None → (inside.outgoing ≡ [] → ⊥)
-      → (IsTrue ended → inside.client.conn.standing ≡ Ended) × (inside.client.conn.standing ≡ Ended → IsTrue ended) → limit ≡ (if ended then 1000 else 60000) → limit ≤ now - inside.since
-      → LeadsAtEdge counts given accepted old (record inside { ending = Some served.Stalled })
-  stalled_by now limit ended old inside is going waits ended_is limit_is long =
+      → (IsTrue ended → inside.client.conn.standing ≡ Ended) × (inside.client.conn.standing ≡ Ended → IsTrue ended) → limit ≡ (if ended then 1000 else 60000) → 1 ≤ inside.refused → limit ≤ now - inside.since
+      → LeadsAtEdge counts given accepted now Behind old (record inside { ending = Some served.Stalled })
+  stalled_by now limit ended old inside is going waits ended_is limit_is asked long =
       let some = some_limit ended limit limit_is in
       let same : patience inside.client.conn.standing ≡ limit = patience_is inside.client.conn.standing ended ended_is ∙ sym limit_is in
       let enough : inside.since + patience inside.client.conn.standing ≤ now = omega arith in
-      stalled now old inside is going (λ none. waits (ap (λ (s : ServiceState P T). s.outgoing) is ∙ none))
+      stalled now old inside is going (λ none. waits (ap (λ (s : ServiceState P T). s.outgoing) is ∙ none)) (subst (λ (s : ServiceState P T). 1 ≤ s.refused) is asked)
       (inl (subst (λ (s : ServiceState P T). s.since + patience s.client.conn.standing ≤ now) is enough))

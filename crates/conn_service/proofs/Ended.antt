@@ -29,7 +29,7 @@ module _ {S P T : Type 0} (call : S → Fact P → S → Type 0) (turn : S → S
 
   turns : (act : Act) (old new : ServiceState P T) (supply supply' : S) → Does call turn visiting slot_of counts given accepted act old supply new supply'
       → Turns (ending_in act) old.ending new.ending
-  turns (Enters is_open) old new supply supply' does = inl (refl, ap (λ (s : ServiceState P T). s.ending) does.becomes)
+  turns (Enters is_open reads) old new supply supply' does = inl (refl, ap (λ (s : ServiceState P T). s.ending) does.becomes)
   turns Leaves old new supply supply' does = inl (refl, ap (λ (s : ServiceState P T). s.ending) does.same)
   turns Others old new supply supply' does = inl (refl, ap (λ (s : ServiceState P T). s.ending) does)
   turns (Reads size its bytes) old new supply supply' does = inr (does.does.may.going, ap (λ (s : ServiceState P T). s.ending) does.does.becomes)
@@ -59,7 +59,7 @@ module _ {S P T : Type 0} (call : S → Fact P → S → Type 0) (turn : S → S
       (turns act old new supply supply' does)
 
   quiet_one : (act : Act) (old new : ServiceState P T) (supply supply' : S) → old.ending ≢ None → Does call turn visiting slot_of counts given accepted act old supply new supply' → IsQuiet act
-  quiet_one (Enters is_open) old new supply supply' ended does = tt
+  quiet_one (Enters is_open reads) old new supply supply' ended does = tt
   quiet_one Leaves old new supply supply' ended does = tt
   quiet_one Others old new supply supply' ended does = tt
   quiet_one (GivesUp now) old new supply supply' ended does = tt

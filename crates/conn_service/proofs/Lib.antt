@@ -6,6 +6,7 @@ pub mod OneStep
 pub mod Fronts
 pub mod Rounds
 pub mod Advancing
+pub mod Drained
 pub mod Folding
 pub mod Written
 pub mod Read

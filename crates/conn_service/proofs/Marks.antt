@@ -306,7 +306,7 @@ module _ {S P T : Type 0} (call : S → Fact P → S → Type 0) (turn : S → S
 
   pub tells_on : (number : ℕ) (done : List Act) (act : Act) (old new : ServiceState P T) (supply supply' : S) → IsTellingAs number done old
       → Does call turn visiting slot_of counts given accepted act old supply new supply' → IsTellingAs number (done ++ act ∷ []) new
-  tells_on number done (Enters is_open) old new supply supply' tells does = quiet_as number done (Enters is_open) old new refl (ap (λ (s : ServiceState P T). s.client.conn) does.becomes) tells
+  tells_on number done (Enters is_open reads) old new supply supply' tells does = quiet_as number done (Enters is_open reads) old new refl (ap (λ (s : ServiceState P T). s.client.conn) does.becomes) tells
   tells_on number done Leaves old new supply supply' tells does = quiet_as number done Leaves old new refl (ap (λ (s : ServiceState P T). s.client.conn) does.same) tells
   tells_on number done Others old new supply supply' tells does = quiet_as number done Others old new refl (ap (λ (s : ServiceState P T). s.client.conn) does) tells
   tells_on number done (Reads size its bytes) old new supply supply' tells does = quiet_as number done (Reads size its bytes) old new refl (ap (λ (s : ServiceState P T). s.client.conn) does.does.becomes ∙ same_conn its old.client bytes) tells

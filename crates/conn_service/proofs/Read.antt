@@ -178,8 +178,8 @@ module _ {S P T : Type 0} (call : S → Fact P → S → Type 0) (turn : S → S
 
   pub read_on : (done : List Act) (act : Act) (old new : ServiceState P T) (supply supply' : S) → HasRead done old
       → Does call turn visiting slot_of counts given accepted act old supply new supply' → HasRead (done ++ act ∷ []) new
-  read_on done (Enters is_open) old new supply supply' has does =
-      beside done (Enters is_open) old new refl refl refl
+  read_on done (Enters is_open reads) old new supply supply' has does =
+      beside done (Enters is_open reads) old new refl refl refl
       (λ still. (sym (ap (λ (s : ServiceState P T). s.ending) does.becomes) ∙ still, ap (λ (s : ServiceState P T). s.client) does.becomes)) has
   read_on done Leaves old new supply supply' has does =
       beside done Leaves old new refl refl refl (λ still. (sym (ap (λ (s : ServiceState P T). s.ending) does.same) ∙ still, ap (λ (s : ServiceState P T). s.client) does.same)) has

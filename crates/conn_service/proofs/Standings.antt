@@ -47,7 +47,7 @@ module _ {S P T : Type 0} (call : S → Fact P → S → Type 0) (turn : S → S
   same_standing got.Failed client bytes = refl
 
   pub kept_on : (act : Act) (old new : ServiceState P T) (supply supply' : S) → IsWithin old → Does call turn visiting slot_of counts given accepted act old supply new supply' → IsWithin new
-  kept_on (Enters is_open) old new supply supply' within does = same_client old new (ap (λ (s : ServiceState P T). s.client) does.becomes) within
+  kept_on (Enters is_open reads) old new supply supply' within does = same_client old new (ap (λ (s : ServiceState P T). s.client) does.becomes) within
   kept_on Leaves old new supply supply' within does = same_client old new (ap (λ (s : ServiceState P T). s.client) does.same) within
   kept_on Others old new supply supply' within does = same_client old new (ap (λ (s : ServiceState P T). s.client) does) within
   kept_on (Starves its bytes) old new supply supply' within does = same_client old new (ap (λ (s : ServiceState P T). s.client) does.does.becomes) within

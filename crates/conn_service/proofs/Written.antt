@@ -87,8 +87,8 @@ module _ {S P T : Type 0} (call : S → Fact P → S → Type 0) (turn : S → S
 
   pub written_on : (done : List Act) (act : Act) (old new : ServiceState P T) (supply supply' : S) → WritesItsPackets accepted first done old
       → Does call turn visiting slot_of counts given accepted act old supply new supply' → WritesItsPackets accepted first (done ++ act ∷ []) new
-  written_on done (Enters is_open) old new supply supply' kept does =
-      silent accepted first done (Enters is_open) old new refl (ap (λ (s : ServiceState P T). accepted s.transport) does.becomes)
+  written_on done (Enters is_open reads) old new supply supply' kept does =
+      silent accepted first done (Enters is_open reads) old new refl (ap (λ (s : ServiceState P T). accepted s.transport) does.becomes)
       (λ going. (sym (ap (λ (s : ServiceState P T). s.ending) does.becomes) ∙ going, ap (λ (s : ServiceState P T). s.outgoing) does.becomes))
       (λ is. inl (sym (ap (λ (s : ServiceState P T). s.ending) does.becomes) ∙ is)) kept
   written_on done Leaves old new supply supply' kept does =

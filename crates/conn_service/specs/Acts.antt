@@ -1,5 +1,5 @@
 -- What happens to a connection while it is served, act by act, and what can be read off a list of them.
-use Rattle.std.specs.Prelude.{ℕ, Bool, List, [], ◌∷◌, Option, Some, None, filter_map}
+use Rattle.std.specs.Prelude.{ℕ, Bool, List, [], ◌∷◌, Option, Some, None, filter_map, ⊤}
 use Rattle.std.specs.List.{flat_map}
 use Rattle.mqtt_packet.specs.declared.packet.Packet.{Packet}
 use Rattle.mqtt_fields.specs.declared.fault.StreamFault.{StreamFault}
@@ -13,8 +13,8 @@ use Rattle.conn_service.specs.declared.served.Served.TheVariants as served
 use Rattle.conn_service.specs.Moments.{ending_read, ending_write}
 
 pub data Act : Type 0 where
-  -- a round begins a visit of the supply, unless that is shut
-  Enters : (is_open : Bool) → Act
+  -- a visit of the supply begins, unless that is shut; where the round reads, it forgets that an earlier read came short
+  Enters : (is_open reads : Bool) → Act
   -- and ends it
   Leaves : Act
   -- one read of the transport into a buffer of this size, and the bytes that it gave
@@ -110,3 +110,12 @@ packets_said acts = flat_map said_in acts
 
 abbrev pub endings_of : List Act → List Served
 endings_of acts = filter_map ending_in acts
+
+-- the first of these acts is a write
+abbrev pub IsWrite : Act → Type 0
+IsWrite (Writes now put) = ⊤
+IsWrite _ = ⊥
+
+abbrev pub BeginsByWriting : List Act → Type 0
+BeginsByWriting [] = ⊥
+BeginsByWriting (act ∷ acts) = IsWrite act

@@ -1,15 +1,23 @@
--- What a connection did where more can be done at once: it read as much as there was room for, or its transport took something.
-use Rattle.std.specs.Prelude.{◌≡◌, ◌⊎◌, ℕ, ◌<◌, ◌≤◌, Bool, true, List, [], ◌∷◌, Option, ⊤}
+-- What the acts of a round tell: that more can be done at once, as a read gave as much as there was room for, or the transport took something; or that a read gave less.
+use Rattle.std.specs.Prelude.{◌≡◌, ◌≢◌, ◌⊎◌, ℕ, ◌<◌, ◌≤◌, Bool, true, List, [], ◌∷◌, Option, None, Result, IfOk, ⊤}
 use Rattle.transport.specs.declared.counts.Counts.{Counts}
 use Rattle.transport.specs.declared.answers.Got.{Got}
 use Rattle.transport.specs.declared.answers.Got.TheVariants as got
 use Rattle.transport.specs.declared.answers.Put.{Put}
 use Rattle.transport.specs.declared.answers.Put.TheVariants as put
 use Rattle.conn_supply.specs.Facts.{Fact}
+use Rattle.conn_engine.specs.declared.standing.Standing.TheVariants.{Ended}
+use Rattle.conn_service.specs.declared.served.Direction.{Direction}
+use Rattle.conn_service.specs.declared.served.Round.{Round}
+use Rattle.conn_service.specs.declared.served.Round.TheVariants as rounds
+use Rattle.conn_service.specs.declared.served.Served.{Served}
+use Rattle.conn_service.specs.Directions.{reads}
 use Rattle.conn_service.specs.Services.{ServiceState, HasNoMore}
-use Rattle.conn_service.specs.Acts.{Act, Reads, Writes}
-use Rattle.conn_service.specs.Edges.{DoesAllAtEdge}
-use Rattle.conn_service.specs.Lives.{DoesAll}
+use Rattle.conn_service.specs.Acts.{Act, Enters, Reads, Writes, BeginsByWriting}
+use Rattle.conn_service.specs.Visits.{Stand}
+use Rattle.conn_service.specs.Moments.{drained_by}
+use Rattle.conn_service.specs.Edges.{LeadsAtEdge}
+use Rattle.conn_service.specs.Lives.{Leads, Rounds}
 
 -- a read gave as much as there was room for, a byte at least
 abbrev pub IsFilled : ℕ → Got → Type 0
@@ -35,22 +43,60 @@ abbrev pub HasAdvance : List Act → Type 0
 HasAdvance [] = ⊥
 HasAdvance (act ∷ acts) = IsAdvance act ⊎ HasAdvance acts
 
+-- a read that gave less than there was room for
+abbrev pub IsShortRead : Act → Type 0
+IsShortRead (Reads size got bytes) = drained_by got size ≡ true
+IsShortRead _ = ⊥
+
+abbrev pub HasShortRead : List Act → Type 0
+HasShortRead [] = ⊥
+HasShortRead (act ∷ acts) = IsShortRead act ⊎ HasShortRead acts
+
+-- one of these acts begins a visit, and forgets that an earlier read gave less
+abbrev pub Forgets : Act → Type 0
+Forgets (Enters is_open reads) = reads ≡ true
+Forgets _ = ⊥
+
+abbrev pub HasForgotten : List Act → Type 0
+HasForgotten [] = ⊥
+HasForgotten (act ∷ acts) = Forgets act ⊎ HasForgotten acts
+
+-- where nothing waits to be written, all is done that can be done at once, or one of these acts is an advance
+abbrev pub IsDoneOrAdvances : {P T : Type 0} → Bool → ServiceState P T → List Act → Type 0
+IsDoneOrAdvances all new acts = new.outgoing ≡ [] → ((all ≡ true) × HasNoMore new) ⊎ HasAdvance acts
+
+-- as long as the connection goes on, nothing was written, the transport took something, or something waits to be written
+abbrev pub IsWrittenOn : {P T : Type 0} → ServiceState P T → ServiceState P T → List Act → Type 0
+IsWrittenOn old new acts = new.ending ≡ None → (new ≡ old) ⊎ (HasAdvance acts ⊎ (new.outgoing ≢ []))
+
+-- what waits is written first
+abbrev pub WritesFirst : {P T : Type 0} → ServiceState P T → ServiceState P T → List Act → Type 0
+WritesFirst old new acts = old.outgoing ≢ [] → new.ending ≡ None → BeginsByWriting acts
+
+-- what the acts of a visit tell, in a round that reads
+abbrev pub TellsOfVisit : {P T : Type 0} → Result Bool Served → ServiceState P T → List Act → Type 0
+TellsOfVisit result new acts = IfOk result (λ all. IsDoneOrAdvances all new acts × ((new.client.conn.standing ≡ Ended) ⊎ HasForgotten acts))
+
+-- and those of the whole round
+abbrev pub TellsOfRound : {P T : Type 0} → Result Bool Served → ServiceState P T → List Act → Type 0
+TellsOfRound result new acts = IfOk result (λ all. IsDoneOrAdvances all new acts × (new.outgoing ≡ [] → HasForgotten acts))
+
 module _ {P T : Type 0} (counts : T → Counts) (given accepted : T → Option (List ℕ)) where
-  -- acts towards the transport, such a one among them, lead from the one to the other
-  pub record AdvancesAtEdge (old new : ServiceState P T) : Type 0 where
-    pub acts : List Act
-    pub does : DoesAllAtEdge counts given accepted acts old new
-    pub advance : HasAdvance acts
+  -- acts towards the transport, of which this holds, lead from the one to the other
+  pub record LeadsAtEdgeBy (Holds : List Act → Type 0) (now : ℕ) (stand : Stand) (old new : ServiceState P T) : Type 0 where
+    pub led : LeadsAtEdge counts given accepted now stand old new
+    pub told : Holds led.acts
 
 module _ {S P T : Type 0} (call : S → Fact P → S → Type 0) (turn : S → S → Type 0) (visiting : S → Bool) (slot_of : P → ℕ)
     (counts : T → Counts) (given accepted : T → Option (List ℕ)) where
-  -- acts, such a one among them, lead from the one to the other
-  pub record Advances (old : ServiceState P T) (supply : S) (new : ServiceState P T) (supply' : S) : Type 0 where
-    pub acts : List Act
-    pub does : DoesAll call turn visiting slot_of counts given accepted acts old supply new supply'
-    pub advance : HasAdvance acts
+  -- acts, of which this holds, lead from the one to the other
+  pub record LeadsBy (Holds : List Act → Type 0) (now : ℕ) (from to : Stand) (old : ServiceState P T) (supply : S) (new : ServiceState P T) (supply' : S) : Type 0 where
+    pub led : Leads call turn visiting slot_of counts given accepted now from to old supply new supply'
+    pub told : Holds led.acts
 
-  -- where nothing waits to be written, all is done that can be done at once, or there was such an act
-  abbrev pub IsDoneOrAdvances : Bool → ServiceState P T → S → ServiceState P T → S → Type 0
-  IsDoneOrAdvances all old supply new supply' =
-      new.outgoing ≡ [] → ((all ≡ true) × HasNoMore new) ⊎ Advances old supply new supply'
+  -- a round that goes this way, and tells this. One that reads tells that more can be done at once only where in this round a read gave as much as there was room
+  -- for, or the transport took something; and that it waits for something to read only where in this round a read gave less
+  pub record RoundsTo (direction : Direction) (round : Round) (now : ℕ) (old : ServiceState P T) (supply : S) (new : ServiceState P T) (supply' : S) : Type 0 where
+    pub made : Rounds call turn visiting slot_of counts given accepted now old supply new supply'
+    pub more : reads direction ≡ true → round ≡ rounds.More → HasAdvance made.led.acts
+    pub drained : reads direction ≡ true → round ≡ rounds.Reading → HasShortRead made.led.acts

@@ -11,6 +11,7 @@ use Rattle.client_table.specs.Streams.{IsRead}
 use Rattle.conn_service.specs.declared.served.Served.TheVariants as served
 use Rattle.conn_service.specs.Services.{ServiceState, KeepsEnough, patience, most_refused}
 use Rattle.conn_service.specs.Acts.{Act, Reads, Writes, Starves, IsStopped, Stalls, Ends}
+use Rattle.conn_service.specs.Visits.{Stand, Walks}
 use Rattle.conn_service.specs.Moments.{ending_read, ending_write, ends_by, since_write, refused_write, fed_by, kept_by, drained_by, TakesSome}
 
 module _ {T : Type 0} (counts : T → Counts) (given accepted : T → Option (List ℕ)) where
@@ -70,10 +71,11 @@ module _ {P T : Type 0} (counts : T → Counts) (given accepted : T → Option (
     pub waits : old.outgoing ≢ []
     pub becomes : new ≡ record old { ending = Some served.NoCrossing }
 
-  -- the transport took nothing of what waits for too long, or in too many writes, each of which waited
+  -- the transport took nothing of what waits, for too long, or in too many writes, each of which waited: and it was written to since
   pub record IsStalled (now : ℕ) (old new : ServiceState P T) : Type 0 where
     pub going : old.ending ≡ None
     pub waits : old.outgoing ≢ []
+    pub asked : 1 ≤ old.refused
     pub long : (old.since + patience old.client.conn.standing ≤ now) ⊎ (most_refused ≤ old.refused)
     pub becomes : new ≡ record old { ending = Some served.Stalled }
 
@@ -99,7 +101,8 @@ module _ {P T : Type 0} (counts : T → Counts) (given accepted : T → Option (
   DoesAllAtEdge [] old new = new ≡ old
   DoesAllAtEdge (act ∷ acts) old new = (between : ServiceState P T) × DoesAtEdge act old between × DoesAllAtEdge acts between new
 
-  -- some acts towards the transport lead from the one to the other
-  pub record LeadsAtEdge (old new : ServiceState P T) : Type 0 where
+  -- some acts towards the transport, at this moment and from this stand, lead from the one to the other
+  pub record LeadsAtEdge (now : ℕ) (stand : Stand) (old new : ServiceState P T) : Type 0 where
     pub acts : List Act
     pub does : DoesAllAtEdge acts old new
+    pub walks : Walks now stand acts stand

@@ -3,6 +3,7 @@ pub mod Crossings
 pub mod Directions
 pub mod Services
 pub mod Acts
+pub mod Visits
 pub mod Moments
 pub mod Edges
 pub mod Lives

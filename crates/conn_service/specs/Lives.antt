@@ -14,8 +14,9 @@ use Rattle.client_table.specs.Clients.{words, Moves, FailsToMove, IsGivenUp}
 use Rattle.client_table.specs.Streams.{IsRead, IsInFront}
 use Rattle.conn_service.specs.declared.served.Served.TheVariants as served
 use Rattle.conn_service.specs.Services.{ServiceState, bytes_of, write_room}
-use Rattle.conn_service.specs.Acts.{Act, Enters, Leaves, Reads, Writes, Steps, Loses, Fails, Starves, IsFull, IsStopped, Stalls, GivesUp, Ends, Others}
-use Rattle.conn_service.specs.Moments.{ticked_by, since_step}
+use Rattle.conn_service.specs.Acts.{Act, Enters, Leaves, Reads, Writes, Steps, Loses, Fails, Starves, IsFull, IsStopped, Stalls, GivesUp, Ends, Others, BeginsByWriting}
+use Rattle.conn_service.specs.Visits.{Stand, Outside, Behind, Walks}
+use Rattle.conn_service.specs.Moments.{ticked_by, since_step, still_drained}
 use Rattle.conn_service.specs.Edges.{DoesAtEdge}
 
 -- what is unread behind an input: a packet or a fault is taken from the front; time, the end and the close take nothing
@@ -30,7 +31,7 @@ module _ {S P T : Type 0} (call : S → Fact P → S → Type 0) (turn : S → S
     (counts : T → Counts) (given accepted : T → Option (List ℕ)) where
   -- when an input may be stepped: a packet or a fault within a visit, where there is room for what is said; a Tick within a visit, where nothing
   -- waits to be written, or the connection is overdue or taken over, which a peer that does not read must not hold up; the end of the stream
-  -- where the transport has ended, and all that is whole was stepped; the close where the supply is shut
+  -- within a visit, where the transport has ended, and all that is whole was stepped; the close where the supply is shut
   abbrev pub MayStep : Input → ℕ → ServiceState P T → S → Type 0
   MayStep (inputs.Packet packet) now service supply = (visiting supply ≡ true) × (length service.outgoing < write_room)
   MayStep (inputs.Fault fault) now service supply = (visiting supply ≡ true) × (length service.outgoing < write_room)
@@ -38,7 +39,7 @@ module _ {S P T : Type 0} (call : S → Fact P → S → Type 0) (turn : S → S
       (visiting supply ≡ true)
       × ((service.outgoing ≡ [])
       ⊎ (IsSilentTooLong service.client.conn.standing now ⊎ call supply (Kicked service.client.conn.number true) supply))
-  MayStep inputs.EndOfInput now service supply = (service.at_end ≡ true) × IsRead service.client
+  MayStep inputs.EndOfInput now service supply = (visiting supply ≡ true) × (service.at_end ≡ true) × IsRead service.client
   MayStep inputs.Closing now service supply = visiting supply ≡ false
 
   pub record IsDue (input : Input) (now : ℕ) (service : ServiceState P T) (supply : S) : Type 0 where
@@ -46,12 +47,11 @@ module _ {S P T : Type 0} (call : S → Fact P → S → Type 0) (turn : S → S
     pub not_over : service.client.conn.standing ≢ Ended
     pub may : MayStep input now service supply
 
-  -- a visit begins, unless the supply is shut; that a read gave less than there was room for may be forgotten
-  pub record BeginsVisit (is_open : Bool) (old : ServiceState P T) (supply : S) (new : ServiceState P T) (supply' : S) : Type 0 where
+  -- a visit begins, unless the supply is shut; a round that reads forgets that an earlier read gave less than there was room for
+  pub record BeginsVisit (is_open reads : Bool) (old : ServiceState P T) (supply : S) (new : ServiceState P T) (supply' : S) : Type 0 where
     pub turned : turn supply supply'
     pub told : visiting supply' ≡ is_open
-    pub becomes : new ≡ record old { drained = new.drained }
-    pub fades : new.drained ≡ true → old.drained ≡ true
+    pub becomes : new ≡ record old { drained = still_drained reads old.drained }
 
   pub record EndsVisit (old : ServiceState P T) (supply : S) (new : ServiceState P T) (supply' : S) : Type 0 where
     pub turned : turn supply supply'
@@ -105,7 +105,7 @@ module _ {S P T : Type 0} (call : S → Fact P → S → Type 0) (turn : S → S
 
   -- what an act makes of the connection and its supply
   abbrev pub Does : Act → ServiceState P T → S → ServiceState P T → S → Type 0
-  Does (Enters is_open) old supply new supply' = BeginsVisit is_open old supply new supply'
+  Does (Enters is_open reads) old supply new supply' = BeginsVisit is_open reads old supply new supply'
   Does Leaves old supply new supply' = EndsVisit old supply new supply'
   Does (Steps now input packets next) old supply new supply' = StepsOnce now input packets next old supply new supply'
   Does (Loses now input packets next) old supply new supply' = LosesPackets now input packets next old supply new supply'
@@ -125,7 +125,33 @@ module _ {S P T : Type 0} (call : S → Fact P → S → Type 0) (turn : S → S
   DoesAll [] old supply new supply' = (new ≡ old) × (supply' ≡ supply)
   DoesAll (act ∷ acts) old supply new supply' = (between : ServiceState P T) × (mid : S) × Does act old supply between mid × DoesAll acts between mid new supply'
 
-  -- some acts lead from the one to the other
-  pub record Leads (old : ServiceState P T) (supply : S) (new : ServiceState P T) (supply' : S) : Type 0 where
+  -- some acts, at this moment, from this stand to that, lead from the one to the other
+  pub record Leads (now : ℕ) (from to : Stand) (old : ServiceState P T) (supply : S) (new : ServiceState P T) (supply' : S) : Type 0 where
     pub acts : List Act
     pub does : DoesAll acts old supply new supply'
+    pub walks : Walks now from acts to
+
+  -- a round at this moment leads from the one to the other: nobody else uses the supply within it, and its one visit ends within it. What waits is written to
+  -- the transport first, where the connection goes on
+  pub record Rounds (now : ℕ) (old : ServiceState P T) (supply : S) (new : ServiceState P T) (supply' : S) : Type 0 where
+    pub led : Leads now Outside Behind old supply new supply'
+    pub asks : old.outgoing ≢ [] → new.ending ≡ None → BeginsByWriting led.acts
+
+  -- rounds, one after the other, and nobody else uses the supply between them
+  abbrev pub RoundsAll : List ℕ → ServiceState P T → S → ServiceState P T → S → Type 0
+  RoundsAll [] old supply new supply' = (new ≡ old) × (supply' ≡ supply)
+  RoundsAll (now ∷ moments) old supply new supply' = (between : ServiceState P T) × (mid : S) × Rounds now old supply between mid × RoundsAll moments between mid new supply'
+
+  -- these are the acts of rounds at these moments, one after the other; in front of each, others use the supply
+  abbrev pub LivesBy : List ℕ → List Act → ServiceState P T → S → ServiceState P T → S → Type 0
+  LivesBy [] acts old supply new supply' = (acts ≡ []) × (new ≡ old) × (supply' ≡ supply)
+  LivesBy (now ∷ moments) acts old supply new supply' =
+      (entry : S) × (between : ServiceState P T) × (mid : S) × (round : Rounds now old entry between mid) × (rest : List Act) × (acts ≡ Others ∷ (round.led.acts ++ rest))
+      × LivesBy moments rest between mid new supply'
+
+  -- a life leads from the one to the other
+  pub record Lives (old : ServiceState P T) (supply : S) (new : ServiceState P T) (supply' : S) : Type 0 where
+    pub acts : List Act
+    pub does : DoesAll acts old supply new supply'
+    pub moments : List ℕ
+    pub lived : LivesBy moments acts old supply new supply'

@@ -84,6 +84,11 @@ drained_by got.Idle size = true
 drained_by got.End size = true
 drained_by got.Failed size = true
 
+-- and behind the beginning of a visit: a round that reads forgets it
+abbrev pub still_drained : Bool → Bool → Bool
+still_drained true drained = false
+still_drained false drained = drained
+
 -- a write that takes something takes a byte at least
 abbrev pub TakesSome : Put → Type 0
 TakesSome (put.Wrote count) = 0 < count

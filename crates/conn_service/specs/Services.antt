@@ -27,7 +27,7 @@ pub record ServiceState (P T : Type 0) : Type 0 where
   pub ticked : ℕ
   -- how many bytes of its stream were kept since it waits for its session, counted up to 65,536
   pub kept : ℕ
-  -- the latest read gave less than there was room for, and no round that reads has begun since
+  -- the latest read gave less than there was room for, and no round that reads has begun a visit since
   pub drained : Bool
   -- the transport has ended
   pub at_end : Bool

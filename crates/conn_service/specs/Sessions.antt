@@ -9,24 +9,37 @@ use Rattle.session_desk.specs.declared.session.Session.{Session}
 use Rattle.session_desk.specs.Attaching.{Request}
 use Rattle.session_desk.specs.declared.attached.Attached.{Attached}
 use Rattle.session_desk.specs.declared.error.DeskError.{DeskError}
+use Rattle.mqtt_packet.specs.declared.packet.Packet.{Packet}
+use Rattle.conn_supply.specs.declared.reply.Then.{Then}
 use Rattle.conn_supply.specs.Facts.{Fact}
 use Rattle.conn_supply.specs.Facts.Fact.{Attach}
+use Rattle.conn_engine.specs.declared.input.Input.TheVariants as inputs
+use Rattle.conn_engine.specs.declared.standing.Standing.{Standing}
 use Rattle.conn_laws.specs.Calls.{FailedCalls}
 use Rattle.conn_laws.specs.Transcripts.{IsNotEnding, session_given, Transcribes}
 use Rattle.conn_laws.specs.Marks.{publishes_in, publishes_of}
 use Rattle.conn_service.specs.Services.{ServiceState}
-use Rattle.conn_service.specs.Acts.{Act, Steps, Loses, Fails, packets_said}
+use Rattle.conn_service.specs.Acts.{Act, Steps, Loses, Fails, IsFull, GivesUp, packets_said}
+
+module _ {S P : Type 0} (call : S → Fact P → S → Type 0) where
+  -- where a connection is given up, the end of the stream is its last step: that does the same for its session, or wanted memory
+  abbrev pub TellsOfTheLast : ℕ → Standing P → S → Standing P → S → Type 0
+  TellsOfTheLast number standing supply standing' supply' =
+      ((packets : List Packet) × (next : Then) × (IsNotEnding standing → Transcribes call supply number standing inputs.EndOfInput packets next standing' supply'))
+      ⊎ FailedCalls call supply number standing inputs.EndOfInput supply'
 
 module _ {S P T : Type 0} (call : S → Fact P → S → Type 0) where
   -- a step adds to the transcript of its session, where that is not ending: its PUBLISH packets are those of the marks; what is handed out is what
   -- is sent for the first time; what is acknowledged is settled; and where it ends the connection, the session is handed in with all that it holds. A
-  -- step that wanted memory made calls of its table, and no others
+  -- step that wanted memory made calls of its table, and no others; and so it is where the connection is given up
   abbrev pub TellsItsSession : Act → ServiceState P T → S → ServiceState P T → S → Type 0
   TellsItsSession (Steps now input packets next) old supply new supply' =
       IsNotEnding old.client.conn.standing → Transcribes call supply old.client.conn.number old.client.conn.standing input packets next new.client.conn.standing supply'
   TellsItsSession (Loses now input packets next) old supply new supply' =
       IsNotEnding old.client.conn.standing → Transcribes call supply old.client.conn.number old.client.conn.standing input packets next new.client.conn.standing supply'
   TellsItsSession (Fails now input) old supply new supply' = FailedCalls call supply old.client.conn.number old.client.conn.standing input supply'
+  TellsItsSession (IsFull now) old supply new supply' = TellsOfTheLast call old.client.conn.number old.client.conn.standing supply new.client.conn.standing supply'
+  TellsItsSession (GivesUp now) old supply new supply' = TellsOfTheLast call old.client.conn.number old.client.conn.standing supply new.client.conn.standing supply'
   TellsItsSession _ old supply new supply' = ⊤
 
 -- a session was handed out to the connection of this number

@@ -34,7 +34,7 @@ EndsWithLast (input ∷ next ∷ rest) = (IsLast input → ⊥) × EndsWithLast 
 
 -- a connection that has ended is not read, written or stepped any more, but given up where its last step is missing
 abbrev pub IsQuiet : Act → Type 0
-IsQuiet (Enters is_open) = ⊤
+IsQuiet (Enters is_open reads) = ⊤
 IsQuiet Leaves = ⊤
 IsQuiet (GivesUp now) = ⊤
 IsQuiet Others = ⊤

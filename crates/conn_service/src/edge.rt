@@ -5,7 +5,8 @@ ghost use Rattle.conn_service.specs.declared.served.Served.TheVariants as ending
 ghost use Rattle.conn_service.specs.Crossings.{RefusesAlways};
 ghost use Rattle.conn_engine.specs.declared.standing.Standing.TheVariants.{Ended};
 ghost use Rattle.conn_service.specs.Services.{KeepsEnough, KeepsIdles, kept_room, most_refused};
-ghost use Rattle.conn_service.specs.Advances.{AdvancesAtEdge};
+ghost use Rattle.conn_service.specs.Advances.{IsWrittenOn, LeadsAtEdgeBy, WritesFirst};
+ghost use Rattle.conn_service.specs.Visits.{Behind, Inside, Outside};
 ghost use Rattle.conn_service.specs.Lives.{Leads};
 ghost use Rattle.conn_service.specs.Edges.{MayRead, ReadsOnce, WritesOnce, LeadsAtEdge};
 
@@ -42,7 +43,7 @@ impl<P: HoldingPlace, T: Transport> Service<P, T> {
         requires room { 0 < length buffer.old }
         ensures read { MatchResult result
             (λ got. (bytes : List ℕ) × ReadsOnce T.counts T.given T.accepted (length buffer.old) got bytes self.old self.new)
-            (λ served. LeadsAtEdge T.counts T.given T.accepted self.old self.new × (self.new.ending ≡ Some served)) }
+            (λ served. ((now : ℕ) → LeadsAtEdge T.counts T.given T.accepted now (Inside true) self.old self.new) × (self.new.ending ≡ Some served)) }
         ensures whole { result ≢ Ok gots.Failed }
         ensures idles { OnErr result (KeepsIdles T.counts self.old self.new) }
         ensures no_crossing { result ≢ Err endings.NoCrossing }
@@ -101,14 +102,13 @@ impl<P: HoldingPlace, T: Transport> Service<P, T> {
         now: u64,
     ) -> Result<(), Served>
         requires going { self.old.ending ≡ None }
-        ensures led { LeadsAtEdge T.counts T.given T.accepted self.old self.new }
+        ensures led { LeadsAtEdgeBy T.counts T.given T.accepted (λ acts. WritesFirst self.old self.new acts × IsWrittenOn self.old self.new acts) now Outside self.old self.new }
         ensures client { self.new.client ≡ self.old.client }
         ensures ticked { self.new.ticked ≡ self.old.ticked }
         ensures idles { KeepsIdles T.counts self.old self.new }
         ensures unread { T.given self.new.transport ≡ T.given self.old.transport }
         ensures nothing { self.old.outgoing ≡ [] → self.new ≡ self.old }
         ensures sent { OnOk result (self.new.ending ≡ None) }
-        ensures advances { OnOk result ((self.new ≡ self.old) ⊎ (AdvancesAtEdge T.counts T.given T.accepted self.old self.new ⊎ (self.new.outgoing ≢ []))) }
         ensures ended { IfErr result (λ served. self.new.ending ≡ Some served) }
         ensures crossing { result ≡ Err endings.NoCrossing → RefusesAlways X.refuses crossing.now worker }
     {
@@ -135,13 +135,12 @@ impl<P: HoldingPlace, T: Transport> Service<P, T> {
         wanted: bool,
     ) -> Result<(), Served>
         requires going { self.old.ending ≡ None }
-        ensures led { LeadsAtEdge T.counts T.given T.accepted self.old self.new }
+        ensures led { LeadsAtEdgeBy T.counts T.given T.accepted (λ acts. IsWrittenOn self.old self.new acts) now Behind self.old self.new }
         ensures client { self.new.client ≡ self.old.client }
         ensures ticked { self.new.ticked ≡ self.old.ticked }
         ensures idles { KeepsIdles T.counts self.old self.new }
         ensures unread { T.given self.new.transport ≡ T.given self.old.transport }
         ensures sent { OnOk result (self.new.ending ≡ None) }
-        ensures advances { OnOk result ((self.new ≡ self.old) ⊎ (AdvancesAtEdge T.counts T.given T.accepted self.old self.new ⊎ (self.new.outgoing ≢ []))) }
         ensures unasked { wanted ≡ false → self.new ≡ self.old }
         ensures ended { IfErr result (λ served. self.new.ending ≡ Some served) }
         ensures crossing { result ≡ Err endings.NoCrossing → RefusesAlways X.refuses crossing.now worker }
@@ -165,7 +164,7 @@ impl<P: HoldingPlace, T: Transport> Service<P, T> {
         requires going { self.old.ending ≡ None }
         requires waits { self.old.outgoing ≢ [] }
         requires refused { most_refused ≤ self.old.refused }
-        ensures led { Leads S.call S.turn S.visiting P.slot_of T.counts T.given T.accepted self.old supply.old self.new supply.new }
+        ensures led { Leads S.call S.turn S.visiting P.slot_of T.counts T.given T.accepted now Outside Behind self.old supply.old self.new supply.new }
         ensures ended { self.new.ending ≡ Some endings.Stalled }
         ensures over { self.new.client.conn.standing ≡ Ended }
     {
@@ -173,10 +172,10 @@ impl<P: HoldingPlace, T: Transport> Service<P, T> {
         self.give_up(supply, now);
     }
 
-    /// Whether it has ended by now: all that it said is written, or the transport took nothing of it for too long.
+    /// Whether it has ended by now: all that it said is written, or the transport took nothing of it for too long, and was asked to since.
     pub(crate) fn conclude(&mut self, now: u64) -> Result<(), Served>
         requires going { self.old.ending ≡ None }
-        ensures led { LeadsAtEdge T.counts T.given T.accepted self.old self.new }
+        ensures led { LeadsAtEdge T.counts T.given T.accepted now Behind self.old self.new }
         ensures client { self.new.client ≡ self.old.client }
         ensures idles { KeepsIdles T.counts self.old self.new }
         ensures transport { self.new.transport ≡ self.old.transport }
@@ -190,7 +189,7 @@ impl<P: HoldingPlace, T: Transport> Service<P, T> {
                 self.ending = Some(Served::Ended);
                 return Err(Served::Ended);
             }
-        } else if now.saturating_sub(self.since) >= patience(over) {
+        } else if self.refused > 0 && now.saturating_sub(self.since) >= patience(over) {
             self.ending = Some(Served::Stalled);
             return Err(Served::Stalled);
         }

@@ -60,7 +60,8 @@ pub fn quota_law<P: HoldingPlace, T: Transport, S: Supply<P>>()
 /// **Each step of a life keeps its session** (sections 4.4, 4.8.2 and 4.9), as each step of a connection does: its PUBLISH packets are those of the marks
 /// that it adds to the transcript of its session, what its place was handed is what it sends for the first time, in that order, what is acknowledged is
 /// settled, and where it ends the connection, the session is handed in with all that it holds. A step that wanted memory made the calls that its table has
-/// for that, and no others.
+/// for that, and no others. So it is too where the connection is given up, behind an end without its last step or for a packet that memory was wanted for:
+/// its session is handed in with all that it holds.
 pub fn session_law<P: HoldingPlace, T: Transport, S: Supply<P>>()
     ensures { (act : Act) (old new : ServiceState P T) (supply supply' : S) →
         Does S.call S.turn S.visiting P.slot_of T.counts T.given T.accepted act old supply new supply' → TellsItsSession S.call act old supply new supply' }

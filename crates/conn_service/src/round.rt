@@ -7,11 +7,12 @@ ghost use Rattle.conn_service.specs.declared.served.Served.TheVariants as ending
 ghost use Rattle.conn_service.specs.Crossings.{RefusesAlways};
 ghost use Rattle.conn_supply.specs.Facts.Fact.{Kicked};
 ghost use Rattle.conn_engine.specs.declared.input.Input.TheVariants as inputs;
-ghost use Rattle.conn_service.specs.Moments.{is_tick_for};
+ghost use Rattle.conn_service.specs.Moments.{is_tick_for, still_drained};
 ghost use Rattle.conn_service.specs.Services.{HasNoMore, IsAnswered, IsOnTime, IsServed, IsTold, IdlesTick, KeepsEdge, KeepsEdgeAt, KeepsEnough};
 ghost use Rattle.conn_service.specs.Directions.{Follows, reads, writes};
+ghost use Rattle.conn_service.specs.Visits.{Behind, Inside, Outside};
 ghost use Rattle.conn_service.specs.Lives.{IsDue, Leads};
-ghost use Rattle.conn_service.specs.Advances.{Advances, IsDoneOrAdvances};
+ghost use Rattle.conn_service.specs.Advances.{IsDoneOrAdvances, LeadsBy, RoundsTo, TellsOfRound, TellsOfVisit, WritesFirst};
 
 use crate::served::{Direction, Round, Served};
 use crate::service::Service;
@@ -38,9 +39,8 @@ impl<P: HoldingPlace, T: Transport> Service<P, T> {
     ) -> Round
         requires going { self.old.ending ≡ None }
         requires room { 0 < length buffer.old }
-        ensures led { Leads S.call S.turn S.visiting P.slot_of T.counts T.given T.accepted self.old supply.old self.new supply.new }
+        ensures led { RoundsTo S.call S.turn S.visiting P.slot_of T.counts T.given T.accepted direction result now self.old supply.old self.new supply.new }
         ensures told { IsTold result self.new now }
-        ensures more { reads direction ≡ true → result ≡ rounds.More → Advances S.call S.turn S.visiting P.slot_of T.counts T.given T.accepted self.old supply.old self.new supply.new }
         ensures idles { IdlesTick T.counts now self.old self.new }
         ensures way { Follows T.given T.accepted direction now self.old self.new }
         ensures crossing { result ≡ rounds.Ended endings.NoCrossing → RefusesAlways X.refuses crossing.now worker }
@@ -86,9 +86,8 @@ impl<P: HoldingPlace, T: Transport> Service<P, T> {
     ) -> Result<bool, Served>
         requires going { self.old.ending ≡ None }
         requires room { 0 < length buffer.old }
-        ensures led { Leads S.call S.turn S.visiting P.slot_of T.counts T.given T.accepted self.old supply.old self.new supply.new }
+        ensures led { LeadsBy S.call S.turn S.visiting P.slot_of T.counts T.given T.accepted (λ acts. WritesFirst self.old self.new acts × (reads direction ≡ true → TellsOfRound result self.new acts)) now Outside Behind self.old supply.old self.new supply.new }
         ensures all { result ≡ Ok true → IsServed self.new now }
-        ensures more { reads direction ≡ true → IfOk result (λ all. IsDoneOrAdvances S.call S.turn S.visiting P.slot_of T.counts T.given T.accepted all self.old supply.old self.new supply.new) }
         ensures not_over { OnOk result (self.new.outgoing ≡ [] → self.new.client.conn.standing ≢ Ended) }
         ensures timely { OnOk result (self.new.outgoing ≡ [] → IsOnTime self.new now) }
         ensures going { OnOk result (self.new.ending ≡ None) }
@@ -117,9 +116,8 @@ impl<P: HoldingPlace, T: Transport> Service<P, T> {
     ) -> Result<bool, Served>
         requires going { self.old.ending ≡ None }
         requires room { 0 < length buffer.old }
-        ensures led { Leads S.call S.turn S.visiting P.slot_of T.counts T.given T.accepted self.old supply.old self.new supply.new }
+        ensures led { LeadsBy S.call S.turn S.visiting P.slot_of T.counts T.given T.accepted (λ acts. reads ≡ true → TellsOfVisit result self.new acts) now Outside Behind self.old supply.old self.new supply.new }
         ensures all { result ≡ Ok true → IsServed self.new now }
-        ensures more { reads ≡ true → IfOk result (λ all. IsDoneOrAdvances S.call S.turn S.visiting P.slot_of T.counts T.given T.accepted all self.old supply.old self.new supply.new) }
         ensures timely { result ≡ Ok false → self.old.outgoing ≡ [] → IsOnTime self.new now }
         ensures waits { OnOk result (self.old.outgoing ≢ [] → self.new.outgoing ≢ []) }
         ensures no_crossing { result ≢ Err endings.NoCrossing }
@@ -153,9 +151,8 @@ impl<P: HoldingPlace, T: Transport> Service<P, T> {
         requires not_over { self.old.client.conn.standing ≢ Ended }
         requires visiting { S.visiting supply.old ≡ is_open }
         requires room { 0 < length buffer.old }
-        ensures led { Leads S.call S.turn S.visiting P.slot_of T.counts T.given T.accepted self.old supply.old self.new supply.new }
+        ensures led { LeadsBy S.call S.turn S.visiting P.slot_of T.counts T.given T.accepted (λ acts. reads ≡ true → IfOk result (λ all. IsDoneOrAdvances all self.new acts)) now (Inside is_open) (Inside is_open) self.old supply.old self.new supply.new }
         ensures all { result ≡ Ok true → IsServed self.new now }
-        ensures more { reads ≡ true → IfOk result (λ all. IsDoneOrAdvances S.call S.turn S.visiting P.slot_of T.counts T.given T.accepted all self.old supply.old self.new supply.new) }
         ensures timely { result ≡ Ok false → self.old.outgoing ≡ [] → IsOnTime self.new now }
         ensures waits { OnOk result (self.old.outgoing ≢ [] → self.new.outgoing ≢ []) }
         ensures no_crossing { result ≢ Err endings.NoCrossing }
@@ -178,9 +175,8 @@ impl<P: HoldingPlace, T: Transport> Service<P, T> {
         requires going { self.old.ending ≡ None }
         requires not_over { self.old.client.conn.standing ≢ Ended }
         requires shut { S.visiting supply.old ≡ false }
-        ensures led { Leads S.call S.turn S.visiting P.slot_of T.counts T.given T.accepted self.old supply.old self.new supply.new }
+        ensures led { LeadsBy S.call S.turn S.visiting P.slot_of T.counts T.given T.accepted (λ acts. IfOk result (λ all. IsDoneOrAdvances all self.new acts)) now (Inside false) (Inside false) self.old supply.old self.new supply.new }
         ensures all { result ≡ Ok true → IsServed self.new now }
-        ensures more { IfOk result (λ all. IsDoneOrAdvances S.call S.turn S.visiting P.slot_of T.counts T.given T.accepted all self.old supply.old self.new supply.new) }
         ensures timely { result ≡ Ok false → self.old.outgoing ≡ [] → IsOnTime self.new now }
         ensures waits { OnOk result (self.old.outgoing ≢ [] → self.new.outgoing ≢ []) }
         ensures no_crossing { result ≢ Err endings.NoCrossing }
@@ -207,9 +203,8 @@ impl<P: HoldingPlace, T: Transport> Service<P, T> {
         requires not_over { self.old.client.conn.standing ≢ Ended }
         requires visiting { S.visiting supply.old ≡ true }
         requires room { 0 < length buffer.old }
-        ensures led { Leads S.call S.turn S.visiting P.slot_of T.counts T.given T.accepted self.old supply.old self.new supply.new }
+        ensures led { LeadsBy S.call S.turn S.visiting P.slot_of T.counts T.given T.accepted (λ acts. reads ≡ true → IfOk result (λ all. IsDoneOrAdvances all self.new acts)) now (Inside true) (Inside true) self.old supply.old self.new supply.new }
         ensures all { result ≡ Ok true → IsServed self.new now }
-        ensures more { reads ≡ true → IfOk result (λ all. IsDoneOrAdvances S.call S.turn S.visiting P.slot_of T.counts T.given T.accepted all self.old supply.old self.new supply.new) }
         ensures timely { result ≡ Ok false → self.old.outgoing ≡ [] → IsOnTime self.new now }
         ensures waits { OnOk result (self.old.outgoing ≢ [] → self.new.outgoing ≢ []) }
         ensures no_crossing { result ≢ Err endings.NoCrossing }
@@ -252,9 +247,8 @@ impl<P: HoldingPlace, T: Transport> Service<P, T> {
         requires visiting { S.visiting supply.old ≡ true }
         requires room { 0 < length buffer.old }
         requires on_time { IsOnTime self.old now }
-        ensures led { Leads S.call S.turn S.visiting P.slot_of T.counts T.given T.accepted self.old supply.old self.new supply.new }
+        ensures led { LeadsBy S.call S.turn S.visiting P.slot_of T.counts T.given T.accepted (λ acts. reads ≡ true → result ≡ Ok true → self.new.at_end ≡ false → IsDoneOrAdvances true self.new acts) now (Inside true) (Inside true) self.old supply.old self.new supply.new }
         ensures all { result ≡ Ok true → IsServed self.new now }
-        ensures more { reads ≡ true → result ≡ Ok true → self.new.at_end ≡ false → IsDoneOrAdvances S.call S.turn S.visiting P.slot_of T.counts T.given T.accepted true self.old supply.old self.new supply.new }
         ensures full { result ≡ Ok false → self.new.outgoing ≢ [] }
         ensures timely { OnOk result (IsOnTime self.new now) }
         ensures no_crossing { result ≢ Err endings.NoCrossing }
@@ -279,7 +273,8 @@ impl<P: HoldingPlace, T: Transport> Service<P, T> {
     fn end_input<S: Supply<P>>(&mut self, supply: &mut S, now: u64) -> Result<(), Served>
         requires going { self.old.ending ≡ None }
         requires answered { IsAnswered self.old }
-        ensures led { Leads S.call S.turn S.visiting P.slot_of T.counts T.given T.accepted self.old supply.old self.new supply.new }
+        requires visiting { S.visiting supply.old ≡ true }
+        ensures led { Leads S.call S.turn S.visiting P.slot_of T.counts T.given T.accepted now (Inside true) (Inside true) self.old supply.old self.new supply.new }
         ensures over { OnOk result ((self.new.client.conn.standing ≡ Ended) ⊎ ((self.new ≡ self.old) × (self.old.at_end ≡ false))) }
         ensures no_crossing { result ≢ Err endings.NoCrossing }
         ensures going { OnOk result (self.new.ending ≡ None) }
@@ -297,7 +292,8 @@ impl<P: HoldingPlace, T: Transport> Service<P, T> {
     fn tick_if<S: Supply<P>>(&mut self, supply: &mut S, now: u64, due: bool) -> Result<(), Served>
         requires due { due ≡ true → IsDue S.call S.turn S.visiting P.slot_of T.counts T.given T.accepted inputs.Tick now self.old supply.old }
         requires going { self.old.ending ≡ None }
-        ensures led { Leads S.call S.turn S.visiting P.slot_of T.counts T.given T.accepted self.old supply.old self.new supply.new }
+        requires visiting { S.visiting supply.old ≡ true }
+        ensures led { Leads S.call S.turn S.visiting P.slot_of T.counts T.given T.accepted now (Inside true) (Inside true) self.old supply.old self.new supply.new }
         ensures no_crossing { result ≢ Err endings.NoCrossing }
         ensures going { OnOk result (self.new.ending ≡ None) }
         ensures ended { IfErr result (λ served. self.new.ending ≡ Some served) }
@@ -349,7 +345,7 @@ impl<P: HoldingPlace, T: Transport> Service<P, T> {
 
 /// Whether there is still nothing to read behind the beginning of a visit: where it is to be read, that is asked again.
 fn is_still_drained(drained: bool, reads: bool) -> bool
-    ensures { result ≡ true → drained ≡ true }
+    ensures { result ≡ still_drained reads drained }
 {
     drained && !reads
 }

@@ -1,5 +1,5 @@
 //! The steps of a connection that is served.
-ghost use Rattle.std.specs.Prelude.{◌≡◌, ◌≢◌, ◌<◌, length, [], None, Some, Ok, true, false, OnOk, IfErr};
+ghost use Rattle.std.specs.Prelude.{◌≡◌, Bool, ◌≢◌, ◌<◌, length, [], None, Some, Ok, true, false, OnOk, IfErr};
 ghost use Rattle.conn_supply.specs.declared.reply.Then.TheVariants.{Go};
 ghost use Rattle.conn_engine.specs.Step.{IsNoPacket};
 ghost use Rattle.conn_engine.specs.declared.standing.Standing.TheVariants.{Ended};
@@ -7,6 +7,7 @@ ghost use Rattle.conn_laws.specs.Behind.{IsLast};
 ghost use Rattle.conn_service.specs.Services.{write_room, IsAnswered, KeepsEdge, KeepsEdgeAt};
 ghost use Rattle.conn_service.specs.declared.served.Served.TheVariants as endings;
 ghost use Rattle.conn_service.specs.Moments.{ticked_by};
+ghost use Rattle.conn_service.specs.Visits.{Behind, Inside};
 ghost use Rattle.conn_service.specs.Lives.{IsDue, Leads};
 
 use crate::outgoing::{WRITE_ROOM, put_down};
@@ -47,7 +48,7 @@ impl<P: HoldingPlace, T: Transport> Service<P, T> {
     ) -> Result<(), Served>
         requires no_packet { IsNoPacket input }
         requires due { IsDue S.call S.turn S.visiting P.slot_of T.counts T.given T.accepted input now self.old supply.old }
-        ensures led { Leads S.call S.turn S.visiting P.slot_of T.counts T.given T.accepted self.old supply.old self.new supply.new }
+        ensures led { (is_open : Bool) → S.visiting supply.old ≡ is_open → Leads S.call S.turn S.visiting P.slot_of T.counts T.given T.accepted now (Inside is_open) (Inside is_open) self.old supply.old self.new supply.new }
         ensures goes_on { OnOk result (self.new.ending ≡ None) }
         ensures last { OnOk result (IsLast input → self.new.client.conn.standing ≡ Ended) }
         ensures waits { OnOk result (self.old.outgoing ≢ [] → self.new.outgoing ≢ []) }
@@ -81,7 +82,7 @@ impl<P: HoldingPlace, T: Transport> Service<P, T> {
         requires not_over { self.old.client.conn.standing ≢ Ended }
         requires room { length self.old.outgoing < write_room }
         requires visiting { S.visiting supply.old ≡ true }
-        ensures led { Leads S.call S.turn S.visiting P.slot_of T.counts T.given T.accepted self.old supply.old self.new supply.new }
+        ensures led { Leads S.call S.turn S.visiting P.slot_of T.counts T.given T.accepted now (Inside true) (Inside true) self.old supply.old self.new supply.new }
         ensures goes_on { result ≡ Ok true → (self.new.client.conn.standing ≢ Ended) × (length self.new.client.unread.bytes < length self.old.client.unread.bytes) }
         ensures all { result ≡ Ok false → IsAnswered self.new }
         ensures going { OnOk result (self.new.ending ≡ None) }
@@ -116,7 +117,7 @@ impl<P: HoldingPlace, T: Transport> Service<P, T> {
     ) -> Result<bool, Served>
         requires going { self.old.ending ≡ None }
         requires visiting { S.visiting supply.old ≡ true }
-        ensures led { Leads S.call S.turn S.visiting P.slot_of T.counts T.given T.accepted self.old supply.old self.new supply.new }
+        ensures led { Leads S.call S.turn S.visiting P.slot_of T.counts T.given T.accepted now (Inside true) (Inside true) self.old supply.old self.new supply.new }
         ensures all { result ≡ Ok true → IsAnswered self.new }
         ensures full { result ≡ Ok false → self.new.outgoing ≢ [] }
         ensures going { OnOk result (self.new.ending ≡ None) }
@@ -138,7 +139,7 @@ impl<P: HoldingPlace, T: Transport> Service<P, T> {
     /// Behind an end without its last step, the connection is given up: its session is parked.
     pub(crate) fn give_up<S: Supply<P>>(&mut self, supply: &mut S, now: u64)
         requires ended { self.old.ending ≢ None }
-        ensures led { Leads S.call S.turn S.visiting P.slot_of T.counts T.given T.accepted self.old supply.old self.new supply.new }
+        ensures led { Leads S.call S.turn S.visiting P.slot_of T.counts T.given T.accepted now Behind Behind self.old supply.old self.new supply.new }
         ensures over { self.new.client.conn.standing ≡ Ended }
         ensures ending { self.new.ending ≡ self.old.ending }
         ensures edge { (self.new.transport ≡ self.old.transport) × (self.new.ticked ≡ self.old.ticked) }

@@ -1,9 +1,12 @@
 -- The close ends it.
-use Rattle.std.proofs.Common.{inl, inr, refl}
+use Rattle.std.proofs.Common.{false, inl, inr, refl, rules}
 use Rattle.conn_service.proofs.service.Service.close.Goals as goal
 
 pub returns-clause-all : goal.returns-clause-all
 returns-clause-all g c done = inl (c.in_ok-step.ensures.last tt)
 
-pub returns-clause-more : goal.returns-clause-more
-returns-clause-more g c = λ none. inl (refl, inr (inl (c.in_ok-step.ensures.last tt)))
+pub returns-in_err-step-clause-led : goal.returns-in_err-step-clause-led
+returns-in_err-step-clause-led g c = record { led = c.step.ensures.led false c.requires.shut; told = search rules }
+
+pub returns-clause-led : goal.returns-clause-led
+returns-clause-led g c = record { led = c.step.ensures.led false c.requires.shut; told = λ none. inl (refl, inr (inl (c.in_ok-step.ensures.last tt))) }

@@ -10,4 +10,4 @@ returns-then-over-clause-led g c =
 pub returns-then-saturating_sub-patience-clause-led : goal.returns-then-saturating_sub-patience-clause-led
 returns-then-saturating_sub-patience-clause-led g c =
     stalled_by g.T.Transport.counts g.T.Transport.given g.T.Transport.accepted c.args.now c.patience.result c.has_ended-over.result c.args.self.now _ c.self.view_is c.requires.going
-    (search rules) c.has_ended-over.ensures c.patience.ensures (omega arith)
+    (search rules) c.has_ended-over.ensures c.patience.ensures (omega arith) (omega arith)

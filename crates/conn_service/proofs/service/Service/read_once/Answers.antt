@@ -5,15 +5,15 @@ use Rattle.conn_service.proofs.service.Service.read_once.Goals as goal
 
 pub returns-in-Err-clause-read : goal.returns-in-Err-clause-read
 returns-in-Err-clause-read g c = (
-  starves g.T.Transport.counts g.T.Transport.given g.T.Transport.accepted c.in-Bytes.count c.args.self.now _ c.feed.new.self c.read-got.new.self (take c.in-Bytes.count c.read-got.new.buffer)
-      c.self.view_is c.requires.may c.in-Err.ensures.unchanged (search rules) c.in-Bytes.ensures.counts c.in-Bytes.ensures.given c.in-Bytes.ensures.accepted,
+  (λ now. starves g.T.Transport.counts g.T.Transport.given g.T.Transport.accepted c.in-Bytes.count c.args.self.now _ c.feed.new.self c.read-got.new.self (take c.in-Bytes.count c.read-got.new.buffer)
+      c.self.view_is c.requires.may c.in-Err.ensures.unchanged (search rules) c.in-Bytes.ensures.counts c.in-Bytes.ensures.given c.in-Bytes.ensures.accepted),
   refl,
 )
 
 pub returns-in-Failed-clause-read : goal.returns-in-Failed-clause-read
 returns-in-Failed-clause-read g c = (
-  read_failed g.T.Transport.counts g.T.Transport.given g.T.Transport.accepted (length c.args.buffer.now) c.args.self.now _ c.read-got.new.self c.self.view_is c.requires.may
-      c.in-Failed.ensures.counts c.in-Failed.ensures.given c.in-Failed.ensures.accepted,
+  (λ now. read_failed g.T.Transport.counts g.T.Transport.given g.T.Transport.accepted (length c.args.buffer.now) c.args.self.now _ c.read-got.new.self c.self.view_is c.requires.may
+      c.in-Failed.ensures.counts c.in-Failed.ensures.given c.in-Failed.ensures.accepted),
   refl,
 )
 
