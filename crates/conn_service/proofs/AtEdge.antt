@@ -191,6 +191,7 @@ module _ {P T : Type 0} (counts : T → Counts) (given accepted : T → Option (
         gives = record { count = refl; counted = counted; given_is = given_is ∙ sym (nothing_known (given old.transport)); accepted_is = accepted_is };
         becomes = λ i. record old { transport = transport; drained = true; at_end = may.not_at_end i; ending = Some served.Read };
       }) (refl, refl)
+
   pub read_failed : {now : ℕ} (size : ℕ) (old inside : ServiceState P T) (transport : T) → inside ≡ old → MayRead counts given accepted old
       → counts transport ≡ after_got got.Failed (counts inside.transport) → given transport ≡ given inside.transport → accepted transport ≡ accepted inside.transport
       → LeadsAtEdge counts given accepted now (Inside true) old (record inside { transport = transport; drained = true; ending = Some served.Read })
@@ -209,6 +210,7 @@ module _ {P T : Type 0} (counts : T → Counts) (given accepted : T → Option (
         gives = record { count = length_is; counted = counted; given_is = given_is; accepted_is = accepted_is };
         becomes = λ i. record old { client = client_is i; transport = transport; ending = Some served.Memory };
       }) (refl, refl)
+
   pub starves : {now : ℕ} (count : ℕ) (old inside : ServiceState P T) (client : ClientState P) (transport : T) (bytes : List ℕ) → inside ≡ old → MayRead counts given accepted old
       → client ≡ inside.client → length bytes ≡ count → counts transport ≡ counts inside.transport → given transport ≡ append_known (given inside.transport) bytes
       → accepted transport ≡ accepted inside.transport

@@ -1,20 +1,13 @@
 -- How a connection ends, and what comes behind that.
-use Rattle.std.proofs.Common.{◌≡◌, ◌≢◌, ◌⊎◌, ℕ, Bool, List, [], ◌∷◌, ◌++◌, filter_map, Option, Some, None, refl, sym, ap, subst, ◌∙◌, append-nil, inl, inr, ⊎_elim}
+use Rattle.std.proofs.Common.{◌≡◌, ◌≢◌, ◌⊎◌, ℕ, Bool, List, [], ◌∷◌, ◌++◌, filter_map, Option, Some, None, refl, sym, ap, ◌∙◌, append-nil, inl, inr, ⊎_elim}
 use Rattle.std.specs.List.{AllByRecursion}
 use Rattle.std.specs.Option.{option_to_list}
 use Rattle.std.proofs.lemmas.List.Elements.{filter_map-append}
 use Rattle.transport.specs.declared.counts.Counts.{Counts}
-use Rattle.transport.specs.declared.answers.Got.{Got}
-use Rattle.transport.specs.declared.answers.Got.TheVariants as got
 use Rattle.conn_supply.specs.Facts.{Fact}
-use Rattle.conn_engine.specs.declared.input.Input.{Input}
-use Rattle.conn_engine.specs.declared.input.Input.TheVariants as inputs
-use Rattle.conn_engine.specs.declared.standing.Standing.TheVariants.{Ended}
-use Rattle.client_table.specs.Clients.{ClientState, moment_of, words, Said, Moves, IsGivenUp}
 use Rattle.conn_service.specs.declared.served.Served.{Served}
 use Rattle.conn_service.specs.Services.{ServiceState}
 use Rattle.conn_service.specs.Acts.{Act, Enters, Leaves, Reads, Writes, Steps, Loses, Fails, Starves, IsFull, IsStopped, Stalls, GivesUp, Ends, Others, ending_in, endings_of}
-use Rattle.conn_service.specs.Moments.{fed_by}
 use Rattle.conn_service.specs.Lives.{Does, DoesAll}
 use Rattle.conn_service.specs.Transcripts.{IsQuiet}
 

@@ -1,5 +1,5 @@
 -- Acts one after the other.
-use Rattle.std.proofs.Common.{◌≡◌, ◌⊎◌, ℕ, Bool, List, [], ◌∷◌, ◌++◌, Option, refl, subst, inl, inr}
+use Rattle.std.proofs.Common.{◌≡◌, ℕ, Bool, List, [], ◌∷◌, ◌++◌, Option, refl, subst, inl, inr}
 use Rattle.transport.specs.declared.counts.Counts.{Counts}
 use Rattle.conn_supply.specs.Facts.{Fact}
 use Rattle.conn_service.specs.Services.{ServiceState}
@@ -166,8 +166,12 @@ module _ {S P T : Type 0} (call : S → Fact P → S → Type 0) (turn : S → S
       → RoundsAll call turn visiting slot_of counts given accepted moments old supply mid between
       → Rounds call turn visiting slot_of counts given accepted now mid between new supply'
       → RoundsAll call turn visiting slot_of counts given accepted (moments ++ now ∷ []) old supply new supply'
-  rounds_on [] now old mid new supply between supply' first then = (new, supply',
-      subst (λ (s : S). Rounds call turn visiting slot_of counts given accepted now old s new supply') first.1
-      (subst (λ (service : ServiceState P T). Rounds call turn visiting slot_of counts given accepted now service between new supply') first.0 then), (refl, refl))
+  rounds_on [] now old mid new supply between supply' first then = (
+    new,
+    supply',
+    subst (λ (s : S). Rounds call turn visiting slot_of counts given accepted now old s new supply') first.1
+        (subst (λ (service : ServiceState P T). Rounds call turn visiting slot_of counts given accepted now service between new supply') first.0 then),
+    (refl, refl),
+  )
   rounds_on (moment ∷ moments) now old mid new supply between supply' first then =
       (first.0, first.1, first.2, rounds_on moments now first.0 mid new first.1 between supply' first.3 then)

@@ -15,7 +15,7 @@ use Rattle.client_table.specs.Streams.{IsInFront, FailsToReadOne}
 use Rattle.conn_service.specs.declared.served.Served.TheVariants as served
 use Rattle.conn_service.specs.Services.{ServiceState, bytes_of, write_room}
 use Rattle.conn_service.specs.Acts.{Enters, Leaves, Steps, Loses, Fails, IsFull, GivesUp}
-use Rattle.conn_service.specs.Visits.{Stand, Behind, Inside, Parting, Parted, IsSteppedIn}
+use Rattle.conn_service.specs.Visits.{Behind, Inside, Parting, Parted, IsSteppedIn}
 use Rattle.conn_service.specs.Moments.{ticked_by, since_step}
 use Rattle.conn_service.specs.Lives.{TakesFront, MayStep, IsDue, Leads}
 use Rattle.conn_service.proofs.Leading.{leads_one, leads_on}

@@ -41,6 +41,7 @@ ticks_on {P} {T} now sent visited written new waits unasked ticks is client_is t
   behind : (visited.client.conn.standing ≡ Ended) ⊎ (visited.ticked ≡ now) → new.ticked ≡ now
   behind (inl over) = absurd (not_over none (ap (λ (s : ServiceState P T). s.client.conn.standing) is ∙ ap (λ (its : ClientState P). its.conn.standing) client_is ∙ over))
   behind (inr ticked) = ap (λ (s : ServiceState P T). s.ticked) is ∙ ticked_is ∙ ticked
+
   by : (sent.outgoing ≡ []) ⊎ (sent.outgoing ≢ []) → new.ticked ≡ now
   by (inl nothing) = behind (ticks nothing)
   by (inr some) = absurd (waits some (sym (ap (λ (s : ServiceState P T). s.outgoing) (is ∙ unasked some)) ∙ none))

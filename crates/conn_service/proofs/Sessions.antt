@@ -16,9 +16,12 @@ module _ {S P T : Type 0} (call : S → Fact P → S → Type 0) (turn : S → S
   given_up : (now : ℕ) (client client' : ClientState P) (supply supply' : S) → IsGivenUp call slot_of supply client now inputs.EndOfInput client' supply'
       → TellsOfTheLast call client.conn.number client.conn.standing supply client'.conn.standing supply'
   given_up now client client' supply supply' (inl moved) =
-      inl (moved.0.packets, moved.0.next,
-      (λ going. transcribed call slot_of supply supply' client.conn.number (moment_of client now) client.conn.standing client'.conn.standing inputs.EndOfInput moved.0.packets moved.0.next
-      moved.1.stepped going))
+      inl (
+        moved.0.packets,
+        moved.0.next,
+        (λ going. transcribed call slot_of supply supply' client.conn.number (moment_of client now) client.conn.standing client'.conn.standing inputs.EndOfInput moved.0.packets moved.0.next
+            moved.1.stepped going),
+      )
   given_up now client client' supply supply' (inr failed) =
       inr (failing.failed call slot_of supply supply' client.conn.number (moment_of client now) client.conn.standing inputs.EndOfInput failed.failed)
 

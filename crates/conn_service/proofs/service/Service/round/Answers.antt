@@ -1,5 +1,5 @@
 -- A round that ends it: where its last step is missing, it is given up.
-use Rattle.std.proofs.Common.{◌∙◌, rules}
+use Rattle.std.proofs.Common.{rules}
 use Rattle.conn_service.proofs.Leading.{leads_on}
 use Rattle.conn_service.proofs.Rounds.{idles_behind}
 use Rattle.conn_service.proofs.Advancing.{told_more}

@@ -1,5 +1,5 @@
 -- It is stalled, and given up.
-use Rattle.std.proofs.Common.{refl, inr, arith}
+use Rattle.std.proofs.Common.{inr, arith}
 use Rattle.conn_service.proofs.AtEdge.{stalled}
 use Rattle.conn_service.proofs.Leading.{leads_from_behind}
 use Rattle.conn_service.proofs.Rounds.{edge_then}
