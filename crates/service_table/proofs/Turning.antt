@@ -5,7 +5,7 @@ use Rattle.conn_supply.specs.Facts.{Fact}
 use Rattle.conn_service.specs.Services.{ServiceState}
 use Rattle.conn_service.specs.declared.served.Direction.{Direction}
 use Rattle.conn_service.specs.Directions.{Follows}
-use Rattle.conn_service.specs.Lives.{Leads}
+use Rattle.conn_service.specs.Lives.{Rounds}
 use Rattle.service_table.specs.declared.turned.Turned.{Turned}
 use Rattle.service_table.specs.Cells.{FollowsIn, Tells, Turns}
 
@@ -13,7 +13,7 @@ module _ {S P T : Type 0} (call : S → Fact P → S → Type 0) (turn : S → S
     (counts : T → Counts) (given accepted : T → Option (List ℕ)) where
   -- a connection in it turns
   pub turns : (now : ℕ) (before : Option (ServiceState P T)) (service behind : ServiceState P T) (supply supply' : S) (turned : Turned T)
-      (after : Option (ServiceState P T)) → before ≡ Some service → Leads call turn visiting slot_of counts given accepted service supply behind supply'
+      (after : Option (ServiceState P T)) → before ≡ Some service → Rounds call turn visiting slot_of counts given accepted now service supply behind supply'
       → Tells turned behind now after → Turns call turn visiting slot_of counts given accepted now before supply turned after supply'
   turns now before service behind supply supply' turned after has led tells =
       let Holds : Option (ServiceState P T) → Type 0 = λ before. Turns call turn visiting slot_of counts given accepted now before supply turned after supply' in

@@ -9,7 +9,7 @@ use Rattle.conn_service.specs.declared.served.Round.TheVariants as rounds
 use Rattle.conn_service.specs.Services.{ServiceState, opened, IsTold}
 use Rattle.conn_service.specs.declared.served.Direction.{Direction}
 use Rattle.conn_service.specs.Directions.{Follows}
-use Rattle.conn_service.specs.Lives.{Leads}
+use Rattle.conn_service.specs.Lives.{Rounds}
 use Rattle.service_table.specs.declared.turned.Turned.{Turned}
 use Rattle.service_table.specs.declared.turned.Turned.TheVariants.{Vacant, Goes, Ended}
 
@@ -83,4 +83,4 @@ module _ {S P T : Type 0} (call : S → Fact P → S → Type 0) (turn : S → S
   abbrev pub Turns : ℕ → Option (ServiceState P T) → S → Turned T → Option (ServiceState P T) → S → Type 0
   Turns now None supply turned after supply' = (turned ≡ Vacant) × (after ≡ None) × (supply' ≡ supply)
   Turns now (Some service) supply turned after supply' =
-      (behind : ServiceState P T) × Leads call turn visiting slot_of counts given accepted service supply behind supply' × Tells turned behind now after
+      (behind : ServiceState P T) × Rounds call turn visiting slot_of counts given accepted now service supply behind supply' × Tells turned behind now after
