@@ -1,4 +1,4 @@
--- The life of a connection of a worker, from its opening to its end, whatever others do to the supply.
+-- The life of a connection of a worker, from its opening to its end: rounds, each at its moment, whatever others do to the supply between them.
 use Rattle.std.specs.Prelude.{◌≡◌, ◌⊎◌, ℕ, ⊤, Bool, List, Option, Some, None}
 use Rattle.transport.specs.declared.counts.Counts.{Counts}
 use Rattle.transport.specs.Counting.{no_counts}
@@ -8,11 +8,11 @@ use Rattle.conn_engine.specs.declared.standing.Standing.TheVariants.{Ended}
 use Rattle.conn_service.specs.declared.served.Served.{Served}
 use Rattle.conn_service.specs.declared.served.Served.TheVariants.{Memory}
 use Rattle.conn_service.specs.Services.{ServiceState, opened}
-use Rattle.conn_service.specs.Lives.{Leads}
+use Rattle.conn_service.specs.Lives.{Lives}
 
 module _ {S P T : Type 0} (call : S → Fact P → S → Type 0) (turn : S → S → Type 0) (visiting : S → Bool) (slot_of : P → ℕ)
     (counts : T → Counts) (given accepted : T → Option (List ℕ)) where
-  -- acts led a connection here from its opening, over a transport of which nothing was asked before
+  -- rounds led a connection here from its opening, over a transport of which nothing was asked before
   pub record HasLived (service : ServiceState P T) : Type 0 where
     pub number : ℕ
     pub opening : Opening
@@ -20,20 +20,20 @@ module _ {S P T : Type 0} (call : S → Fact P → S → Type 0) (turn : S → S
     pub fresh : counts transport ≡ no_counts
     pub before : S
     pub behind : S
-    pub led : Leads call turn visiting slot_of counts given accepted (opened number opening transport) before service behind
+    pub led : Lives call turn visiting slot_of counts given accepted (opened number opening transport) before service behind
 
   -- the same of the connection in a cell, where there is one
   abbrev pub IfLived : Option (ServiceState P T) → Type 0
   IfLived None = ⊤
   IfLived (Some service) = HasLived service
 
-  -- acts led a connection from its opening to this end
+  -- rounds led a connection from its opening to this end
   pub record HasLivedToItsEnd (how : Served) : Type 0 where
     pub last : ServiceState P T
     pub lived : HasLived last
     pub ending : last.ending ≡ Some how
     pub over : last.client.conn.standing ≡ Ended
 
-  -- how the life of a connection ended: behind the last of its acts; or there was no memory to open it, or the system did not watch it, and it was closed at once
+  -- how the life of a connection ended: behind the last of its rounds; or there was no memory to open it, or the system did not watch it, and it was closed at once
   abbrev pub IsLife : Served → Type 0
   IsLife how = HasLivedToItsEnd how ⊎ (how ≡ Memory)
