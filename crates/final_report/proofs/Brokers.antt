@@ -15,9 +15,10 @@ use Rattle.group_queue.specs.Ports.{GroupId, PortState}
 use Rattle.group_queue.specs.Places.{PlaceState, account_of}
 use Rattle.broker_groups.specs.Endings.{AreEnded, joined, port_slot, place_slot, held_slot}
 use Rattle.broker_groups.specs.Sorting.{at_slot}
+use Rattle.session_desk.specs.Calls.{Call}
 use Rattle.shared_supply.specs.Endings.{IsEnded}
 use Rattle.final_report.specs.Promises.{IsFirstHandedOnce, KeepsOrder, RefusesForGood, GivesOneFate, TellsWhatHappened, EndsLawfully}
-use Rattle.final_report.specs.Brokers.{OfEachReport, KeptItsPromises}
+use Rattle.final_report.specs.Brokers.{OfEachReport, KeptItsPromisesBehind}
 use Rattle.final_report.proofs.Fates.{first_handed_once, tells, refuses_for_good, gives_one_fate}
 use Rattle.final_report.proofs.Orders.{keeps_order}
 use Rattle.final_report.proofs.Held.{none_lacks}
@@ -66,15 +67,19 @@ module _ (group : ℕ → GroupId) (ports : List (List PortState)) (places : Lis
         (one_fate (map account_of (at_slot place_slot slot places)) report r.adds)
 
 -- and of a broker that has ended, with what its desk had
-pub kept : (group : ℕ → GroupId) (ports : List (List PortState)) (answers : List (Result Report (Unfinished Nobody))) (strangers : List Held)
-    → OneFate → LawfulEnd → IsEnded group ports answers strangers → KeptItsPromises group ports answers strangers
-kept group ports answers strangers one_fate lawful_end e = record {
-  ended = e;
-  first_once = ended_first_once group ports e.places e.held answers e.ended one_fate;
-  in_order = ended_in_order group ports e.places e.held answers e.ended;
-  refused_for_good = ended_refused_for_good group ports e.places e.held answers e.ended one_fate;
-  one_fate = ended_one_fate group ports e.places e.held answers e.ended one_fate;
-  what_happened = ended_what_happened group ports e.places e.held answers e.ended one_fate;
-  lawful = ended_lawful group ports e.places e.held answers e.ended lawful_end;
-  none_lacks = none_lacks group ports answers strangers e;
-}
+pub kept : (group : ℕ → GroupId) (calls : List (Call Held PlaceState)) (ports : List (List PortState)) (answers : List (Result Report (Unfinished Nobody))) (strangers : List Held)
+    → OneFate → LawfulEnd → IsEnded group calls ports answers strangers → KeptItsPromisesBehind group calls ports answers strangers
+kept group calls ports answers strangers one_fate lawful_end (places, held, e) = (
+  places,
+  held,
+  record {
+    ended = e;
+    first_once = ended_first_once group ports places held answers e.ended one_fate;
+    in_order = ended_in_order group ports places held answers e.ended;
+    refused_for_good = ended_refused_for_good group ports places held answers e.ended one_fate;
+    one_fate = ended_one_fate group ports places held answers e.ended one_fate;
+    what_happened = ended_what_happened group ports places held answers e.ended one_fate;
+    lawful = ended_lawful group ports places held answers e.ended lawful_end;
+    none_lacks = none_lacks group calls ports places held answers e.ended e.had;
+  },
+)

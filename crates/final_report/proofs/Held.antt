@@ -26,14 +26,15 @@ use Rattle.session_desk.specs.declared.session.Session.{Session}
 use Rattle.session_desk.specs.declared.session.Membership.{Membership}
 use Rattle.session_desk.specs.declared.session.Membership.TheVariants.{NotMember, Member, Leaving}
 use Rattle.session_desk.specs.Books.{Books}
+use Rattle.session_desk.specs.Calls.{Call}
 use Rattle.session_desk.specs.Everything.{HasAll, items_of, place_in, place_of, free_in}
 use Rattle.session_desk.specs.Rows.{session_in}
 use Rattle.conn_supply.specs.Holding.{AreOut, IsOutAtPlace, messages}
 use Rattle.broker_groups.specs.Outs.{HasOut, IsHandedTo, jobs_out}
-use Rattle.broker_groups.specs.Endings.{joined, port_slot, place_slot, held_slot}
+use Rattle.broker_groups.specs.Endings.{AreEnded, joined, port_slot, place_slot, held_slot}
 use Rattle.broker_groups.specs.Sorting.{at_slot}
 use Rattle.shared_desk.specs.Books.{IsLawful}
-use Rattle.shared_supply.specs.Endings.{IsEnded}
+use Rattle.shared_supply.specs.Endings.{IsAllBehind}
 use Rattle.final_report.specs.Brokers.{LacksNoMessage, NoneLacksAMessage}
 
 -- ---- the rows of a desk, one by one
@@ -247,9 +248,10 @@ lacks_no_message group ports places held (Missing (Envelope stamp)) same because
 lacks_no_message group ports places held (Stranger stamp) same because = omega (arith, same stamp, because.3)
 lacks_no_message group ports places held Memory same because = tt
 
-pub none_lacks : (group : ℕ → GroupId) (ports : List (List PortState)) (answers : List (Result Report (Unfinished Nobody))) (strangers : List Held) → IsEnded group ports answers strangers → NoneLacksAMessage answers
-none_lacks group ports answers strangers e slot left at =
-    let less : slot < 8 = (let within = slice_get_within answers slot (Err left) at in omega (arith, within, e.ended.all)) in
-    lacks_no_message (group slot) (at_slot port_slot slot (joined ports)) (at_slot place_slot slot e.places) (at_slot held_slot slot e.held) left.error
-    (λ stamp. held_at_slot stamp slot less (group slot) e.books e.places e.held (e.ended.slots slot less) e.lawful e.all)
-    (e.ended.each slot (Err left) at).0
+pub none_lacks : (group : ℕ → GroupId) (calls : List (Call Held PlaceState)) (ports : List (List PortState)) (places : List PlaceState) (held : List Held) (answers : List (Result Report (Unfinished Nobody)))
+    → AreEnded group ports places held answers → IsAllBehind calls places held → NoneLacksAMessage answers
+none_lacks group calls ports places held answers ended had slot left at =
+    let less : slot < 8 = (let within = slice_get_within answers slot (Err left) at in omega (arith, within, ended.all)) in
+    lacks_no_message (group slot) (at_slot port_slot slot (joined ports)) (at_slot place_slot slot places) (at_slot held_slot slot held) left.error
+    (λ stamp. held_at_slot stamp slot less (group slot) had.books places held (ended.slots slot less) had.led.lawful had.all)
+    (ended.each slot (Err left) at).0

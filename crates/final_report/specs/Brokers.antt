@@ -11,7 +11,8 @@ use Rattle.group_queue.specs.Ports.{GroupId, PortState}
 use Rattle.group_queue.specs.Places.{PlaceState}
 use Rattle.broker_groups.specs.Endings.{joined, port_slot, place_slot, held_slot}
 use Rattle.broker_groups.specs.Sorting.{at_slot}
-use Rattle.shared_supply.specs.Endings.{IsEnded}
+use Rattle.session_desk.specs.Calls.{Call}
+use Rattle.shared_supply.specs.Endings.{IsEndedWith}
 use Rattle.final_report.specs.Promises.{IsFirstHandedOnce, KeepsOrder, RefusesForGood, GivesOneFate, TellsWhatHappened, EndsLawfully}
 
 -- so it is of each group whose report is given, with the ports and places that are of its slot, and the messages that are out there
@@ -32,14 +33,20 @@ LacksNoMessage Memory = ⊤
 abbrev pub NoneLacksAMessage : List (Result Report (Unfinished Nobody)) → Type 0
 NoneLacksAMessage answers = (slot : ℕ) (left : Unfinished Nobody) → slice_get answers slot ≡ Some (Err left) → LacksNoMessage left.error
 
--- a broker kept its promises: with the places, and the messages that sessions held, that a lawful desk had
-pub record KeptItsPromises (group : ℕ → GroupId) (ports : List (List PortState)) (answers : List (Result Report (Unfinished Nobody))) (strangers : List Held) : Type 0 where
-  pub ended : IsEnded group ports answers strangers
-  pub first_once : OfEachReport IsFirstHandedOnce ports ended.places ended.held answers
-  pub in_order : OfEachReport KeepsOrder ports ended.places ended.held answers
-  pub refused_for_good : OfEachReport RefusesForGood ports ended.places ended.held answers
-  pub one_fate : OfEachReport GivesOneFate ports ended.places ended.held answers
-  pub what_happened : OfEachReport TellsWhatHappened ports ended.places ended.held answers
-  pub lawful : OfEachReport EndsLawfully ports ended.places ended.held answers
+-- a broker kept its promises: with these places, and these messages that sessions held, which were all that the desk had of which just these calls were made
+pub record KeptItsPromises (group : ℕ → GroupId) (calls : List (Call Held PlaceState)) (ports : List (List PortState)) (places : List PlaceState) (held : List Held)
+    (answers : List (Result Report (Unfinished Nobody))) (strangers : List Held) : Type 0 where
+  pub ended : IsEndedWith group calls ports places held answers strangers
+  pub first_once : OfEachReport IsFirstHandedOnce ports places held answers
+  pub in_order : OfEachReport KeepsOrder ports places held answers
+  pub refused_for_good : OfEachReport RefusesForGood ports places held answers
+  pub one_fate : OfEachReport GivesOneFate ports places held answers
+  pub what_happened : OfEachReport TellsWhatHappened ports places held answers
+  pub lawful : OfEachReport EndsLawfully ports places held answers
   -- what was out at a member's place is what a session held that the desk had, whichever worker ended it
   pub none_lacks : NoneLacksAMessage answers
+
+-- the places and the messages that the desk had are given by its calls, but for their order
+abbrev pub KeptItsPromisesBehind : (group : ℕ → GroupId) (calls : List (Call Held PlaceState)) (ports : List (List PortState)) (answers : List (Result Report (Unfinished Nobody)))
+    (strangers : List Held) → Type 0
+KeptItsPromisesBehind group calls ports answers strangers = (places : List PlaceState) × (held : List Held) × KeptItsPromises group calls ports places held answers strangers

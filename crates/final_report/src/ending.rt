@@ -1,16 +1,21 @@
 //! How a broker ends whose gate is shut and drained, and what it then promises of every message that it accepted.
-ghost use Rattle.std.specs.Prelude.{◌≡◌, IfOk, IfErr};
-ghost use Rattle.shared_supply.specs.Endings.{IsLeft};
+ghost use Rattle.std.specs.Prelude.{◌≡◌, List, IfOk, IfErr};
+ghost use mathlib.Core.List.{IsPrefix};
+ghost use Rattle.group_jobs.specs.Stamps.{Held};
+ghost use Rattle.session_desk.specs.Calls.{Call};
+ghost use Rattle.group_queue.specs.Places.{PlaceState};
+ghost use Rattle.shared_supply.specs.Endings.{IsAllBehind, IsLeft};
 ghost use Rattle.broker_groups.specs.Endings.{AreEnded, held_slot};
 ghost use Rattle.broker_groups.specs.Sorting.{at_slot};
 ghost use Rattle.final_report.specs.Promises.{IsFirstHandedOnce, KeepsOrder, RefusesForGood, GivesOneFate, TellsWhatHappened, EndsLawfully};
-ghost use Rattle.final_report.specs.Brokers.{OfEachReport, KeptItsPromises};
+ghost use Rattle.final_report.specs.Brokers.{KeptItsPromisesBehind, NoneLacksAMessage, OfEachReport};
 
 use broker_groups::{Broker, BrokerGroups, BrokerPlace, Ended, Ports, Unended};
 use call_history::HistoryName;
 use gate_word::{Drained, Turn};
 use group_jobs::Envelope;
 use group_jobs::laws::{lawful_end_law, one_fate_law};
+use shared_desk::DeskPass;
 use shared_supply::{Hall, StillOpen};
 use std::alloc::Global;
 use std::sync::Wait;
@@ -24,6 +29,8 @@ use std::sync::Wait;
 /// - `one_fate`: the report gives each accepted message exactly one fate, and nothing else any;
 /// - `what_happened`: that fate is the one that it had;
 /// - `lawful`: the report and the first hand-outs are a lawful state of a group.
+///
+/// And where these places and messages were all that a broker's desk had, as [`Hall::empty`] gives them, no group lacks a message at its end (`none_lacks`).
 ///
 /// Nothing is accepted or handed out any more: for that a turn of the gate is wanted, and there is none ([`refute`]).
 ///
@@ -48,6 +55,7 @@ pub fn end_groups<'g, B: Broker, R: Wait>(
     ensures one_fate { IfOk result (λ ended. OfEachReport GivesOneFate ports.items places.items held.items ended.answers.items) }
     ensures what_happened { IfOk result (λ ended. OfEachReport TellsWhatHappened ports.items places.items held.items ended.answers.items) }
     ensures lawful { IfOk result (λ ended. OfEachReport EndsLawfully ports.items places.items held.items ended.answers.items) }
+    ensures none_lacks { IfOk result (λ ended. (calls : List (Call Held PlaceState)) → IsAllBehind calls places.items held.items → NoneLacksAMessage ended.answers.items) }
     ensures ended { IfOk result (λ ended. AreEnded B.group ports.items places.items held.items ended.answers.items) }
     ensures strangers { IfOk result (λ ended. ended.strangers.items ≡ at_slot held_slot 8 held.items) }
     ensures left { IfErr result (λ left. (left.groups ≡ groups.entry) × (left.ports.items ≡ ports.items) × (left.places.items ≡ places.items) × (left.held.items ≡ held.items)) }
@@ -62,24 +70,29 @@ pub fn end_groups<'g, B: Broker, R: Wait>(
 /// sessions held, that its desk has. These are just the messages that are out at these places, so no group lacks one at its end
 /// (`none_lacks`): where one has no report, a port or a place of it is not there, or memory was wanted.
 ///
+/// The pass knows all calls that were made of the desk then, of which what it knew is the beginning (`before`). They lead to the sessions, places and messages
+/// that the groups end with (`kept`).
+///
 /// # Errors
 ///
-/// [`StillOpen`]: memory was wanted and refused. All that was given comes back.
+/// [`StillOpen`]: an allocation failed. All that was given comes back.
 pub fn end_broker<'g, B: Broker, N: HistoryName, R: Wait>(
     rt: &R,
     alloc: Global,
     drained: &Drained,
     hall: Hall<'g, B, N>,
     ports: Vec<Ports<B>>,
+    me: &mut DeskPass<BrokerPlace<B>, N>,
 ) -> Result<Ended<'g>, StillOpen<'g, B>>
     requires drained { drained.now ≡ B.gate }
-    ensures kept { IfOk result (λ ended. KeptItsPromises B.group ports.items ended.answers.items ended.strangers.items) }
-    ensures left { IfErr result (IsLeft ports.items) }
+    ensures before { IsPrefix me.old me.new }
+    ensures kept { IfOk result (λ ended. KeptItsPromisesBehind B.group me.new ports.items ended.answers.items ended.strangers.items) }
+    ensures left { IfErr result (IsLeft me.new hall.entry ports.items) }
 {
     let _ = drained;
     one_fate_law();
     lawful_end_law();
-    hall.finish(rt, alloc, ports)
+    hall.finish(rt, alloc, ports, me)
 }
 
 /// **Nothing is accepted or handed out after close.** Who has the token that a broker's gate was drained, and a turn of it,

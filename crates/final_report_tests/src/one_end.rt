@@ -10,7 +10,7 @@ use final_report::{end_broker, end_groups};
 use gate_word::{Drained, Gate, GateSeat, Turn};
 use group_jobs::{Envelope, Message, SharedMessage};
 use mqtt_packet::{RareProperties, Text};
-use shared_desk::OpenedDesk;
+use shared_desk::{DeskPass, OpenedDesk};
 use shared_routes::SharedRoutes;
 use shared_supply::Hall;
 use std::alloc::Global;
@@ -99,10 +99,11 @@ fn end<B: Broker, N: HistoryName, R: Wait>(
     drained: &Drained,
     hall: Hall<'_, B, N>,
     ports: Vec<Ports<B>>,
+    pass: &mut DeskPass<BrokerPlace<B>, N>,
 ) -> Option<(usize, u64, usize)>
     requires { drained.now ≡ B.gate }
 {
-    match end_broker(rt, alloc, drained, hall, ports) {
+    match end_broker(rt, alloc, drained, hall, ports, pass) {
         Ok(ended) => Some(count(ended)),
         Err(left) => {
             left.abandon();
@@ -173,7 +174,7 @@ fn end_with<B: Broker, N: HistoryName, R: Wait>(
     let (desk, mut pass) = desk.name::<N>();
     desk.take_places(rt, &mut pass, places);
     let hall = Hall::new(gate, groups, desk, SharedRoutes::new(alloc));
-    end(rt, alloc, drained, hall, ports)
+    end(rt, alloc, drained, hall, ports, &mut pass)
 }
 
 /// The day of a broker with one worker, who offers a message.

@@ -1,6 +1,6 @@
 -- How a place settles a message, and when it gathers what it settled into its group's ledger.
-use Rattle.std.specs.Prelude.{◌≡◌, ℕ, ◌+◌, ◌%◌, ◌<◌, min, length, Bool, Result}
-use Rattle.group_jobs.specs.declared.error.JobError.{JobError}
+use Rattle.std.specs.Prelude.{◌≡◌, ◌⊎◌, ℕ, ◌+◌, ◌%◌, ◌<◌, min, length, true, Ok, Err}
+use Rattle.group_jobs.specs.declared.error.JobError.TheVariants.{Memory}
 use Rattle.group_jobs.specs.declared.fate.Fate.{Fate}
 use Rattle.group_jobs.specs.declared.fate.Fate.TheVariants.{Acknowledged, Refused}
 use Rattle.group_jobs.specs.Settled.{runs_of}
@@ -16,9 +16,9 @@ runs_at place = min (length (runs_of Acknowledged place.docket.settled) + length
 abbrev pub IsDue : ℕ → ℕ → Type 0
 IsDue before after = (before < after) × (after % 64 ≡ 0)
 
--- the place gathered: what it had settled is in the group's ledger, or another had that in hands, or there was no memory
+-- the place gathered, and what it had settled is in the group's ledger; or an allocation failed, and it is as it was
 abbrev pub Gathers : PlaceState → PlaceState → Type 0
-Gathers old new = (answer : Result Bool JobError) × GatherAnswers seen_ledger old answer new
+Gathers old new = GatherAnswers seen_ledger old (Ok true) new ⊎ GatherAnswers seen_ledger old (Err Memory) new
 
 -- a message was settled at the place, and just where that filled a further 64 runs of its docket, the place gathered
 pub record SettlesAndGathers (old : PlaceState) (envelope : Held) (fate : Fate) (new : PlaceState) : Type 0 where

@@ -79,7 +79,13 @@ impl<'a, 'g, B: Broker, N: HistoryName, R: Wait> Supply<BrokerPlace<B>>
 
     fn kicked(&self, connection: u16) -> bool {
         let hall = self.hall;
-        hall.desk.kicked(self.rt, connection).is_some()
+        match hall.desk.kicked(self.rt, connection) {
+            Some(told) => {
+                told.is_history();
+                true
+            }
+            None => false,
+        }
     }
 
     fn park(

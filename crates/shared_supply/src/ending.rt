@@ -1,6 +1,7 @@
 //! How a broker ends, once its workers have left.
-ghost use Rattle.std.specs.Prelude.{◌≡◌, IfOk, IfErr};
-ghost use Rattle.shared_supply.specs.Endings.{IsEnded, IsLeft};
+ghost use Rattle.std.specs.Prelude.{◌≡◌, IfOk, IfErr, MatchResult};
+ghost use mathlib.Core.List.{IsPrefix};
+ghost use Rattle.shared_supply.specs.Endings.{IsAllBehind, IsEnded, IsLedTo, IsLeft};
 
 use crate::hall::Hall;
 use crate::letting_go::let_go;
@@ -8,19 +9,40 @@ use broker_groups::{Broker, BrokerGroups, BrokerPlace, Ended, Ports, Unended};
 use call_history::HistoryName;
 use group_jobs::Envelope;
 use session_desk::{All, Desk};
+use shared_desk::DeskPass;
+use shared_routes::SharedRoutes;
 use std::alloc::Global;
 use std::sync::Wait;
 
-/// A broker that was not ended, for want of memory, with all that was given to end it.
+/// What a broker has at its end: its groups and its routes, all places, and the messages that its sessions held.
+pub struct Emptied<'g, B: Broker> {
+    pub groups: BrokerGroups<'g, B>,
+    pub routes: SharedRoutes,
+    pub places: Vec<BrokerPlace<B>>,
+    pub held: Vec<Envelope>,
+}
+
+/// A broker whose desk was not emptied, as an allocation failed.
+pub struct Unemptied<'g, B: Broker> {
+    pub desk: Desk<Envelope, BrokerPlace<B>>,
+    pub groups: BrokerGroups<'g, B>,
+    pub routes: SharedRoutes,
+}
+
+/// A broker that was not ended, as an allocation failed, with all that was given to end it.
 pub enum StillOpen<'g, B: Broker> {
     /// Its desk has its sessions and its places.
     Desk {
         desk: Desk<Envelope, BrokerPlace<B>>,
         groups: BrokerGroups<'g, B>,
+        routes: SharedRoutes,
         ports: Vec<Ports<B>>,
     },
     /// Its desk gave the places, and the messages that sessions held.
-    Groups(Unended<'g, B>),
+    Groups {
+        unended: Unended<'g, B>,
+        routes: SharedRoutes,
+    },
 }
 
 impl<'g, B: Broker> StillOpen<'g, B> {
@@ -30,43 +52,88 @@ impl<'g, B: Broker> StillOpen<'g, B> {
             StillOpen::Desk {
                 desk,
                 groups,
+                routes: _,
                 ports: _,
             } => {
                 desk.abandon_with(&let_go);
                 groups.abandon();
             }
-            StillOpen::Groups(unended) => unended.abandon(),
+            StillOpen::Groups { unended, routes: _ } => unended.abandon(),
         }
     }
 }
 
 impl<'g, B: Broker, N: HistoryName> Hall<'g, B, N> {
+    /// Takes the broker apart: its desk gives all places, and the messages that its sessions held. The pass then knows all calls that were made of the desk, and by
+    /// these it had just those places and messages.
+    ///
+    /// # Errors
+    ///
+    /// [`Unemptied`]: an allocation failed. All that it had comes back, with the desk as these calls led to it.
+    pub fn empty(
+        self,
+        me: &mut DeskPass<BrokerPlace<B>, N>,
+    ) -> Result<Emptied<'g, B>, Unemptied<'g, B>>
+        ensures before { IsPrefix me.old me.new }
+        ensures all { IfOk result (λ emptied. IsAllBehind me.new emptied.places.items emptied.held.items) }
+        ensures desk { IfErr result (λ left. IsLedTo me.new left.desk) }
+        ensures routes { MatchResult result (λ emptied. emptied.routes ≡ self.entry) (λ left. left.routes ≡ self.entry) }
+    {
+        let (groups, desk, routes) = self.into_parts();
+        match desk.finish(me).into_all() {
+            Ok(All { places, envelopes }) => Ok(Emptied {
+                groups,
+                routes,
+                places,
+                held: envelopes,
+            }),
+            Err(desk) => Err(Unemptied {
+                desk,
+                groups,
+                routes,
+            }),
+        }
+    }
+
     /// Ends the broker: its desk gives all places, and the messages that its sessions held, and each group ends with what is its own, as
     /// [`BrokerGroups::finish`] says. A step of a queue may wait for another thread's.
     ///
     /// # Errors
     ///
-    /// [`StillOpen`]: memory was wanted and refused. All that was given comes back.
+    /// [`StillOpen`]: an allocation failed. All that was given comes back.
     pub fn finish<R: Wait>(
         self,
         rt: &R,
         alloc: Global,
         ports: Vec<Ports<B>>,
+        me: &mut DeskPass<BrokerPlace<B>, N>,
     ) -> Result<Ended<'g>, StillOpen<'g, B>>
-        ensures ended { IfOk result (λ ended. IsEnded B.group ports.items ended.answers.items ended.strangers.items) }
-        ensures left { IfErr result (IsLeft ports.items) }
+        ensures before { IsPrefix me.old me.new }
+        ensures ended { IfOk result (λ ended. IsEnded B.group me.new ports.items ended.answers.items ended.strangers.items) }
+        ensures left { IfErr result (IsLeft me.new self.entry ports.items) }
     {
-        let (groups, desk, _routes) = self.into_parts();
-        match desk.into_desk().into_all() {
-            Ok(All { places, envelopes }) => {
-                match groups.finish(rt, alloc, ports, places, envelopes) {
-                    Ok(ended) => Ok(ended),
-                    Err(unended) => Err(StillOpen::Groups(unended)),
-                }
-            }
-            Err(desk) => Err(StillOpen::Desk {
+        match self.empty(me) {
+            Ok(
+                Emptied {
+                    groups,
+                    routes,
+                    places,
+                    held,
+                },
+            ) => match groups.finish(rt, alloc, ports, places, held) {
+                Ok(ended) => Ok(ended),
+                Err(unended) => Err(StillOpen::Groups { unended, routes }),
+            },
+            Err(
+                Unemptied {
+                    desk,
+                    groups,
+                    routes,
+                },
+            ) => Err(StillOpen::Desk {
                 desk,
                 groups,
+                routes,
                 ports,
             }),
         }

@@ -10,7 +10,7 @@ mod supply;
 mod tallies;
 mod wakes;
 
-pub use ending::StillOpen;
+pub use ending::{Emptied, StillOpen, Unemptied};
 pub use hall::Hall;
 pub use supply::SharedSupply;
 pub use tallies::Tally;

@@ -8,12 +8,13 @@ use broker_groups::{Broker, BrokerGroups, BrokerPlace};
 use group_jobs::{Envelope, Fate};
 use std::alloc::Global;
 use std::sync::Wait;
+use std::thread;
 
 /// At each further so many runs in its docket a place gathers.
 const FULL: usize = 64;
 
-/// Settles a message that is out at a place, for good, and gathers where that filled a further 64 runs of the place's docket. So a gather that finds
-/// another at the ledger, or no memory, is made again 64 runs later, and not before. A step of the ledger's queue may wait for another thread's.
+/// Settles a message that is out at a place, for good, and gathers where that filled a further 64 runs of the place's docket. Where another place has the ledger,
+/// it waits for that. A gather for which an allocation failed is made again 64 runs later, and not before.
 pub(crate) fn settle<B: Broker, R: Wait>(
     rt: &R,
     alloc: Global,
@@ -31,7 +32,7 @@ pub(crate) fn settle<B: Broker, R: Wait>(
     gather_if_due(rt, alloc, groups, place, before);
 }
 
-/// Gathers where the place's docket has more runs than these, and a further 64 of them are full.
+/// Gathers where the place's docket has more runs than these, and a further 64 of them are full, unless an allocation fails.
 fn gather_if_due<B: Broker, R: Wait>(
     rt: &R,
     alloc: Global,
@@ -45,8 +46,27 @@ fn gather_if_due<B: Broker, R: Wait>(
 {
     let after = run_count(place);
     if before < after && after % FULL == 0 {
-        let _gathered = place.gather(groups, rt, alloc);
+        gather(rt, alloc, groups, place);
     }
+}
+
+/// Gathers, once no other place has the ledger, unless an allocation fails.
+fn gather<B: Broker, R: Wait>(
+    rt: &R,
+    alloc: Global,
+    groups: &BrokerGroups<'_, B>,
+    place: &mut BrokerPlace<B>,
+)
+    ensures gathers { Gathers place.old place.new }
+    ensures out { KeepsOut HasOut place.old place.new }
+{
+    'tries: for _ in rt.forever() {
+        if place.gather(groups, rt, alloc) != Ok(false) {
+            return;
+        }
+        thread::yield_now();
+    }
+    unreachable!()
 }
 
 /// How many runs the place's docket has. It looks at none of them.

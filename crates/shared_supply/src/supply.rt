@@ -159,9 +159,10 @@ impl<'a, 'g, B: Broker, N: HistoryName, R: Wait> SharedSupply<'a, 'g, B, N, R> {
     }
 
     /// Its key and its ports. A worker that is inside leaves first.
-    pub fn into_parts(self) -> (Key<B>, Ports<B>)
+    pub fn into_parts(self) -> (Key<B>, Ports<B>, DeskPass<BrokerPlace<B>, N>)
         ensures key { Ends self.entry.visitor result.0 }
         ensures ports { result.1 ≡ self.entry.ports }
+        ensures desk { result.2 ≡ self.entry.desk }
     {
         let SharedSupply {
             rt: _,
@@ -169,7 +170,7 @@ impl<'a, 'g, B: Broker, N: HistoryName, R: Wait> SharedSupply<'a, 'g, B, N, R> {
             visitor,
             ports,
             known: _,
-            desk: _,
+            desk,
             alloc: _,
             wakes: _,
             allowance: _,
@@ -178,7 +179,7 @@ impl<'a, 'g, B: Broker, N: HistoryName, R: Wait> SharedSupply<'a, 'g, B, N, R> {
         let Some(visitor) = visitor else {
             unreachable!()
         };
-        (Key::of(visitor.leave(hall.gate)), ports)
+        (Key::of(visitor.leave(hall.gate)), ports, desk)
     }
 
     /// Enters the gate, unless it is shut, and learns of the routes what others bound.

@@ -110,7 +110,7 @@ fn act<B: Broker, N: HistoryName, R: Wait>(
     told.wakes = Some(supply.take_wakes());
     told.is_drained = shut(gate, spare);
     told.is_let_in = supply.begin();
-    let (_key, ports) = supply.into_parts();
+    let (_key, ports, _desk) = supply.into_parts();
     (out, ports)
 }
 
@@ -134,6 +134,7 @@ impl Day for Row {
             hall,
             mut hands,
             spare,
+            pass: _,
         } = built;
         let Some(hand) = hands.pop() else {
             abandon(hall);

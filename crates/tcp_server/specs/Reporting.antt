@@ -4,7 +4,9 @@ use Rattle.mqtt_topic.specs.Names.{Share}
 use Rattle.line_io.specs.declared.error.RunError.{RunError}
 use Rattle.group_jobs.specs.Stamps.{Held}
 use Rattle.group_jobs.specs.declared.report.Report.{Report}
+use Rattle.session_desk.specs.Calls.{Call}
 use Rattle.group_queue.specs.Ports.{GroupId}
+use Rattle.group_queue.specs.Places.{PlaceState}
 use Rattle.group_queue.specs.declared.finish.Unfinished.{Unfinished}
 use Rattle.group_queue.specs.declared.witness.Nobody.{Nobody}
 use Rattle.tcp_edge.specs.Sockets.{SocketState}
@@ -32,9 +34,10 @@ pub record AreReports (capacity workers : ℕ) (given : List Share) (text : List
   pub room : HaveCapacity group capacity
   pub answers : List (Result Report (Unfinished Nobody))
   pub strangers : List Held
+  pub calls : List (Call Held PlaceState)
   pub came : ℕ
   pub served : List ServedCounts
-  pub headline : KeepsTheHeadline group (λ (connection : Connection). connection.counts) unknown unknown workers answers strangers came served
+  pub headline : KeepsTheHeadline group (λ (connection : Connection). connection.counts) unknown unknown workers calls answers strangers came served
   pub shares : List Share
   pub bound : All (IsBoundIn shares) given
   pub lines : text ≡ lines_of shares (map report_of answers)

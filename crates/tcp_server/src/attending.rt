@@ -10,11 +10,12 @@ use crate::listening::Awaited;
 use crate::reporting::{end_by, let_go_of_all, lines, reports_in};
 use crate::serving::Served;
 use crate::watching::Watching;
-use broker_groups::{Broker, Ended, Ports};
+use broker_groups::{Broker, BrokerPlace, Ended, Ports};
 use call_history::HistoryName;
 use conn_rules::MaxInflight;
 use line_io::RunError;
 use mqtt_topic::Routes;
+use shared_desk::DeskPass;
 use shared_supply::Hall;
 use std::alloc::Global;
 use std::io::Read;
@@ -68,6 +69,7 @@ pub(crate) fn attend<
     max_inflight: MaxInflight,
     closers: Closers<'_, B>,
     input: &mut I,
+    pass: &mut DeskPass<BrokerPlace<B>, N>,
 ) -> Result<Reported, RunError>
     requires capacity { HaveCapacity B.group (B.group 0).capacity }
     requires hands { (1 ≤ length hands.items) × (length hands.items ≤ 64) }
@@ -106,6 +108,7 @@ pub(crate) fn attend<
         ending,
         &mut watching,
         input,
+        pass,
     ) else {
         return Err(RunError::Memory);
     };

@@ -8,18 +8,19 @@ use broker_groups::{Broker, BrokerPlace, Key, Named, Opened, Ports};
 use call_history::HistoryName;
 use gate_word::{Gate, GateSeat};
 use line_io::RunError;
-use shared_desk::OpenedDesk;
+use shared_desk::{DeskPass, OpenedDesk};
 use shared_routes::SharedRoutes;
 use shared_supply::Hall;
 use std::alloc::Global;
 use std::sync::Wait;
 use worker_connections::Hand;
 
-/// A broker that is open: what its workers share, what each of them has, and room for the ports of all.
+/// A broker that is open: what its workers share, what each of them has, room for the ports of all, and a pass of its desk.
 pub(crate) struct OpenBroker<'g, B: Broker, N: HistoryName> {
     pub(crate) hall: Hall<'g, B, N>,
     pub(crate) hands: Vec<Hand<B>>,
     pub(crate) room: Vec<Ports<B>>,
+    pub(crate) pass: DeskPass<BrokerPlace<B>, N>,
 }
 
 /// Names what was opened, the groups and the desk, and furnishes the desk.
@@ -65,7 +66,12 @@ pub(crate) fn open<'g, B: Broker, N: HistoryName, R: Wait>(
     desk.take_places(rt, &mut pass, places);
     let hands = deal(gate, seats, ports, hands);
     let hall = Hall::new(gate, groups, desk, SharedRoutes::new(alloc));
-    Ok(OpenBroker { hall, hands, room })
+    Ok(OpenBroker {
+        hall,
+        hands,
+        room,
+        pass,
+    })
 }
 
 /// The last seat.

@@ -241,9 +241,12 @@ fn live_with<
     ensures failed { IfErr result (λ error. EndsUnreported line.now error (O.contents output.old) (O.contents output.new)) }
 {
     let mut seats = seats;
-    let OpenBroker { hall, hands, room } = open::<B, N, R>(
-        rt, alloc, gate, &mut seats, opened, desk, workers,
-    )?;
+    let OpenBroker {
+        hall,
+        hands,
+        room,
+        mut pass,
+    } = open::<B, N, R>(rt, alloc, gate, &mut seats, opened, desk, workers)?;
     let closers = closers_of(gate, &mut seats);
     let Some(crew) = crew_of(rt, alloc, hands.len()) else {
         give_up(hall, room);
@@ -262,6 +265,7 @@ fn live_with<
             max_inflight,
             closers,
             input,
+            &mut pass,
         ),
         Err(error) => {
             give_up(hall, room);

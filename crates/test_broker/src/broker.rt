@@ -6,7 +6,7 @@ ghost use Rattle.broker_groups.specs.Naming.{IsOfBroker};
 use broker_groups::{Broker, BrokerPlace, Key, Named, Opened, Ports};
 use call_history::HistoryName;
 use gate_word::{Gate, GateSeat};
-use shared_desk::OpenedDesk;
+use shared_desk::{DeskPass, OpenedDesk};
 use shared_routes::SharedRoutes;
 use shared_supply::Hall;
 use std::alloc::Global;
@@ -20,11 +20,12 @@ pub struct Hand<B: Broker> {
     pub ports: Ports<B>,
 }
 
-/// A broker that is open: its hall, what each worker has, and a key for who shuts the gate.
+/// A broker that is open: its hall, what each worker has, a key for who shuts the gate, and a pass of its desk for who ends it.
 pub struct Built<'g, B: Broker, N: HistoryName> {
     pub hall: Hall<'g, B, N>,
     pub hands: Vec<Hand<B>>,
     pub spare: Key<B>,
+    pub pass: DeskPass<BrokerPlace<B>, N>,
 }
 
 /// What is done with a broker from its opening to its end.
@@ -123,7 +124,12 @@ pub fn build<'g, B: Broker, N: HistoryName, R: Wait>(
     desk.take_places(rt, &mut pass, places);
     let hands = deal(alloc, gate, &mut seats, ports);
     let hall = Hall::new(gate, groups, desk, SharedRoutes::new(alloc));
-    Some(Built { hall, hands, spare })
+    Some(Built {
+        hall,
+        hands,
+        spare,
+        pass,
+    })
 }
 
 /// The day of a broker with so many workers.

@@ -76,7 +76,7 @@ fn work<B: Broker, N: HistoryName, C: Crew, R: Wait>(
         Ok(supply) => {
             let mut supply = supply;
             let seen = crew.work(alloc, &mut supply, number);
-            let (_key, ports) = supply.into_parts();
+            let (_key, ports, _desk) = supply.into_parts();
             OneBack { seen, ports }
         }
         Err(ports) => OneBack { seen: None, ports },
@@ -184,11 +184,12 @@ fn live_with<
         hall,
         hands,
         spare: _,
+        mut pass,
     } = build::<B, N, R>(rt, alloc, gate, seats, opened, desk, workers)?;
     let start = Instant::now(rt).ok();
     let Back { seen, ports } = work_all(rt, alloc, &hall, hands, crew);
     let took = since(rt, start);
-    match end(rt, alloc, hall, ports) {
+    match end(rt, alloc, hall, ports, &mut pass) {
         Some(counts) => Some(Worked { seen, counts, took }),
         None => None,
     }

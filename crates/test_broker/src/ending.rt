@@ -1,9 +1,10 @@
 //! How a broker ends, and what its groups' reports count.
 
-use broker_groups::{Broker, Ended, Ports};
+use broker_groups::{Broker, BrokerPlace, Ended, Ports};
 use call_history::HistoryName;
 use group_jobs::{Envelope, Report};
 use group_queue::Unfinished;
+use shared_desk::DeskPass;
 use shared_supply::Hall;
 use std::alloc::Global;
 use std::sync::Wait;
@@ -80,8 +81,9 @@ pub fn end<B: Broker, N: HistoryName, R: Wait>(
     alloc: Global,
     hall: Hall<'_, B, N>,
     ports: Vec<Ports<B>>,
+    pass: &mut DeskPass<BrokerPlace<B>, N>,
 ) -> Option<Vec<Counts>> {
-    match hall.finish(rt, alloc, ports) {
+    match hall.finish(rt, alloc, ports, pass) {
         Ok(ended) => Some(count(alloc, ended)),
         Err(left) => {
             left.abandon();

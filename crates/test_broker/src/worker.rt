@@ -54,7 +54,7 @@ fn work<B: Broker, N: HistoryName, H: Shift, R: Wait>(
         Ok(supply) => {
             let mut supply = supply;
             shift.work(alloc, &mut supply, gate, spare);
-            let (_key, ports) = supply.into_parts();
+            let (_key, ports, _desk) = supply.into_parts();
             ports
         }
         Err(ports) => ports,
@@ -75,12 +75,13 @@ pub fn work_alone<B: Broker, N: HistoryName, H: Shift, R: Wait>(
         hall,
         mut hands,
         spare,
+        mut pass,
     } = built;
     let mut ports = Vec::new(alloc);
     if let Some(hand) = hands.pop() {
         keep(&mut ports, work(rt, alloc, gate, &hall, hand, spare, shift));
     }
-    end(rt, alloc, hall, ports)
+    end(rt, alloc, hall, ports, &mut pass)
 }
 
 /// Puts a worker's ports to the others.

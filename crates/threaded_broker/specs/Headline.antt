@@ -3,6 +3,7 @@ use Rattle.std.specs.Prelude.{◌≡◌, ◌⊎◌, ℕ, List, ◌++◌, map, le
 use Rattle.std.specs.List.{AllByRecursion}
 use Rattle.transport.specs.declared.counts.Counts.{Counts}
 use Rattle.group_jobs.specs.Stamps.{Held}
+use Rattle.session_desk.specs.Calls.{Call}
 use Rattle.group_jobs.specs.declared.report.Report.{Report}
 use Rattle.group_queue.specs.declared.finish.Unfinished.{Unfinished}
 use Rattle.group_queue.specs.declared.witness.Nobody.{Nobody}
@@ -19,7 +20,7 @@ use Rattle.shared_supply.specs.Workers.{Worker, Turns, is_visiting}
 use Rattle.worker_connections.specs.declared.served.ServedCounts.{ServedCounts}
 use Rattle.worker_connections.specs.Counting.{counts_of}
 use Rattle.worker_connections.specs.Lives.{HasLivedToItsEnd}
-use Rattle.final_report.specs.Brokers.{KeptItsPromises}
+use Rattle.final_report.specs.Brokers.{KeptItsPromisesBehind}
 
 module _ {T : Type 0} (group : ℕ → GroupId) (counts : T → Counts) (given accepted : T → Option (List ℕ)) where
   -- a connection lived to its end, and behind each beginning of its acts no more PUBLISH packets were unacknowledged than its Receive Maximum (4.9), and 256 at most
@@ -40,12 +41,12 @@ module _ {T : Type 0} (group : ℕ → GroupId) (counts : T → Counts) (given a
     pub counted : served ≡ map counts_of endings
     pub all : came ≡ sum_by length endings
 
-  -- **The headline**, with the ports through which all of its workers published: of each group whose report is given, each message that was accepted was first handed to at
+  -- **The headline**, with the ports through which all of its workers published, and the sessions, places and messages that the calls of its desk led to: of each group whose report is given, each message that was accepted was first handed to at
   -- most one member (`first_once`), each member's first hand-outs from a publisher keep that publisher's order (`in_order`), a refused message went to nobody else
   -- (`refused_for_good`), and the report gives each accepted message exactly one fate (`one_fate`), which it had (`what_happened`); and no connection had more unacknowledged
   -- PUBLISH packets than its Receive Maximum. That nothing is handed out after close is said by the token of the drained gate
-  pub record KeepsTheHeadline (workers : ℕ) (answers : List (Result Report (Unfinished Nobody))) (strangers : List Held) (came : ℕ) (served : List ServedCounts) : Type 0 where
+  pub record KeepsTheHeadline (workers : ℕ) (calls : List (Call Held PlaceState)) (answers : List (Result Report (Unfinished Nobody))) (strangers : List Held) (came : ℕ) (served : List ServedCounts) : Type 0 where
     pub ports : List (List PortState)
     pub every_worker : length ports ≡ workers
-    pub promises : KeptItsPromises group ports answers strangers
+    pub promises : KeptItsPromisesBehind group calls ports answers strangers
     pub within_receive_maximum : AreWithinReceiveMaximum came served

@@ -7,4 +7,4 @@ mod closing;
 mod serving;
 mod shares;
 
-pub use serving::{Outcome, give_up, serve};
+pub use serving::{Closed, Outcome, give_up, serve, serve_until_closed};

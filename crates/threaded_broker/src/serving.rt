@@ -1,8 +1,9 @@
 //! A broker that is served to its end.
 ghost use Rattle.std.specs.Prelude.{◌≡◌, ◌+◌, ◌≤◌, [], All, length, vec_capacity, IfOk, MatchResult};
-ghost use Rattle.final_report.specs.Brokers.{KeptItsPromises};
+ghost use mathlib.Core.List.{IsPrefix};
+ghost use Rattle.final_report.specs.Brokers.{KeptItsPromisesBehind};
 ghost use Rattle.worker_pool.specs.Pools.{ServesAll};
-ghost use Rattle.threaded_broker.specs.Headline.{KeepsTheHeadline};
+ghost use Rattle.threaded_broker.specs.Headline.{AreWithinReceiveMaximum, KeepsTheHeadline};
 ghost use Rattle.threaded_broker.specs.Shares.{IsBoundIn};
 
 use crate::closing::{close, ports_of};
@@ -17,6 +18,7 @@ use conn_supply::NoMemory;
 use final_report::end_broker;
 use gate_word::Drained;
 use mqtt_topic::Share;
+use shared_desk::DeskPass;
 use shared_supply::{Hall, SharedSupply, StillOpen};
 use std::alloc::Global;
 use std::rt::Clock as SystemClock;
@@ -40,10 +42,28 @@ pub struct Outcome<'g, S> {
     pub drained: Drained,
 }
 
+/// A broker that was served, whose gate is drained.
+pub struct Closed<'g, B: Broker, N: HistoryName, S> {
+    pub hall: Hall<'g, B, N>,
+    /// The ports of all its workers.
+    pub ports: Vec<Ports<B>>,
+    /// The shares that are bound, in the order of their slots.
+    pub shares: Vec<Share>,
+    /// How the connections of each worker ended.
+    pub served: Vec<ServedCounts>,
+    /// Where the connections came from, and how many.
+    pub taken: Taken<S>,
+    /// Nobody is inside the broker's gate, nor ever will be.
+    pub drained: Drained,
+}
+
 /// Serves the connections of a source with the workers of a broker, each in a thread of its own, until the source has ended or failed, the broker's gate is
 /// shut, and all connections have ended; then ends its groups. Who watches is given the input, and shuts the gate and ends the source, in a thread of its own. There is room for the
 /// ports of all workers. The shares that are given are bound before the first connection is served, in their order. The client of each connection has at most so many
 /// messages unacknowledged, whatever its Receive Maximum.
+///
+/// The pass knows in the end all calls that were made of the broker's desk, of which what it knew before is the beginning (`history`). They led to the sessions, places and
+/// messages with which the groups end.
 ///
 /// **What a broker promises**, in every schedule of its threads, whatever its transports do (`headline`). Of each group whose report is given:
 ///
@@ -90,15 +110,98 @@ pub fn serve<
     stopper: Closer<'_, B>,
     watch: &mut D,
     input: &mut I,
+    pass: &mut DeskPass<BrokerPlace<B>, N>,
 ) -> Result<Outcome<'g, S>, NoMemory>
     requires workers { (1 ≤ length hands.items) × (length hands.items ≤ 64) }
     requires gear { length gear.items ≡ length hands.items }
     requires room { (room.items ≡ []) × (length hands.items ≤ vec_capacity room) }
-    ensures headline { IfOk result (λ outcome. KeepsTheHeadline B.group T.counts T.given T.accepted (length hands.items) outcome.ended.answers.items outcome.ended.strangers.items outcome.taken.came outcome.served.items) }
+    ensures headline { IfOk result (λ outcome. KeepsTheHeadline B.group T.counts T.given T.accepted (length hands.items) pass.new outcome.ended.answers.items outcome.ended.strangers.items outcome.taken.came outcome.served.items) }
+    ensures history { IsPrefix pass.old pass.new }
     ensures closed { IfOk result (λ outcome. outcome.drained ≡ B.gate) }
     ensures taken { IfOk result (λ outcome. (S.tally outcome.taken.source).arrivals ≡ (S.tally source).arrivals + outcome.taken.came) }
     ensures watched { IfOk result (λ _. D.has_watched watch.old watch.new input.old input.new) }
     ensures shares { IfOk result (λ outcome. All (IsBoundIn outcome.shares.items) shares.now) }
+{
+    let closed = serve_until_closed(
+        rt,
+        alloc,
+        hall,
+        shares,
+        hands,
+        room,
+        gear,
+        alarms,
+        source,
+        max_inflight,
+        crossing,
+        closer,
+        stopper,
+        watch,
+        input,
+    )?;
+    let Closed {
+        hall,
+        ports,
+        shares,
+        served,
+        taken,
+        drained,
+    } = closed;
+    let ended = end(rt, alloc, &drained, hall, ports, pass)?;
+    Ok(Outcome {
+        ended,
+        shares,
+        served,
+        taken,
+        drained,
+    })
+}
+
+/// The same until the broker is closed: its gate is drained, and all that its workers had came back. So who ends it has its ports, places and messages in hands: those of
+/// [`Hall::empty`] and these ports go to `end_groups` of `final_report`.
+///
+/// # Errors
+///
+/// An allocation failed. What became of the messages is not known then.
+pub fn serve_until_closed<
+    'g,
+    B: Broker + Send + Sync,
+    N: HistoryName + Send + Sync,
+    T: Transport + Drop + Send,
+    S: Source<T> + Drop + Send,
+    Q: Poller<T> + Drop + Send,
+    W: Wake + Drop + Send + Sync,
+    X: Crossing + Sync,
+    C: Clock + Drop + Send,
+    I: Send,
+    D: Watch<I> + Send,
+    R: Threads + Wait + SystemClock + Sync,
+>(
+    rt: &R,
+    alloc: Global,
+    hall: Hall<'g, B, N>,
+    shares: &[Share],
+    hands: Vec<Hand<B>>,
+    room: Vec<Ports<B>>,
+    gear: Vec<Gear<Q, C>>,
+    alarms: Vec<W>,
+    source: S,
+    max_inflight: MaxInflight,
+    crossing: &X,
+    closer: Closer<'_, B>,
+    stopper: Closer<'_, B>,
+    watch: &mut D,
+    input: &mut I,
+) -> Result<Closed<'g, B, N, S>, NoMemory>
+    requires workers { (1 ≤ length hands.items) × (length hands.items ≤ 64) }
+    requires gear { length gear.items ≡ length hands.items }
+    requires room { (room.items ≡ []) × (length hands.items ≤ vec_capacity room) }
+    ensures ports { IfOk result (λ closed. length closed.ports.items ≡ length hands.items) }
+    ensures within { IfOk result (λ closed. AreWithinReceiveMaximum B.group T.counts T.given T.accepted closed.taken.came closed.served.items) }
+    ensures closed { IfOk result (λ closed. closed.drained ≡ B.gate) }
+    ensures taken { IfOk result (λ closed. (S.tally closed.taken.source).arrivals ≡ (S.tally source).arrivals + closed.taken.came) }
+    ensures watched { IfOk result (λ _. D.has_watched watch.old watch.new input.old input.new) }
+    ensures shares { IfOk result (λ closed. All (IsBoundIn closed.shares.items) shares.now) }
 {
     quota_law::<BrokerPlace<B>, T, SharedSupply<'_, '_, B, N, R>>();
     let mut stopper = stopper;
@@ -125,9 +228,9 @@ pub fn serve<
                 served,
                 taken,
             } = pooled;
-            let ended = end(rt, alloc, &drained, hall, ports_of(hands, room))?;
-            Ok(Outcome {
-                ended,
+            Ok(Closed {
+                hall,
+                ports: ports_of(hands, room),
                 shares,
                 served,
                 taken,
@@ -221,11 +324,13 @@ fn end<'g, B: Broker, N: HistoryName, R: Wait>(
     drained: &Drained,
     hall: Hall<'g, B, N>,
     ports: Vec<Ports<B>>,
+    pass: &mut DeskPass<BrokerPlace<B>, N>,
 ) -> Result<Ended<'g>, NoMemory>
     requires { drained.now ≡ B.gate }
-    ensures { IfOk result (λ ended. KeptItsPromises B.group ports.items ended.answers.items ended.strangers.items) }
+    ensures before { IsPrefix pass.old pass.new }
+    ensures kept { IfOk result (λ ended. KeptItsPromisesBehind B.group pass.new ports.items ended.answers.items ended.strangers.items) }
 {
-    match end_broker(rt, alloc, drained, hall, ports) {
+    match end_broker(rt, alloc, drained, hall, ports, pass) {
         Ok(ended) => Ok(ended),
         Err(left) => {
             left.abandon();
@@ -236,10 +341,11 @@ fn end<'g, B: Broker, N: HistoryName, R: Wait>(
 
 /// Gives a broker up, without a word of what became of its messages.
 pub fn give_up<B: Broker, N: HistoryName>(hall: Hall<'_, B, N>, ports: Vec<Ports<B>>) {
-    let (groups, desk, _routes) = hall.into_parts();
+    let (groups, desk, routes) = hall.into_parts();
     let left = StillOpen::Desk {
         desk: desk.into_desk(),
         groups,
+        routes,
         ports,
     };
     left.abandon();

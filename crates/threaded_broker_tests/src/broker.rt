@@ -10,7 +10,7 @@ use call_history::HistoryName;
 use conn_rules::MaxInflight;
 use gate_word::{Gate, GateSeat};
 use group_jobs::Envelope;
-use shared_desk::OpenedDesk;
+use shared_desk::{DeskPass, OpenedDesk};
 use shared_routes::SharedRoutes;
 use shared_supply::Hall;
 use std::alloc::{AllocError, Global};
@@ -177,6 +177,7 @@ fn attend<
     source: S,
     accepting: Closer<'_, B>,
     ending: Closer<'_, B>,
+    pass: &mut DeskPass<BrokerPlace<B>, N>,
 ) -> Option<Told> {
     let (Ok(room), Ok((gear, alarms))) = (
         Vec::with_capacity(alloc, hands.len()),
@@ -206,6 +207,7 @@ fn attend<
         ending,
         &mut NothingToWatch,
         &mut (),
+        pass,
     );
     Some(told_of(served.ok()?))
 }
@@ -281,7 +283,9 @@ fn live_with<
         give_up(hall, Vec::new(alloc));
         return None;
     };
-    attend(rt, alloc, hall, hands, workers, source, accepting, ending)
+    attend(
+        rt, alloc, hall, hands, workers, source, accepting, ending, &mut pass,
+    )
 }
 
 /// Opens a broker of so many workers, and serves what comes from a source until that has ended. `None` where memory is refused.

@@ -347,7 +347,7 @@ impl<'a, 'g, B: Broker, N: HistoryName, T: Transport + Drop, R: Wait> Connection
         } = self;
         drop(members);
         abandon(table, &mut supply);
-        let (key, ports) = supply.into_parts();
+        let (key, ports, _desk) = supply.into_parts();
         (Hand { key, ports }, receiver, served)
     }
 }

@@ -10,6 +10,7 @@ returns-clause-reported g c = record {
     room = c.requires.capacity;
     answers = c.in-Ok.outcome.ended.answers.items;
     strangers = c.in-Ok.outcome.ended.strangers.items;
+    calls = c.serve.new.pass;
     came = c.in-Ok.outcome.taken.came;
     served = c.in-Ok.outcome.served.items;
     headline = c.in-Ok.ensures.headline;

@@ -1,12 +1,15 @@
--- Where the desk gives a pass, it has it so.
-use Rattle.std.proofs.Common.{◌≡◌, true, Option, Some, None, refl, sym, ◌∙◌}
-use Rattle.std.specs.Prelude.{IfSome}
-use Rattle.std.specs.Option.{is_some}
+-- Where the desk gives a pass, this knows a history that ends with the yes.
+use Rattle.std.proofs.Common.{subst, refl}
+use Rattle.group_queue.specs.Places.{PlaceState}
+use Rattle.broker_groups.specs.Outs.{HasOut}
+use Rattle.shared_desk.specs.Histories.{IsHistory}
 use Rattle.shared_supply.proofs.calls.SharedSupplySupplyBrokerPlace.kicked.Goals as goal
 
-said : {A : Type 0} (X : Type 0) (told : Option A) → IfSome told (λ _. X) → is_some told ≡ true → X
-said X (Some pass) has is = has
-said X None has is = absurd cc
-
-pub returns : goal.returns
-returns g c = (λ is. said _ c.kicked.result c.kicked.ensures.yes (sym c.is_some.ensures ∙ is), refl)
+pub returns-in-Some : goal.returns-in-Some
+returns-in-Some g c = (
+  λ is. record {
+    before = c.in-Some.ensures.told.0;
+    legal = subst (IsHistory HasOut (λ (p : PlaceState). p.group) (λ (p : PlaceState). p.number)) c.in-Some.ensures.told.1 c.is_history.ensures;
+  },
+  refl,
+)
