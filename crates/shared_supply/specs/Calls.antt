@@ -1,5 +1,5 @@
 -- What each call of a connection makes of its worker, and what it answers.
-use Rattle.std.specs.Prelude.{◌≡◌, ◌⊎◌, ℕ, ◌<◌, Bool, true, false, List, [], ◌∷◌, ◌++◌, Option, None, Result, Ok, Err}
+use Rattle.std.specs.Prelude.{◌≡◌, ◌⊎◌, ℕ, ◌<◌, ◌+◌, ◌-◌, ◌^◌, min, Bool, true, false, List, [], ◌∷◌, ◌++◌, Option, None, Result, Ok, Err}
 use Rattle.mqtt_topic.specs.Names.{Share}
 use Rattle.mqtt_topic.specs.Routes.{slot_of, routed, places_of}
 use Rattle.group_jobs.specs.Stamps.{Held}
@@ -33,6 +33,11 @@ waking worker wakes = record worker { wakes = wakes }
 -- the same worker, where this answer may have handed out a message of the group of this slot
 abbrev pub handing : {E : Type 0} → Result (Option Held) E → ℕ → Worker → Worker
 handing answer slot worker = record worker { wakes = one_taken_if answer slot worker.wakes; allowance = one_fewer_if answer worker.allowance }
+
+-- the same worker, where a gather was missed or not; it is counted up to 2^64 - 1
+abbrev pub missing : Bool → Worker → Worker
+missing true worker = record worker { missed = min (worker.missed + 1) (2 ^ 64 - 1) }
+missing false worker = worker
 
 -- a message more may be handed out, just where the allowance is not used up
 abbrev pub IsAllowed : Bool → ℕ → Type 0
@@ -83,6 +88,6 @@ module _ (group : ℕ → GroupId) where
   Calls old (MayTake place answer) new = IsAllowed answer old.allowance × (new ≡ old)
   Calls old (Take place place' answer) new = TakeAnswers seen_main place (in_group answer) place' × (new ≡ handing answer place.group old)
   Calls old (TakeBack place place' answer) new = TakeBackAnswers seen_returns place (in_group answer) place' × (new ≡ handing answer place.group old)
-  Calls old (Settle place place' envelope fate) new = SettlesAndGathers place envelope fate place' × (new ≡ old)
+  Calls old (Settle place place' envelope fate) new = (is_missed : Bool) × SettlesAndGathers place envelope fate is_missed place' × (new ≡ missing is_missed old)
   Calls old (GiveBack place place' envelope answer) new =
       GiveBackAnswers place envelope answer place' × (new ≡ waking old (one_more_if answer place.group old.wakes))

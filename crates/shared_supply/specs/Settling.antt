@@ -1,5 +1,5 @@
 -- How a place settles a message, and when it gathers what it settled into its group's ledger.
-use Rattle.std.specs.Prelude.{◌≡◌, ◌⊎◌, ℕ, ◌+◌, ◌%◌, ◌<◌, min, length, true, Ok, Err}
+use Rattle.std.specs.Prelude.{◌≡◌, ℕ, ◌+◌, ◌%◌, ◌<◌, min, length, Bool, true, false, Ok, Err}
 use Rattle.group_jobs.specs.declared.error.JobError.TheVariants.{Memory}
 use Rattle.group_jobs.specs.declared.fate.Fate.{Fate}
 use Rattle.group_jobs.specs.declared.fate.Fate.TheVariants.{Acknowledged, Refused}
@@ -16,14 +16,15 @@ runs_at place = min (length (runs_of Acknowledged place.docket.settled) + length
 abbrev pub IsDue : ℕ → ℕ → Type 0
 IsDue before after = (before < after) × (after % 64 ≡ 0)
 
--- the place gathered, and what it had settled is in the group's ledger; or an allocation failed, and it is as it was
-abbrev pub Gathers : PlaceState → PlaceState → Type 0
-Gathers old new = GatherAnswers seen_ledger old (Ok true) new ⊎ GatherAnswers seen_ledger old (Err Memory) new
+-- the place gathered, and what it had settled is in the group's ledger; or that was missed, as an allocation failed, and the place is as it was
+abbrev pub Gathers : PlaceState → (is_missed : Bool) → PlaceState → Type 0
+Gathers old false new = GatherAnswers seen_ledger old (Ok true) new
+Gathers old true new = GatherAnswers seen_ledger old (Err Memory) new
 
--- a message was settled at the place, and just where that filled a further 64 runs of its docket, the place gathered
-pub record SettlesAndGathers (old : PlaceState) (envelope : Held) (fate : Fate) (new : PlaceState) : Type 0 where
+-- a message was settled at the place, and just where that filled a further 64 runs of its docket, the place gathered, or missed that
+pub record SettlesAndGathers (old : PlaceState) (envelope : Held) (fate : Fate) (is_missed : Bool) (new : PlaceState) : Type 0 where
   pub settled : PlaceState
   pub settles : SettlesHeld old (job_of envelope.stamp) fate settled
   pub same : IsSamePlace old settled
-  pub due : IsDue (runs_at old) (runs_at settled) → Gathers settled new
-  pub spared : ¬ IsDue (runs_at old) (runs_at settled) → new ≡ settled
+  pub due : IsDue (runs_at old) (runs_at settled) → Gathers settled is_missed new
+  pub spared : ¬ IsDue (runs_at old) (runs_at settled) → (new ≡ settled) × (is_missed ≡ false)

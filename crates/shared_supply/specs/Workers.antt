@@ -21,6 +21,8 @@ pub record Worker : Type 0 where
   pub wakes : Wakes
   -- how many more messages it may be handed for its members, until it is allowed others
   pub allowance : ℕ
+  -- how many gathers of its places came to nothing, as an allocation failed
+  pub missed : ℕ
 
 -- a visit is going on
 abbrev pub is_inside : Visitor → Bool
@@ -49,6 +51,7 @@ pub record Begins (old new : Worker) : Type 0 where
   pub desk : new.desk ≡ old.desk
   pub wakes : new.wakes ≡ old.wakes
   pub allowance : new.allowance ≡ old.allowance
+  pub missed : new.missed ≡ old.missed
 
 -- the worker leaves
 pub record Leaves (old new : Worker) : Type 0 where

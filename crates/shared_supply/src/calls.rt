@@ -202,7 +202,8 @@ impl<'a, 'g, B: Broker, N: HistoryName, R: Wait> Supply<BrokerPlace<B>>
 
     fn settle(&mut self, place: &mut BrokerPlace<B>, envelope: Envelope, fate: Fate) {
         let hall = self.hall;
-        settle(self.rt, self.alloc, &hall.groups, place, envelope, fate);
+        let is_missed = settle(self.rt, self.alloc, &hall.groups, place, envelope, fate);
+        self.note_missed(is_missed);
     }
 
     fn give_back(

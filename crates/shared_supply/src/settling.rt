@@ -1,5 +1,5 @@
 //! How a place settles a message, and when it gathers.
-ghost use Rattle.std.specs.Prelude.{◌≡◌};
+ghost use Rattle.std.specs.Prelude.{◌≡◌, false};
 ghost use Rattle.conn_supply.specs.Holding.{IsAmong, KeepsOut, SpendsOut};
 ghost use Rattle.broker_groups.specs.Outs.{HasOut};
 ghost use Rattle.shared_supply.specs.Settling.{Gathers, IsDue, SettlesAndGathers, runs_at};
@@ -14,7 +14,7 @@ use std::thread;
 const FULL: usize = 64;
 
 /// Settles a message that is out at a place, for good, and gathers where that filled a further 64 runs of the place's docket. Where another place has the ledger,
-/// it waits for that. A gather for which an allocation failed is made again 64 runs later, and not before.
+/// it waits for that. A gather for which an allocation failed is missed, and made again 64 runs later, and not before: it says whether that was so.
 pub(crate) fn settle<B: Broker, R: Wait>(
     rt: &R,
     alloc: Global,
@@ -22,49 +22,52 @@ pub(crate) fn settle<B: Broker, R: Wait>(
     place: &mut BrokerPlace<B>,
     envelope: Envelope,
     fate: Fate,
-)
+) -> bool
     requires { IsAmong HasOut place.old envelope }
-    ensures settled { SettlesAndGathers place.old envelope fate place.new }
+    ensures settled { SettlesAndGathers place.old envelope fate result place.new }
     ensures out { SpendsOut HasOut place.old envelope place.new }
 {
     let before = run_count(place);
     let _stamp = place.settle(envelope, fate);
-    gather_if_due(rt, alloc, groups, place, before);
+    gather_if_due(rt, alloc, groups, place, before)
 }
 
-/// Gathers where the place's docket has more runs than these, and a further 64 of them are full, unless an allocation fails.
+/// Gathers where the place's docket has more runs than these, and a further 64 of them are full. Whether that was missed, as an allocation failed.
 fn gather_if_due<B: Broker, R: Wait>(
     rt: &R,
     alloc: Global,
     groups: &BrokerGroups<'_, B>,
     place: &mut BrokerPlace<B>,
     before: usize,
-)
-    ensures due { IsDue before (runs_at place.old) → Gathers place.old place.new }
-    ensures spared { ¬ IsDue before (runs_at place.old) → place.new ≡ place.old }
+) -> bool
+    ensures due { IsDue before (runs_at place.old) → Gathers place.old result place.new }
+    ensures spared { ¬ IsDue before (runs_at place.old) → (place.new ≡ place.old) × (result ≡ false) }
     ensures out { KeepsOut HasOut place.old place.new }
 {
     let after = run_count(place);
     if before < after && after % FULL == 0 {
-        gather(rt, alloc, groups, place);
+        gather(rt, alloc, groups, place)
+    } else {
+        false
     }
 }
 
-/// Gathers, once no other place has the ledger, unless an allocation fails.
+/// Gathers, once no other place has the ledger. Whether that was missed, as an allocation failed.
 fn gather<B: Broker, R: Wait>(
     rt: &R,
     alloc: Global,
     groups: &BrokerGroups<'_, B>,
     place: &mut BrokerPlace<B>,
-)
-    ensures gathers { Gathers place.old place.new }
+) -> bool
+    ensures gathers { Gathers place.old result place.new }
     ensures out { KeepsOut HasOut place.old place.new }
 {
     'tries: for _ in rt.forever() {
-        if place.gather(groups, rt, alloc) != Ok(false) {
-            return;
+        match place.gather(groups, rt, alloc) {
+            Ok(true) => return false,
+            Ok(false) => thread::yield_now(),
+            Err(_) => return true,
         }
-        thread::yield_now();
     }
     unreachable!()
 }

@@ -2,7 +2,7 @@
 ghost use Rattle.std.specs.Prelude.{◌≡◌, ◌<◌, true};
 ghost use Rattle.gate_word.specs.Visits.{Ends};
 ghost use Rattle.gate_word.specs.declared.visitor.Visitor.TheVariants.{Inside, Outside};
-ghost use Rattle.shared_supply.specs.Calls.{handing};
+ghost use Rattle.shared_supply.specs.Calls.{handing, missing};
 ghost use Rattle.shared_supply.specs.Waking.{KeepsAtMost, no_wakes, one_called, one_more};
 ghost use Rattle.shared_supply.specs.Workers.{Begins, Leaves, standing, is_inside};
 
@@ -37,6 +37,8 @@ pub struct SharedSupply<'a, 'g, B: Broker, N: HistoryName, R: Wait> {
     pub(crate) wakes: Wakes,
     // How many more messages are to be handed to its members, until it is allowed others.
     pub(crate) allowance: u32,
+    // How many gathers of its places came to nothing, as an allocation failed.
+    pub(crate) missed: u64,
     pub(crate) tallies: Tallies,
 }
 
@@ -46,7 +48,7 @@ impl<'a, 'g, B: Broker, N: HistoryName, R: Wait> Model for SharedSupply<'a, 'g, 
 
     ghost Value = { Worker };
 
-    ghost view = { λ s. record { visitor = standing s.visitor; ports = s.ports; known = s.known; desk = s.desk; wakes = s.wakes; allowance = s.allowance } };
+    ghost view = { λ s. record { visitor = standing s.visitor; ports = s.ports; known = s.known; desk = s.desk; wakes = s.wakes; allowance = s.allowance; missed = s.missed } };
 
     ghost invariant = { λ s. IsVisitorOf B.gate s.visitor × (s.known.table ≡ s.hall.now) };
 }
@@ -62,7 +64,7 @@ impl<'a, 'g, B: Broker, N: HistoryName, R: Wait> SharedSupply<'a, 'g, B, N, R> {
         known: KnownRoutes<'a>,
     ) -> SharedSupply<'a, 'g, B, N, R>
         requires { known.table ≡ hall.now }
-        ensures { result ≡ record { visitor = Outside key; ports = ports; known = known.entry; desk = result.desk; wakes = no_wakes; allowance = u32.MAX } }
+        ensures { result ≡ record { visitor = Outside key; ports = ports; known = known.entry; desk = result.desk; wakes = no_wakes; allowance = u32.MAX; missed = 0 } }
     {
         SharedSupply {
             rt,
@@ -74,6 +76,7 @@ impl<'a, 'g, B: Broker, N: HistoryName, R: Wait> SharedSupply<'a, 'g, B, N, R> {
             alloc,
             wakes: Wakes::none(),
             allowance: u32::MAX,
+            missed: 0,
             tallies: Tallies::NONE,
         }
     }
@@ -91,6 +94,22 @@ impl<'a, 'g, B: Broker, N: HistoryName, R: Wait> SharedSupply<'a, 'g, B, N, R> {
         ensures { result ≡ self.now.allowance }
     {
         self.allowance
+    }
+
+    /// How many times a place of its was due to gather, and did not, as an allocation failed; 2^64 - 1 where they were more.
+    pub fn missed(&self) -> u64
+        ensures { result ≡ self.now.missed }
+    {
+        self.missed
+    }
+
+    /// A gather was missed, or it was not.
+    pub(crate) fn note_missed(&mut self, is_missed: bool)
+        ensures { self.new ≡ missing is_missed self.old }
+    {
+        if is_missed {
+            self.missed = self.missed.saturating_add(1);
+        }
     }
 
     /// How many messages of the group of this slot it brought there and handed out.
@@ -174,6 +193,7 @@ impl<'a, 'g, B: Broker, N: HistoryName, R: Wait> SharedSupply<'a, 'g, B, N, R> {
             alloc: _,
             wakes: _,
             allowance: _,
+            missed: _,
             tallies: _,
         } = self;
         let Some(visitor) = visitor else {

@@ -5,5 +5,5 @@ use Rattle.conn_supply.specs.Holding.{KeepsOut}
 use Rattle.broker_groups.specs.Outs.{HasOut}
 use Rattle.shared_supply.proofs.settling.gather.Goals as goal
 
-pub returns-then-ne-clause-out : goal.returns-then-ne-clause-out
-returns-then-ne-clause-out g c = subst (λ (place : PlaceState). KeepsOut HasOut place c.gather.new.self) c.tries.invariant c.gather.ensures.out
+pub returns-in-Ok-true-clause-out : goal.returns-in-Ok-true-clause-out
+returns-in-Ok-true-clause-out g c = subst (λ (place : PlaceState). KeepsOut HasOut place c.gather.new.self) c.tries.invariant c.gather.ensures.out
