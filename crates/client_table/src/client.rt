@@ -228,8 +228,9 @@ impl<P: HoldingPlace> Client<P> {
     }
 
     /// Whether another connection asked for the session of this one: a packet or a Tick ends it then.
-    pub fn is_kicked<S: Supply<P>>(&self, supply: &S) -> bool
-        ensures { S.call supply.now (Kicked self.now.conn.number result) supply.now }
+    pub fn is_kicked<S: Supply<P>>(&self, supply: &mut S) -> bool
+        ensures called { S.call supply.old (Kicked self.now.conn.number result) supply.new }
+        ensures visiting { S.visiting supply.new ≡ S.visiting supply.old }
     {
         supply.kicked(self.number)
     }

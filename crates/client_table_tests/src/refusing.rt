@@ -72,7 +72,9 @@ impl Supply<LocalPlace> for Refusing {
 
     ghost visiting = { λ r. is_open r.broker };
 
-    ghost turn = { λ _ _. ⊤ };
+    ghost begins = { λ _ _. ⊤ };
+
+    ghost ends = { λ _ _. ⊤ };
 
     fn begin(&mut self) -> bool {
         self.broker.begin()
@@ -100,7 +102,7 @@ impl Supply<LocalPlace> for Refusing {
         self.broker.withdraw(connection);
     }
 
-    fn kicked(&self, connection: u16) -> bool {
+    fn kicked(&mut self, connection: u16) -> bool {
         self.broker.kicked(connection)
     }
 

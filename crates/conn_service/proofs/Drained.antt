@@ -16,12 +16,12 @@ forgets_at : (reads drained : Bool) → reads ≡ true → still_drained reads d
 forgets_at true drained is = refl
 forgets_at false drained is = cc is
 
-module _ {S P T : Type 0} (call : S → Fact P → S → Type 0) (turn : S → S → Type 0) (visiting : S → Bool) (slot_of : P → ℕ)
+module _ {S P T : Type 0} (call : S → Fact P → S → Type 0) (begins ends : S → S → Type 0) (visiting : S → Bool) (slot_of : P → ℕ)
     (counts : T → Counts) (given accepted : T → Option (List ℕ)) where
   same_drained : (old new same : ServiceState P T) → new ≡ same → same.drained ≡ old.drained → new.drained ≡ true → old.drained ≡ true
   same_drained old new same is keeps drained = sym keeps ∙ sym (ap (λ (s : ServiceState P T). s.drained) is) ∙ drained
 
-  along_one : (act : Act) (old new : ServiceState P T) (supply supply' : S) → Does call turn visiting slot_of counts given accepted act old supply new supply' → new.drained ≡ true
+  along_one : (act : Act) (old new : ServiceState P T) (supply supply' : S) → Does call begins ends visiting slot_of counts given accepted act old supply new supply' → new.drained ≡ true
       → (old.drained ≡ true) ⊎ IsShortRead act
   along_one (Enters is_open reads) old new supply supply' does is = inl (still_along reads old.drained (sym (ap (λ (s : ServiceState P T). s.drained) does.becomes) ∙ is))
   along_one Leaves old new supply supply' does is = inl (same_drained old new _ does.same refl is)
@@ -39,7 +39,7 @@ module _ {S P T : Type 0} (call : S → Fact P → S → Type 0) (turn : S → S
   along_one Others old new supply supply' does is = inl (same_drained old new _ does refl is)
 
   -- an act that forgets it
-  forgets_one : (act : Act) (old new : ServiceState P T) (supply supply' : S) → Does call turn visiting slot_of counts given accepted act old supply new supply' → Forgets act → new.drained ≡ false
+  forgets_one : (act : Act) (old new : ServiceState P T) (supply supply' : S) → Does call begins ends visiting slot_of counts given accepted act old supply new supply' → Forgets act → new.drained ≡ false
   forgets_one (Enters is_open reads) old new supply supply' does forgets = ap (λ (s : ServiceState P T). s.drained) does.becomes ∙ forgets_at reads old.drained forgets
   forgets_one Leaves old new supply supply' does forgets = absurd forgets
   forgets_one (Reads size its bytes) old new supply supply' does forgets = absurd forgets
@@ -55,7 +55,7 @@ module _ {S P T : Type 0} (call : S → Fact P → S → Type 0) (turn : S → S
   forgets_one Ends old new supply supply' does forgets = absurd forgets
   forgets_one Others old new supply supply' does forgets = absurd forgets
 
-  then_one : (act : Act) (acts : List Act) (old mid : ServiceState P T) (supply between : S) → Does call turn visiting slot_of counts given accepted act old supply mid between
+  then_one : (act : Act) (acts : List Act) (old mid : ServiceState P T) (supply between : S) → Does call begins ends visiting slot_of counts given accepted act old supply mid between
       → (mid.drained ≡ true) ⊎ HasShortRead acts → (old.drained ≡ true) ⊎ HasShortRead (act ∷ acts)
   then_one act acts old mid supply between does (inl is) = first (along_one act old mid supply between does is) where
     first : (old.drained ≡ true) ⊎ IsShortRead act → (old.drained ≡ true) ⊎ HasShortRead (act ∷ acts)
@@ -63,7 +63,7 @@ module _ {S P T : Type 0} (call : S → Fact P → S → Type 0) (turn : S → S
     first (inr short) = inr (inl short)
   then_one act acts old mid supply between does (inr short) = inr (inr short)
 
-  along_all : (acts : List Act) (old new : ServiceState P T) (supply supply' : S) → DoesAll call turn visiting slot_of counts given accepted acts old supply new supply' → new.drained ≡ true
+  along_all : (acts : List Act) (old new : ServiceState P T) (supply supply' : S) → DoesAll call begins ends visiting slot_of counts given accepted acts old supply new supply' → new.drained ≡ true
       → (old.drained ≡ true) ⊎ HasShortRead acts
   along_all [] old new supply supply' does is = inl (same_drained old new _ does.0 refl is)
   along_all (act ∷ acts) old new supply supply' does is =
@@ -74,7 +74,7 @@ module _ {S P T : Type 0} (call : S → Fact P → S → Type 0) (turn : S → S
   not_before acts service not (inr short) = short
 
   -- behind acts that have forgotten it, such a read is among them
-  pub short_since : (acts : List Act) (old new : ServiceState P T) (supply supply' : S) → DoesAll call turn visiting slot_of counts given accepted acts old supply new supply'
+  pub short_since : (acts : List Act) (old new : ServiceState P T) (supply supply' : S) → DoesAll call begins ends visiting slot_of counts given accepted acts old supply new supply'
       → HasForgotten acts → new.drained ≡ true → HasShortRead acts
   short_since [] old new supply supply' does forgotten is = absurd forgotten
   short_since (act ∷ acts) old new supply supply' does (inl forgets) is =

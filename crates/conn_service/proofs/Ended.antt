@@ -14,13 +14,13 @@ use Rattle.conn_service.specs.Transcripts.{IsQuiet}
 endings_on : (done : List Act) (act : Act) → endings_of (done ++ act ∷ []) ≡ endings_of done ++ filter_map ending_in (act ∷ [])
 endings_on done act = filter_map-append ending_in done (act ∷ [])
 
-module _ {S P T : Type 0} (call : S → Fact P → S → Type 0) (turn : S → S → Type 0) (visiting : S → Bool) (slot_of : P → ℕ)
+module _ {S P T : Type 0} (call : S → Fact P → S → Type 0) (begins ends : S → S → Type 0) (visiting : S → Bool) (slot_of : P → ℕ)
     (counts : T → Counts) (given accepted : T → Option (List ℕ)) where
   -- an act either leaves the ending, or ends a connection that had not ended
   abbrev Turns : Option Served → Option Served → Option Served → Type 0
   Turns its old new = ((its ≡ None) × (new ≡ old)) ⊎ ((old ≡ None) × (new ≡ its))
 
-  turns : (act : Act) (old new : ServiceState P T) (supply supply' : S) → Does call turn visiting slot_of counts given accepted act old supply new supply'
+  turns : (act : Act) (old new : ServiceState P T) (supply supply' : S) → Does call begins ends visiting slot_of counts given accepted act old supply new supply'
       → Turns (ending_in act) old.ending new.ending
   turns (Enters is_open reads) old new supply supply' does = inl (refl, ap (λ (s : ServiceState P T). s.ending) does.becomes)
   turns Leaves old new supply supply' does = inl (refl, ap (λ (s : ServiceState P T). s.ending) does.same)
@@ -42,7 +42,7 @@ module _ {S P T : Type 0} (call : S → Fact P → S → Type 0) (turn : S → S
   one_ending (Some how) act is = rw is
 
   pub ending_on : (done : List Act) (act : Act) (old new : ServiceState P T) (supply supply' : S) → endings_of done ≡ option_to_list old.ending
-      → Does call turn visiting slot_of counts given accepted act old supply new supply' → endings_of (done ++ act ∷ []) ≡ option_to_list new.ending
+      → Does call begins ends visiting slot_of counts given accepted act old supply new supply' → endings_of (done ++ act ∷ []) ≡ option_to_list new.ending
   ending_on done act old new supply supply' so does =
       ⊎_elim
       (λ (stays : (ending_in act ≡ None) × (new.ending ≡ old.ending)).
@@ -51,7 +51,7 @@ module _ {S P T : Type 0} (call : S → Fact P → S → Type 0) (turn : S → S
       endings_on done act ∙ ap (λ (l : List Served). l ++ filter_map ending_in (act ∷ [])) (so ∙ ap option_to_list ends.0) ∙ one_ending (ending_in act) act refl ∙ ap option_to_list (sym ends.1))
       (turns act old new supply supply' does)
 
-  quiet_one : (act : Act) (old new : ServiceState P T) (supply supply' : S) → old.ending ≢ None → Does call turn visiting slot_of counts given accepted act old supply new supply' → IsQuiet act
+  quiet_one : (act : Act) (old new : ServiceState P T) (supply supply' : S) → old.ending ≢ None → Does call begins ends visiting slot_of counts given accepted act old supply new supply' → IsQuiet act
   quiet_one (Enters is_open reads) old new supply supply' ended does = tt
   quiet_one Leaves old new supply supply' ended does = tt
   quiet_one Others old new supply supply' ended does = tt
@@ -67,13 +67,13 @@ module _ {S P T : Type 0} (call : S → Fact P → S → Type 0) (turn : S → S
   quiet_one (Stalls now) old new supply supply' ended does = ended does.does.going
   quiet_one Ends old new supply supply' ended does = ended does.does.going
 
-  stays_ended : (act : Act) (old new : ServiceState P T) (supply supply' : S) → old.ending ≢ None → Does call turn visiting slot_of counts given accepted act old supply new supply' → new.ending ≢ None
+  stays_ended : (act : Act) (old new : ServiceState P T) (supply supply' : S) → old.ending ≢ None → Does call begins ends visiting slot_of counts given accepted act old supply new supply' → new.ending ≢ None
   stays_ended act old new supply supply' ended does =
       ⊎_elim (λ (stays : (ending_in act ≡ None) × (new.ending ≡ old.ending)) (none : new.ending ≡ None). ended (sym stays.1 ∙ none))
       (λ (ends : (old.ending ≡ None) × (new.ending ≡ ending_in act)) (none : new.ending ≡ None). ended ends.0) (turns act old new supply supply' does)
 
   -- behind its end it is quiet
-  pub quiet : (acts : List Act) (old new : ServiceState P T) (supply supply' : S) → old.ending ≢ None → DoesAll call turn visiting slot_of counts given accepted acts old supply new supply'
+  pub quiet : (acts : List Act) (old new : ServiceState P T) (supply supply' : S) → old.ending ≢ None → DoesAll call begins ends visiting slot_of counts given accepted acts old supply new supply'
       → AllByRecursion IsQuiet acts
   quiet [] old new supply supply' ended does = tt
   quiet (act ∷ acts) old new supply supply' ended does =

@@ -12,12 +12,12 @@ use Rattle.conn_service.specs.Lives.{Does, DoesAll}
 pub one_more : {A B : Type 0} (f : A → List B) (these : List A) (last : A) → flat_map f (these ++ last ∷ []) ≡ flat_map f these ++ f last
 one_more f these last = flat_map-append f these (last ∷ []) ∙ ap (λ (l : List _). flat_map f these ++ l) (append-nil (f last))
 
-module _ {S P T : Type 0} (call : S → Fact P → S → Type 0) (turn : S → S → Type 0) (visiting : S → Bool) (slot_of : P → ℕ)
+module _ {S P T : Type 0} (call : S → Fact P → S → Type 0) (begins ends : S → S → Type 0) (visiting : S → Bool) (slot_of : P → ℕ)
     (counts : T → Counts) (given accepted : T → Option (List ℕ)) where
   pub folded : (Q : List Act → ServiceState P T → S → Type 0)
-      → ((done : List Act) (act : Act) (old new : ServiceState P T) (supply supply' : S) → Q done old supply → Does call turn visiting slot_of counts given accepted act old supply new supply'
+      → ((done : List Act) (act : Act) (old new : ServiceState P T) (supply supply' : S) → Q done old supply → Does call begins ends visiting slot_of counts given accepted act old supply new supply'
       → Q (done ++ act ∷ []) new supply')
-      → (acts done : List Act) (old new : ServiceState P T) (supply supply' : S) → Q done old supply → DoesAll call turn visiting slot_of counts given accepted acts old supply new supply'
+      → (acts done : List Act) (old new : ServiceState P T) (supply supply' : S) → Q done old supply → DoesAll call begins ends visiting slot_of counts given accepted acts old supply new supply'
       → Q (done ++ acts) new supply'
   folded Q on [] done old new supply supply' holds does =
       subst (λ (d : List Act). Q d new supply') (sym (append-nil done))

@@ -98,26 +98,26 @@ module _ {P T : Type 0} (counts : T → Counts) (given accepted : T → Option (
   unfoldable pub edge_behind : {now : ℕ} (old new : ServiceState P T) → LeadsAtEdge counts given accepted now Outside old new → LeadsAtEdge counts given accepted now Behind old new
   edge_behind {now = now} old new led = record { acts = led.acts; does = led.does; walks = behind_all now led.acts old new led.does led.walks }
 
-module _ {S P T : Type 0} (call : S → Fact P → S → Type 0) (turn : S → S → Type 0) (visiting : S → Bool) (slot_of : P → ℕ)
+module _ {S P T : Type 0} (call : S → Fact P → S → Type 0) (begins ends : S → S → Type 0) (visiting : S → Bool) (slot_of : P → ℕ)
     (counts : T → Counts) (given accepted : T → Option (List ℕ)) where
   unfoldable pub leads_nothing : {now : ℕ} {stand : Stand} (old new : ServiceState P T) (supply supply' : S) → new ≡ old → supply' ≡ supply
-      → Leads call turn visiting slot_of counts given accepted now stand stand old supply new supply'
+      → Leads call begins ends visiting slot_of counts given accepted now stand stand old supply new supply'
   leads_nothing {stand = stand} old new supply supply' same unasked = record { acts = []; does = (same, unasked); walks = rests stand }
 
-  unfoldable pub leads_one : {now : ℕ} {from to : Stand} (act : Act) (old new : ServiceState P T) (supply supply' : S) → Does call turn visiting slot_of counts given accepted act old supply new supply'
-      → Treads now from act to → Leads call turn visiting slot_of counts given accepted now from to old supply new supply'
+  unfoldable pub leads_one : {now : ℕ} {from to : Stand} (act : Act) (old new : ServiceState P T) (supply supply' : S) → Does call begins ends visiting slot_of counts given accepted act old supply new supply'
+      → Treads now from act to → Leads call begins ends visiting slot_of counts given accepted now from to old supply new supply'
   leads_one {now = now} {from = from} {to = to} act old new supply supply' does treads = record { acts = act ∷ []; does = (new, supply', does, (refl, refl)); walks = (to, treads, rests to) }
 
-  pub both : (these those : List Act) (old mid new : ServiceState P T) (supply between supply' : S) → DoesAll call turn visiting slot_of counts given accepted these old supply mid between
-      → DoesAll call turn visiting slot_of counts given accepted those mid between new supply' → DoesAll call turn visiting slot_of counts given accepted (these ++ those) old supply new supply'
+  pub both : (these those : List Act) (old mid new : ServiceState P T) (supply between supply' : S) → DoesAll call begins ends visiting slot_of counts given accepted these old supply mid between
+      → DoesAll call begins ends visiting slot_of counts given accepted those mid between new supply' → DoesAll call begins ends visiting slot_of counts given accepted (these ++ those) old supply new supply'
   both [] those old mid new supply between supply' first then =
-      subst (λ (s : S). DoesAll call turn visiting slot_of counts given accepted those old s new supply') first.1
-      (subst (λ (service : ServiceState P T). DoesAll call turn visiting slot_of counts given accepted those service between new supply') first.0 then)
+      subst (λ (s : S). DoesAll call begins ends visiting slot_of counts given accepted those old s new supply') first.1
+      (subst (λ (service : ServiceState P T). DoesAll call begins ends visiting slot_of counts given accepted those service between new supply') first.0 then)
   both (act ∷ these) those old mid new supply between supply' first then =
       (first.0, first.1, first.2, both these those first.0 mid new first.1 between supply' first.3 then)
 
-  unfoldable pub leads_on : {now : ℕ} {a b c : Stand} (old mid new : ServiceState P T) (supply between supply' : S) → Leads call turn visiting slot_of counts given accepted now a b old supply mid between
-      → Leads call turn visiting slot_of counts given accepted now b c mid between new supply' → Leads call turn visiting slot_of counts given accepted now a c old supply new supply'
+  unfoldable pub leads_on : {now : ℕ} {a b c : Stand} (old mid new : ServiceState P T) (supply between supply' : S) → Leads call begins ends visiting slot_of counts given accepted now a b old supply mid between
+      → Leads call begins ends visiting slot_of counts given accepted now b c mid between new supply' → Leads call begins ends visiting slot_of counts given accepted now a c old supply new supply'
   leads_on {now = now} {a = a} {b = b} {c = c} old mid new supply between supply' first then =
       record {
         acts = first.acts ++ then.acts;
@@ -126,7 +126,7 @@ module _ {S P T : Type 0} (call : S → Fact P → S → Type 0) (turn : S → S
       }
 
   -- an act towards the transport is an act
-  at_edge : (act : Act) (old new : ServiceState P T) (supply : S) → DoesAtEdge counts given accepted act old new → Does call turn visiting slot_of counts given accepted act old supply new supply
+  at_edge : (act : Act) (old new : ServiceState P T) (supply : S) → DoesAtEdge counts given accepted act old new → Does call begins ends visiting slot_of counts given accepted act old supply new supply
   at_edge (Enters is_open reads) old new supply does = absurd does
   at_edge Leaves old new supply does = absurd does
   at_edge (Reads size got bytes) old new supply does = record { does = does; same = refl }
@@ -143,34 +143,34 @@ module _ {S P T : Type 0} (call : S → Fact P → S → Type 0) (turn : S → S
   at_edge Others old new supply does = absurd does
 
   pub all_at_edge : (acts : List Act) (old new : ServiceState P T) (supply : S) → DoesAllAtEdge counts given accepted acts old new
-      → DoesAll call turn visiting slot_of counts given accepted acts old supply new supply
+      → DoesAll call begins ends visiting slot_of counts given accepted acts old supply new supply
   all_at_edge [] old new supply same = (same, refl)
   all_at_edge (act ∷ acts) old new supply does = (does.0, supply, at_edge act old does.0 supply does.1, all_at_edge acts does.0 new supply does.2)
 
   unfoldable pub leads_at_edge : {now : ℕ} {stand : Stand} (old new : ServiceState P T) (supply : S) → LeadsAtEdge counts given accepted now stand old new
-      → Leads call turn visiting slot_of counts given accepted now stand stand old supply new supply
+      → Leads call begins ends visiting slot_of counts given accepted now stand stand old supply new supply
   leads_at_edge old new supply leads = record { acts = leads.acts; does = all_at_edge leads.acts old new supply leads.does; walks = leads.walks }
 
   -- a round may go by without a visit
-  unfoldable pub leads_past : {now : ℕ} (old new : ServiceState P T) (supply supply' : S) → Leads call turn visiting slot_of counts given accepted now Outside Outside old supply new supply'
-      → Leads call turn visiting slot_of counts given accepted now Outside Behind old supply new supply'
+  unfoldable pub leads_past : {now : ℕ} (old new : ServiceState P T) (supply supply' : S) → Leads call begins ends visiting slot_of counts given accepted now Outside Outside old supply new supply'
+      → Leads call begins ends visiting slot_of counts given accepted now Outside Behind old supply new supply'
   leads_past {now = now} old new supply supply' led =
       leads_on {now = now} {a = Outside} {b = Outside} {c = Behind} old new new supply supply' supply' led (record { acts = []; does = (refl, refl); walks = inr refl })
 
-  pub leads_from_behind : {now : ℕ} {to : Stand} (old new : ServiceState P T) (supply supply' : S) → Leads call turn visiting slot_of counts given accepted now Behind to old supply new supply'
-      → Leads call turn visiting slot_of counts given accepted now Outside to old supply new supply'
+  pub leads_from_behind : {now : ℕ} {to : Stand} (old new : ServiceState P T) (supply supply' : S) → Leads call begins ends visiting slot_of counts given accepted now Behind to old supply new supply'
+      → Leads call begins ends visiting slot_of counts given accepted now Outside to old supply new supply'
   leads_from_behind {now = now} {to = to} old new supply supply' led = record { acts = led.acts; does = led.does; walks = walks_outside now led.acts to led.walks }
 
   -- one round more
   pub rounds_on : (moments : List ℕ) (now : ℕ) (old mid new : ServiceState P T) (supply between supply' : S)
-      → RoundsAll call turn visiting slot_of counts given accepted moments old supply mid between
-      → Rounds call turn visiting slot_of counts given accepted now mid between new supply'
-      → RoundsAll call turn visiting slot_of counts given accepted (moments ++ now ∷ []) old supply new supply'
+      → RoundsAll call begins ends visiting slot_of counts given accepted moments old supply mid between
+      → Rounds call begins ends visiting slot_of counts given accepted now mid between new supply'
+      → RoundsAll call begins ends visiting slot_of counts given accepted (moments ++ now ∷ []) old supply new supply'
   rounds_on [] now old mid new supply between supply' first then = (
     new,
     supply',
-    subst (λ (s : S). Rounds call turn visiting slot_of counts given accepted now old s new supply') first.1
-        (subst (λ (service : ServiceState P T). Rounds call turn visiting slot_of counts given accepted now service between new supply') first.0 then),
+    subst (λ (s : S). Rounds call begins ends visiting slot_of counts given accepted now old s new supply') first.1
+        (subst (λ (service : ServiceState P T). Rounds call begins ends visiting slot_of counts given accepted now service between new supply') first.0 then),
     (refl, refl),
   )
   rounds_on (moment ∷ moments) now old mid new supply between supply' first then =

@@ -231,7 +231,7 @@ module _ {S P : Type 0} (call : S → Fact P → S → Type 0) where
             (tt, (after_down link.session.window, refl, refl)));
       }
 
-module _ {S P T : Type 0} (call : S → Fact P → S → Type 0) (turn : S → S → Type 0) (visiting : S → Bool) (slot_of : P → ℕ)
+module _ {S P T : Type 0} (call : S → Fact P → S → Type 0) (begins ends : S → S → Type 0) (visiting : S → Bool) (slot_of : P → ℕ)
     (counts : T → Counts) (given accepted : T → Option (List ℕ)) where
   abbrev StepsSo : S → ℕ → Standing P → ℕ → Input → List Packet → Then → Standing P → S → Type 0
   StepsSo supply number standing now input packets next standing' supply' = Stepping call slot_of supply number standing now input packets next standing' supply'
@@ -305,7 +305,7 @@ module _ {S P T : Type 0} (call : S → Fact P → S → Type 0) (turn : S → S
   same_conn got.Failed client bytes = refl
 
   pub tells_on : (number : ℕ) (done : List Act) (act : Act) (old new : ServiceState P T) (supply supply' : S) → IsTellingAs number done old
-      → Does call turn visiting slot_of counts given accepted act old supply new supply' → IsTellingAs number (done ++ act ∷ []) new
+      → Does call begins ends visiting slot_of counts given accepted act old supply new supply' → IsTellingAs number (done ++ act ∷ []) new
   tells_on number done (Enters is_open reads) old new supply supply' tells does = quiet_as number done (Enters is_open reads) old new refl (ap (λ (s : ServiceState P T). s.client.conn) does.becomes) tells
   tells_on number done Leaves old new supply supply' tells does = quiet_as number done Leaves old new refl (ap (λ (s : ServiceState P T). s.client.conn) does.same) tells
   tells_on number done Others old new supply supply' tells does = quiet_as number done Others old new refl (ap (λ (s : ServiceState P T). s.client.conn) does) tells

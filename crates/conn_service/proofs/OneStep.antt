@@ -43,11 +43,11 @@ no_tick inputs.Tick unread unread' now ticked front = absurd front
 no_tick inputs.EndOfInput unread unread' now ticked front = absurd front
 no_tick inputs.Closing unread unread' now ticked front = absurd front
 
-module _ {S P T : Type 0} (call : S → Fact P → S → Type 0) (turn : S → S → Type 0) (visiting : S → Bool) (slot_of : P → ℕ)
+module _ {S P T : Type 0} (call : S → Fact P → S → Type 0) (begins ends : S → S → Type 0) (visiting : S → Bool) (slot_of : P → ℕ)
     (counts : T → Counts) (given accepted : T → Option (List ℕ)) where
   -- what may be stepped is stepped where it may stand
   stepped_in : (input : Input) (now : ℕ) (service : ServiceState P T) (supply : S) (is_open : Bool) → visiting supply ≡ is_open
-      → MayStep call turn visiting slot_of counts given accepted input now service supply → IsSteppedIn input is_open
+      → MayStep call begins ends visiting slot_of counts given accepted input now service supply → IsSteppedIn input is_open
   stepped_in (inputs.Packet packet) now service supply is_open is may = sym is ∙ may.0
   stepped_in (inputs.Fault fault) now service supply is_open is may = sym is ∙ may.0
   stepped_in inputs.Tick now service supply is_open is may = sym is ∙ may.0
@@ -56,15 +56,15 @@ module _ {S P T : Type 0} (call : S → Fact P → S → Type 0) (turn : S → S
 
   -- one step, whose packets wait to be written
   pub stepped : (now : ℕ) (input : Input) (packets : List Packet) (next : Then) (old inside : ServiceState P T) (client : ClientState P) (outgoing : List ℕ) (since ticked : ℕ) (supply supply' : S) (is_open : Bool) → visiting supply ≡ is_open
-      → inside ≡ old → IsDue call turn visiting slot_of counts given accepted input now old supply → TakesFront inside.client.unread input client.unread
+      → inside ≡ old → IsDue call begins ends visiting slot_of counts given accepted input now old supply → TakesFront inside.client.unread input client.unread
       → Moves call slot_of supply inside.client now input (words inside.client.conn.number packets next) client supply'
       → outgoing ≡ inside.outgoing ++ bytes_of packets → since ≡ since_step inside.outgoing now inside.since → ticked ≡ ticked_by input now inside.ticked
-      → Leads call turn visiting slot_of counts given accepted now (Inside is_open) (Inside is_open) old supply (record inside { client = client; outgoing = outgoing; since = since; ticked = ticked }) supply'
+      → Leads call begins ends visiting slot_of counts given accepted now (Inside is_open) (Inside is_open) old supply (record inside { client = client; outgoing = outgoing; since = since; ticked = ticked }) supply'
   stepped now input packets next old inside client outgoing since ticked supply supply' is_open is_visiting is due front moved outgoing_is since_is ticked_is =
-      subst (λ (s : ServiceState P T). Leads call turn visiting slot_of counts given accepted now (Inside is_open) (Inside is_open) s supply (record inside { client = client; outgoing = outgoing; since = since; ticked = ticked }) supply') is
-      (leads_one call turn visiting slot_of counts given accepted (Steps now input packets next) inside (record inside { client = client; outgoing = outgoing; since = since; ticked = ticked }) supply supply'
+      subst (λ (s : ServiceState P T). Leads call begins ends visiting slot_of counts given accepted now (Inside is_open) (Inside is_open) s supply (record inside { client = client; outgoing = outgoing; since = since; ticked = ticked }) supply') is
+      (leads_one call begins ends visiting slot_of counts given accepted (Steps now input packets next) inside (record inside { client = client; outgoing = outgoing; since = since; ticked = ticked }) supply supply'
       (record {
-        due = subst (λ (s : ServiceState P T). IsDue call turn visiting slot_of counts given accepted input now s supply) (sym is) due;
+        due = subst (λ (s : ServiceState P T). IsDue call begins ends visiting slot_of counts given accepted input now s supply) (sym is) due;
         front = front;
         moved = moved;
         becomes = λ i. record inside { client = client; outgoing = outgoing_is i; since = since_is i; ticked = ticked_is i };
@@ -72,15 +72,15 @@ module _ {S P T : Type 0} (call : S → Fact P → S → Type 0) (turn : S → S
 
   -- one step, for whose packets there was no memory
   pub lost : (now : ℕ) (input : Input) (packets : List Packet) (next : Then) (old inside : ServiceState P T) (client : ClientState P) (outgoing : List ℕ) (ticked : ℕ) (supply supply' : S) (is_open : Bool) → visiting supply ≡ is_open
-      → inside ≡ old → IsDue call turn visiting slot_of counts given accepted input now old supply → TakesFront inside.client.unread input client.unread
+      → inside ≡ old → IsDue call begins ends visiting slot_of counts given accepted input now old supply → TakesFront inside.client.unread input client.unread
       → Moves call slot_of supply inside.client now input (words inside.client.conn.number packets next) client supply'
       → outgoing ≡ inside.outgoing → write_room < length (inside.outgoing ++ bytes_of packets) → ticked ≡ ticked_by input now inside.ticked
-      → Leads call turn visiting slot_of counts given accepted now (Inside is_open) (Inside is_open) old supply (record inside { client = client; outgoing = outgoing; ticked = ticked; ending = Some served.Memory }) supply'
+      → Leads call begins ends visiting slot_of counts given accepted now (Inside is_open) (Inside is_open) old supply (record inside { client = client; outgoing = outgoing; ticked = ticked; ending = Some served.Memory }) supply'
   lost now input packets next old inside client outgoing ticked supply supply' is_open is_visiting is due front moved outgoing_is full ticked_is =
-      subst (λ (s : ServiceState P T). Leads call turn visiting slot_of counts given accepted now (Inside is_open) (Inside is_open) s supply (record inside { client = client; outgoing = outgoing; ticked = ticked; ending = Some served.Memory }) supply') is
-      (leads_one call turn visiting slot_of counts given accepted (Loses now input packets next) inside (record inside { client = client; outgoing = outgoing; ticked = ticked; ending = Some served.Memory }) supply supply'
+      subst (λ (s : ServiceState P T). Leads call begins ends visiting slot_of counts given accepted now (Inside is_open) (Inside is_open) s supply (record inside { client = client; outgoing = outgoing; ticked = ticked; ending = Some served.Memory }) supply') is
+      (leads_one call begins ends visiting slot_of counts given accepted (Loses now input packets next) inside (record inside { client = client; outgoing = outgoing; ticked = ticked; ending = Some served.Memory }) supply supply'
       (record {
-        due = subst (λ (s : ServiceState P T). IsDue call turn visiting slot_of counts given accepted input now s supply) (sym is) due;
+        due = subst (λ (s : ServiceState P T). IsDue call begins ends visiting slot_of counts given accepted input now s supply) (sym is) due;
         front = front;
         moved = moved;
         full = full;
@@ -89,14 +89,14 @@ module _ {S P T : Type 0} (call : S → Fact P → S → Type 0) (turn : S → S
 
   -- one step that wanted memory
   pub failed : (now : ℕ) (input : Input) (old inside : ServiceState P T) (client : ClientState P) (ticked : ℕ) (supply supply' : S) (is_open : Bool) → visiting supply ≡ is_open
-      → inside ≡ old → IsDue call turn visiting slot_of counts given accepted input now old supply → TakesFront inside.client.unread input client.unread
+      → inside ≡ old → IsDue call begins ends visiting slot_of counts given accepted input now old supply → TakesFront inside.client.unread input client.unread
       → FailsToMove call slot_of supply inside.client now input client supply' → ticked ≡ ticked_by input now inside.ticked
-      → Leads call turn visiting slot_of counts given accepted now (Inside is_open) (Inside is_open) old supply (record inside { client = client; ticked = ticked; ending = Some served.Memory }) supply'
+      → Leads call begins ends visiting slot_of counts given accepted now (Inside is_open) (Inside is_open) old supply (record inside { client = client; ticked = ticked; ending = Some served.Memory }) supply'
   failed now input old inside client ticked supply supply' is_open is_visiting is due front fails ticked_is =
-      subst (λ (s : ServiceState P T). Leads call turn visiting slot_of counts given accepted now (Inside is_open) (Inside is_open) s supply (record inside { client = client; ticked = ticked; ending = Some served.Memory }) supply') is
-      (leads_one call turn visiting slot_of counts given accepted (Fails now input) inside (record inside { client = client; ticked = ticked; ending = Some served.Memory }) supply supply'
+      subst (λ (s : ServiceState P T). Leads call begins ends visiting slot_of counts given accepted now (Inside is_open) (Inside is_open) s supply (record inside { client = client; ticked = ticked; ending = Some served.Memory }) supply') is
+      (leads_one call begins ends visiting slot_of counts given accepted (Fails now input) inside (record inside { client = client; ticked = ticked; ending = Some served.Memory }) supply supply'
       (record {
-        due = subst (λ (s : ServiceState P T). IsDue call turn visiting slot_of counts given accepted input now s supply) (sym is) due;
+        due = subst (λ (s : ServiceState P T). IsDue call begins ends visiting slot_of counts given accepted input now s supply) (sym is) due;
         front = front;
         failed = fails;
         becomes = λ i. record inside { client = client; ticked = ticked_is i; ending = Some served.Memory };
@@ -105,7 +105,7 @@ module _ {S P T : Type 0} (call : S → Fact P → S → Type 0) (turn : S → S
   -- what stands in front may be stepped where there is room
   due_front : (input : Input) (now : ℕ) (service : ServiceState P T) (unread' : Unread) (supply : S) → IsInFront service.client.unread input unread' → service.ending ≡ None
       → service.client.conn.standing ≢ Ended → visiting supply ≡ true → length service.outgoing < write_room
-      → IsDue call turn visiting slot_of counts given accepted input now service supply
+      → IsDue call begins ends visiting slot_of counts given accepted input now service supply
   due_front (inputs.Packet packet) now service unread' supply front going not_over visited room = record { going = going; not_over = not_over; may = (visited, room) }
   due_front (inputs.Fault fault) now service unread' supply front going not_over visited room = record { going = going; not_over = not_over; may = (visited, room) }
   due_front inputs.Tick now service unread' supply front going not_over visited room = absurd front
@@ -114,7 +114,7 @@ module _ {S P T : Type 0} (call : S → Fact P → S → Type 0) (turn : S → S
 
   due_inside : (input : Input) (now : ℕ) (old inside : ServiceState P T) (unread' : Unread) (supply : S) → inside ≡ old → IsInFront inside.client.unread input unread' → old.ending ≡ None
       → old.client.conn.standing ≢ Ended → visiting supply ≡ true → length old.outgoing < write_room
-      → IsDue call turn visiting slot_of counts given accepted input now old supply
+      → IsDue call begins ends visiting slot_of counts given accepted input now old supply
   due_inside input now old inside unread' supply is front going not_over visited room =
       due_front input now old unread' supply (subst (λ (s : ServiceState P T). IsInFront s.client.unread input unread') is front) going not_over visited room
 
@@ -123,7 +123,7 @@ module _ {S P T : Type 0} (call : S → Fact P → S → Type 0) (turn : S → S
       → inside ≡ old → old.ending ≡ None → old.client.conn.standing ≢ Ended → visiting supply ≡ true → length old.outgoing < write_room
       → ((input : Input) × IsInFront inside.client.unread input client.unread × Moves call slot_of supply inside.client now input (words inside.client.conn.number packets next) client supply')
       → outgoing ≡ inside.outgoing ++ bytes_of packets → since ≡ since_step inside.outgoing now inside.since
-      → Leads call turn visiting slot_of counts given accepted now (Inside true) (Inside true) old supply (record inside { client = client; outgoing = outgoing; since = since }) supply'
+      → Leads call begins ends visiting slot_of counts given accepted now (Inside true) (Inside true) old supply (record inside { client = client; outgoing = outgoing; since = since }) supply'
   stepped_front now packets next old inside client outgoing since supply supply' is going not_over visited room front outgoing_is since_is =
       stepped now front.0 packets next old inside client outgoing since inside.ticked supply supply' true visited is
       (due_inside front.0 now old inside client.unread supply is front.1 going not_over visited room) (takes_front front.0 inside.client.unread client.unread front.1) front.2 outgoing_is since_is
@@ -133,7 +133,7 @@ module _ {S P T : Type 0} (call : S → Fact P → S → Type 0) (turn : S → S
       → inside ≡ old → old.ending ≡ None → old.client.conn.standing ≢ Ended → visiting supply ≡ true → length old.outgoing < write_room
       → ((input : Input) × IsInFront inside.client.unread input client.unread × Moves call slot_of supply inside.client now input (words inside.client.conn.number packets next) client supply')
       → outgoing ≡ inside.outgoing → write_room < length (inside.outgoing ++ bytes_of packets)
-      → Leads call turn visiting slot_of counts given accepted now (Inside true) (Inside true) old supply (record inside { client = client; outgoing = outgoing; ending = Some served.Memory }) supply'
+      → Leads call begins ends visiting slot_of counts given accepted now (Inside true) (Inside true) old supply (record inside { client = client; outgoing = outgoing; ending = Some served.Memory }) supply'
   lost_front now packets next old inside client outgoing supply supply' is going not_over visited room front outgoing_is full =
       lost now front.0 packets next old inside client outgoing inside.ticked supply supply' true visited is
       (due_inside front.0 now old inside client.unread supply is front.1 going not_over visited room) (takes_front front.0 inside.client.unread client.unread front.1) front.2 outgoing_is full
@@ -143,10 +143,10 @@ module _ {S P T : Type 0} (call : S → Fact P → S → Type 0) (turn : S → S
   pub failed_front : (now : ℕ) (old inside : ServiceState P T) (client : ClientState P) (supply supply' : S)
       → inside ≡ old → old.ending ≡ None → old.client.conn.standing ≢ Ended → visiting supply ≡ true → length old.outgoing < write_room
       → FailsToReadOne call slot_of supply inside.client now client supply'
-      → Leads call turn visiting slot_of counts given accepted now (Inside true) (Inside true) old supply (record inside { client = client; ending = Some served.Memory }) supply'
+      → Leads call begins ends visiting slot_of counts given accepted now (Inside true) (Inside true) old supply (record inside { client = client; ending = Some served.Memory }) supply'
   failed_front now old inside client supply supply' is going not_over visited room (inl given_up) =
-      subst (λ (s : ServiceState P T). Leads call turn visiting slot_of counts given accepted now (Inside true) (Inside true) s supply (record inside { client = client; ending = Some served.Memory }) supply') is
-      (leads_one call turn visiting slot_of counts given accepted (IsFull now) inside (record inside { client = client; ending = Some served.Memory }) supply supply'
+      subst (λ (s : ServiceState P T). Leads call begins ends visiting slot_of counts given accepted now (Inside true) (Inside true) s supply (record inside { client = client; ending = Some served.Memory }) supply') is
+      (leads_one call begins ends visiting slot_of counts given accepted (IsFull now) inside (record inside { client = client; ending = Some served.Memory }) supply supply'
       (record {
         going = ap (λ (s : ServiceState P T). s.ending) is ∙ going;
         not_over = λ over. not_over (sym (ap (λ (s : ServiceState P T). s.client.conn.standing) is) ∙ over);
@@ -159,19 +159,19 @@ module _ {S P T : Type 0} (call : S → Fact P → S → Type 0) (turn : S → S
 
   -- a connection without its last step is given up, within a visit
   pub abandoned : (now : ℕ) (is_open : Bool) (old inside : ServiceState P T) (client : ClientState P) (supply between mid supply' : S)
-      → inside ≡ old → old.ending ≢ None → inside.client.conn.standing ≢ Ended → turn supply between → visiting between ≡ is_open
-      → IsGivenUp call slot_of between inside.client now inputs.EndOfInput client mid → turn mid supply'
-      → Leads call turn visiting slot_of counts given accepted now Behind Behind old supply (record inside { client = client; drained = false }) supply'
+      → inside ≡ old → old.ending ≢ None → inside.client.conn.standing ≢ Ended → begins supply between → visiting between ≡ is_open
+      → IsGivenUp call slot_of between inside.client now inputs.EndOfInput client mid → ends mid supply'
+      → Leads call begins ends visiting slot_of counts given accepted now Behind Behind old supply (record inside { client = client; drained = false }) supply'
   abandoned now is_open old inside client supply between mid supply' is ended not_over entered told given_up left =
       let begun = record inside { drained = false } in
       let gone = record inside { client = client; drained = false } in
-      subst (λ (s : ServiceState P T). Leads call turn visiting slot_of counts given accepted now Behind Behind s supply gone supply') is
-      (leads_on call turn visiting slot_of counts given accepted {now = now} {a = Behind} {b = Parting} {c = Behind} inside begun gone supply between supply'
-      (leads_one call turn visiting slot_of counts given accepted {now = now} {from = Behind} {to = Parting} (Enters is_open true) inside begun supply between (record { turned = entered; told = told; becomes = refl }) refl)
-      (leads_on call turn visiting slot_of counts given accepted {now = now} {a = Parting} {b = Parted} {c = Behind} begun gone gone between mid supply'
-      (leads_one call turn visiting slot_of counts given accepted {now = now} {from = Parting} {to = Parted} (GivesUp now) begun gone between mid
+      subst (λ (s : ServiceState P T). Leads call begins ends visiting slot_of counts given accepted now Behind Behind s supply gone supply') is
+      (leads_on call begins ends visiting slot_of counts given accepted {now = now} {a = Behind} {b = Parting} {c = Behind} inside begun gone supply between supply'
+      (leads_one call begins ends visiting slot_of counts given accepted {now = now} {from = Behind} {to = Parting} (Enters is_open true) inside begun supply between (record { begun = entered; told = told; becomes = refl }) refl)
+      (leads_on call begins ends visiting slot_of counts given accepted {now = now} {a = Parting} {b = Parted} {c = Behind} begun gone gone between mid supply'
+      (leads_one call begins ends visiting slot_of counts given accepted {now = now} {from = Parting} {to = Parted} (GivesUp now) begun gone between mid
       (record { ended = λ going. ended (sym (ap (λ (s : ServiceState P T). s.ending) is) ∙ going); not_over = not_over; given_up = given_up; becomes = refl }) (refl, refl))
-      (leads_one call turn visiting slot_of counts given accepted {now = now} {from = Parted} {to = Behind} Leaves gone gone mid supply' (record { turned = left; same = refl }) refl)))
+      (leads_one call begins ends visiting slot_of counts given accepted {now = now} {from = Parted} {to = Behind} Leaves gone gone mid supply' (record { ended = left; same = refl }) refl)))
 
   -- whatever came of a last step, the connection was given up by it
   pub given_up_by : (result : Result Then NoMemory) (now : ℕ) (packets : List Packet) (client client' : ClientState P) (supply supply' : S)

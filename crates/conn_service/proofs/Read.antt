@@ -144,7 +144,7 @@ module _ {P T : Type 0} where
 nothing_fed : (u : Unread) → u.fault ≡ None → u ≡ longer u.fault u.bytes []
 nothing_fed u none = (λ i. record { bytes = sym (append-nil u.bytes) i; fault = none i }) ∙ ap (λ (f : Option StreamFault). longer f u.bytes []) (sym none)
 
-module _ {S P T : Type 0} (call : S → Fact P → S → Type 0) (turn : S → S → Type 0) (visiting : S → Bool) (slot_of : P → ℕ)
+module _ {S P T : Type 0} (call : S → Fact P → S → Type 0) (begins ends : S → S → Type 0) (visiting : S → Bool) (slot_of : P → ℕ)
     (counts : T → Counts) (given accepted : T → Option (List ℕ)) where
   -- what a step takes from the front, where it is made of a connection that goes on
   stepped_front : (done : List Act) (act : Act) (input : Input) (old new : ServiceState P T) → read_in act ≡ [] → input_in act ≡ input ∷ [] → old.ending ≡ None → old.client.conn.standing ≢ Ended
@@ -177,7 +177,7 @@ module _ {S P T : Type 0} (call : S → Fact P → S → Type 0) (turn : S → S
   feeds got.Failed client bytes none is = nothing_fed client.unread none ∙ ap (longer client.unread.fault client.unread.bytes) (sym (nil_from_length bytes is))
 
   pub read_on : (done : List Act) (act : Act) (old new : ServiceState P T) (supply supply' : S) → HasRead done old
-      → Does call turn visiting slot_of counts given accepted act old supply new supply' → HasRead (done ++ act ∷ []) new
+      → Does call begins ends visiting slot_of counts given accepted act old supply new supply' → HasRead (done ++ act ∷ []) new
   read_on done (Enters is_open reads) old new supply supply' has does =
       beside done (Enters is_open reads) old new refl refl refl
       (λ still. (sym (ap (λ (s : ServiceState P T). s.ending) does.becomes) ∙ still, ap (λ (s : ServiceState P T). s.client) does.becomes)) has

@@ -57,37 +57,37 @@ module _ {P T : Type 0} (counts : T → Counts) (given accepted : T → Option (
   less_waits now count old new writes =
       let whole = ap length writes.front in let both = length-append writes.taken new.outgoing in let taken = writes.count in let some = writes.some in omega arith
 
-module _ {S P T : Type 0} (call : S → Fact P → S → Type 0) (turn : S → S → Type 0) (visiting : S → Bool) (slot_of : P → ℕ)
+module _ {S P T : Type 0} (call : S → Fact P → S → Type 0) (begins ends : S → S → Type 0) (visiting : S → Bool) (slot_of : P → ℕ)
     (counts : T → Counts) (given accepted : T → Option (List ℕ)) where
   -- acts towards the transport, and then others
   unfoldable pub edge_then : {now : ℕ} {a b : Stand} (old mid new : ServiceState P T) (supply supply' : S) → LeadsAtEdge counts given accepted now a old mid
-      → Leads call turn visiting slot_of counts given accepted now a b mid supply new supply' → Leads call turn visiting slot_of counts given accepted now a b old supply new supply'
+      → Leads call begins ends visiting slot_of counts given accepted now a b mid supply new supply' → Leads call begins ends visiting slot_of counts given accepted now a b old supply new supply'
   edge_then old mid new supply supply' edge led =
-      leads_on call turn visiting slot_of counts given accepted old mid new supply supply supply' (leads_at_edge call turn visiting slot_of counts given accepted old mid supply edge) led
+      leads_on call begins ends visiting slot_of counts given accepted old mid new supply supply supply' (leads_at_edge call begins ends visiting slot_of counts given accepted old mid supply edge) led
 
-  unfoldable pub then_edge : {now : ℕ} {a b : Stand} (old mid new : ServiceState P T) (supply supply' : S) → Leads call turn visiting slot_of counts given accepted now a b old supply mid supply'
-      → LeadsAtEdge counts given accepted now b mid new → Leads call turn visiting slot_of counts given accepted now a b old supply new supply'
+  unfoldable pub then_edge : {now : ℕ} {a b : Stand} (old mid new : ServiceState P T) (supply supply' : S) → Leads call begins ends visiting slot_of counts given accepted now a b old supply mid supply'
+      → LeadsAtEdge counts given accepted now b mid new → Leads call begins ends visiting slot_of counts given accepted now a b old supply new supply'
   then_edge old mid new supply supply' led edge =
-      leads_on call turn visiting slot_of counts given accepted old mid new supply supply' supply' led (leads_at_edge call turn visiting slot_of counts given accepted mid new supply' edge)
+      leads_on call begins ends visiting slot_of counts given accepted old mid new supply supply' supply' led (leads_at_edge call begins ends visiting slot_of counts given accepted mid new supply' edge)
 
   -- a read, and then others
   unfoldable pub read_then : {now : ℕ} {to : Stand} (size : ℕ) (got : Got) (bytes : List ℕ) (old mid new : ServiceState P T) (supply supply' : S) → ReadsOnce counts given accepted size got bytes old mid
-      → Leads call turn visiting slot_of counts given accepted now (Inside true) to mid supply new supply' → Leads call turn visiting slot_of counts given accepted now (Inside true) to old supply new supply'
+      → Leads call begins ends visiting slot_of counts given accepted now (Inside true) to mid supply new supply' → Leads call begins ends visiting slot_of counts given accepted now (Inside true) to old supply new supply'
   read_then size got bytes old mid new supply supply' reads led = edge_then old mid new supply supply' (edge_one counts given accepted (Reads size got bytes) old mid reads (refl, refl)) led
 
   -- a visit: what is done in it stands between its beginning and its end
   unfoldable pub visited : {now : ℕ} (is_open reads drained : Bool) (old inside new : ServiceState P T) (supply between mid supply' : S) → inside ≡ old → drained ≡ still_drained reads inside.drained
-      → turn supply between → visiting between ≡ is_open
-      → Leads call turn visiting slot_of counts given accepted now (Inside is_open) (Inside is_open) (record inside { drained = drained }) between new mid → turn mid supply'
-      → Leads call turn visiting slot_of counts given accepted now Outside Behind old supply new supply'
+      → begins supply between → visiting between ≡ is_open
+      → Leads call begins ends visiting slot_of counts given accepted now (Inside is_open) (Inside is_open) (record inside { drained = drained }) between new mid → ends mid supply'
+      → Leads call begins ends visiting slot_of counts given accepted now Outside Behind old supply new supply'
   visited {now = now} is_open reads drained old inside new supply between mid supply' is fades entered told led left =
       let begun = record inside { drained = drained } in
-      leads_on call turn visiting slot_of counts given accepted {now = now} {a = Outside} {b = Inside is_open} {c = Behind} old begun new supply between supply'
-      (leads_one call turn visiting slot_of counts given accepted {now = now} {from = Outside} {to = Inside is_open} (Enters is_open reads) old begun supply between
+      leads_on call begins ends visiting slot_of counts given accepted {now = now} {a = Outside} {b = Inside is_open} {c = Behind} old begun new supply between supply'
+      (leads_one call begins ends visiting slot_of counts given accepted {now = now} {from = Outside} {to = Inside is_open} (Enters is_open reads) old begun supply between
       (record {
-        turned = entered;
+        begun = entered;
         told = told;
         becomes = λ i. record (is i) { drained = (fades ∙ ap (λ (s : ServiceState P T). still_drained reads s.drained) is) i };
       }) (inl refl))
-      (leads_on call turn visiting slot_of counts given accepted {now = now} {a = Inside is_open} {b = Inside is_open} {c = Behind} begun new new between mid supply' led
-      (leads_one call turn visiting slot_of counts given accepted {now = now} {from = Inside is_open} {to = Behind} Leaves new new mid supply' (record { turned = left; same = refl }) refl))
+      (leads_on call begins ends visiting slot_of counts given accepted {now = now} {a = Inside is_open} {b = Inside is_open} {c = Behind} begun new new between mid supply' led
+      (leads_one call begins ends visiting slot_of counts given accepted {now = now} {from = Inside is_open} {to = Behind} Leaves new new mid supply' (record { ended = left; same = refl }) refl))

@@ -11,7 +11,7 @@ use Rattle.conn_service.specs.Acts.{Act, Enters, Leaves, Reads, Writes, Steps, L
 use Rattle.conn_service.specs.Lives.{Does}
 use Rattle.conn_service.specs.Sessions.{TellsItsSession, TellsOfTheLast}
 
-module _ {S P T : Type 0} (call : S → Fact P → S → Type 0) (turn : S → S → Type 0) (visiting : S → Bool) (slot_of : P → ℕ)
+module _ {S P T : Type 0} (call : S → Fact P → S → Type 0) (begins ends : S → S → Type 0) (visiting : S → Bool) (slot_of : P → ℕ)
     (counts : T → Counts) (given accepted : T → Option (List ℕ)) where
   given_up : (now : ℕ) (client client' : ClientState P) (supply supply' : S) → IsGivenUp call slot_of supply client now inputs.EndOfInput client' supply'
       → TellsOfTheLast call client.conn.number client.conn.standing supply client'.conn.standing supply'
@@ -25,7 +25,7 @@ module _ {S P T : Type 0} (call : S → Fact P → S → Type 0) (turn : S → S
   given_up now client client' supply supply' (inr failed) =
       inr (failing.failed call slot_of supply supply' client.conn.number (moment_of client now) client.conn.standing inputs.EndOfInput failed.failed)
 
-  pub tells : (act : Act) (old new : ServiceState P T) (supply supply' : S) → Does call turn visiting slot_of counts given accepted act old supply new supply'
+  pub tells : (act : Act) (old new : ServiceState P T) (supply supply' : S) → Does call begins ends visiting slot_of counts given accepted act old supply new supply'
       → TellsItsSession call act old supply new supply'
   tells (Steps now input packets next) old new supply supply' does =
       λ going. transcribed call slot_of supply supply' old.client.conn.number (moment_of old.client now) old.client.conn.standing new.client.conn.standing input packets next does.moved.stepped going

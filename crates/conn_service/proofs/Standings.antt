@@ -17,7 +17,7 @@ use Rattle.conn_service.specs.Acts.{Act, Enters, Leaves, Reads, Writes, Steps, L
 use Rattle.conn_service.specs.Moments.{fed_by}
 use Rattle.conn_service.specs.Lives.{Does}
 
-module _ {S P T : Type 0} (call : S → Fact P → S → Type 0) (turn : S → S → Type 0) (visiting : S → Bool) (slot_of : P → ℕ)
+module _ {S P T : Type 0} (call : S → Fact P → S → Type 0) (begins ends : S → S → Type 0) (visiting : S → Bool) (slot_of : P → ℕ)
     (counts : T → Counts) (given accepted : T → Option (List ℕ)) (Holds : Standing P → Type 0) (over : Holds Ended)
     (stays : (number now : ℕ) (standing standing' : Standing P) (input : Input) (sent : List Packet) (next : Then) (old new : S)
     → StepsOnce call slot_of old number standing now input sent next standing' new → Holds standing → Holds standing') where
@@ -46,7 +46,7 @@ module _ {S P T : Type 0} (call : S → Fact P → S → Type 0) (turn : S → S
   same_standing got.End client bytes = refl
   same_standing got.Failed client bytes = refl
 
-  pub kept_on : (act : Act) (old new : ServiceState P T) (supply supply' : S) → IsWithin old → Does call turn visiting slot_of counts given accepted act old supply new supply' → IsWithin new
+  pub kept_on : (act : Act) (old new : ServiceState P T) (supply supply' : S) → IsWithin old → Does call begins ends visiting slot_of counts given accepted act old supply new supply' → IsWithin new
   kept_on (Enters is_open reads) old new supply supply' within does = same_client old new (ap (λ (s : ServiceState P T). s.client) does.becomes) within
   kept_on Leaves old new supply supply' within does = same_client old new (ap (λ (s : ServiceState P T). s.client) does.same) within
   kept_on Others old new supply supply' within does = same_client old new (ap (λ (s : ServiceState P T). s.client) does) within

@@ -71,7 +71,7 @@ module _ {P T : Type 0} (accepted : T → Option (List ℕ)) (first : T) where
         all = λ is. absurd (never is);
       }
 
-module _ {S P T : Type 0} (call : S → Fact P → S → Type 0) (turn : S → S → Type 0) (visiting : S → Bool) (slot_of : P → ℕ)
+module _ {S P T : Type 0} (call : S → Fact P → S → Type 0) (begins ends : S → S → Type 0) (visiting : S → Bool) (slot_of : P → ℕ)
     (counts : T → Counts) (given accepted : T → Option (List ℕ)) (first : T) where
   -- a read does not end it with 0
   read_never : (got : Got) → ending_read got ≡ Some served.Ended → ⊥
@@ -86,7 +86,7 @@ module _ {S P T : Type 0} (call : S → Fact P → S → Type 0) (turn : S → S
   write_never put.Failed is = cc
 
   pub written_on : (done : List Act) (act : Act) (old new : ServiceState P T) (supply supply' : S) → WritesItsPackets accepted first done old
-      → Does call turn visiting slot_of counts given accepted act old supply new supply' → WritesItsPackets accepted first (done ++ act ∷ []) new
+      → Does call begins ends visiting slot_of counts given accepted act old supply new supply' → WritesItsPackets accepted first (done ++ act ∷ []) new
   written_on done (Enters is_open reads) old new supply supply' kept does =
       silent accepted first done (Enters is_open reads) old new refl (ap (λ (s : ServiceState P T). accepted s.transport) does.becomes)
       (λ going. (sym (ap (λ (s : ServiceState P T). s.ending) does.becomes) ∙ going, ap (λ (s : ServiceState P T). s.outgoing) does.becomes))

@@ -87,16 +87,16 @@ module _ {P T : Type 0} (counts : T → Counts) (given accepted : T → Option (
     pub led : LeadsAtEdge counts given accepted now stand old new
     pub told : Holds led.acts
 
-module _ {S P T : Type 0} (call : S → Fact P → S → Type 0) (turn : S → S → Type 0) (visiting : S → Bool) (slot_of : P → ℕ)
+module _ {S P T : Type 0} (call : S → Fact P → S → Type 0) (begins ends : S → S → Type 0) (visiting : S → Bool) (slot_of : P → ℕ)
     (counts : T → Counts) (given accepted : T → Option (List ℕ)) where
   -- acts, of which this holds, lead from the one to the other
   pub record LeadsBy (Holds : List Act → Type 0) (now : ℕ) (from to : Stand) (old : ServiceState P T) (supply : S) (new : ServiceState P T) (supply' : S) : Type 0 where
-    pub led : Leads call turn visiting slot_of counts given accepted now from to old supply new supply'
+    pub led : Leads call begins ends visiting slot_of counts given accepted now from to old supply new supply'
     pub told : Holds led.acts
 
   -- a round that goes this way, and tells this. One that reads tells that more can be done at once only where in this round a read gave as much as there was room
   -- for, or the transport took something; and that it waits for something to read only where in this round a read gave less
   pub record RoundsTo (direction : Direction) (round : Round) (now : ℕ) (old : ServiceState P T) (supply : S) (new : ServiceState P T) (supply' : S) : Type 0 where
-    pub made : Rounds call turn visiting slot_of counts given accepted now old supply new supply'
+    pub made : Rounds call begins ends visiting slot_of counts given accepted now old supply new supply'
     pub more : reads direction ≡ true → round ≡ rounds.More → HasAdvance made.led.acts
     pub drained : reads direction ≡ true → round ≡ rounds.Reading → HasShortRead made.led.acts

@@ -8,13 +8,13 @@ use Rattle.conn_service.specs.declared.served.Served.TheVariants as served
 use Rattle.conn_service.specs.Services.{ServiceState, opened}
 use Rattle.conn_service.specs.Lives.{RoundsAll}
 
-module _ {S P T : Type 0} (call : S → Fact P → S → Type 0) (turn : S → S → Type 0) (visiting : S → Bool) (slot_of : P → ℕ)
+module _ {S P T : Type 0} (call : S → Fact P → S → Type 0) (begins ends : S → S → Type 0) (visiting : S → Bool) (slot_of : P → ℕ)
     (counts : T → Counts) (given accepted : T → Option (List ℕ)) where
   -- rounds led a connection to its end, which was this, and left this transport
   pub record EndsAs (first : ServiceState P T) (supply : S) (how : Served) (transport : T) (supply' : S) : Type 0 where
     pub last : ServiceState P T
     pub moments : List ℕ
-    pub led : RoundsAll call turn visiting slot_of counts given accepted moments first supply last supply'
+    pub led : RoundsAll call begins ends visiting slot_of counts given accepted moments first supply last supply'
     pub ending : last.ending ≡ Some how
     pub over : last.client.conn.standing ≡ Ended
     pub left : transport ≡ last.transport

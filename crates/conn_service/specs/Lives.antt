@@ -27,7 +27,7 @@ TakesFront unread inputs.Tick unread' = unread' ≡ unread
 TakesFront unread inputs.EndOfInput unread' = unread' ≡ unread
 TakesFront unread inputs.Closing unread' = unread' ≡ unread
 
-module _ {S P T : Type 0} (call : S → Fact P → S → Type 0) (turn : S → S → Type 0) (visiting : S → Bool) (slot_of : P → ℕ)
+module _ {S P T : Type 0} (call : S → Fact P → S → Type 0) (begins ends : S → S → Type 0) (visiting : S → Bool) (slot_of : P → ℕ)
     (counts : T → Counts) (given accepted : T → Option (List ℕ)) where
   -- when an input may be stepped: a packet or a fault within a visit, where there is room for what is said; a Tick within a visit, where nothing
   -- waits to be written, or the connection is overdue or taken over, which a peer that does not read must not hold up; the end of the stream
@@ -49,12 +49,12 @@ module _ {S P T : Type 0} (call : S → Fact P → S → Type 0) (turn : S → S
 
   -- a visit begins, unless the supply is shut; a round that reads forgets that an earlier read gave less than there was room for
   pub record BeginsVisit (is_open reads : Bool) (old : ServiceState P T) (supply : S) (new : ServiceState P T) (supply' : S) : Type 0 where
-    pub turned : turn supply supply'
+    pub begun : begins supply supply'
     pub told : visiting supply' ≡ is_open
     pub becomes : new ≡ record old { drained = still_drained reads old.drained }
 
   pub record EndsVisit (old : ServiceState P T) (supply : S) (new : ServiceState P T) (supply' : S) : Type 0 where
-    pub turned : turn supply supply'
+    pub ended : ends supply supply'
     pub same : new ≡ old
 
   -- one step, whose packets wait to be written

@@ -164,7 +164,7 @@ impl<P: HoldingPlace, T: Transport> Service<P, T> {
         requires going { self.old.ending ≡ None }
         requires waits { self.old.outgoing ≢ [] }
         requires refused { most_refused ≤ self.old.refused }
-        ensures led { Leads S.call S.turn S.visiting P.slot_of T.counts T.given T.accepted now Outside Behind self.old supply.old self.new supply.new }
+        ensures led { Leads S.call S.begins S.ends S.visiting P.slot_of T.counts T.given T.accepted now Outside Behind self.old supply.old self.new supply.new }
         ensures ended { self.new.ending ≡ Some endings.Stalled }
         ensures over { self.new.client.conn.standing ≡ Ended }
     {

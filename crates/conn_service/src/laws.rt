@@ -20,7 +20,7 @@ use transport::Transport;
 /// rest is what its client has not read.
 pub fn reading_law<P: HoldingPlace, T: Transport, S: Supply<P>>()
     ensures { (number : ℕ) (opening : Opening) (first : T) (acts : List Act) (service : ServiceState P T) (supply supply' : S) →
-        DoesAll S.call S.turn S.visiting P.slot_of T.counts T.given T.accepted acts (opened number opening first) supply service supply' →
+        DoesAll S.call S.begins S.ends S.visiting P.slot_of T.counts T.given T.accepted acts (opened number opening first) supply service supply' →
         ReadsItsStream acts service }
 {}
 
@@ -29,7 +29,7 @@ pub fn reading_law<P: HoldingPlace, T: Transport, S: Supply<P>>()
 /// nothing lacks where it ended with 0.
 pub fn writing_law<P: HoldingPlace, T: Transport, S: Supply<P>>()
     ensures { (number : ℕ) (opening : Opening) (first : T) (acts : List Act) (service : ServiceState P T) (supply supply' : S) →
-        DoesAll S.call S.turn S.visiting P.slot_of T.counts T.given T.accepted acts (opened number opening first) supply service supply' →
+        DoesAll S.call S.begins S.ends S.visiting P.slot_of T.counts T.given T.accepted acts (opened number opening first) supply service supply' →
         WritesItsPackets T.accepted first acts service }
 {}
 
@@ -39,10 +39,10 @@ pub fn writing_law<P: HoldingPlace, T: Transport, S: Supply<P>>()
 /// last step is missing (`quiet`).
 pub fn ending_law<P: HoldingPlace, T: Transport, S: Supply<P>>()
     ensures once { (number : ℕ) (opening : Opening) (first : T) (acts : List Act) (service : ServiceState P T) (supply supply' : S) →
-        DoesAll S.call S.turn S.visiting P.slot_of T.counts T.given T.accepted acts (opened number opening first) supply service supply' →
+        DoesAll S.call S.begins S.ends S.visiting P.slot_of T.counts T.given T.accepted acts (opened number opening first) supply service supply' →
         endings_of acts ≡ option_to_list service.ending }
     ensures quiet { (acts : List Act) (old new : ServiceState P T) (supply supply' : S) → old.ending ≢ None →
-        DoesAll S.call S.turn S.visiting P.slot_of T.counts T.given T.accepted acts old supply new supply' → AllByRecursion IsQuiet acts }
+        DoesAll S.call S.begins S.ends S.visiting P.slot_of T.counts T.given T.accepted acts old supply new supply' → AllByRecursion IsQuiet acts }
 {}
 
 /// **The quota is kept** (section 4.9) in every life, with memory and without: of the PUBLISH packets that were sent on a connection, those that
@@ -50,10 +50,10 @@ pub fn ending_law<P: HoldingPlace, T: Transport, S: Supply<P>>()
 /// limit that it was opened with (`limited`, profile).
 pub fn quota_law<P: HoldingPlace, T: Transport, S: Supply<P>>()
     ensures kept { (number : ℕ) (opening : Opening) (first : T) (acts : List Act) (service : ServiceState P T) (supply supply' : S) →
-        DoesAll S.call S.turn S.visiting P.slot_of T.counts T.given T.accepted acts (opened number opening first) supply service supply' →
+        DoesAll S.call S.begins S.ends S.visiting P.slot_of T.counts T.given T.accepted acts (opened number opening first) supply service supply' →
         IsWithinQuota service.client.conn.standing }
     ensures limited { (number : ℕ) (opening : Opening) (first : T) (acts : List Act) (service : ServiceState P T) (supply supply' : S) →
-        DoesAll S.call S.turn S.visiting P.slot_of T.counts T.given T.accepted acts (opened number opening first) supply service supply' →
+        DoesAll S.call S.begins S.ends S.visiting P.slot_of T.counts T.given T.accepted acts (opened number opening first) supply service supply' →
         IsWithinLimit opening.max_inflight service.client.conn.standing }
 {}
 
@@ -64,7 +64,7 @@ pub fn quota_law<P: HoldingPlace, T: Transport, S: Supply<P>>()
 /// its session is handed in with all that it holds.
 pub fn session_law<P: HoldingPlace, T: Transport, S: Supply<P>>()
     ensures { (act : Act) (old new : ServiceState P T) (supply supply' : S) →
-        Does S.call S.turn S.visiting P.slot_of T.counts T.given T.accepted act old supply new supply' → TellsItsSession S.call act old supply new supply' }
+        Does S.call S.begins S.ends S.visiting P.slot_of T.counts T.given T.accepted act old supply new supply' → TellsItsSession S.call act old supply new supply' }
 {}
 
 /// **The PUBLISH packets of a life are those of a legal transcript** (sections 4.4 and 4.9), from what the window held of the session that the connection
@@ -73,6 +73,6 @@ pub fn session_law<P: HoldingPlace, T: Transport, S: Supply<P>>()
 /// Receive Maximum, at each moment. A connection that was given no session sends no PUBLISH.
 pub fn transcript_law<P: HoldingPlace, T: Transport, S: Supply<P>>()
     ensures { (number : ℕ) (opening : Opening) (first : T) (acts : List Act) (service : ServiceState P T) (supply supply' : S) →
-        DoesAll S.call S.turn S.visiting P.slot_of T.counts T.given T.accepted acts (opened number opening first) supply service supply' →
+        DoesAll S.call S.begins S.ends S.visiting P.slot_of T.counts T.given T.accepted acts (opened number opening first) supply service supply' →
         IsLegalLife S.call number acts }
 {}

@@ -39,7 +39,7 @@ impl<P: HoldingPlace, T: Transport> Service<P, T> {
     ) -> Round
         requires going { self.old.ending ≡ None }
         requires room { 0 < length buffer.old }
-        ensures led { RoundsTo S.call S.turn S.visiting P.slot_of T.counts T.given T.accepted direction result now self.old supply.old self.new supply.new }
+        ensures led { RoundsTo S.call S.begins S.ends S.visiting P.slot_of T.counts T.given T.accepted direction result now self.old supply.old self.new supply.new }
         ensures told { IsTold result self.new now }
         ensures idles { IdlesTick T.counts now self.old self.new }
         ensures way { Follows T.given T.accepted direction now self.old self.new }
@@ -86,7 +86,7 @@ impl<P: HoldingPlace, T: Transport> Service<P, T> {
     ) -> Result<bool, Served>
         requires going { self.old.ending ≡ None }
         requires room { 0 < length buffer.old }
-        ensures led { LeadsBy S.call S.turn S.visiting P.slot_of T.counts T.given T.accepted (λ acts. WritesFirst self.old self.new acts × (reads direction ≡ true → TellsOfRound result self.new acts)) now Outside Behind self.old supply.old self.new supply.new }
+        ensures led { LeadsBy S.call S.begins S.ends S.visiting P.slot_of T.counts T.given T.accepted (λ acts. WritesFirst self.old self.new acts × (reads direction ≡ true → TellsOfRound result self.new acts)) now Outside Behind self.old supply.old self.new supply.new }
         ensures all { result ≡ Ok true → IsServed self.new now }
         ensures not_over { OnOk result (self.new.outgoing ≡ [] → self.new.client.conn.standing ≢ Ended) }
         ensures timely { OnOk result (self.new.outgoing ≡ [] → IsOnTime self.new now) }
@@ -116,7 +116,7 @@ impl<P: HoldingPlace, T: Transport> Service<P, T> {
     ) -> Result<bool, Served>
         requires going { self.old.ending ≡ None }
         requires room { 0 < length buffer.old }
-        ensures led { LeadsBy S.call S.turn S.visiting P.slot_of T.counts T.given T.accepted (λ acts. reads ≡ true → TellsOfVisit result self.new acts) now Outside Behind self.old supply.old self.new supply.new }
+        ensures led { LeadsBy S.call S.begins S.ends S.visiting P.slot_of T.counts T.given T.accepted (λ acts. reads ≡ true → TellsOfVisit result self.new acts) now Outside Behind self.old supply.old self.new supply.new }
         ensures all { result ≡ Ok true → IsServed self.new now }
         ensures timely { result ≡ Ok false → self.old.outgoing ≡ [] → IsOnTime self.new now }
         ensures waits { OnOk result (self.old.outgoing ≢ [] → self.new.outgoing ≢ []) }
@@ -151,7 +151,7 @@ impl<P: HoldingPlace, T: Transport> Service<P, T> {
         requires not_over { self.old.client.conn.standing ≢ Ended }
         requires visiting { S.visiting supply.old ≡ is_open }
         requires room { 0 < length buffer.old }
-        ensures led { LeadsBy S.call S.turn S.visiting P.slot_of T.counts T.given T.accepted (λ acts. reads ≡ true → IfOk result (λ all. IsDoneOrAdvances all self.new acts)) now (Inside is_open) (Inside is_open) self.old supply.old self.new supply.new }
+        ensures led { LeadsBy S.call S.begins S.ends S.visiting P.slot_of T.counts T.given T.accepted (λ acts. reads ≡ true → IfOk result (λ all. IsDoneOrAdvances all self.new acts)) now (Inside is_open) (Inside is_open) self.old supply.old self.new supply.new }
         ensures all { result ≡ Ok true → IsServed self.new now }
         ensures timely { result ≡ Ok false → self.old.outgoing ≡ [] → IsOnTime self.new now }
         ensures waits { OnOk result (self.old.outgoing ≢ [] → self.new.outgoing ≢ []) }
@@ -175,7 +175,7 @@ impl<P: HoldingPlace, T: Transport> Service<P, T> {
         requires going { self.old.ending ≡ None }
         requires not_over { self.old.client.conn.standing ≢ Ended }
         requires shut { S.visiting supply.old ≡ false }
-        ensures led { LeadsBy S.call S.turn S.visiting P.slot_of T.counts T.given T.accepted (λ acts. IfOk result (λ all. IsDoneOrAdvances all self.new acts)) now (Inside false) (Inside false) self.old supply.old self.new supply.new }
+        ensures led { LeadsBy S.call S.begins S.ends S.visiting P.slot_of T.counts T.given T.accepted (λ acts. IfOk result (λ all. IsDoneOrAdvances all self.new acts)) now (Inside false) (Inside false) self.old supply.old self.new supply.new }
         ensures all { result ≡ Ok true → IsServed self.new now }
         ensures timely { result ≡ Ok false → self.old.outgoing ≡ [] → IsOnTime self.new now }
         ensures waits { OnOk result (self.old.outgoing ≢ [] → self.new.outgoing ≢ []) }
@@ -203,7 +203,7 @@ impl<P: HoldingPlace, T: Transport> Service<P, T> {
         requires not_over { self.old.client.conn.standing ≢ Ended }
         requires visiting { S.visiting supply.old ≡ true }
         requires room { 0 < length buffer.old }
-        ensures led { LeadsBy S.call S.turn S.visiting P.slot_of T.counts T.given T.accepted (λ acts. reads ≡ true → IfOk result (λ all. IsDoneOrAdvances all self.new acts)) now (Inside true) (Inside true) self.old supply.old self.new supply.new }
+        ensures led { LeadsBy S.call S.begins S.ends S.visiting P.slot_of T.counts T.given T.accepted (λ acts. reads ≡ true → IfOk result (λ all. IsDoneOrAdvances all self.new acts)) now (Inside true) (Inside true) self.old supply.old self.new supply.new }
         ensures all { result ≡ Ok true → IsServed self.new now }
         ensures timely { result ≡ Ok false → self.old.outgoing ≡ [] → IsOnTime self.new now }
         ensures waits { OnOk result (self.old.outgoing ≢ [] → self.new.outgoing ≢ []) }
@@ -247,7 +247,7 @@ impl<P: HoldingPlace, T: Transport> Service<P, T> {
         requires visiting { S.visiting supply.old ≡ true }
         requires room { 0 < length buffer.old }
         requires on_time { IsOnTime self.old now }
-        ensures led { LeadsBy S.call S.turn S.visiting P.slot_of T.counts T.given T.accepted (λ acts. reads ≡ true → result ≡ Ok true → self.new.at_end ≡ false → IsDoneOrAdvances true self.new acts) now (Inside true) (Inside true) self.old supply.old self.new supply.new }
+        ensures led { LeadsBy S.call S.begins S.ends S.visiting P.slot_of T.counts T.given T.accepted (λ acts. reads ≡ true → result ≡ Ok true → self.new.at_end ≡ false → IsDoneOrAdvances true self.new acts) now (Inside true) (Inside true) self.old supply.old self.new supply.new }
         ensures all { result ≡ Ok true → IsServed self.new now }
         ensures full { result ≡ Ok false → self.new.outgoing ≢ [] }
         ensures timely { OnOk result (IsOnTime self.new now) }
@@ -274,7 +274,7 @@ impl<P: HoldingPlace, T: Transport> Service<P, T> {
         requires going { self.old.ending ≡ None }
         requires answered { IsAnswered self.old }
         requires visiting { S.visiting supply.old ≡ true }
-        ensures led { Leads S.call S.turn S.visiting P.slot_of T.counts T.given T.accepted now (Inside true) (Inside true) self.old supply.old self.new supply.new }
+        ensures led { Leads S.call S.begins S.ends S.visiting P.slot_of T.counts T.given T.accepted now (Inside true) (Inside true) self.old supply.old self.new supply.new }
         ensures over { OnOk result ((self.new.client.conn.standing ≡ Ended) ⊎ ((self.new ≡ self.old) × (self.old.at_end ≡ false))) }
         ensures no_crossing { result ≢ Err endings.NoCrossing }
         ensures going { OnOk result (self.new.ending ≡ None) }
@@ -290,10 +290,10 @@ impl<P: HoldingPlace, T: Transport> Service<P, T> {
 
     /// A Tick, where one is due.
     fn tick_if<S: Supply<P>>(&mut self, supply: &mut S, now: u64, due: bool) -> Result<(), Served>
-        requires due { due ≡ true → IsDue S.call S.turn S.visiting P.slot_of T.counts T.given T.accepted inputs.Tick now self.old supply.old }
+        requires due { due ≡ true → IsDue S.call S.begins S.ends S.visiting P.slot_of T.counts T.given T.accepted inputs.Tick now self.old supply.old }
         requires going { self.old.ending ≡ None }
         requires visiting { S.visiting supply.old ≡ true }
-        ensures led { Leads S.call S.turn S.visiting P.slot_of T.counts T.given T.accepted now (Inside true) (Inside true) self.old supply.old self.new supply.new }
+        ensures led { Leads S.call S.begins S.ends S.visiting P.slot_of T.counts T.given T.accepted now (Inside true) (Inside true) self.old supply.old self.new supply.new }
         ensures no_crossing { result ≢ Err endings.NoCrossing }
         ensures going { OnOk result (self.new.ending ≡ None) }
         ensures ended { IfErr result (λ served. self.new.ending ≡ Some served) }

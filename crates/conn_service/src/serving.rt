@@ -35,7 +35,7 @@ pub fn serve<P: HoldingPlace, T: Transport, S: Supply<P>, X: Crossing, C: Clock,
 ) -> (Served, T)
     requires number { number < 1024 }
     requires new { T.counts transport ≡ no_counts }
-    ensures served { IsServedToItsEnd S.call S.turn S.visiting P.slot_of T.counts T.given T.accepted number max_inflight transport supply.old result.0 result.1 supply.new }
+    ensures served { IsServedToItsEnd S.call S.begins S.ends S.visiting P.slot_of T.counts T.given T.accepted number max_inflight transport supply.old result.0 result.1 supply.new }
     ensures crossing { result.0 ≡ endings.NoCrossing → RefusesAlways X.refuses crossing.now worker }
 {
     let opening = Opening {
@@ -59,7 +59,7 @@ fn serve_on<P: HoldingPlace, T: Transport, S: Supply<P>, X: Crossing, C: Clock, 
     clock: &mut C,
 ) -> (Served, T)
     requires going { service.ending ≡ None }
-    ensures served { EndsAs S.call S.turn S.visiting P.slot_of T.counts T.given T.accepted service supply.old result.0 result.1 supply.new }
+    ensures served { EndsAs S.call S.begins S.ends S.visiting P.slot_of T.counts T.given T.accepted service supply.old result.0 result.1 supply.new }
     ensures crossing { result.0 ≡ endings.NoCrossing → RefusesAlways X.refuses crossing.now worker }
 {
     let mut buffer = [0; READ_SIZE];

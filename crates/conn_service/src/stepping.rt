@@ -47,8 +47,8 @@ impl<P: HoldingPlace, T: Transport> Service<P, T> {
         input: Input,
     ) -> Result<(), Served>
         requires no_packet { IsNoPacket input }
-        requires due { IsDue S.call S.turn S.visiting P.slot_of T.counts T.given T.accepted input now self.old supply.old }
-        ensures led { (is_open : Bool) → S.visiting supply.old ≡ is_open → Leads S.call S.turn S.visiting P.slot_of T.counts T.given T.accepted now (Inside is_open) (Inside is_open) self.old supply.old self.new supply.new }
+        requires due { IsDue S.call S.begins S.ends S.visiting P.slot_of T.counts T.given T.accepted input now self.old supply.old }
+        ensures led { (is_open : Bool) → S.visiting supply.old ≡ is_open → Leads S.call S.begins S.ends S.visiting P.slot_of T.counts T.given T.accepted now (Inside is_open) (Inside is_open) self.old supply.old self.new supply.new }
         ensures goes_on { OnOk result (self.new.ending ≡ None) }
         ensures last { OnOk result (IsLast input → self.new.client.conn.standing ≡ Ended) }
         ensures waits { OnOk result (self.old.outgoing ≢ [] → self.new.outgoing ≢ []) }
@@ -82,7 +82,7 @@ impl<P: HoldingPlace, T: Transport> Service<P, T> {
         requires not_over { self.old.client.conn.standing ≢ Ended }
         requires room { length self.old.outgoing < write_room }
         requires visiting { S.visiting supply.old ≡ true }
-        ensures led { Leads S.call S.turn S.visiting P.slot_of T.counts T.given T.accepted now (Inside true) (Inside true) self.old supply.old self.new supply.new }
+        ensures led { Leads S.call S.begins S.ends S.visiting P.slot_of T.counts T.given T.accepted now (Inside true) (Inside true) self.old supply.old self.new supply.new }
         ensures goes_on { result ≡ Ok true → (self.new.client.conn.standing ≢ Ended) × (length self.new.client.unread.bytes < length self.old.client.unread.bytes) }
         ensures all { result ≡ Ok false → IsAnswered self.new }
         ensures going { OnOk result (self.new.ending ≡ None) }
@@ -117,7 +117,7 @@ impl<P: HoldingPlace, T: Transport> Service<P, T> {
     ) -> Result<bool, Served>
         requires going { self.old.ending ≡ None }
         requires visiting { S.visiting supply.old ≡ true }
-        ensures led { Leads S.call S.turn S.visiting P.slot_of T.counts T.given T.accepted now (Inside true) (Inside true) self.old supply.old self.new supply.new }
+        ensures led { Leads S.call S.begins S.ends S.visiting P.slot_of T.counts T.given T.accepted now (Inside true) (Inside true) self.old supply.old self.new supply.new }
         ensures all { result ≡ Ok true → IsAnswered self.new }
         ensures full { result ≡ Ok false → self.new.outgoing ≢ [] }
         ensures going { OnOk result (self.new.ending ≡ None) }
@@ -139,7 +139,7 @@ impl<P: HoldingPlace, T: Transport> Service<P, T> {
     /// Behind an end without its last step, the connection is given up: its session is parked.
     pub(crate) fn give_up<S: Supply<P>>(&mut self, supply: &mut S, now: u64)
         requires ended { self.old.ending ≢ None }
-        ensures led { Leads S.call S.turn S.visiting P.slot_of T.counts T.given T.accepted now Behind Behind self.old supply.old self.new supply.new }
+        ensures led { Leads S.call S.begins S.ends S.visiting P.slot_of T.counts T.given T.accepted now Behind Behind self.old supply.old self.new supply.new }
         ensures over { self.new.client.conn.standing ≡ Ended }
         ensures ending { self.new.ending ≡ self.old.ending }
         ensures edge { (self.new.transport ≡ self.old.transport) × (self.new.ticked ≡ self.old.ticked) }

@@ -96,14 +96,17 @@ pub trait Supply<P: HoldingPlace> {
     /// Whether a visit is going on.
     ghost visiting: { Self → Bool };
 
-    /// What the beginning or the end of a visit makes of the supply.
-    ghost turn: { Self → Self → Type 0 };
+    /// What the beginning of a visit makes of the supply; or the refusal of one, as the broker was closed.
+    ghost begins: { Self → Self → Type 0 };
+
+    /// What the end of a visit makes of the supply.
+    ghost ends: { Self → Self → Type 0 };
 
     /// A visit begins, unless the broker was closed: says whether one does. Messages are accepted and handed out in a visit, and the packets and Ticks of a
     /// connection are stepped in one.
     fn begin(&mut self) -> bool
         ensures told { result ≡ visiting self.new }
-        ensures turned { turn self.old self.new };
+        ensures begun { begins self.old self.new };
 
     /// Whether a visit is going on.
     fn is_open(&self) -> bool
@@ -111,7 +114,7 @@ pub trait Supply<P: HoldingPlace> {
 
     /// A visit ends, where one is going on.
     fn end(&mut self)
-        ensures { turn self.old self.new };
+        ensures { ends self.old self.new };
 
     /// A session for a connection, as of this moment in milliseconds: see [`Desk::attach`](session_desk::Desk::attach). The
     /// connection's number is below 1,024, and the identifier of its client has at most 128 bytes.
@@ -134,8 +137,9 @@ pub trait Supply<P: HoldingPlace> {
         ensures visiting { visiting self.new ≡ visiting self.old };
 
     /// Whether another connection asked for this connection's session since it was lent.
-    fn kicked(&self, connection: u16) -> bool
-        ensures { call self.now (Kicked connection result) self.now };
+    fn kicked(&mut self, connection: u16) -> bool
+        ensures called { call self.old (Kicked connection result) self.new }
+        ensures visiting { visiting self.new ≡ visiting self.old };
 
     /// A session whose connection has ended is kept until its client comes back or its time is over. One that ends with its
     /// connection comes back, and is to be retired.

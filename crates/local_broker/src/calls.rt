@@ -28,11 +28,13 @@ impl Supply<LocalPlace> for LocalSupply {
     ghost visiting = { is_open };
 
     // One thread has the broker to itself: a visit goes on until the close.
-    ghost turn = { λ old new. new ≡ old };
+    ghost begins = { λ old new. new ≡ old };
+
+    ghost ends = { λ old new. new ≡ old };
 
     fn begin(&mut self) -> bool
         ensures told { result ≡ is_open self.new }
-        ensures turned { self.new ≡ self.old }
+        ensures begun { self.new ≡ self.old }
     {
         self.is_open()
     }
@@ -60,7 +62,7 @@ impl Supply<LocalPlace> for LocalSupply {
         self.desk.withdraw(connection);
     }
 
-    fn kicked(&self, connection: u16) -> bool {
+    fn kicked(&mut self, connection: u16) -> bool {
         self.desk.kicked(connection)
     }
 

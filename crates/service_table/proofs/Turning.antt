@@ -9,14 +9,14 @@ use Rattle.conn_service.specs.Lives.{Rounds}
 use Rattle.service_table.specs.declared.turned.Turned.{Turned}
 use Rattle.service_table.specs.Cells.{FollowsIn, Tells, Turns}
 
-module _ {S P T : Type 0} (call : S → Fact P → S → Type 0) (turn : S → S → Type 0) (visiting : S → Bool) (slot_of : P → ℕ)
+module _ {S P T : Type 0} (call : S → Fact P → S → Type 0) (begins ends : S → S → Type 0) (visiting : S → Bool) (slot_of : P → ℕ)
     (counts : T → Counts) (given accepted : T → Option (List ℕ)) where
   -- a connection in it turns
   pub turns : (now : ℕ) (before : Option (ServiceState P T)) (service behind : ServiceState P T) (supply supply' : S) (turned : Turned T)
-      (after : Option (ServiceState P T)) → before ≡ Some service → Rounds call turn visiting slot_of counts given accepted now service supply behind supply'
-      → Tells turned behind now after → Turns call turn visiting slot_of counts given accepted now before supply turned after supply'
+      (after : Option (ServiceState P T)) → before ≡ Some service → Rounds call begins ends visiting slot_of counts given accepted now service supply behind supply'
+      → Tells turned behind now after → Turns call begins ends visiting slot_of counts given accepted now before supply turned after supply'
   turns now before service behind supply supply' turned after has led tells =
-      let Holds : Option (ServiceState P T) → Type 0 = λ before. Turns call turn visiting slot_of counts given accepted now before supply turned after supply' in
+      let Holds : Option (ServiceState P T) → Type 0 = λ before. Turns call begins ends visiting slot_of counts given accepted now before supply turned after supply' in
       subst Holds (sym has) (behind, led, tells)
 
 -- it goes the way that it is told

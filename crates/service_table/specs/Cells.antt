@@ -77,10 +77,10 @@ abbrev pub Waits : {P T : Type 0} → Option (ServiceState P T) → Type 0
 Waits None = ⊥
 Waits (Some service) = IsWaiting service.client.conn.standing
 
-module _ {S P T : Type 0} (call : S → Fact P → S → Type 0) (turn : S → S → Type 0) (visiting : S → Bool) (slot_of : P → ℕ)
+module _ {S P T : Type 0} (call : S → Fact P → S → Type 0) (begins ends : S → S → Type 0) (visiting : S → Bool) (slot_of : P → ℕ)
     (counts : T → Counts) (given accepted : T → Option (List ℕ)) where
   -- the connection in a cell goes on by a round, where there is one
   abbrev pub Turns : ℕ → Option (ServiceState P T) → S → Turned T → Option (ServiceState P T) → S → Type 0
   Turns now None supply turned after supply' = (turned ≡ Vacant) × (after ≡ None) × (supply' ≡ supply)
   Turns now (Some service) supply turned after supply' =
-      (behind : ServiceState P T) × Rounds call turn visiting slot_of counts given accepted now service supply behind supply' × Tells turned behind now after
+      (behind : ServiceState P T) × Rounds call begins ends visiting slot_of counts given accepted now service supply behind supply' × Tells turned behind now after

@@ -102,7 +102,7 @@ pub(crate) fn round<P: HoldingPlace, T: Transport, S: Supply<P>, X: Crossing>(
     direction: Direction,
 ) -> Turned<T>
     requires room { 0 < length buffer.old }
-    ensures turns { Turns S.call S.turn S.visiting P.slot_of T.counts T.given T.accepted now cell.old supply.old result cell.new supply.new }
+    ensures turns { Turns S.call S.begins S.ends S.visiting P.slot_of T.counts T.given T.accepted now cell.old supply.old result cell.new supply.new }
     ensures way { FollowsIn T.given T.accepted direction now cell.old result cell.new }
     ensures count { taken cell.old ≡ taken cell.new + ended_by result }
 {

@@ -87,7 +87,7 @@ impl<P: HoldingPlace, T: Transport> ServiceTable<P, T> {
     ) -> Turned<T>
         requires cell { cell < length self.old }
         requires room { 0 < length buffer.old }
-        ensures turns { InCell self.old cell (λ before after. Turns S.call S.turn S.visiting P.slot_of T.counts T.given T.accepted now before supply.old result after supply.new) self.new }
+        ensures turns { InCell self.old cell (λ before after. Turns S.call S.begins S.ends S.visiting P.slot_of T.counts T.given T.accepted now before supply.old result after supply.new) self.new }
         ensures way { InCell self.old cell (λ before after. FollowsIn T.given T.accepted direction now before result after) self.new }
         ensures len { length self.new ≡ length self.old }
         ensures count { occupied self.old ≡ occupied self.new + ended_by result }

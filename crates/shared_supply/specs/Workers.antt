@@ -58,6 +58,3 @@ pub record Leaves (old new : Worker) : Type 0 where
   pub seat : Seat
   pub ended : Ends old.visitor seat
   pub becomes : new ≡ record old { visitor = Outside seat }
-
-abbrev pub Turns : Worker → Worker → Type 0
-Turns old new = Begins old new ⊎ Leaves old new

@@ -6,7 +6,7 @@ ghost use Rattle.conn_supply.specs.Holding.{IsOutAtPlace};
 ghost use Rattle.conn_supply.specs.Ready.{IsSoundSession};
 ghost use Rattle.broker_groups.specs.Outs.{HasOut};
 ghost use Rattle.shared_supply.specs.Calls.{Calls};
-ghost use Rattle.shared_supply.specs.Workers.{is_visiting, Begins, Leaves, Turns};
+ghost use Rattle.shared_supply.specs.Workers.{is_visiting, Begins, Leaves};
 
 use crate::letting_go::dissolve;
 use crate::settling::settle;
@@ -28,11 +28,12 @@ impl<'a, 'g, B: Broker, N: HistoryName, R: Wait> Supply<BrokerPlace<B>>
 
     ghost visiting = { is_visiting };
 
-    ghost turn = { Turns };
+    ghost begins = { Begins };
+
+    ghost ends = { Leaves };
 
     fn begin(&mut self) -> bool
         ensures told { result ≡ is_visiting self.new }
-        ensures turned { Turns self.old self.new }
         ensures begun { Begins self.old self.new }
     {
         self.enter();
@@ -46,7 +47,6 @@ impl<'a, 'g, B: Broker, N: HistoryName, R: Wait> Supply<BrokerPlace<B>>
     }
 
     fn end(&mut self)
-        ensures turned { Turns self.old self.new }
         ensures left { Leaves self.old self.new }
     {
         self.leave();

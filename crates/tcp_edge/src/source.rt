@@ -166,6 +166,8 @@ impl TcpSource {
 impl Source<Socket<TcpStream>> for TcpSource {
     ghost tally = { λ s. s.tally };
 
+    ghost arrived = { λ s. None };
+
     fn next(&mut self) -> Arrival<Socket<TcpStream>>
         requires { MayCome self.old.tally }
         ensures tally { self.new.tally ≡ after_arrival result self.old.tally }

@@ -1,6 +1,6 @@
 //! A source that ends once a flag is set.
 ghost use Rattle.std.specs.Prelude.{◌≡◌};
-ghost use Rattle.transport.specs.Counting.{ComesNew, MayCome, after_arrival};
+ghost use Rattle.transport.specs.Counting.{ComesNew, MayCome, after_arrival, after_came};
 
 use std::marker::Model;
 use std::sync::atomic::{AtomicBool, Ordering};
@@ -40,9 +40,12 @@ impl<'a, S> Until<'a, S> {
 impl<'a, T: Transport, S: Source<T>> Source<T> for Until<'a, S> {
     ghost tally = { λ s. S.tally s };
 
+    ghost arrived = { λ s. S.arrived s };
+
     fn next(&mut self) -> Arrival<T>
         requires { MayCome (S.tally self.old) }
         ensures tally { S.tally self.new ≡ after_arrival result (S.tally self.old) }
+        ensures arrived { S.arrived self.new ≡ after_came result (S.arrived self.old) }
         ensures new { ComesNew T.counts result }
     {
         if self.ends.load(Ordering::SeqCst) {

@@ -1,6 +1,6 @@
 //! A listener that waits for connections.
 ghost use Rattle.std.specs.Prelude.{◌≡◌, IfOk};
-ghost use Rattle.transport.specs.Counting.{ComesNew, MayCome, after_arrival};
+ghost use Rattle.transport.specs.Counting.{ComesNew, MayCome, after_arrival, after_came};
 
 use mio::event::Source as MioSource;
 use mio::{Events, Interest, Poll, Token};
@@ -67,9 +67,12 @@ impl<S> Awaited<S> {
 impl<T: Transport, S: Source<T>> Source<T> for Awaited<S> {
     ghost tally = { λ s. S.tally s };
 
+    ghost arrived = { λ s. S.arrived s };
+
     fn next(&mut self) -> Arrival<T>
         requires { MayCome (S.tally self.old) }
         ensures tally { S.tally self.new ≡ after_arrival result (S.tally self.old) }
+        ensures arrived { S.arrived self.new ≡ after_came result (S.arrived self.old) }
         ensures new { ComesNew T.counts result }
     {
         match self.source.next() {

@@ -11,7 +11,7 @@ use Rattle.conn_service.specs.Acts.{Act}
 use Rattle.conn_service.specs.Services.{ServiceState, opened}
 use Rattle.conn_service.specs.Lives.{DoesAll}
 use Rattle.shared_supply.specs.Calls.{Calls}
-use Rattle.shared_supply.specs.Workers.{Worker, Turns, is_visiting}
+use Rattle.shared_supply.specs.Workers.{Worker, Begins, Leaves, is_visiting}
 use Rattle.worker_connections.specs.declared.served.ServedCounts.{ServedCounts}
 use Rattle.worker_connections.specs.Serving.{EndsLife}
 use Rattle.worker_pool.specs.Pools.{ServesAll}
@@ -20,7 +20,7 @@ use Rattle.threaded_broker.specs.Headline.{AreWithinReceiveMaximum, IsWithinRece
 module _ {T : Type 0} (group : ℕ → GroupId) (counts : T → Counts) (given accepted : T → Option (List ℕ)) where
   -- by the law of every life
   one : ((number : ℕ) (opening : Opening) (first : T) (acts : List Act) (service : ServiceState PlaceState T) (supply supply' : Worker)
-      → DoesAll (Calls group) Turns is_visiting (λ (p : PlaceState). p.group) counts given accepted acts (opened number opening first) supply service supply'
+      → DoesAll (Calls group) Begins Leaves is_visiting (λ (p : PlaceState). p.group) counts given accepted acts (opened number opening first) supply service supply'
       → IsWithinQuota service.client.conn.standing)
       → (how : Served) → EndsLife group counts given accepted how → IsWithinReceiveMaximum group counts given accepted how
   one law how (inl life) = inl (record {
@@ -30,14 +30,14 @@ module _ {T : Type 0} (group : ℕ → GroupId) (counts : T → Counts) (given a
   one law how (inr refused) = inr refused
 
   of_one : ((number : ℕ) (opening : Opening) (first : T) (acts : List Act) (service : ServiceState PlaceState T) (supply supply' : Worker)
-      → DoesAll (Calls group) Turns is_visiting (λ (p : PlaceState). p.group) counts given accepted acts (opened number opening first) supply service supply'
+      → DoesAll (Calls group) Begins Leaves is_visiting (λ (p : PlaceState). p.group) counts given accepted acts (opened number opening first) supply service supply'
       → IsWithinQuota service.client.conn.standing)
       → (endings : List Served) → AllByRecursion (EndsLife group counts given accepted) endings → AllByRecursion (IsWithinReceiveMaximum group counts given accepted) endings
   of_one law [] lived = tt
   of_one law (how ∷ rest) lived = (one law how lived.0, of_one law rest lived.1)
 
   of_all : ((number : ℕ) (opening : Opening) (first : T) (acts : List Act) (service : ServiceState PlaceState T) (supply supply' : Worker)
-      → DoesAll (Calls group) Turns is_visiting (λ (p : PlaceState). p.group) counts given accepted acts (opened number opening first) supply service supply'
+      → DoesAll (Calls group) Begins Leaves is_visiting (λ (p : PlaceState). p.group) counts given accepted acts (opened number opening first) supply service supply'
       → IsWithinQuota service.client.conn.standing)
       → (endings : List (List Served)) → AllByRecursion (λ (of_one : List Served). AllByRecursion (EndsLife group counts given accepted) of_one) endings
       → AllByRecursion (λ (of_one : List Served). AllByRecursion (IsWithinReceiveMaximum group counts given accepted) of_one) endings
@@ -45,7 +45,7 @@ module _ {T : Type 0} (group : ℕ → GroupId) (counts : T → Counts) (given a
   of_all law (first ∷ rest) lived = (of_one law first lived.0, of_all law rest lived.1)
 
   pub within : ((number : ℕ) (opening : Opening) (first : T) (acts : List Act) (service : ServiceState PlaceState T) (supply supply' : Worker)
-      → DoesAll (Calls group) Turns is_visiting (λ (p : PlaceState). p.group) counts given accepted acts (opened number opening first) supply service supply'
+      → DoesAll (Calls group) Begins Leaves is_visiting (λ (p : PlaceState). p.group) counts given accepted acts (opened number opening first) supply service supply'
       → IsWithinQuota service.client.conn.standing)
       → (came : ℕ) (served : List ServedCounts) → ServesAll group counts given accepted came served → AreWithinReceiveMaximum group counts given accepted came served
   within law came served serves = record {

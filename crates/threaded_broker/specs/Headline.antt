@@ -16,7 +16,7 @@ use Rattle.conn_service.specs.Acts.{Act}
 use Rattle.conn_service.specs.Services.{ServiceState, opened}
 use Rattle.conn_service.specs.Lives.{DoesAll}
 use Rattle.shared_supply.specs.Calls.{Calls}
-use Rattle.shared_supply.specs.Workers.{Worker, Turns, is_visiting}
+use Rattle.shared_supply.specs.Workers.{Worker, Begins, Leaves, is_visiting}
 use Rattle.worker_connections.specs.declared.served.ServedCounts.{ServedCounts}
 use Rattle.worker_connections.specs.Counting.{counts_of}
 use Rattle.worker_connections.specs.Lives.{HasLivedToItsEnd}
@@ -25,9 +25,9 @@ use Rattle.final_report.specs.Brokers.{KeptItsPromisesBehind}
 module _ {T : Type 0} (group : ℕ → GroupId) (counts : T → Counts) (given accepted : T → Option (List ℕ)) where
   -- a connection lived to its end, and behind each beginning of its acts no more PUBLISH packets were unacknowledged than its Receive Maximum (4.9), and 256 at most
   pub record LivesWithinReceiveMaximum (how : Served) : Type 0 where
-    pub life : HasLivedToItsEnd (Calls group) Turns is_visiting (λ (p : PlaceState). p.group) counts given accepted how
+    pub life : HasLivedToItsEnd (Calls group) Begins Leaves is_visiting (λ (p : PlaceState). p.group) counts given accepted how
     pub kept : (these those : List Act) → life.lived.led.acts ≡ these ++ those → (service : ServiceState PlaceState T) (supply : Worker)
-        → DoesAll (Calls group) Turns is_visiting (λ (p : PlaceState). p.group) counts given accepted these (opened life.lived.number life.lived.opening life.lived.transport) life.lived.before service supply
+        → DoesAll (Calls group) Begins Leaves is_visiting (λ (p : PlaceState). p.group) counts given accepted these (opened life.lived.number life.lived.opening life.lived.transport) life.lived.before service supply
         → IsWithinQuota service.client.conn.standing
 
   -- the same, or there was no memory to open it, or the system did not watch it: then it was sent nothing

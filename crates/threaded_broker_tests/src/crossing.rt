@@ -28,6 +28,8 @@ struct Clients {
 impl Source<Scripted> for Clients {
     ghost tally = { λ c. record { failures = 0; arrivals = c.arrivals } };
 
+    ghost arrived = { λ c. None };
+
     fn next(&mut self) -> Arrival<Scripted> {
         if self.left == 0 {
             return Arrival::End;

@@ -1,5 +1,5 @@
 -- How often a transport failed, ended and was idle, and a source failed and gave: each raised by exactly its own answers.
-use Rattle.std.specs.Prelude.{◌≡◌, ℕ, ◌+◌, ◌-◌, ◌^◌, ◌<◌, min}
+use Rattle.std.specs.Prelude.{◌≡◌, ℕ, ◌+◌, ◌-◌, ◌^◌, ◌<◌, min, List, [], ◌∷◌, ◌++◌, Option, option_map}
 use Rattle.transport.specs.declared.counts.Counts.{Counts}
 use Rattle.transport.specs.declared.counts.Tally.{Tally}
 use Rattle.transport.specs.declared.answers.Got.{Got}
@@ -56,3 +56,14 @@ after_arrival (arrival.Came value) tally = record { failures = tally.failures; a
 after_arrival arrival.Idle tally = tally
 after_arrival arrival.End tally = tally
 after_arrival arrival.Failed tally = record { failures = tally.failures + 1; arrivals = tally.arrivals }
+
+-- what came with this answer
+abbrev pub came_in : {T : Type 0} → Arrival T → List T
+came_in (arrival.Came transport) = transport ∷ []
+came_in arrival.Idle = []
+came_in arrival.End = []
+came_in arrival.Failed = []
+
+-- all that came, in its order, after this answer
+abbrev pub after_came : {T : Type 0} → Arrival T → Option (List T) → Option (List T)
+after_came answer arrived = option_map (λ those. those ++ came_in answer) arrived

@@ -1,5 +1,5 @@
 //! A source that plays a script.
-ghost use Rattle.std.specs.Prelude.{◌≡◌, ◌⊎◌, List, [], ◌∷◌};
+ghost use Rattle.std.specs.Prelude.{◌≡◌, ◌⊎◌, List, [], ◌∷◌, None};
 ghost use Rattle.transport.specs.Counting.{ComesNew, MayCome, after_arrival};
 ghost use Rattle.transport.specs.Arrivals.{ComeNew, Gives};
 ghost use Rattle.transport.specs.declared.answers.Arrival.{Arrival};
@@ -42,6 +42,8 @@ impl<T: Transport> ScriptedSource<T> {
 
 impl<T: Transport> Source<T> for ScriptedSource<T> {
     ghost tally = { λ s. s.tally };
+
+    ghost arrived = { λ s. None };
 
     fn next(&mut self) -> Arrival<T>
         requires { MayCome self.old.tally }

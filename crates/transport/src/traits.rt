@@ -1,6 +1,6 @@
 //! What stands between a client and who serves it.
 ghost use Rattle.std.specs.Prelude.{◌≡◌, ◌<◌, ◌≤◌, ℕ, List, Option, false, length};
-ghost use Rattle.transport.specs.Counting.{ComesNew, MayCome, MayGoOn, after_arrival, after_got, after_put};
+ghost use Rattle.transport.specs.Counting.{ComesNew, MayCome, MayGoOn, after_arrival, after_came, after_got, after_put};
 ghost use Rattle.transport.specs.declared.counts.Counts.{Counts};
 ghost use Rattle.transport.specs.declared.counts.Tally.{Tally};
 ghost use Rattle.transport.specs.Streams.{GivesWithin, TakesWithin, after_read, after_write};
@@ -64,12 +64,16 @@ pub trait Source<T: Transport> {
     /// How often it failed and gave.
     ghost tally: { Self → Tally };
 
+    /// All that came, in its order, where that is known.
+    ghost arrived: { Self → Option (List T) };
+
     /// What comes next: a transport of which nothing was counted yet, so that it may be called.
     ///
     /// Neither [`failures`](Source::failures) nor [`arrivals`](Source::arrivals) may have come to `u64::MAX`.
     fn next(&mut self) -> Arrival<T>
         requires { MayCome (tally self.old) }
         ensures tally { tally self.new ≡ after_arrival result (tally self.old) }
+        ensures arrived { arrived self.new ≡ after_came result (arrived self.old) }
         ensures new { ComesNew T.counts result };
 
     /// How often it failed: raised by one by each `Failed`, and by nothing else.

@@ -14,7 +14,7 @@ use Rattle.service_table.specs.Cells.{InCell, Turns, ended_by, occupied}
 use Rattle.service_table.specs.declared.turned.Turned.{Turned}
 use Rattle.service_table.specs.declared.turned.Turned.TheVariants.{Vacant, Goes, Ended}
 use Rattle.shared_supply.specs.Calls.{Calls}
-use Rattle.shared_supply.specs.Workers.{Worker, Turns as Visits, is_visiting}
+use Rattle.shared_supply.specs.Workers.{Worker, Begins, Leaves, is_visiting}
 use Rattle.worker_connections.specs.declared.served.ServedCounts.{ServedCounts}
 use Rattle.worker_connections.specs.Counting.{counted, counted_behind, none_served}
 use Rattle.worker_connections.specs.Serving.{Admits, AreServed, IfLives, IsAccounted, TakesIn}
@@ -42,18 +42,18 @@ module _ {T : Type 0} (group : ℕ → GroupId) (counts : T → Counts) (given a
 
   -- the cell of one that turns
   turned_cell : (cells cells' : Table) (now cell : ℕ) (supply supply' : Worker) (turned : Turned T) → All (IfLives group counts given accepted) cells
-      → InCell cells cell (λ before after. Turns (Calls group) Visits is_visiting (λ (p : PlaceState). p.group) counts given accepted now before supply turned after supply') cells'
+      → InCell cells cell (λ before after. Turns (Calls group) Begins Leaves is_visiting (λ (p : PlaceState). p.group) counts given accepted now before supply turned after supply') cells'
       → All (IfLives group counts given accepted) cells'
   turned_cell cells cells' now cell supply supply' turned living made =
       let Living : Table → Type 0 = λ cells. All (IfLives group counts given accepted) cells in
       let before = at_cell (IfLives group counts given accepted) cells cell made.before living made.has in
-      let after = turns (Calls group) Visits is_visiting (λ (p : PlaceState). p.group) counts given accepted now made.before supply turned made.after supply' made.becomes before in
+      let after = turns (Calls group) Begins Leaves is_visiting (λ (p : PlaceState). p.group) counts given accepted now made.before supply turned made.after supply' made.becomes before in
       subst Living (sym made.is) (All-set (IfLives group counts given accepted) cells cell made.after after living)
 
   -- a round that ended nobody
   goes_on : (received : ℕ) (cells cells' : Table) (served : ServedCounts) (now cell : ℕ) (supply supply' : Worker) (turned : Turned T)
       → IsAccounted group counts given accepted received cells served
-      → InCell cells cell (λ before after. Turns (Calls group) Visits is_visiting (λ (p : PlaceState). p.group) counts given accepted now before supply turned after supply') cells'
+      → InCell cells cell (λ before after. Turns (Calls group) Begins Leaves is_visiting (λ (p : PlaceState). p.group) counts given accepted now before supply turned after supply') cells'
       → occupied cells ≡ occupied cells' + 0 → IsAccounted group counts given accepted received cells' served
   goes_on received cells cells' served now cell supply supply' turned old made same = record {
     living = turned_cell cells cells' now cell supply supply' turned old.living made;
@@ -66,14 +66,14 @@ module _ {T : Type 0} (group : ℕ → GroupId) (counts : T → Counts) (given a
   -- a round that ended one, which is counted
   ends_one : (received : ℕ) (cells cells' : Table) (served served' : ServedCounts) (now cell : ℕ) (supply supply' : Worker) (how : Served) (transport : T)
       → IsAccounted group counts given accepted received cells served
-      → InCell cells cell (λ before after. Turns (Calls group) Visits is_visiting (λ (p : PlaceState). p.group) counts given accepted now before supply (Ended how transport) after supply') cells'
+      → InCell cells cell (λ before after. Turns (Calls group) Begins Leaves is_visiting (λ (p : PlaceState). p.group) counts given accepted now before supply (Ended how transport) after supply') cells'
       → occupied cells ≡ occupied cells' + 1 → served' ≡ counted how served → IsAccounted group counts given accepted received cells' served'
   ends_one received cells cells' served served' now cell supply supply' how transport old made fewer counts_it =
       let before = at_cell (IfLives group counts given accepted) cells cell made.before old.living made.has in
       record {
         living = turned_cell cells cells' now cell supply supply' (Ended how transport) old.living made;
         endings = how ∷ old.endings;
-        lived = (ends (Calls group) Visits is_visiting (λ (p : PlaceState). p.group) counts given accepted now made.before supply how transport made.after supply' made.becomes before, old.lived);
+        lived = (ends (Calls group) Begins Leaves is_visiting (λ (p : PlaceState). p.group) counts given accepted now made.before supply how transport made.after supply' made.becomes before, old.lived);
         counted = counts_it ∙ ap (counted how) old.counted;
         all = omega (arith, old.all, fewer);
       }
@@ -81,7 +81,7 @@ module _ {T : Type 0} (group : ℕ → GroupId) (counts : T → Counts) (given a
   -- behind a round those that have ended are counted
   pub behind_round : (received : ℕ) (cells cells' : Table) (served served' : ServedCounts) (now cell : ℕ) (supply supply' : Worker) (turned : Turned T)
       → IsAccounted group counts given accepted received cells served
-      → InCell cells cell (λ before after. Turns (Calls group) Visits is_visiting (λ (p : PlaceState). p.group) counts given accepted now before supply turned after supply') cells'
+      → InCell cells cell (λ before after. Turns (Calls group) Begins Leaves is_visiting (λ (p : PlaceState). p.group) counts given accepted now before supply turned after supply') cells'
       → occupied cells ≡ occupied cells' + ended_by turned → served' ≡ counted_behind turned served → IsAccounted group counts given accepted received cells' served'
   behind_round received cells cells' served served' now cell supply supply' Vacant old made fewer counts_it =
       let Accounted : ServedCounts → Type 0 = λ counts_now. IsAccounted group counts given accepted received cells' counts_now in
@@ -98,7 +98,7 @@ module _ {T : Type 0} (group : ℕ → GroupId) (counts : T → Counts) (given a
   opened_one received received' cells cells' served opening cell supply more old admitted =
       let Living : Table → Type 0 = λ cells. All (IfLives group counts given accepted) cells in
       let made = admitted.2 in
-      let lives = opens (Calls group) Visits is_visiting (λ (p : PlaceState). p.group) counts given accepted opening admitted.0 made.before made.after supply admitted.1 made.becomes in
+      let lives = opens (Calls group) Begins Leaves is_visiting (λ (p : PlaceState). p.group) counts given accepted opening admitted.0 made.before made.after supply admitted.1 made.becomes in
       record {
         living = subst Living (sym made.is) (All-set (IfLives group counts given accepted) cells cell made.after lives old.living);
         endings = old.endings;

@@ -121,7 +121,7 @@ module _ {P T : Type 0} where
           (λ (other : k ≢ cell). are.some k (omega (arith, before_it k cell other below, is)))
           (cases_eq k cell)
 
-module _ {S P T : Type 0} (call : S → Fact P → S → Type 0) (turn : S → S → Type 0) (visiting : S → Bool) (slot_of : P → ℕ)
+module _ {S P T : Type 0} (call : S → Fact P → S → Type 0) (begins ends : S → S → Type 0) (visiting : S → Bool) (slot_of : P → ℕ)
     (counts : T → Counts) (given accepted : T → Option (List ℕ)) where
   -- what a round tells
   tells : (turned : Turned T) (service : ServiceState P T) (now : ℕ) (after : Option (ServiceState P T)) → Tells turned service now after → IfFreshSince now after
@@ -131,13 +131,13 @@ module _ {S P T : Type 0} (call : S → Fact P → S → Type 0) (turn : S → S
 
   -- a connection goes on by a round
   pub turns : (now : ℕ) (before : Option (ServiceState P T)) (supply : S) (turned : Turned T) (after : Option (ServiceState P T)) (supply' : S)
-      → Turns call turn visiting slot_of counts given accepted now before supply turned after supply' → IfFreshSince now after
+      → Turns call begins ends visiting slot_of counts given accepted now before supply turned after supply' → IfFreshSince now after
   turns now None supply turned after supply' made = subst (IfFreshSince now) (sym made.1) tt
   turns now (Some service) supply turned after supply' made = tells turned made.0 now after made.2
 
   -- behind a round that is noted
   pub rounds : (cells cells' : List (Option (ServiceState P T))) (cell count : ℕ) (supply supply' : S) (turned : Turned T) (old new : Sweeps) → AreSwept old cells
-      → InCell cells cell (λ before after. Turns call turn visiting slot_of counts given accepted old.latest before supply turned after supply') cells'
+      → InCell cells cell (λ before after. Turns call begins ends visiting slot_of counts given accepted old.latest before supply turned after supply') cells'
       → count ≡ length cells' → Notes cell count old new → AreSwept new cells'
   rounds cells cells' cell count supply supply' turned old new are made long notes =
       let fresh = turns old.latest made.before supply turned made.after supply' made.becomes in

@@ -10,7 +10,7 @@ use Rattle.conn_service.specs.declared.served.Served.TheVariants.{Memory}
 use Rattle.conn_service.specs.Services.{ServiceState, opened}
 use Rattle.conn_service.specs.Lives.{Lives}
 
-module _ {S P T : Type 0} (call : S → Fact P → S → Type 0) (turn : S → S → Type 0) (visiting : S → Bool) (slot_of : P → ℕ)
+module _ {S P T : Type 0} (call : S → Fact P → S → Type 0) (begins ends : S → S → Type 0) (visiting : S → Bool) (slot_of : P → ℕ)
     (counts : T → Counts) (given accepted : T → Option (List ℕ)) where
   -- rounds led a connection here from its opening, over a transport of which nothing was asked before
   pub record HasLived (service : ServiceState P T) : Type 0 where
@@ -20,7 +20,7 @@ module _ {S P T : Type 0} (call : S → Fact P → S → Type 0) (turn : S → S
     pub fresh : counts transport ≡ no_counts
     pub before : S
     pub behind : S
-    pub led : Lives call turn visiting slot_of counts given accepted (opened number opening transport) before service behind
+    pub led : Lives call begins ends visiting slot_of counts given accepted (opened number opening transport) before service behind
 
   -- the same of the connection in a cell, where there is one
   abbrev pub IfLived : Option (ServiceState P T) → Type 0

@@ -17,7 +17,7 @@ use Rattle.conn_service.specs.declared.served.Direction.{Direction}
 use Rattle.conn_service.specs.declared.served.Round.{Round}
 use Rattle.shared_supply.specs.Calls.{Calls}
 use Rattle.shared_supply.specs.Waking.{no_wakes}
-use Rattle.shared_supply.specs.Workers.{Worker, Turns, is_visiting}
+use Rattle.shared_supply.specs.Workers.{Worker, Begins, Leaves, is_visiting}
 use Rattle.shared_supply.specs.declared.wakes.Wakes.{Wakes}
 use Rattle.worker_connections.specs.declared.connections.Went.{Went}
 use Rattle.worker_connections.specs.declared.connections.Went.TheVariants as went
@@ -93,11 +93,11 @@ Tells (Ended how transport) told = told ≡ went.ToItsEnd
 module _ {T : Type 0} (group : ℕ → GroupId) (counts : T → Counts) (given accepted : T → Option (List ℕ)) where
   -- in a broker with these groups, the connection in a cell has lived, where there is one
   abbrev pub IfLives : Option (ServiceState PlaceState T) → Type 0
-  IfLives cell = IfLived (Calls group) Turns is_visiting (λ (p : PlaceState). p.group) counts given accepted cell
+  IfLives cell = IfLived (Calls group) Begins Leaves is_visiting (λ (p : PlaceState). p.group) counts given accepted cell
 
   -- a life ended so
   abbrev pub EndsLife : Served → Type 0
-  EndsLife how = IsLife (Calls group) Turns is_visiting (λ (p : PlaceState). p.group) counts given accepted how
+  EndsLife how = IsLife (Calls group) Begins Leaves is_visiting (λ (p : PlaceState). p.group) counts given accepted how
 
   -- those in the cells live, and those that have ended, the latest first, are counted by their endings; together they are as many as were received
   pub record IsAccounted (received : ℕ) (cells : List (Option (ServiceState PlaceState T))) (served : ServedCounts) : Type 0 where
@@ -119,5 +119,5 @@ module _ {T : Type 0} (group : ℕ → GroupId) (counts : T → Counts) (given a
     pub before : Worker
     pub behind : Worker
     pub allowed : before.allowance ≡ most
-    pub turns : InCell old.cells cell (λ one other. TurnsIn (Calls group) Turns is_visiting (λ (p : PlaceState). p.group) counts given accepted old.sweeps.latest one before turned other behind) new.cells
+    pub turns : InCell old.cells cell (λ one other. TurnsIn (Calls group) Begins Leaves is_visiting (λ (p : PlaceState). p.group) counts given accepted old.sweeps.latest one before turned other behind) new.cells
     pub way : InCell old.cells cell (λ one other. FollowsIn given accepted direction old.sweeps.latest one turned other) new.cells

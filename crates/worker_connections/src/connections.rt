@@ -5,7 +5,7 @@ ghost use Rattle.service_table.specs.Cells.{FollowsIn, InCell, Turns, ended_by, 
 ghost use Rattle.service_table.specs.declared.turned.Turned.{Turned as AnyTurned};
 ghost use Rattle.shared_supply.specs.Calls.{Calls};
 ghost use Rattle.shared_supply.specs.Waking.{KeepsAtMost, no_wakes};
-ghost use Rattle.shared_supply.specs.Workers.{Turns as Visits, is_visiting};
+ghost use Rattle.shared_supply.specs.Workers.{Begins, Leaves, is_visiting};
 ghost use Rattle.worker_connections.specs.Counting.{none_served};
 ghost use Rattle.worker_connections.specs.Serving.{AreFresh, AreServed, GoesBy, IsDone, Rounds, StaysOf, Tells, live};
 ghost use Rattle.worker_connections.specs.Members.{HasTaker, TakesIn as WouldTake, one_called_if};
@@ -365,7 +365,7 @@ fn turn<'a, 'g, B: Broker, N: HistoryName, T: Transport, R: Wait, X: Crossing>(
 ) -> Turned<T>
     requires cell { cell < length table.old }
     requires room { 0 < length buffer.old }
-    ensures turns { InCell table.old cell (λ before after. Turns (Calls B.group) Visits is_visiting (λ (p : PlaceState). p.group) T.counts T.given T.accepted now before supply.old result after supply.new) table.new }
+    ensures turns { InCell table.old cell (λ before after. Turns (Calls B.group) Begins Leaves is_visiting (λ (p : PlaceState). p.group) T.counts T.given T.accepted now before supply.old result after supply.new) table.new }
     ensures way { InCell table.old cell (λ before after. FollowsIn T.given T.accepted direction now before result after) table.new }
     ensures len { length table.new ≡ length table.old }
     ensures count { occupied table.old ≡ occupied table.new + ended_by result }

@@ -8,9 +8,9 @@ use Rattle.conn_service.proofs.laws.reading_law.Goals as goal
 pub returns : goal.returns
 returns g c number opening first acts service supply supply' does =
     so_far acts service
-    (folded g.S.Supply.call g.S.Supply.turn g.S.Supply.visiting g.P.Place.slot_of g.T.Transport.counts g.T.Transport.given g.T.Transport.accepted
+    (folded g.S.Supply.call g.S.Supply.begins g.S.Supply.ends g.S.Supply.visiting g.P.Place.slot_of g.T.Transport.counts g.T.Transport.given g.T.Transport.accepted
     (λ done service supply. HasRead done service)
     (λ done act old new supply supply' has one.
-    read_on g.S.Supply.call g.S.Supply.turn g.S.Supply.visiting g.P.Place.slot_of g.T.Transport.counts g.T.Transport.given g.T.Transport.accepted done act old new supply
+    read_on g.S.Supply.call g.S.Supply.begins g.S.Supply.ends g.S.Supply.visiting g.P.Place.slot_of g.T.Transport.counts g.T.Transport.given g.T.Transport.accepted done act old new supply
     supply' has one) acts [] (opened number opening first) service supply supply'
-    (unread_yet g.S.Supply.call g.S.Supply.turn g.S.Supply.visiting g.P.Place.slot_of g.T.Transport.counts g.T.Transport.given g.T.Transport.accepted (opened number opening first) refl) does)
+    (unread_yet g.S.Supply.call g.S.Supply.begins g.S.Supply.ends g.S.Supply.visiting g.P.Place.slot_of g.T.Transport.counts g.T.Transport.given g.T.Transport.accepted (opened number opening first) refl) does)

@@ -7,7 +7,7 @@ pub returns-in-Ended-clause-served : goal.returns-in-Ended-clause-served
 returns-in-Ended-clause-served g c = record {
   last = c.round.new.self;
   moments = c.rounds.invariant.moments ++ c.now-now.result ∷ [];
-  led = rounds_on g.S.Supply.call g.S.Supply.turn g.S.Supply.visiting g.P.Place.slot_of g.T.Transport.counts g.T.Transport.given g.T.Transport.accepted c.rounds.invariant.moments c.now-now.result c.args.service
+  led = rounds_on g.S.Supply.call g.S.Supply.begins g.S.Supply.ends g.S.Supply.visiting g.P.Place.slot_of g.T.Transport.counts g.T.Transport.given g.T.Transport.accepted c.rounds.invariant.moments c.now-now.result c.args.service
       c.rounds.service c.round.new.self c.args.supply.now c.rounds.supply c.round.new.supply c.rounds.invariant.led c.round.ensures.led.made;
   ending = c.in-Ended.ensures.told.0;
   over = c.in-Ended.ensures.told.1;
@@ -18,9 +18,9 @@ pub returns-then-is_refused-clause-served : goal.returns-then-is_refused-clause-
 returns-then-is_refused-clause-served g c = record {
   last = c.stall.new.self;
   moments = (c.rounds.invariant.moments ++ c.now-now.result ∷ []) ++ c.now-now.result ∷ [];
-  led = rounds_on g.S.Supply.call g.S.Supply.turn g.S.Supply.visiting g.P.Place.slot_of g.T.Transport.counts g.T.Transport.given g.T.Transport.accepted (c.rounds.invariant.moments ++ c.now-now.result ∷ []) c.now-now.result c.args.service
+  led = rounds_on g.S.Supply.call g.S.Supply.begins g.S.Supply.ends g.S.Supply.visiting g.P.Place.slot_of g.T.Transport.counts g.T.Transport.given g.T.Transport.accepted (c.rounds.invariant.moments ++ c.now-now.result ∷ []) c.now-now.result c.args.service
       c.round.new.self c.stall.new.self c.args.supply.now c.round.new.supply c.stall.new.supply
-      (rounds_on g.S.Supply.call g.S.Supply.turn g.S.Supply.visiting g.P.Place.slot_of g.T.Transport.counts g.T.Transport.given g.T.Transport.accepted c.rounds.invariant.moments c.now-now.result c.args.service
+      (rounds_on g.S.Supply.call g.S.Supply.begins g.S.Supply.ends g.S.Supply.visiting g.P.Place.slot_of g.T.Transport.counts g.T.Transport.given g.T.Transport.accepted c.rounds.invariant.moments c.now-now.result c.args.service
       c.rounds.service c.round.new.self c.args.supply.now c.rounds.supply c.round.new.supply c.rounds.invariant.led c.round.ensures.led.made)
       (record { led = c.stall.ensures.led; asks = λ waits going. cc (c.stall.ensures.ended, going) });
   ending = c.stall.ensures.ended;
@@ -31,7 +31,7 @@ returns-then-is_refused-clause-served g c = record {
 pub rounds-preserved-else-is_refused : goal.rounds-preserved-else-is_refused
 rounds-preserved-else-is_refused g c = record {
   moments = c.rounds.invariant.moments ++ c.now-now.result ∷ [];
-  led = rounds_on g.S.Supply.call g.S.Supply.turn g.S.Supply.visiting g.P.Place.slot_of g.T.Transport.counts g.T.Transport.given g.T.Transport.accepted c.rounds.invariant.moments c.now-now.result c.args.service
+  led = rounds_on g.S.Supply.call g.S.Supply.begins g.S.Supply.ends g.S.Supply.visiting g.P.Place.slot_of g.T.Transport.counts g.T.Transport.given g.T.Transport.accepted c.rounds.invariant.moments c.now-now.result c.args.service
       c.rounds.service c.round.new.self c.args.supply.now c.rounds.supply c.round.new.supply c.rounds.invariant.led c.round.ensures.led.made;
   going = c.in-Writing.ensures.told.0;
 }
@@ -39,7 +39,7 @@ rounds-preserved-else-is_refused g c = record {
 pub rounds-preserved-in-More : goal.rounds-preserved-in-More
 rounds-preserved-in-More g c = record {
   moments = c.rounds.invariant.moments ++ c.now-now.result ∷ [];
-  led = rounds_on g.S.Supply.call g.S.Supply.turn g.S.Supply.visiting g.P.Place.slot_of g.T.Transport.counts g.T.Transport.given g.T.Transport.accepted c.rounds.invariant.moments c.now-now.result c.args.service
+  led = rounds_on g.S.Supply.call g.S.Supply.begins g.S.Supply.ends g.S.Supply.visiting g.P.Place.slot_of g.T.Transport.counts g.T.Transport.given g.T.Transport.accepted c.rounds.invariant.moments c.now-now.result c.args.service
       c.rounds.service c.round.new.self c.args.supply.now c.rounds.supply c.round.new.supply c.rounds.invariant.led c.round.ensures.led.made;
   going = c.in-More.ensures.told.0;
 }
@@ -47,7 +47,7 @@ rounds-preserved-in-More g c = record {
 pub rounds-preserved-in-Reading : goal.rounds-preserved-in-Reading
 rounds-preserved-in-Reading g c = record {
   moments = c.rounds.invariant.moments ++ c.now-now.result ∷ [];
-  led = rounds_on g.S.Supply.call g.S.Supply.turn g.S.Supply.visiting g.P.Place.slot_of g.T.Transport.counts g.T.Transport.given g.T.Transport.accepted c.rounds.invariant.moments c.now-now.result c.args.service
+  led = rounds_on g.S.Supply.call g.S.Supply.begins g.S.Supply.ends g.S.Supply.visiting g.P.Place.slot_of g.T.Transport.counts g.T.Transport.given g.T.Transport.accepted c.rounds.invariant.moments c.now-now.result c.args.service
       c.rounds.service c.round.new.self c.args.supply.now c.rounds.supply c.round.new.supply c.rounds.invariant.led c.round.ensures.led.made;
   going = c.in-Reading.ensures.told.0;
 }
@@ -55,7 +55,7 @@ rounds-preserved-in-Reading g c = record {
 pub rounds-preserved : goal.rounds-preserved
 rounds-preserved g c = record {
   moments = c.rounds.invariant.moments ++ c.now-now.result ∷ [];
-  led = rounds_on g.S.Supply.call g.S.Supply.turn g.S.Supply.visiting g.P.Place.slot_of g.T.Transport.counts g.T.Transport.given g.T.Transport.accepted c.rounds.invariant.moments c.now-now.result c.args.service
+  led = rounds_on g.S.Supply.call g.S.Supply.begins g.S.Supply.ends g.S.Supply.visiting g.P.Place.slot_of g.T.Transport.counts g.T.Transport.given g.T.Transport.accepted c.rounds.invariant.moments c.now-now.result c.args.service
       c.rounds.service c.round.new.self c.args.supply.now c.rounds.supply c.round.new.supply c.rounds.invariant.led c.round.ensures.led.made;
   going = c.in-Waiting.ensures.told.0;
 }

@@ -5,9 +5,9 @@ use Rattle.conn_service.proofs.service.Service.give_up.Goals as goal
 
 pub returns-clause-led : goal.returns-clause-led
 returns-clause-led g c =
-    abandoned g.S.Supply.call g.S.Supply.turn g.S.Supply.visiting g.P.Place.slot_of g.T.Transport.counts g.T.Transport.given g.T.Transport.accepted c.args.now
+    abandoned g.S.Supply.call g.S.Supply.begins g.S.Supply.ends g.S.Supply.visiting g.P.Place.slot_of g.T.Transport.counts g.T.Transport.given g.T.Transport.accepted c.args.now
     c.begin-open.result c.args.self.now _ c.step_by-said.new.self c.args.supply.now c.begin-open.new.self c.step_by-said.new.supply c.end.new.self c.self.view_is c.requires.ended
-    (search rules) c.begin-open.ensures.turned (sym c.begin-open.ensures.told)
-    (given_up_by g.S.Supply.call g.S.Supply.turn g.S.Supply.visiting g.P.Place.slot_of g.T.Transport.counts g.T.Transport.given g.T.Transport.accepted c.step_by-said.result c.args.now
+    (search rules) c.begin-open.ensures.begun (sym c.begin-open.ensures.told)
+    (given_up_by g.S.Supply.call g.S.Supply.begins g.S.Supply.ends g.S.Supply.visiting g.P.Place.slot_of g.T.Transport.counts g.T.Transport.given g.T.Transport.accepted c.step_by-said.result c.args.now
     c.step_by-said.new.packets.items c.self.inside.client c.step_by-said.new.self c.begin-open.new.self c.step_by-said.new.supply c.step_by-said.ensures.stepped)
     c.end.ensures

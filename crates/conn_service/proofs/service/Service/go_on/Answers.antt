@@ -7,35 +7,35 @@ use Rattle.conn_service.proofs.service.Service.go_on.Goals as goal
 
 pub returns-in_err-send-clause-led : goal.returns-in_err-send-clause-led
 returns-in_err-send-clause-led g c = record {
-  led = leads_past g.S.Supply.call g.S.Supply.turn g.S.Supply.visiting g.P.Place.slot_of g.T.Transport.counts g.T.Transport.given g.T.Transport.accepted c.args.self.now c.send.new.self c.args.supply.now c.args.supply.now
-      (leads_at_edge g.S.Supply.call g.S.Supply.turn g.S.Supply.visiting g.P.Place.slot_of g.T.Transport.counts g.T.Transport.given g.T.Transport.accepted c.args.self.now
+  led = leads_past g.S.Supply.call g.S.Supply.begins g.S.Supply.ends g.S.Supply.visiting g.P.Place.slot_of g.T.Transport.counts g.T.Transport.given g.T.Transport.accepted c.args.self.now c.send.new.self c.args.supply.now c.args.supply.now
+      (leads_at_edge g.S.Supply.call g.S.Supply.begins g.S.Supply.ends g.S.Supply.visiting g.P.Place.slot_of g.T.Transport.counts g.T.Transport.given g.T.Transport.accepted c.args.self.now
       c.send.new.self c.args.supply.now c.send.ensures.led.led);
   told = ((λ waits going. cc (c.in_err-send.ensures.ended, going)), search rules);
 }
 
 pub returns-in_err-all-clause-led : goal.returns-in_err-all-clause-led
 returns-in_err-all-clause-led g c = record {
-  led = edge_then g.S.Supply.call g.S.Supply.turn g.S.Supply.visiting g.P.Place.slot_of g.T.Transport.counts g.T.Transport.given g.T.Transport.accepted c.args.self.now
+  led = edge_then g.S.Supply.call g.S.Supply.begins g.S.Supply.ends g.S.Supply.visiting g.P.Place.slot_of g.T.Transport.counts g.T.Transport.given g.T.Transport.accepted c.args.self.now
       c.send.new.self c.visit.new.self c.args.supply.now c.visit.new.supply c.send.ensures.led.led c.visit.ensures.led.led;
   told = ((λ waits going. cc (c.in_err-all.ensures.ended, going)), search rules);
 }
 
 pub returns-in_err-send_if-clause-led : goal.returns-in_err-send_if-clause-led
 returns-in_err-send_if-clause-led g c = record {
-  led = then_edge g.S.Supply.call g.S.Supply.turn g.S.Supply.visiting g.P.Place.slot_of g.T.Transport.counts g.T.Transport.given g.T.Transport.accepted c.args.self.now
+  led = then_edge g.S.Supply.call g.S.Supply.begins g.S.Supply.ends g.S.Supply.visiting g.P.Place.slot_of g.T.Transport.counts g.T.Transport.given g.T.Transport.accepted c.args.self.now
       c.visit.new.self c.send_if.new.self c.args.supply.now c.visit.new.supply
-      (edge_then g.S.Supply.call g.S.Supply.turn g.S.Supply.visiting g.P.Place.slot_of g.T.Transport.counts g.T.Transport.given g.T.Transport.accepted c.args.self.now
+      (edge_then g.S.Supply.call g.S.Supply.begins g.S.Supply.ends g.S.Supply.visiting g.P.Place.slot_of g.T.Transport.counts g.T.Transport.given g.T.Transport.accepted c.args.self.now
       c.send.new.self c.visit.new.self c.args.supply.now c.visit.new.supply c.send.ensures.led.led c.visit.ensures.led.led) c.send_if.ensures.led.led;
   told = ((λ waits going. cc (c.in_err-send_if.ensures.ended, going)), search rules);
 }
 
 pub returns-in_err-conclude-clause-led : goal.returns-in_err-conclude-clause-led
 returns-in_err-conclude-clause-led g c = record {
-  led = then_edge g.S.Supply.call g.S.Supply.turn g.S.Supply.visiting g.P.Place.slot_of g.T.Transport.counts g.T.Transport.given g.T.Transport.accepted c.args.self.now
+  led = then_edge g.S.Supply.call g.S.Supply.begins g.S.Supply.ends g.S.Supply.visiting g.P.Place.slot_of g.T.Transport.counts g.T.Transport.given g.T.Transport.accepted c.args.self.now
       c.send_if.new.self c.conclude.new.self c.args.supply.now c.visit.new.supply
-      (then_edge g.S.Supply.call g.S.Supply.turn g.S.Supply.visiting g.P.Place.slot_of g.T.Transport.counts g.T.Transport.given g.T.Transport.accepted c.args.self.now
+      (then_edge g.S.Supply.call g.S.Supply.begins g.S.Supply.ends g.S.Supply.visiting g.P.Place.slot_of g.T.Transport.counts g.T.Transport.given g.T.Transport.accepted c.args.self.now
       c.visit.new.self c.send_if.new.self c.args.supply.now c.visit.new.supply
-      (edge_then g.S.Supply.call g.S.Supply.turn g.S.Supply.visiting g.P.Place.slot_of g.T.Transport.counts g.T.Transport.given g.T.Transport.accepted c.args.self.now
+      (edge_then g.S.Supply.call g.S.Supply.begins g.S.Supply.ends g.S.Supply.visiting g.P.Place.slot_of g.T.Transport.counts g.T.Transport.given g.T.Transport.accepted c.args.self.now
       c.send.new.self c.visit.new.self c.args.supply.now c.visit.new.supply c.send.ensures.led.led c.visit.ensures.led.led) c.send_if.ensures.led.led) c.conclude.ensures.led;
   told = ((λ waits going. cc (c.in_err-conclude.ensures.ended, going)), search rules);
 }
@@ -43,11 +43,11 @@ returns-in_err-conclude-clause-led g c = record {
 pub returns-clause-led : goal.returns-clause-led
 unfolding then_edge edge_then leads_on leads_at_edge
 returns-clause-led g c = record {
-  led = then_edge g.S.Supply.call g.S.Supply.turn g.S.Supply.visiting g.P.Place.slot_of g.T.Transport.counts g.T.Transport.given g.T.Transport.accepted c.args.self.now
+  led = then_edge g.S.Supply.call g.S.Supply.begins g.S.Supply.ends g.S.Supply.visiting g.P.Place.slot_of g.T.Transport.counts g.T.Transport.given g.T.Transport.accepted c.args.self.now
       c.send_if.new.self c.conclude.new.self c.args.supply.now c.visit.new.supply
-      (then_edge g.S.Supply.call g.S.Supply.turn g.S.Supply.visiting g.P.Place.slot_of g.T.Transport.counts g.T.Transport.given g.T.Transport.accepted c.args.self.now
+      (then_edge g.S.Supply.call g.S.Supply.begins g.S.Supply.ends g.S.Supply.visiting g.P.Place.slot_of g.T.Transport.counts g.T.Transport.given g.T.Transport.accepted c.args.self.now
       c.visit.new.self c.send_if.new.self c.args.supply.now c.visit.new.supply
-      (edge_then g.S.Supply.call g.S.Supply.turn g.S.Supply.visiting g.P.Place.slot_of g.T.Transport.counts g.T.Transport.given g.T.Transport.accepted c.args.self.now
+      (edge_then g.S.Supply.call g.S.Supply.begins g.S.Supply.ends g.S.Supply.visiting g.P.Place.slot_of g.T.Transport.counts g.T.Transport.given g.T.Transport.accepted c.args.self.now
       c.send.new.self c.visit.new.self c.args.supply.now c.visit.new.supply c.send.ensures.led.led c.in_ok-all.ensures.led.led) c.send_if.ensures.led.led) c.conclude.ensures.led;
   told = (
     (λ waits going. begins_first ((c.send.ensures.led.led.acts ++ c.in_ok-all.ensures.led.led.acts) ++ c.send_if.ensures.led.led.acts) c.conclude.ensures.led.acts (begins_first (c.send.ensures.led.led.acts ++ c.in_ok-all.ensures.led.led.acts) c.send_if.ensures.led.led.acts

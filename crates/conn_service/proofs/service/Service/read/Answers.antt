@@ -7,13 +7,13 @@ use Rattle.conn_service.proofs.service.Service.read.Goals as goal
 
 pub returns-in_err-got-clause-led : goal.returns-in_err-got-clause-led
 returns-in_err-got-clause-led g c = record {
-  led = leads_at_edge g.S.Supply.call g.S.Supply.turn g.S.Supply.visiting g.P.Place.slot_of g.T.Transport.counts g.T.Transport.given g.T.Transport.accepted c.args.self.now c.read_once.new.self c.args.supply.now (c.in_err-got.ensures.read.0 c.args.now);
+  led = leads_at_edge g.S.Supply.call g.S.Supply.begins g.S.Supply.ends g.S.Supply.visiting g.P.Place.slot_of g.T.Transport.counts g.T.Transport.given g.T.Transport.accepted c.args.self.now c.read_once.new.self c.args.supply.now (c.in_err-got.ensures.read.0 c.args.now);
   told = search rules;
 }
 
 pub returns-in_err-tick_if-clause-led : goal.returns-in_err-tick_if-clause-led
 returns-in_err-tick_if-clause-led g c = record {
-  led = read_then g.S.Supply.call g.S.Supply.turn g.S.Supply.visiting g.P.Place.slot_of g.T.Transport.counts g.T.Transport.given g.T.Transport.accepted
+  led = read_then g.S.Supply.call g.S.Supply.begins g.S.Supply.ends g.S.Supply.visiting g.P.Place.slot_of g.T.Transport.counts g.T.Transport.given g.T.Transport.accepted
       (length c.args.buffer.now) c.in_ok-got.got c.in_ok-got.ensures.read.0 c.args.self.now c.read_once.new.self c.tick_if.new.self c.args.supply.now c.tick_if.new.supply
       c.in_ok-got.ensures.read.1 c.tick_if.ensures.led;
   told = search rules;
@@ -22,9 +22,9 @@ returns-in_err-tick_if-clause-led g c = record {
 pub returns-clause-led : goal.returns-clause-led
 unfolding leads_on read_then edge_then leads_at_edge edge_one
 returns-clause-led g c = record {
-  led = leads_on g.S.Supply.call g.S.Supply.turn g.S.Supply.visiting g.P.Place.slot_of g.T.Transport.counts g.T.Transport.given g.T.Transport.accepted c.args.self.now
+  led = leads_on g.S.Supply.call g.S.Supply.begins g.S.Supply.ends g.S.Supply.visiting g.P.Place.slot_of g.T.Transport.counts g.T.Transport.given g.T.Transport.accepted c.args.self.now
       c.tick_if.new.self c.step_each.new.self c.args.supply.now c.tick_if.new.supply c.step_each.new.supply
-      (read_then g.S.Supply.call g.S.Supply.turn g.S.Supply.visiting g.P.Place.slot_of g.T.Transport.counts g.T.Transport.given g.T.Transport.accepted
+      (read_then g.S.Supply.call g.S.Supply.begins g.S.Supply.ends g.S.Supply.visiting g.P.Place.slot_of g.T.Transport.counts g.T.Transport.given g.T.Transport.accepted
       (length c.args.buffer.now) c.in_ok-got.got c.in_ok-got.ensures.read.0 c.args.self.now c.read_once.new.self c.tick_if.new.self c.args.supply.now c.tick_if.new.supply
       c.in_ok-got.ensures.read.1 c.tick_if.ensures.led) c.step_each.ensures.led;
   told = λ reads done not_at_end. read_told g.T.Transport.counts g.T.Transport.given g.T.Transport.accepted (length c.args.buffer.now) c.in_ok-got.got c.in_ok-got.ensures.read.0 c.args.self.now c.read_once.new.self
@@ -34,6 +34,6 @@ returns-clause-led g c = record {
 
 pub returns-then-not-may_read-clause-led : goal.returns-then-not-may_read-clause-led
 returns-then-not-may_read-clause-led g c = record {
-  led = leads_nothing g.S.Supply.call g.S.Supply.turn g.S.Supply.visiting g.P.Place.slot_of g.T.Transport.counts g.T.Transport.given g.T.Transport.accepted c.args.self.now c.args.self.now c.args.supply.now c.args.supply.now refl refl;
+  led = leads_nothing g.S.Supply.call g.S.Supply.begins g.S.Supply.ends g.S.Supply.visiting g.P.Place.slot_of g.T.Transport.counts g.T.Transport.given g.T.Transport.accepted c.args.self.now c.args.self.now c.args.supply.now c.args.supply.now refl refl;
   told = λ reads done not_at_end none. inl (refl, c.may_read.ensures.no reads c.if-not-may_read.true none not_at_end);
 }

@@ -9,7 +9,7 @@ use Rattle.conn_service.proofs.service.Service.round.Goals as goal
 pub returns-in-Err-clause-led : goal.returns-in-Err-clause-led
 returns-in-Err-clause-led g c = record {
   made = record {
-    led = leads_on g.S.Supply.call g.S.Supply.turn g.S.Supply.visiting g.P.Place.slot_of g.T.Transport.counts g.T.Transport.given g.T.Transport.accepted c.args.self.now
+    led = leads_on g.S.Supply.call g.S.Supply.begins g.S.Supply.ends g.S.Supply.visiting g.P.Place.slot_of g.T.Transport.counts g.T.Transport.given g.T.Transport.accepted c.args.self.now
         c.go_on.new.self c.give_up.new.self c.args.supply.now c.go_on.new.supply c.give_up.new.supply c.go_on.ensures.led.led c.give_up.ensures.led;
     asks = λ waits going. cc (c.in-Err.ensures.ended, c.give_up.ensures.ending, going);
   };
@@ -24,6 +24,6 @@ pub returns-in-Ok-clause-led : goal.returns-in-Ok-clause-led
 returns-in-Ok-clause-led g c = record {
   made = record { led = c.in-Ok.ensures.led.led; asks = c.in-Ok.ensures.led.told.0 };
   more = λ reads is. told_more c.in-Ok.all c.go_on.new.self c.in-Ok.ensures.led.led.acts (c.outlook.ensures.more is).0 (c.outlook.ensures.more is).1 (c.in-Ok.ensures.led.told.1 reads).0;
-  drained = λ reads is. short_since g.S.Supply.call g.S.Supply.turn g.S.Supply.visiting g.P.Place.slot_of g.T.Transport.counts g.T.Transport.given g.T.Transport.accepted c.in-Ok.ensures.led.led.acts
+  drained = λ reads is. short_since g.S.Supply.call g.S.Supply.begins g.S.Supply.ends g.S.Supply.visiting g.P.Place.slot_of g.T.Transport.counts g.T.Transport.given g.T.Transport.accepted c.in-Ok.ensures.led.led.acts
       c.args.self.now c.go_on.new.self c.args.supply.now c.go_on.new.supply c.in-Ok.ensures.led.led.does ((c.in-Ok.ensures.led.told.1 reads).1 (search rules)) (search rules);
 }

@@ -8,7 +8,7 @@ use Rattle.conn_service.proofs.service.Service.step_each.Given as goal
 
 abbrev pub invariant-packets : goal.invariant-packets
 invariant-packets g l = record {
-  led : Leads g.S.Supply.call g.S.Supply.turn g.S.Supply.visiting g.P.Place.slot_of g.T.Transport.counts g.T.Transport.given g.T.Transport.accepted l.fn.now (Inside true) (Inside true) l.fn.self l.fn.supply l.self
+  led : Leads g.S.Supply.call g.S.Supply.begins g.S.Supply.ends g.S.Supply.visiting g.P.Place.slot_of g.T.Transport.counts g.T.Transport.given g.T.Transport.accepted l.fn.now (Inside true) (Inside true) l.fn.self l.fn.supply l.self
       l.supply;
   going : l.self.ending ≡ None;
   not_over : l.self.client.conn.standing ≢ Ended;

@@ -8,7 +8,7 @@ use Rattle.conn_service.proofs.service.Service.step_front.Goals as goal
 
 pub returns-in-Ok-clause-led : goal.returns-in-Ok-clause-led
 returns-in-Ok-clause-led g c =
-    stepped_front g.S.Supply.call g.S.Supply.turn g.S.Supply.visiting g.P.Place.slot_of g.T.Transport.counts g.T.Transport.given g.T.Transport.accepted c.args.now
+    stepped_front g.S.Supply.call g.S.Supply.begins g.S.Supply.ends g.S.Supply.visiting g.P.Place.slot_of g.T.Transport.counts g.T.Transport.given g.T.Transport.accepted c.args.now
     c.step_front.new.packets.items c.in-Ok-Some.next c.args.self.now _ c.step_front.new.self c.put_down.new.outgoing c.in-Ok.since c.args.supply.now
     c.step_front.new.supply c.self.view_is c.requires.going c.requires.not_over c.requires.visiting c.requires.room (rw c.in-Ok-Some.field-0-is at c.in-Ok-Some.ensures.stepped)
     (c.in-Ok.ensures.put ∙ ap (λ (p : List Packet). c.self.inside.outgoing ++ bytes_of p) c.deref.ensures.value) c.in-Ok.ensures.since
@@ -26,7 +26,7 @@ returns-in-Ok-clause-all g c stops =
 
 pub returns-in-Err-put_down-clause-led : goal.returns-in-Err-put_down-clause-led
 returns-in-Err-put_down-clause-led g c =
-    lost_front g.S.Supply.call g.S.Supply.turn g.S.Supply.visiting g.P.Place.slot_of g.T.Transport.counts g.T.Transport.given g.T.Transport.accepted c.args.now
+    lost_front g.S.Supply.call g.S.Supply.begins g.S.Supply.ends g.S.Supply.visiting g.P.Place.slot_of g.T.Transport.counts g.T.Transport.given g.T.Transport.accepted c.args.now
     c.step_front.new.packets.items c.in-Ok-Some.next c.args.self.now _ c.step_front.new.self c.put_down.new.outgoing c.args.supply.now
     c.step_front.new.supply c.self.view_is c.requires.going c.requires.not_over c.requires.visiting c.requires.room (rw c.in-Ok-Some.field-0-is at c.in-Ok-Some.ensures.stepped)
     c.in-Err-put_down.ensures.kept
@@ -34,6 +34,6 @@ returns-in-Err-put_down-clause-led g c =
 
 pub returns-in-Err-clause-led : goal.returns-in-Err-clause-led
 returns-in-Err-clause-led g c =
-    failed_front g.S.Supply.call g.S.Supply.turn g.S.Supply.visiting g.P.Place.slot_of g.T.Transport.counts g.T.Transport.given g.T.Transport.accepted c.args.now
+    failed_front g.S.Supply.call g.S.Supply.begins g.S.Supply.ends g.S.Supply.visiting g.P.Place.slot_of g.T.Transport.counts g.T.Transport.given g.T.Transport.accepted c.args.now
     c.args.self.now _ c.step_front.new.self c.args.supply.now c.step_front.new.supply c.self.view_is c.requires.going c.requires.not_over c.requires.visiting c.requires.room
     c.in-Err.ensures.stepped.1

@@ -4,7 +4,7 @@ use Rattle.std.proofs.Math.ListN.{length-set}
 use Rattle.group_queue.specs.Places.{PlaceState}
 use Rattle.service_table.specs.Cells.{FollowsIn, InCell, Turns as TurnsIn}
 use Rattle.shared_supply.specs.Calls.{Calls}
-use Rattle.shared_supply.specs.Workers.{Worker, Turns, is_visiting}
+use Rattle.shared_supply.specs.Workers.{Worker, Begins, Leaves, is_visiting}
 use Rattle.worker_connections.proofs.Accounting.{behind_round}
 use Rattle.worker_connections.proofs.Swept.{rounds}
 use Rattle.worker_connections.proofs.Wished.{wished_noted}
@@ -16,7 +16,7 @@ invariant_of-self g c = (
   behind_round g.B.Broker.group g.T.Transport.counts g.T.Transport.given g.T.Transport.accepted _ c.self.inside.table c.turn-turned.new.table c.self.inside.served c.count_behind.new.self
       c.self.inside.sweeps.latest c.args.cell c.allow.new.self c.turn-turned.new.supply c.turn-turned.result
       c.self.invariant.0 c.turn-turned.ensures.turns c.turn-turned.ensures.count c.count_behind.ensures,
-  rounds (Calls g.B.Broker.group) Turns is_visiting (λ (p : PlaceState). p.group) g.T.Transport.counts g.T.Transport.given g.T.Transport.accepted
+  rounds (Calls g.B.Broker.group) Begins Leaves is_visiting (λ (p : PlaceState). p.group) g.T.Transport.counts g.T.Transport.given g.T.Transport.accepted
       c.self.inside.table c.turn-turned.new.table c.args.cell c.len.result c.allow.new.self c.turn-turned.new.supply c.turn-turned.result
       c.self.inside.sweeps c.note.new.self c.self.invariant.1 c.turn-turned.ensures.turns c.len.ensures c.note.ensures,
   omega (arith, c.self.invariant.2, c.turn-turned.ensures.len, ap length c.note_held.ensures, ap length c.note_wish.ensures.2, length-set c.self.inside.members c.args.cell c.note_wish.ensures.0),
@@ -27,7 +27,7 @@ invariant_of-self g c = (
 pub returns-clause-made : goal.returns-clause-made
 returns-clause-made g c =
     let TurnsAs : ConnectionsState g.row.T.Denot → Type 0 = λ old. InCell old.cells c.args.cell
-    (λ one other. TurnsIn (Calls g.B.Broker.group) Turns is_visiting (λ (p : PlaceState). p.group) g.T.Transport.counts g.T.Transport.given g.T.Transport.accepted old.sweeps.latest one c.allow.new.self c.turn-turned.result other c.turn-turned.new.supply)
+    (λ one other. TurnsIn (Calls g.B.Broker.group) Begins Leaves is_visiting (λ (p : PlaceState). p.group) g.T.Transport.counts g.T.Transport.given g.T.Transport.accepted old.sweeps.latest one c.allow.new.self c.turn-turned.result other c.turn-turned.new.supply)
     c.turn-turned.new.table in
     let Goes : ConnectionsState g.row.T.Denot → Type 0 = λ old. InCell old.cells c.args.cell
     (λ one other. FollowsIn g.T.Transport.given g.T.Transport.accepted c.args.direction old.sweeps.latest one c.turn-turned.result other) c.turn-turned.new.table in
