@@ -5,7 +5,7 @@ use Rattle.transport.specs.declared.counts.Counts.{Counts}
 use Rattle.group_queue.specs.Ports.{GroupId}
 use Rattle.shared_supply.specs.declared.wakes.Wakes.{Wakes}
 use Rattle.worker_connections.specs.Members.{HasTaker, TakesIn}
-use Rattle.worker_connections.specs.Serving.{ConnectionsState, GoesBy, Rounds, StaysOf, round_of}
+use Rattle.worker_connections.specs.Serving.{ConnectionsState, GoesBy, Rounds, StaysOf, round_of, with_wakes}
 use Rattle.worker_connections.specs.Sweeping.{KeepsMoment}
 use Rattle.broker_worker.specs.Offering.{Amid, IsAsked, IsOffered, MightTake, Offers, OffersEach, OffersInSweep}
 use Rattle.conn_service.specs.declared.served.Direction.TheVariants.{Outbound}
@@ -20,7 +20,7 @@ module _ {T : Type 0} where
   still c = record { stays = refl; keeps = record { latest = refl; begun = refl; swept = omega arith }; count = refl }
 
   -- others were told
-  pub telling : (old new : ConnectionsState T) (wakes : Wakes) → new ≡ record old { wakes = wakes } → Rounds old new
+  pub telling : (old new : ConnectionsState T) (wakes : Wakes) → new ≡ with_wakes old wakes → Rounds old new
   telling old new wakes is = subst (λ (c : ConnectionsState T). Rounds old c) (sym is)
       (record { stays = refl; keeps = record { latest = refl; begun = refl; swept = omega arith }; count = refl })
 

@@ -4,7 +4,7 @@ use Rattle.shared_supply.specs.Waking.{no_wakes}
 use Rattle.shared_supply.specs.declared.wakes.Wakes.{Wakes}
 use Rattle.worker_bells.specs.Ringing.{EarState, HasSettledAt, HearsAt, OutfitState}
 use Rattle.worker_connections.specs.Members.{HasTaker, one_called_if}
-use Rattle.worker_connections.specs.Serving.{ConnectionsState}
+use Rattle.worker_connections.specs.Serving.{ConnectionsState, wakes_of, with_wakes}
 use Rattle.worker_connections.specs.Sweeping.{WaitsInTime}
 
 -- a worker: its connections, and what it has of the bells
@@ -15,7 +15,7 @@ pub record WorkerState (T : Type 0) : Type 0 where
 -- a worker that waits for so long has told all that others may wait for; is idle at the bell of each group of which it has a member with room, and no bell rang there
 -- between its listening and its settling; and goes on with its connections in time
 pub record IsAtRest {T : Type 0} (pause : ℕ) (worker : WorkerState T) : Type 0 where
-  pub told : worker.connections.wakes ≡ no_wakes
+  pub told : wakes_of worker.connections ≡ no_wakes
   pub idle : (slot : ℕ) → slot < 8 → HasTaker slot worker.connections.cells → HasSettledAt worker.bells.ears slot
   pub in_time : WaitsInTime pause worker.connections.sweeps.latest worker.connections.sweeps.swept
 
@@ -33,6 +33,6 @@ CountsCalls slot (heard ∷ rest) ears wakes ears' wakes' =
 pub record HearsCalls {T : Type 0} (old new : WorkerState T) : Type 0 where
   pub heard : List Bool
   pub all : length heard ≡ 8
-  pub counted : CountsCalls 0 heard old.bells.ears old.connections.wakes new.bells.ears new.connections.wakes
-  pub connections : new.connections ≡ record old.connections { wakes = new.connections.wakes }
+  pub counted : CountsCalls 0 heard old.bells.ears (wakes_of old.connections) new.bells.ears (wakes_of new.connections)
+  pub connections : new.connections ≡ with_wakes old.connections (wakes_of new.connections)
   pub hands : new.bells.hands ≡ old.bells.hands

@@ -34,8 +34,9 @@ pub struct Kit<T: Transport + Drop, Q, W, C> {
 impl<T: Transport + Drop, Q, W, C> Model for Kit<T, Q, W, C> {
     ghost use Rattle.std.specs.Prelude.{◌≡◌, length};
     ghost use Rattle.conn_channel.specs.Ends.{ReceiverState};
+    ghost use Rattle.worker_connections.specs.Arrivals.{ArrivedState};
 
-    ghost Value = { ReceiverState T };
+    ghost Value = { ReceiverState (ArrivedState T) };
 
     ghost view = { λ k. k.receiver };
 

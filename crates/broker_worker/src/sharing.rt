@@ -303,8 +303,8 @@ impl<
     /// Tells the others of the messages of each group that are more than its share: it rings for as many workers, for those first whose members have the fewest. The
     /// others it keeps, since it goes on to hand them out.
     pub(crate) fn tell_beyond(&mut self)
-        ensures rung { (most others : List ℕ) × KeepsAtMost most others self.old.connections.wakes self.new.connections.wakes × AreRung 0 others self.old.bells.hands self.new.bells.hands }
-        ensures same { self.new.connections ≡ record self.old.connections { wakes = self.new.connections.wakes } }
+        ensures rung { (most others : List ℕ) × KeepsAtMost most others (wakes_of self.old.connections) (wakes_of self.new.connections) × AreRung 0 others self.old.bells.hands self.new.bells.hands }
+        ensures same { self.new.connections ≡ with_wakes self.old.connections (wakes_of self.new.connections) }
     {
         let others = self.connections.keep(&self.sharing.shares());
         self.outfit.ring_each(&others, &self.sharing.fewest());

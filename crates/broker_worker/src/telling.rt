@@ -3,6 +3,7 @@ ghost use Rattle.std.specs.Prelude.{◌≡◌};
 ghost use Rattle.shared_supply.specs.Waking.{no_wakes};
 ghost use Rattle.broker_worker.specs.Resting.{HearsCalls, MayWait};
 ghost use Rattle.worker_bells.specs.Ringing.{AreRung};
+ghost use Rattle.worker_connections.specs.Serving.{wakes_of, with_wakes};
 ghost use Rattle.worker_connections.specs.Sweeping.{AreTicked, IsInTime, WaitsInTime};
 
 use crate::worker::{END_PAUSE, Worker};
@@ -30,8 +31,8 @@ impl<
     /// Tells the others what its connections did that they may wait for: it rings for as many workers as there are messages for each group, and calls whom a
     /// session concerns.
     pub(crate) fn tell(&mut self)
-        ensures told { self.new.connections ≡ record self.old.connections { wakes = no_wakes } }
-        ensures rung { AreRung 0 self.old.connections.wakes.messages self.old.bells.hands self.new.bells.hands }
+        ensures told { self.new.connections ≡ with_wakes self.old.connections no_wakes }
+        ensures rung { AreRung 0 (wakes_of self.old.connections).messages self.old.bells.hands self.new.bells.hands }
     {
         let waits = self.connections.members().has_waiting();
         tell_whether_waiting(&mut self.waits, waits, self.roster, self.number);
@@ -54,7 +55,7 @@ impl<
     /// For how many milliseconds the next turn may wait. The worker is idle at the bells of the groups of which it has members that would be handed a job.
     pub(crate) fn outlook(&mut self) -> u64
         requires in_time { IsInTime self.old.connections.sweeps }
-        requires told { self.old.connections.wakes ≡ no_wakes }
+        requires told { wakes_of self.old.connections ≡ no_wakes }
         ensures same { self.new.connections ≡ self.old.connections }
         ensures rests { MayWait result self.new }
         ensures ticked { AreTicked self.new.connections.sweeps.latest self.new.connections.cells }

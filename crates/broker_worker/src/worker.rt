@@ -1,6 +1,8 @@
 //! A worker: what it has, and its turns.
-ghost use Rattle.std.specs.Prelude.{◌≡◌, [], None, true, length, replicate, IfOk};
-ghost use Rattle.worker_connections.specs.Serving.{AreFresh, AreServed, IsDone, Rounds, StaysOf, live};
+ghost use Rattle.std.specs.Prelude.{◌≡◌, [], All, None, true, length, replicate, IfErr, IfOk};
+ghost use Rattle.group_queue.specs.Ports.{PortState};
+ghost use Rattle.worker_connections.specs.Chains.{HasRunTo};
+ghost use Rattle.worker_connections.specs.Serving.{AreCounted, AreFresh, IsDone, Rounds, StaysOf, live, run_of, wakes_of};
 ghost use Rattle.broker_worker.specs.Offering.{OffersEach, OffersInSweep};
 ghost use Rattle.shared_supply.specs.Waking.{no_wakes};
 ghost use Rattle.broker_worker.specs.Resting.{MayWait};
@@ -13,7 +15,6 @@ use crate::sharing::Sharing;
 use bell::Wake;
 use broker_groups::{Broker, BrokerPlace};
 use call_history::HistoryName;
-use conn_channel::Receiver;
 use conn_supply::NoMemory;
 use service_table::ServiceTable;
 use shared_supply::{Hall, SharedSupply};
@@ -22,7 +23,7 @@ use std::marker::Model;
 use std::sync::Wait;
 use transport::{Clock, Crossing, Transport};
 use worker_bells::{MOST_CONNECTIONS, Outfit, Roster};
-use worker_connections::{Arrived, Came, Connections, Hand, Poller, ServedCounts};
+use worker_connections::{Came, Connections, Hand, Poller, Returned};
 
 /// How many bytes a round reads at most.
 pub(crate) const READ_SIZE: usize = 4_096;
@@ -70,7 +71,7 @@ impl<
     C: Clock + Drop,
     R: Wait,
 > Worker<'a, 'g, B, N, T, Q, W, X, C, R> {
-    /// A worker that has no connection yet. It receives through the channel of its kit.
+    /// A worker that has no connection yet. It receives through the channel of its kit, and publishes through the ports of its hand, through which nothing was published.
     ///
     /// # Errors
     ///
@@ -84,8 +85,10 @@ impl<
         roster: &'a Roster<W>,
         crossing: &'a X,
     ) -> Result<Worker<'a, 'g, B, N, T, Q, W, X, C, R>, Hand<B>>
-        requires { kit.received ≡ [] }
-        ensures { IfOk result (λ worker. AreFresh kit worker.connections) }
+        requires received { kit.received ≡ [] }
+        requires unsent { All (λ (port : PortState). port.sent ≡ []) hand.ports }
+        ensures fresh { IfOk result (λ worker. AreFresh kit hand.ports worker.connections) }
+        ensures back { IfErr result (λ back. back ≡ hand) }
     {
         let Ok(known) = hall.know_routes(alloc) else {
             drop(kit);
@@ -177,7 +180,7 @@ impl<
     fn serve(&mut self, buffer: &mut [u8; READ_SIZE])
         ensures same { StaysOf self.old.connections self.new.connections }
         ensures in_time { IsInTime self.new.connections.sweeps }
-        ensures told { self.new.connections.wakes ≡ no_wakes }
+        ensures told { wakes_of self.new.connections ≡ no_wakes }
         ensures offered { OffersInSweep B.group T.counts T.given T.accepted self.old.connections self.new.connections }
     {
         let all = self.connections.begin_sweep();
@@ -188,7 +191,7 @@ impl<
     /// Hands out jobs, and calls others for those that are theirs; then the replies are written. In a sweep, something is offered to the members of each group.
     fn share_out(&mut self, sweeps: bool, buffer: &mut [u8; READ_SIZE])
         ensures goes { Rounds self.old.connections self.new.connections }
-        ensures told { self.new.connections.wakes ≡ no_wakes }
+        ensures told { wakes_of self.new.connections ≡ no_wakes }
         ensures offered { sweeps ≡ true → OffersEach B.group T.counts T.given T.accepted self.old.connections self.new.connections }
     {
         self.plan();
@@ -250,10 +253,15 @@ impl<
         note_came(&mut self.due, self.roster, self.number, came);
     }
 
-    /// What it had of the broker, its end of the channel, and how its connections ended. Any that is still open ends as where the broker closes.
-    pub fn into_parts(self) -> (Hand<B>, Receiver<Arrived<T>>, ServedCounts)
-        ensures receiver { result.1 ≡ self.entry.connections.receiver }
-        ensures served { (live self.entry.connections ≡ 0) → AreServed B.group T.counts T.given T.accepted (length self.entry.connections.receiver.received) result.2 }
+    /// What it had of the broker and knows of its desk, its end of the channel, and how its connections ended: these are what its run has come to. Any connection that is
+    /// still open ends as where the broker closes.
+    pub fn into_parts(self) -> Returned<B, N, T>
+        ensures receiver { result.receiver ≡ self.entry.connections.receiver }
+        ensures served { result.served ≡ self.entry.connections.served }
+        ensures counted { live self.entry.connections ≡ 0 → AreCounted (length self.entry.connections.receiver.received) result.served }
+        ensures ran { HasRunTo B.group T.counts T.given T.accepted (run_of self.entry.connections) }
+        ensures ports { live self.entry.connections ≡ 0 → result.hand.ports ≡ self.entry.connections.supply.ports }
+        ensures desk { live self.entry.connections ≡ 0 → result.pass ≡ self.entry.connections.supply.desk }
     {
         let Worker {
             number: _,

@@ -1,5 +1,5 @@
 -- How many of the cells have a connection.
-use Rattle.std.proofs.Common.{◌≡◌, ℕ, suc, List, [], ◌∷◌, Option, None, replicate, All, Bool, true, IsTrue, ◌↔◌, refl, subst, arith}
+use Rattle.std.proofs.Common.{◌≡◌, ◌+◌, ◌++◌, ℕ, suc, List, [], ◌∷◌, Option, None, replicate, All, Bool, true, IsTrue, ◌↔◌, refl, subst, arith}
 use Rattle.std.proofs.lemmas.List.Sums.{sum_by-cons}
 use Rattle.std.proofs.lemmas.List.Folds.{sum_by-replicate}
 use Rattle.service_table.specs.Cells.{taken, occupied}
@@ -29,3 +29,10 @@ free_along {A} empty here cells same tells =
 pub empty-occupied : {A : Type 0} (empty : Bool) (here cells : List (Option A)) → here ≡ cells → (IsTrue empty ↔ All (λ cell. cell ≡ None) here)
     → empty ≡ true → occupied cells ≡ 0
 empty-occupied empty here cells same tells holds = free-occupied cells ((free_along empty here cells same tells).0 holds)
+
+-- behind the cells in front of it, the last one counts for itself
+pub occupied-behind : {A : Type 0} (front : List (Option A)) (cell : Option A) → occupied (front ++ cell ∷ []) ≡ occupied front + taken cell
+occupied-behind {A = A} [] cell = rw (sum_by-cons {X = Option A} taken cell []) (omega arith)
+occupied-behind {A = A} (one ∷ front) cell =
+    let rest = occupied-behind front cell in
+    rw (sum_by-cons {X = Option A} taken one (front ++ cell ∷ [])) (rw (sum_by-cons {X = Option A} taken one front) (omega (arith, rest)))

@@ -1,7 +1,7 @@
 //! The connections of a worker, by the cells of their numbers.
 ghost use Rattle.std.specs.Prelude.{◌≡◌, ◌+◌, ◌<◌, ◌≤◌, ◌↔◌, None, true, length, replicate, slice_index_or, All, IfOk, IsTrue, MatchResult};
 ghost use Rattle.transport.specs.Counting.{no_counts};
-ghost use Rattle.service_table.specs.Cells.{FollowsIn, InCell, Opens, Refuses, TakesFrom, Turns, Waits, ended_by, held_in, occupied};
+ghost use Rattle.service_table.specs.Cells.{FollowsIn, InCell, Opens, Refuses, TakesFrom, Turns, Waits, ended_by, held_in, occupied, taken};
 
 use crate::cell;
 use crate::cell::Seat;
@@ -145,10 +145,12 @@ impl<P: HoldingPlace, T: Transport> ServiceTable<P, T> {
         all_free(&self.cells)
     }
 
-    /// Lets go of a table with all its connections: they end as where the broker closes, and nothing is written any more.
+    /// Lets go of a table with all its connections: they end as where the broker closes, and nothing is written any more. Where there is none, nothing is asked of
+    /// the supply.
     pub fn abandon<S: Supply<P>>(self, supply: &mut S, now: u64)
     where
         T: Drop,
+        ensures free { occupied self ≡ 0 → supply.new ≡ supply.old }
     {
         let ServiceTable {
             first: _,
@@ -182,15 +184,28 @@ fn abandon_each<P: HoldingPlace, T: Transport + Drop, S: Supply<P>>(
     cells: Vec<Option<Seat<P, T>>>,
     supply: &mut S,
     now: u64,
-) {
+)
+    ensures { occupied cells.items ≡ 0 → supply.new ≡ supply.old }
+{
     let mut cells = cells;
     match cells.pop() {
         None => cells.destroy_empty(),
         Some(cell) => {
-            if let Some(seat) = cell {
-                drop(seat.into_service().abandon(supply, now));
-            }
+            abandon_one(cell, supply, now);
             abandon_each(cells, supply, now);
         }
+    }
+}
+
+/// Lets go of the connection in this cell, if there is one.
+fn abandon_one<P: HoldingPlace, T: Transport + Drop, S: Supply<P>>(
+    cell: Option<Seat<P, T>>,
+    supply: &mut S,
+    now: u64,
+)
+    ensures { taken cell ≡ 0 → supply.new ≡ supply.old }
+{
+    if let Some(seat) = cell {
+        drop(seat.into_service().abandon(supply, now));
     }
 }

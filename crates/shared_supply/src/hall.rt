@@ -1,10 +1,11 @@
 //! What all workers of a broker share by reference.
 ghost use Rattle.std.specs.Prelude.{◌≡◌, [], IfOk};
+ghost use mathlib.Core.List.{IsPrefix};
 
 use broker_groups::{Broker, BrokerGroups, BrokerPlace};
 use call_history::HistoryName;
 use gate_word::Gate;
-use shared_desk::SharedDesk;
+use shared_desk::{DeskPass, SharedDesk};
 use shared_routes::{KnownRoutes, SharedRoutes};
 use std::alloc::{AllocError, Global};
 use std::marker::Model;
@@ -57,6 +58,18 @@ impl<'g, B: Broker, N: HistoryName> Hall<'g, B, N> {
         ensures { IfOk result (λ known. known ≡ record { table = self.now; shares = []; told = [] }) }
     {
         KnownRoutes::new(alloc, &self.routes)
+    }
+
+    /// A pass takes in what another one knows of the calls of the desk.
+    pub fn meet(
+        &self,
+        me: &mut DeskPass<BrokerPlace<B>, N>,
+        other: DeskPass<BrokerPlace<B>, N>,
+    )
+        ensures mine { IsPrefix me.old me.new }
+        ensures others { IsPrefix other me.new }
+    {
+        self.desk.meet(me, other);
     }
 
     /// Its parts, once no other thread has it.

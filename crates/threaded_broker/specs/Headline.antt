@@ -1,5 +1,5 @@
 -- What a broker on threads promises of its connections and of the messages of its groups: the headline.
-use Rattle.std.specs.Prelude.{◌≡◌, ◌⊎◌, ℕ, List, ◌++◌, map, length, sum_by, Option, Result}
+use Rattle.std.specs.Prelude.{◌≡◌, ℕ, List, length, Option, Result}
 use Rattle.std.specs.List.{AllByRecursion}
 use Rattle.transport.specs.declared.counts.Counts.{Counts}
 use Rattle.group_jobs.specs.Stamps.{Held}
@@ -9,44 +9,27 @@ use Rattle.group_queue.specs.declared.finish.Unfinished.{Unfinished}
 use Rattle.group_queue.specs.declared.witness.Nobody.{Nobody}
 use Rattle.group_queue.specs.Ports.{GroupId, PortState}
 use Rattle.group_queue.specs.Places.{PlaceState}
-use Rattle.conn_laws.specs.Quotas.{IsWithinQuota}
-use Rattle.conn_service.specs.declared.served.Served.{Served}
-use Rattle.conn_service.specs.declared.served.Served.TheVariants.{Memory}
-use Rattle.conn_service.specs.Acts.{Act}
-use Rattle.conn_service.specs.Services.{ServiceState, opened}
-use Rattle.conn_service.specs.Lives.{DoesAll}
-use Rattle.shared_supply.specs.Calls.{Calls}
-use Rattle.shared_supply.specs.Workers.{Worker, Begins, Leaves, is_visiting}
 use Rattle.worker_connections.specs.declared.served.ServedCounts.{ServedCounts}
-use Rattle.worker_connections.specs.Counting.{counts_of}
-use Rattle.worker_connections.specs.Lives.{HasLivedToItsEnd}
+use Rattle.worker_connections.specs.Chains.{KeepsReceiveMaximum}
+use Rattle.worker_pool.specs.Accepting.{arrivals}
+use Rattle.worker_pool.specs.Pools.{AreServed}
 use Rattle.final_report.specs.Brokers.{KeptItsPromisesBehind}
 
 module _ {T : Type 0} (group : ℕ → GroupId) (counts : T → Counts) (given accepted : T → Option (List ℕ)) where
-  -- a connection lived to its end, and behind each beginning of its acts no more PUBLISH packets were unacknowledged than its Receive Maximum (4.9), and 256 at most
-  pub record LivesWithinReceiveMaximum (how : Served) : Type 0 where
-    pub life : HasLivedToItsEnd (Calls group) Begins Leaves is_visiting (λ (p : PlaceState). p.group) counts given accepted how
-    pub kept : (these those : List Act) → life.lived.led.acts ≡ these ++ those → (service : ServiceState PlaceState T) (supply : Worker)
-        → DoesAll (Calls group) Begins Leaves is_visiting (λ (p : PlaceState). p.group) counts given accepted these (opened life.lived.number life.lived.opening life.lived.transport) life.lived.before service supply
-        → IsWithinQuota service.client.conn.standing
+  -- the run of a broker until it was closed: these connections came to its workers, these calls of its desk are known, and these ports and counts the workers gave back;
+  -- and at no moment of it did a connection have more unacknowledged PUBLISH packets than its Receive Maximum, and than this limit (4.9)
+  pub record RunsUntilClosed (max_inflight : ℕ) (came : List T) (calls : List (Call Held PlaceState)) (ports : List (List PortState)) (served : List ServedCounts) : Type 0 where
+    pub workers : AreServed group counts given accepted (arrivals max_inflight came) calls ports served
+    pub within_receive_maximum : AllByRecursion (KeepsReceiveMaximum group counts given accepted max_inflight) workers.runs
 
-  -- the same, or there was no memory to open it, or the system did not watch it: then it was sent nothing
-  abbrev pub IsWithinReceiveMaximum : Served → Type 0
-  IsWithinReceiveMaximum how = LivesWithinReceiveMaximum how ⊎ (how ≡ Memory)
-
-  -- each of so many connections lived so, at one of these workers, and is counted there by its ending, once
-  pub record AreWithinReceiveMaximum (came : ℕ) (served : List ServedCounts) : Type 0 where
-    pub endings : List (List Served)
-    pub lived : AllByRecursion (λ (of_one : List Served). AllByRecursion IsWithinReceiveMaximum of_one) endings
-    pub counted : served ≡ map counts_of endings
-    pub all : came ≡ sum_by length endings
-
-  -- **The headline**, with the ports through which all of its workers published, and the sessions, places and messages that the calls of its desk led to: of each group whose report is given, each message that was accepted was first handed to at
-  -- most one member (`first_once`), each member's first hand-outs from a publisher keep that publisher's order (`in_order`), a refused message went to nobody else
-  -- (`refused_for_good`), and the report gives each accepted message exactly one fate (`one_fate`), which it had (`what_happened`); and no connection had more unacknowledged
-  -- PUBLISH packets than its Receive Maximum. That nothing is handed out after close is said by the token of the drained gate
-  pub record KeepsTheHeadline (workers : ℕ) (calls : List (Call Held PlaceState)) (answers : List (Result Report (Unfinished Nobody))) (strangers : List Held) (came : ℕ) (served : List ServedCounts) : Type 0 where
+  -- **The headline**, of the one run of a broker: these connections came, in this order, and each is in the run of one worker, from its opening to its end (`run`). Through
+  -- the ports that the runs ended with, and with the sessions, places and messages that the calls of the desk led to, of each group whose report is given (`promises`): each
+  -- message that was accepted was first handed to at most one member (`first_once`), each member's first hand-outs from a publisher keep that publisher's order (`in_order`),
+  -- a refused message went to nobody else (`refused_for_good`), and the report gives each accepted message exactly one fate (`one_fate`), which it had (`what_happened`). No
+  -- connection had more unacknowledged PUBLISH packets than its Receive Maximum. That nothing is handed out after close is said by the token of the drained gate
+  pub record KeepsTheHeadline (workers max_inflight : ℕ) (came : List T) (calls : List (Call Held PlaceState)) (answers : List (Result Report (Unfinished Nobody)))
+      (strangers : List Held) (served : List ServedCounts) : Type 0 where
     pub ports : List (List PortState)
     pub every_worker : length ports ≡ workers
+    pub run : RunsUntilClosed max_inflight came calls ports served
     pub promises : KeptItsPromisesBehind group calls ports answers strangers
-    pub within_receive_maximum : AreWithinReceiveMaximum came served

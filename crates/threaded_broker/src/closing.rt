@@ -1,5 +1,5 @@
 //! How the gate of a broker is closed, and what its workers had comes back.
-ghost use Rattle.std.specs.Prelude.{◌≡◌, ◌≤◌, [], length, vec_capacity};
+ghost use Rattle.std.specs.Prelude.{◌≡◌, ◌≤◌, [], length, map, vec_capacity};
 
 use broker_groups::{Broker, Ports};
 use gate_word::Drained;
@@ -22,14 +22,13 @@ pub(crate) fn close<B: Broker, R: Wait>(rt: &R, closer: &mut Closer<'_, B>) -> D
     unreachable!()
 }
 
-/// The ports of all workers. There is room for them.
+/// The ports of all workers, in the order of their hands. There is room for them.
 pub(crate) fn ports_of<B: Broker>(hands: Vec<Hand<B>>, room: Vec<Ports<B>>) -> Vec<Ports<B>>
     requires { (room.items ≡ []) × (length hands.items ≤ vec_capacity room) }
-    ensures { length result.items ≡ length hands.items }
+    ensures { result.items ≡ map (λ hand. hand.ports) hands.items }
 {
     let mut ports = room;
-    let mut left = hands;
-    'ports: while let Some(hand) = left.pop() {
+    for hand in hands {
         ports.push_reserved(hand.ports);
     }
     ports

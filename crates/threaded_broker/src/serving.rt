@@ -1,9 +1,11 @@
 //! A broker that is served to its end.
-ghost use Rattle.std.specs.Prelude.{◌≡◌, ◌+◌, ◌≤◌, [], All, length, vec_capacity, IfOk, MatchResult};
+ghost use Rattle.std.specs.Prelude.{◌≡◌, ◌+◌, ◌≤◌, List, [], All, length, map, vec_capacity, IfOk, MatchResult};
 ghost use mathlib.Core.List.{IsPrefix};
 ghost use Rattle.final_report.specs.Brokers.{KeptItsPromisesBehind};
-ghost use Rattle.worker_pool.specs.Pools.{ServesAll};
-ghost use Rattle.threaded_broker.specs.Headline.{AreWithinReceiveMaximum, KeepsTheHeadline};
+ghost use Rattle.group_queue.specs.Ports.{PortState};
+ghost use Rattle.worker_pool.specs.Accepting.{Gave, arrivals};
+ghost use Rattle.worker_pool.specs.Pools.{AreServed};
+ghost use Rattle.threaded_broker.specs.Headline.{KeepsTheHeadline, RunsUntilClosed};
 ghost use Rattle.threaded_broker.specs.Shares.{IsBoundIn};
 
 use crate::closing::{close, ports_of};
@@ -13,13 +15,12 @@ use broker_groups::{Broker, BrokerPlace, Ended, Ports};
 use broker_worker::Gear;
 use call_history::HistoryName;
 use conn_rules::MaxInflight;
-use conn_service::laws::quota_law;
 use conn_supply::NoMemory;
 use final_report::end_broker;
 use gate_word::Drained;
 use mqtt_topic::Share;
 use shared_desk::DeskPass;
-use shared_supply::{Hall, SharedSupply, StillOpen};
+use shared_supply::{Hall, StillOpen};
 use std::alloc::Global;
 use std::rt::Clock as SystemClock;
 use std::sync::Wait;
@@ -60,12 +61,15 @@ pub struct Closed<'g, B: Broker, N: HistoryName, S> {
 /// Serves the connections of a source with the workers of a broker, each in a thread of its own, until the source has ended or failed, the broker's gate is
 /// shut, and all connections have ended; then ends its groups. Who watches is given the input, and shuts the gate and ends the source, in a thread of its own. There is room for the
 /// ports of all workers. The shares that are given are bound before the first connection is served, in their order. The client of each connection has at most so many
-/// messages unacknowledged, whatever its Receive Maximum.
+/// messages unacknowledged, whatever its Receive Maximum. Nothing was published through the ports of the hands before.
 ///
-/// The pass knows in the end all calls that were made of the broker's desk, of which what it knew before is the beginning (`history`). They led to the sessions, places and
-/// messages with which the groups end.
+/// The pass knows in the end all calls that were made of the broker's desk, of which what it knew before is the beginning (`history`), and so is what each worker knew. They
+/// led to the sessions, places and messages with which the groups end.
 ///
-/// **What a broker promises**, in every schedule of its threads, whatever its transports do (`headline`). Of each group whose report is given:
+/// **What a broker promises**, in every schedule of its threads, whatever its transports do (`headline`), is of this one run. The connections that the source gave, in its
+/// order, came each to one worker, once; and what each worker did is one list of deeds, from the ports that it was given, through which nothing was published, to those that
+/// it gave back: it opened each connection that came to it in a cell, or closed it for want of memory, and went on with the connection in a cell by a round, each at the
+/// state that the deed before it left (`run`). Through just these ports, of each group whose report is given:
 ///
 /// - each message that was accepted was first handed to at most one member, once (`first_once`);
 /// - each member's first hand-outs from a publisher keep that publisher's order (`in_order`);
@@ -74,7 +78,7 @@ pub struct Closed<'g, B: Broker, N: HistoryName, S> {
 ///
 /// And of the broker:
 ///
-/// - no connection had more unacknowledged PUBLISH packets than its Receive Maximum, at any moment of its life (`within_receive_maximum`);
+/// - no connection had more unacknowledged PUBLISH packets than its Receive Maximum, and than the limit given, at any moment of the run (`within_receive_maximum`);
 /// - no group lacks a message at its end, whichever worker ended the session that held it (`none_lacks`);
 /// - nothing was accepted or handed out once the gate was drained (`closed`): the token of that is here, with which there is no turn of the gate.
 ///
@@ -115,7 +119,9 @@ pub fn serve<
     requires workers { (1 ≤ length hands.items) × (length hands.items ≤ 64) }
     requires gear { length gear.items ≡ length hands.items }
     requires room { (room.items ≡ []) × (length hands.items ≤ vec_capacity room) }
-    ensures headline { IfOk result (λ outcome. KeepsTheHeadline B.group T.counts T.given T.accepted (length hands.items) pass.new outcome.ended.answers.items outcome.ended.strangers.items outcome.taken.came outcome.served.items) }
+    requires unsent { All (λ hand. All (λ (port : PortState). port.sent ≡ []) hand.ports) hands.items }
+    ensures headline { IfOk result (λ outcome. (came : List T) × Gave S.arrived source came outcome.taken.source × (outcome.taken.came ≡ length came)
+        × KeepsTheHeadline B.group T.counts T.given T.accepted (length hands.items) max_inflight came pass.new outcome.ended.answers.items outcome.ended.strangers.items outcome.served.items) }
     ensures history { IsPrefix pass.old pass.new }
     ensures closed { IfOk result (λ outcome. outcome.drained ≡ B.gate) }
     ensures taken { IfOk result (λ outcome. (S.tally outcome.taken.source).arrivals ≡ (S.tally source).arrivals + outcome.taken.came) }
@@ -138,6 +144,7 @@ pub fn serve<
         stopper,
         watch,
         input,
+        pass,
     )?;
     let Closed {
         hall,
@@ -192,18 +199,21 @@ pub fn serve_until_closed<
     stopper: Closer<'_, B>,
     watch: &mut D,
     input: &mut I,
+    pass: &mut DeskPass<BrokerPlace<B>, N>,
 ) -> Result<Closed<'g, B, N, S>, NoMemory>
     requires workers { (1 ≤ length hands.items) × (length hands.items ≤ 64) }
     requires gear { length gear.items ≡ length hands.items }
     requires room { (room.items ≡ []) × (length hands.items ≤ vec_capacity room) }
+    requires unsent { All (λ hand. All (λ (port : PortState). port.sent ≡ []) hand.ports) hands.items }
     ensures ports { IfOk result (λ closed. length closed.ports.items ≡ length hands.items) }
-    ensures within { IfOk result (λ closed. AreWithinReceiveMaximum B.group T.counts T.given T.accepted closed.taken.came closed.served.items) }
+    ensures run { IfOk result (λ closed. (came : List T) × Gave S.arrived source came closed.taken.source × (closed.taken.came ≡ length came)
+        × RunsUntilClosed B.group T.counts T.given T.accepted max_inflight came pass.new closed.ports.items closed.served.items) }
+    ensures history { IsPrefix pass.old pass.new }
     ensures closed { IfOk result (λ closed. closed.drained ≡ B.gate) }
     ensures taken { IfOk result (λ closed. (S.tally closed.taken.source).arrivals ≡ (S.tally source).arrivals + closed.taken.came) }
     ensures watched { IfOk result (λ _. D.has_watched watch.old watch.new input.old input.new) }
     ensures shares { IfOk result (λ closed. All (IsBoundIn closed.shares.items) shares.now) }
 {
-    quota_law::<BrokerPlace<B>, T, SharedSupply<'_, '_, B, N, R>>();
     let mut stopper = stopper;
     let ran = run_bound(
         rt,
@@ -219,6 +229,7 @@ pub fn serve_until_closed<
         closer,
         watch,
         input,
+        pass,
     );
     let drained = close(rt, &mut stopper);
     match ran {
@@ -277,12 +288,16 @@ fn run_bound<
     closer: Closer<'_, B>,
     watch: &mut D,
     input: &mut I,
+    pass: &mut DeskPass<BrokerPlace<B>, N>,
 ) -> Result<Ran<B, S>, Vec<Hand<B>>>
     requires workers { (1 ≤ length hands.items) × (length hands.items ≤ 64) }
     requires gear { length gear.items ≡ length hands.items }
+    requires unsent { All (λ hand. All (λ (port : PortState). port.sent ≡ []) hand.ports) hands.items }
     ensures hands { MatchResult result (λ ran. length ran.pooled.hands.items ≡ length hands.items) (λ back. length back.items ≡ length hands.items) }
     ensures taken { IfOk result (λ ran. (S.tally ran.pooled.taken.source).arrivals ≡ (S.tally source).arrivals + ran.pooled.taken.came) }
-    ensures served { IfOk result (λ ran. ServesAll B.group T.counts T.given T.accepted ran.pooled.taken.came ran.pooled.served.items) }
+    ensures served { IfOk result (λ ran. (came : List T) × Gave S.arrived source came ran.pooled.taken.source × (ran.pooled.taken.came ≡ length came)
+        × AreServed B.group T.counts T.given T.accepted (arrivals max_inflight came) pass.new (map (λ hand. hand.ports) ran.pooled.hands.items) ran.pooled.served.items) }
+    ensures told { IsPrefix pass.old pass.new }
     ensures watched { IfOk result (λ _. D.has_watched watch.old watch.new input.old input.new) }
     ensures shares { IfOk result (λ ran. All (IsBoundIn ran.shares.items) shares.now) }
 {
@@ -305,6 +320,7 @@ fn run_bound<
         closer,
         watch,
         input,
+        pass,
     ) {
         Ok(pooled) => {
             known.learn();

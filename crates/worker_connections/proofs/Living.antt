@@ -1,5 +1,7 @@
--- A connection lives on by its rounds, whatever others do to the supply between them.
-use Rattle.std.proofs.Common.{◌≡◌, ℕ, Bool, List, [], ◌∷◌, ◌++◌, Option, Some, None, refl, sym, ap, subst, ◌∙◌, inl, append-nil, append_assoc}
+-- A connection lives on by its rounds, whatever others do to the supply between them; and so do the connections of a worker's run.
+use Rattle.std.proofs.Common.{◌≡◌, ℕ, Bool, List, [], ◌∷◌, ◌++◌, Option, Some, None, All, refl, sym, ap, subst, ◌∙◌, append-nil, append_assoc}
+use Rattle.std.specs.List.{AllByRecursion}
+use Rattle.std.proofs.lemmas.List.Elements.{All-set}
 use Rattle.transport.specs.declared.counts.Counts.{Counts}
 use Rattle.transport.specs.Counting.{no_counts}
 use Rattle.conn_supply.specs.Facts.{Fact}
@@ -8,10 +10,15 @@ use Rattle.conn_service.specs.declared.served.Served.{Served}
 use Rattle.conn_service.specs.Services.{ServiceState, opened}
 use Rattle.conn_service.specs.Acts.{Act, Others}
 use Rattle.conn_service.specs.Lives.{DoesAll, LivesBy, Rounds}
-use Rattle.service_table.specs.Cells.{Opens, Tells, Turns}
-use Rattle.service_table.specs.declared.turned.Turned.{Turned}
-use Rattle.service_table.specs.declared.turned.Turned.TheVariants.{Vacant, Goes, Ended}
-use Rattle.worker_connections.specs.Lives.{HasLived, IfLived, IsLife}
+use Rattle.group_queue.specs.Ports.{GroupId}
+use Rattle.group_queue.specs.Places.{PlaceState}
+use Rattle.service_table.specs.Cells.{Opens}
+use Rattle.shared_supply.specs.Calls.{Calls}
+use Rattle.shared_supply.specs.Workers.{Begins, Leaves, is_visiting}
+use Rattle.worker_connections.specs.Arrivals.{ArrivedState, opening_at}
+use Rattle.worker_connections.specs.Chains.{Deed, Opened, Closed, Allowed, Went, Passed, Woke, LeavesCell, Makes, MakesAll, RunState, came_in, came_by}
+use Rattle.worker_connections.specs.Lives.{HasLived, IfLived}
+use Rattle.worker_connections.proofs.Parts.{at_cell, both_parts}
 
 module _ {S P T : Type 0} (call : S → Fact P → S → Type 0) (begins ends : S → S → Type 0) (visiting : S → Bool) (slot_of : P → ℕ)
     (counts : T → Counts) (given accepted : T → Option (List ℕ)) where
@@ -80,32 +87,45 @@ module _ {S P T : Type 0} (call : S → Fact P → S → Type 0) (begins ends : 
     led = record { acts = []; does = (opened_so.1, refl); moments = []; lived = (refl, opened_so.1, refl) };
   }
 
-  -- what a round tells of one that lived
-  tells : (turned : Turned T) (service : ServiceState P T) (now : ℕ) (after : Option (ServiceState P T)) → Tells turned service now after
-      → HasLived call begins ends visiting slot_of counts given accepted service → IfLived call begins ends visiting slot_of counts given accepted after
-  tells Vacant service now after told lived = absurd told
-  tells (Goes round) service now after told lived =
-      let If : Option (ServiceState P T) → Type 0 = λ cell. IfLived call begins ends visiting slot_of counts given accepted cell in subst If (sym told.1) lived
-  tells (Ended how transport) service now after told lived =
-      let If : Option (ServiceState P T) → Type 0 = λ cell. IfLived call begins ends visiting slot_of counts given accepted cell in subst If (sym told.2) tt
+module _ {T : Type 0} (group : ℕ → GroupId) (counts : T → Counts) (given accepted : T → Option (List ℕ)) where
+  abbrev Lived : Option (ServiceState PlaceState T) → Type 0
+  Lived cell = IfLived (Calls group) Begins Leaves is_visiting (λ (p : PlaceState). p.group) counts given accepted cell
 
-  -- a connection that turns lives on
-  pub turns : (now : ℕ) (before : Option (ServiceState P T)) (supply : S) (turned : Turned T) (after : Option (ServiceState P T)) (supply' : S)
-      → Turns call begins ends visiting slot_of counts given accepted now before supply turned after supply'
-      → IfLived call begins ends visiting slot_of counts given accepted before → IfLived call begins ends visiting slot_of counts given accepted after
-  turns now None supply turned after supply' made lived =
-      let If : Option (ServiceState P T) → Type 0 = λ cell. IfLived call begins ends visiting slot_of counts given accepted cell in subst If (sym made.1) tt
-  turns now (Some service) supply turned after supply' made lived =
-      tells turned made.0 now after made.2 (lives_on now service made.0 supply supply' lived made.1)
+  abbrev AllLived : List (Option (ServiceState PlaceState T)) → Type 0
+  AllLived cells = All Lived cells
 
-  -- where it ended, a life did
-  pub ends : (now : ℕ) (before : Option (ServiceState P T)) (supply : S) (how : Served) (transport : T) (after : Option (ServiceState P T)) (supply' : S)
-      → Turns call begins ends visiting slot_of counts given accepted now before supply (Ended how transport) after supply'
-      → IfLived call begins ends visiting slot_of counts given accepted before → IsLife call begins ends visiting slot_of counts given accepted how
-  ends now None supply how transport after supply' made lived = absurd (cc made.0)
-  ends now (Some service) supply how transport after supply' made lived = inl (record {
-    last = made.0;
-    lived = lives_on now service made.0 supply supply' lived made.1;
-    ending = made.2.0.0;
-    over = made.2.0.1;
-  })
+  -- behind a round it lives on in its cell, or has left that
+  left : (how : Option Served) (behind : ServiceState PlaceState T) (after : Option (ServiceState PlaceState T)) → LeavesCell how behind after → Lived (Some behind) → Lived after
+  left None behind after leaves lived = subst Lived (sym leaves) lived
+  left (Some how) behind after leaves lived = subst Lived (sym leaves.2) tt
+
+  lives : (deed : Deed T) (old new : RunState T) → AllByRecursion (λ (arrived : ArrivedState T). counts arrived.transport ≡ no_counts) (came_in deed)
+      → Makes group counts given accepted deed old new → AllLived old.cells → AllLived new.cells
+  lives (Opened arrived cell now) old new fresh does all =
+      let made = does.2 in
+      subst AllLived (sym made.is)
+      (All-set Lived old.cells cell made.after
+      (opens (Calls group) Begins Leaves is_visiting (λ (p : PlaceState). p.group) counts given accepted (opening_at now arrived) does.0 made.before made.after old.supply
+      (does.1.counts_are ∙ fresh.0) made.becomes) all)
+  lives (Closed arrived) old new fresh does all = subst (λ (s : RunState T). AllLived s.cells) (sym does) all
+  lives (Allowed most) old new fresh does all = subst (λ (s : RunState T). AllLived s.cells) (sym does) all
+  lives (Went cell now acts how) old new fresh does all =
+      let made = does.0 in
+      let goes = made.becomes in
+      let first = subst Lived goes.here (at_cell Lived old.cells cell made.before all made.has) in
+      subst AllLived (sym made.is)
+      (All-set Lived old.cells cell made.after
+      (left how goes.behind made.after goes.leaves
+      (lives_on (Calls group) Begins Leaves is_visiting (λ (p : PlaceState). p.group) counts given accepted now goes.service goes.behind old.supply new.supply first goes.round)) all)
+  lives (Passed cell) old new fresh does all =
+      let made = does.0 in
+      subst AllLived (sym made.is) (All-set Lived old.cells cell made.after (subst Lived (sym made.becomes.1) tt) all)
+  lives Woke old new fresh does all = subst (λ (s : RunState T). AllLived s.cells) (sym does.1) all
+
+  -- **Each connection has its life in the run**: at each state of it, the connection in a cell was led there by rounds from its opening, with others between them
+  pub lives_all : (deeds : List (Deed T)) (old new : RunState T) → AllByRecursion (λ (arrived : ArrivedState T). counts arrived.transport ≡ no_counts) (came_by deeds)
+      → MakesAll group counts given accepted deeds old new → AllLived old.cells → AllLived new.cells
+  lives_all [] old new fresh does all = subst (λ (s : RunState T). AllLived s.cells) (sym does) all
+  lives_all (deed ∷ deeds) old new fresh does all =
+      let parts = both_parts (λ (arrived : ArrivedState T). counts arrived.transport ≡ no_counts) (came_in deed) (came_by deeds) fresh in
+      lives_all deeds does.0 new parts.1 does.2 (lives deed old does.0 parts.0 does.1 all)

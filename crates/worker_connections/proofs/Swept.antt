@@ -1,5 +1,5 @@
 -- Of the connections of a worker it stays known since when each of them went on.
-use Rattle.std.proofs.Common.{◌≡◌, ◌≢◌, ◌<◌, ◌≤◌, ◌+◌, ℕ, Bool, List, length, Option, Some, None, replicate, All, get_or, sym, subst, inl, inr, ⊎_elim, arith}
+use Rattle.std.proofs.Common.{◌≡◌, ◌≢◌, ◌<◌, ◌≤◌, ◌+◌, ℕ, Bool, List, length, Option, Some, None, replicate, All, get_or, refl, sym, subst, inl, inr, ⊎_elim, arith}
 use Rattle.std.proofs.Math.Nat.{le-max_left, le_trans}
 use Rattle.std.specs.List.{slice_get, slice_set}
 use Rattle.std.proofs.lemmas.Option.{slice_get_within}
@@ -16,6 +16,7 @@ use Rattle.service_table.specs.declared.turned.Turned.TheVariants.{Vacant, Goes,
 use Rattle.worker_connections.specs.declared.sweeps.Sweeps.{Sweeps}
 use Rattle.group_queue.specs.Places.{PlaceState}
 use Rattle.worker_connections.specs.declared.served.ServedCounts.{ServedCounts}
+use Rattle.worker_connections.specs.Arrivals.{ArrivedState, opening_at}
 use Rattle.worker_connections.specs.Serving.{TakesIn}
 use Rattle.worker_connections.specs.Sweeping.{AreSwept, Begins, IfFreshSince, Notes, looked}
 
@@ -147,7 +148,8 @@ module _ {S P T : Type 0} (call : S → Fact P → S → Type 0) (begins ends : 
       (subst (λ n. Notes cell n old new) long notes)
 
 -- behind one that came
-pub came_one : {T : Type 0} (counts : T → Counts) (cells cells' : List (Option (ServiceState PlaceState T))) (served served' : ServedCounts) (sweeps : Sweeps) (opening : Opening) → opening.at ≡ sweeps.latest
-    → AreSwept sweeps cells → TakesIn counts opening cells served cells' served' → AreSwept sweeps cells'
-came_one counts cells cells' served served' sweeps opening at are (inl opened) = opened_one cells cells' opened.0 opening opened.1.0 sweeps at are opened.1.2
-came_one counts cells cells' served served' sweeps opening at are (inr refused) = subst (λ those. AreSwept sweeps those) (sym refused.0) are
+pub came_one : {T : Type 0} (counts : T → Counts) (given accepted : T → Option (List ℕ)) (arrived : ArrivedState T) (cells cells' : List (Option (ServiceState PlaceState T)))
+    (served served' : ServedCounts) (sweeps : Sweeps) → AreSwept sweeps cells → TakesIn counts given accepted sweeps.latest arrived cells served cells' served' → AreSwept sweeps cells'
+came_one counts given accepted arrived cells cells' served served' sweeps are (inl opened) =
+    opened_one cells cells' opened.0 (opening_at sweeps.latest arrived) opened.1.0 sweeps refl are opened.1.2
+came_one counts given accepted arrived cells cells' served served' sweeps are (inr refused) = subst (λ those. AreSwept sweeps those) (sym refused.0) are

@@ -16,6 +16,7 @@ use Rattle.conn_service.specs.Services.{ServiceState, opened}
 use Rattle.service_table.specs.Cells.{InCell, Opens, TakesFrom}
 use Rattle.worker_bells.specs.declared.members.Wish.{Wish}
 use Rattle.worker_connections.specs.declared.served.ServedCounts.{ServedCounts}
+use Rattle.worker_connections.specs.Arrivals.{ArrivedState, opening_at}
 use Rattle.worker_connections.specs.Members.{AreWished, HasTaker, TakesIn}
 use Rattle.worker_connections.specs.Serving.{TakesIn as TakesInOne}
 use Rattle.worker_bells.specs.Wishing.{IsWished}
@@ -85,13 +86,14 @@ module _ {T : Type 0} where
       (cases_eq k cell)
 
   -- nor would one that came
-  pub wished_came : (counts : T → Counts) (cells cells' : List (Option (ServiceState PlaceState T))) (served served' : ServedCounts) (wishes : List Wish) (opening : Opening) → length wishes ≡ length cells
-      → AreWished cells wishes → TakesInOne counts opening cells served cells' served' → (length wishes ≡ length cells') × AreWished cells' wishes
-  wished_came counts cells cells' served served' wishes opening long are (inl opened) = (
+  pub wished_came : (counts : T → Counts) (given accepted : T → Option (List ℕ)) (arrived : ArrivedState T) (cells cells' : List (Option (ServiceState PlaceState T)))
+      (served served' : ServedCounts) (wishes : List Wish) (now : ℕ) → length wishes ≡ length cells
+      → AreWished cells wishes → TakesInOne counts given accepted now arrived cells served cells' served' → (length wishes ≡ length cells') × AreWished cells' wishes
+  wished_came counts given accepted arrived cells cells' served served' wishes now long are (inl opened) = (
     omega (arith, long, ap length opened.1.2.is, length-set cells opened.0 opened.1.2.after),
-    wished_opened cells cells' wishes opened.0 opening opened.1.0 are opened.1.2,
+    wished_opened cells cells' wishes opened.0 (opening_at now arrived) opened.1.0 are opened.1.2,
   )
-  wished_came counts cells cells' served served' wishes opening long are (inr refused) =
+  wished_came counts given accepted arrived cells cells' served served' wishes now long are (inr refused) =
       subst (λ those. (length wishes ≡ length those) × AreWished those wishes) (sym refused.0) (long, are)
 
   -- behind a round the wish of the connection in its cell is noted

@@ -1,5 +1,5 @@
 -- How connections have ended, counted.
-use Rattle.std.specs.Prelude.{ℕ, ◌+◌, min, List, [], ◌∷◌}
+use Rattle.std.specs.Prelude.{ℕ, ◌+◌, min, List, [], ◌∷◌, Option, Some, None}
 use Rattle.conn_service.specs.declared.served.Served.{Served}
 use Rattle.conn_service.specs.declared.served.Served.TheVariants.{Ended, Read, Write, Memory, NoCrossing, Stalled}
 use Rattle.service_table.specs.declared.turned.Turned.{Turned}
@@ -21,6 +21,11 @@ counted Write counts = record counts { write = raised counts.write }
 counted Memory counts = record counts { memory = raised counts.memory }
 counted NoCrossing counts = record counts { no_crossing = raised counts.no_crossing }
 counted Stalled counts = record counts { stalled = raised counts.stalled }
+
+-- one more, where one ended so
+abbrev pub counted_if : Option Served → ServedCounts → ServedCounts
+counted_if None counts = counts
+counted_if (Some how) counts = counted how counts
 
 -- behind a round, which may have ended one
 abbrev pub counted_behind : {T : Type 0} → Turned T → ServedCounts → ServedCounts

@@ -1,3 +1,5 @@
+pub mod Arrivals
+pub mod Chains
 pub mod Counting
 pub mod Lives
 pub mod Members

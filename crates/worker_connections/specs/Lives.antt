@@ -1,12 +1,9 @@
--- The life of a connection of a worker, from its opening to its end: rounds, each at its moment, whatever others do to the supply between them.
-use Rattle.std.specs.Prelude.{◌≡◌, ◌⊎◌, ℕ, ⊤, Bool, List, Option, Some, None}
+-- The life of a connection of a worker, from its opening on: rounds, each at its moment, whatever others do to the supply between them.
+use Rattle.std.specs.Prelude.{◌≡◌, ℕ, ⊤, Bool, List, Option, Some, None}
 use Rattle.transport.specs.declared.counts.Counts.{Counts}
 use Rattle.transport.specs.Counting.{no_counts}
 use Rattle.conn_supply.specs.Facts.{Fact}
 use Rattle.conn_engine.specs.declared.standing.Opening.{Opening}
-use Rattle.conn_engine.specs.declared.standing.Standing.TheVariants.{Ended}
-use Rattle.conn_service.specs.declared.served.Served.{Served}
-use Rattle.conn_service.specs.declared.served.Served.TheVariants.{Memory}
 use Rattle.conn_service.specs.Services.{ServiceState, opened}
 use Rattle.conn_service.specs.Lives.{Lives}
 
@@ -26,14 +23,3 @@ module _ {S P T : Type 0} (call : S → Fact P → S → Type 0) (begins ends : 
   abbrev pub IfLived : Option (ServiceState P T) → Type 0
   IfLived None = ⊤
   IfLived (Some service) = HasLived service
-
-  -- rounds led a connection from its opening to this end
-  pub record HasLivedToItsEnd (how : Served) : Type 0 where
-    pub last : ServiceState P T
-    pub lived : HasLived last
-    pub ending : last.ending ≡ Some how
-    pub over : last.client.conn.standing ≡ Ended
-
-  -- how the life of a connection ended: behind the last of its rounds; or there was no memory to open it, or the system did not watch it, and it was closed at once
-  abbrev pub IsLife : Served → Type 0
-  IsLife how = HasLivedToItsEnd how ⊎ (how ≡ Memory)

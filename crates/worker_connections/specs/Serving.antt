@@ -1,12 +1,10 @@
--- The connections of a worker of a broker: each that it received is open, and has lived as a connection is served; or it has ended, and is counted by its ending.
-use Rattle.std.specs.Prelude.{◌≡◌, ◌⊎◌, ℕ, ◌+◌, List, length, Option, Some, None, All}
-use Rattle.std.specs.List.{AllByRecursion}
+-- The connections of a worker of a broker: each that it received is open, or has ended and is counted by its ending.
+use Rattle.std.specs.Prelude.{◌≡◌, ◌⊎◌, ℕ, ◌+◌, List, length, Option, Some, None}
 use Rattle.transport.specs.declared.counts.Counts.{Counts}
 use Rattle.transport.specs.Counting.{no_counts}
-use Rattle.group_queue.specs.Ports.{GroupId}
+use Rattle.group_queue.specs.Ports.{GroupId, PortState}
 use Rattle.group_queue.specs.Places.{PlaceState}
 use Rattle.conn_channel.specs.Ends.{ReceiverState}
-use Rattle.conn_engine.specs.declared.standing.Opening.{Opening}
 use Rattle.conn_service.specs.declared.served.Served.{Served}
 use Rattle.conn_service.specs.declared.served.Served.TheVariants.{Memory}
 use Rattle.conn_service.specs.Services.{ServiceState}
@@ -23,29 +21,44 @@ use Rattle.worker_connections.specs.declared.connections.Went.{Went}
 use Rattle.worker_connections.specs.declared.connections.Went.TheVariants as went
 use Rattle.worker_connections.specs.declared.served.ServedCounts.{ServedCounts}
 use Rattle.worker_connections.specs.declared.sweeps.Sweeps.{Sweeps}
+use Rattle.worker_connections.specs.Arrivals.{ArrivedState, IsWatched, opening_at}
+use Rattle.worker_connections.specs.Chains.{RunState}
 use Rattle.worker_connections.specs.Counting.{counted, counts_of, none_served}
-use Rattle.worker_connections.specs.Lives.{IfLived, IsLife}
 use Rattle.worker_connections.specs.Sweeping.{KeepsMoment}
 
--- the end of the channel, the cells with the connections that are open, the counts of those that have ended, when those that are open went on, and what they
--- did that others may wait for
+-- the end of the channel, the cells with the connections that are open, the counts of those that have ended, when those that are open went on, and what they ask
+-- of the broker
 pub record ConnectionsState (T : Type 0) : Type 0 where
-  pub receiver : ReceiverState T
+  pub receiver : ReceiverState (ArrivedState T)
   pub cells : List (Option (ServiceState PlaceState T))
   pub served : ServedCounts
   pub sweeps : Sweeps
-  pub wakes : Wakes
+  pub supply : Worker
 
 -- how many connections are open
 abbrev pub live : {T : Type 0} → ConnectionsState T → ℕ
 live connections = occupied connections.cells
 
+-- what they did that others may wait for
+abbrev pub wakes_of : {T : Type 0} → ConnectionsState T → Wakes
+wakes_of connections = connections.supply.wakes
+
+-- the same connections, who did this that others may wait for
+abbrev pub with_wakes : {T : Type 0} → ConnectionsState T → Wakes → ConnectionsState T
+with_wakes connections wakes = record connections { supply = record connections.supply { wakes = wakes } }
+
+-- what the run of their worker has come to
+abbrev pub run_of : {T : Type 0} → ConnectionsState T → RunState T
+run_of connections =
+    record { supply = connections.supply; cells = connections.cells; received = connections.receiver.received; served = connections.served }
+
 -- none was received yet
-pub record AreFresh {T : Type 0} (receiver : ReceiverState T) (connections : ConnectionsState T) : Type 0 where
+pub record AreFresh {T : Type 0} (receiver : ReceiverState (ArrivedState T)) (ports : List PortState) (connections : ConnectionsState T) : Type 0 where
   pub receiver_is : connections.receiver ≡ receiver
+  pub ports_are : connections.supply.ports ≡ ports
   pub none_live : live connections ≡ 0
   pub none_ended : connections.served ≡ none_served
-  pub none_waits : connections.wakes ≡ no_wakes
+  pub none_waits : wakes_of connections ≡ no_wakes
 
 -- they come through the same channel as before
 abbrev pub StaysOf : {T : Type 0} → ConnectionsState T → ConnectionsState T → Type 0
@@ -62,16 +75,18 @@ pub record IsDone {T : Type 0} (connections : ConnectionsState T) : Type 0 where
   pub mark : connections.receiver.end_marks_received ≡ 1
   pub none_live : live connections ≡ 0
 
--- a connection that came is opened so in a cell, or in none
-abbrev pub Admits : {T : Type 0} → (T → Counts) → Opening → List (Option (ServiceState PlaceState T)) → Option ℕ → List (Option (ServiceState PlaceState T)) → Type 0
-Admits counts opening old None new = new ≡ old
-Admits {T} counts opening old (Some cell) new =
-    (transport : T) × (counts transport ≡ no_counts) × InCell old cell (Opens opening transport) new × (occupied new ≡ occupied old + 1)
+-- a connection that came is opened in a cell at this moment, over its transport as it is watched; or in none
+abbrev pub Admits : {T : Type 0} → (T → Counts) → (T → Option (List ℕ)) → (T → Option (List ℕ)) → (now : ℕ) → ArrivedState T → List (Option (ServiceState PlaceState T)) → Option ℕ
+    → List (Option (ServiceState PlaceState T)) → Type 0
+Admits counts given accepted now arrived old None new = new ≡ old
+Admits {T} counts given accepted now arrived old (Some cell) new =
+    (watched : T) × IsWatched counts given accepted arrived.transport watched × InCell old cell (Opens (opening_at now arrived) watched) new × (occupied new ≡ occupied old + 1)
 
 -- it is open then, or has ended and is counted as one for which there was no memory
-abbrev pub TakesIn : {T : Type 0} → (T → Counts) → Opening → List (Option (ServiceState PlaceState T)) → ServedCounts → List (Option (ServiceState PlaceState T)) → ServedCounts → Type 0
-TakesIn counts opening old served new served' =
-    ((cell : ℕ) × Admits counts opening old (Some cell) new × (served' ≡ served)) ⊎ (Admits counts opening old None new × (served' ≡ counted Memory served))
+abbrev pub TakesIn : {T : Type 0} → (T → Counts) → (T → Option (List ℕ)) → (T → Option (List ℕ)) → (now : ℕ) → ArrivedState T → List (Option (ServiceState PlaceState T)) → ServedCounts
+    → List (Option (ServiceState PlaceState T)) → ServedCounts → Type 0
+TakesIn counts given accepted now arrived old served new served' =
+    ((cell : ℕ) × Admits counts given accepted now arrived old (Some cell) new × (served' ≡ served)) ⊎ (Admits counts given accepted now arrived old None new × (served' ≡ counted Memory served))
 
 -- what a connection waits for behind a round; none where there is none, or it has ended
 abbrev pub round_of : {T : Type 0} → Turned T → Option Round
@@ -90,34 +105,22 @@ Tells Vacant told = told ≡ went.Nowhere
 Tells (Goes round) told = told ≡ went.On round
 Tells (Ended how transport) told = told ≡ went.ToItsEnd
 
+-- those that have ended, the latest first, are counted by their endings; together with those in the cells they are as many as were received
+pub record IsAccounted {T : Type 0} (received : ℕ) (cells : List (Option (ServiceState PlaceState T))) (served : ServedCounts) : Type 0 where
+  pub endings : List Served
+  pub counted : served ≡ counts_of endings
+  pub all : received ≡ occupied cells + length endings
+
+-- each of so many connections has ended, and is counted by its ending
+pub record AreCounted (received : ℕ) (served : ServedCounts) : Type 0 where
+  pub endings : List Served
+  pub counted : served ≡ counts_of endings
+  pub all : received ≡ length endings
+
 module _ {T : Type 0} (group : ℕ → GroupId) (counts : T → Counts) (given accepted : T → Option (List ℕ)) where
-  -- in a broker with these groups, the connection in a cell has lived, where there is one
-  abbrev pub IfLives : Option (ServiceState PlaceState T) → Type 0
-  IfLives cell = IfLived (Calls group) Begins Leaves is_visiting (λ (p : PlaceState). p.group) counts given accepted cell
-
-  -- a life ended so
-  abbrev pub EndsLife : Served → Type 0
-  EndsLife how = IsLife (Calls group) Begins Leaves is_visiting (λ (p : PlaceState). p.group) counts given accepted how
-
-  -- those in the cells live, and those that have ended, the latest first, are counted by their endings; together they are as many as were received
-  pub record IsAccounted (received : ℕ) (cells : List (Option (ServiceState PlaceState T))) (served : ServedCounts) : Type 0 where
-    pub living : All IfLives cells
-    pub endings : List Served
-    pub lived : AllByRecursion EndsLife endings
-    pub counted : served ≡ counts_of endings
-    pub all : received ≡ occupied cells + length endings
-
-  -- each of so many connections has lived to its end, and is counted by it
-  pub record AreServed (received : ℕ) (served : ServedCounts) : Type 0 where
-    pub endings : List Served
-    pub lived : AllByRecursion EndsLife endings
-    pub counted : served ≡ counts_of endings
-    pub all : received ≡ length endings
-
   -- the connection in a cell, where there is one, went by a round this way at the worker's moment, and so many messages at most were handed to its client
   pub record GoesBy (cell : ℕ) (direction : Direction) (most : ℕ) (turned : Turned T) (old new : ConnectionsState T) : Type 0 where
-    pub before : Worker
-    pub behind : Worker
-    pub allowed : before.allowance ≡ most
-    pub turns : InCell old.cells cell (λ one other. TurnsIn (Calls group) Begins Leaves is_visiting (λ (p : PlaceState). p.group) counts given accepted old.sweeps.latest one before turned other behind) new.cells
+    pub turns : InCell old.cells cell
+        (λ one other. TurnsIn (Calls group) Begins Leaves is_visiting (λ (p : PlaceState). p.group) counts given accepted old.sweeps.latest one
+        (record old.supply { allowance = most }) turned other new.supply) new.cells
     pub way : InCell old.cells cell (λ one other. FollowsIn given accepted direction old.sweeps.latest one turned other) new.cells

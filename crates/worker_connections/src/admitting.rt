@@ -1,8 +1,7 @@
 //! A connection that came is opened in a cell, and one that has ended is closed.
-ghost use Rattle.std.specs.Prelude.{◌≡◌};
-ghost use Rattle.transport.specs.Counting.{no_counts};
 ghost use Rattle.worker_connections.specs.Serving.{Admits, TakesIn};
 
+use crate::arrived::Arrived;
 use crate::connections::Came;
 use crate::poller::Poller;
 use crate::served::ServedCounts;
@@ -12,18 +11,17 @@ use conn_service::Served;
 use service_table::ServiceTable;
 use transport::Transport;
 
-/// Opens a connection that came; where it can't, it counts it as ended.
+/// Opens a connection that came, at this moment; where it can't, it counts it as ended.
 pub(crate) fn take_in<B: Broker, T: Transport + Drop, Q: Poller<T>>(
     table: &mut ServiceTable<BrokerPlace<B>, T>,
     served: &mut ServedCounts,
     poller: &mut Q,
-    transport: T,
-    opening: Opening,
+    arrived: Arrived<T>,
+    now: u64,
 ) -> Came
-    requires new { T.counts transport ≡ no_counts }
-    ensures { TakesIn T.counts opening table.old served.old table.new served.new }
+    ensures { TakesIn T.counts T.given T.accepted now arrived table.old served.old table.new served.new }
 {
-    match admit(table, poller, transport, opening) {
+    match admit(table, poller, arrived, now) {
         Some(cell) => Came::Opened(cell),
         None => {
             served.count(Served::Memory);
@@ -36,18 +34,21 @@ pub(crate) fn take_in<B: Broker, T: Transport + Drop, Q: Poller<T>>(
 fn admit<B: Broker, T: Transport + Drop, Q: Poller<T>>(
     table: &mut ServiceTable<BrokerPlace<B>, T>,
     poller: &mut Q,
-    transport: T,
-    opening: Opening,
+    arrived: Arrived<T>,
+    now: u64,
 ) -> Option<usize>
-    requires new { T.counts transport ≡ no_counts }
-    ensures { Admits T.counts opening table.old result table.new }
+    ensures { Admits T.counts T.given T.accepted now arrived table.old result table.new }
 {
-    let mut transport = transport;
+    let (mut transport, max_inflight) = arrived.into_parts();
     let cell = poller.register(&mut transport)?;
     if cell >= table.len() {
         close(poller, cell, transport);
         return None;
     }
+    let opening = Opening {
+        at: now,
+        max_inflight,
+    };
     match table.open(cell, opening, transport) {
         Ok(()) => Some(cell),
         Err(transport) => {

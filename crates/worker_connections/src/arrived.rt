@@ -6,7 +6,7 @@ use conn_rules::MaxInflight;
 use std::marker::Model;
 use transport::Transport;
 
-/// A connection that came, of which nothing was asked yet, and the most messages that its client may have unacknowledged. Contracts see it as its transport.
+/// A connection that came, of which nothing was asked yet, and the most messages that its client may have unacknowledged. Contracts see it as an `ArrivedState`.
 #[derive(Drop)]
 pub struct Arrived<T: Transport> {
     transport: T,
@@ -17,9 +17,11 @@ impl<T: Transport> Model for Arrived<T> {
     ghost use Rattle.std.specs.Prelude.{◌≡◌};
     ghost use Rattle.transport.specs.Counting.{no_counts};
 
-    ghost Value = { T };
+    ghost use Rattle.worker_connections.specs.Arrivals.{ArrivedState};
 
-    ghost view = { λ a. a.transport };
+    ghost Value = { ArrivedState T };
+
+    ghost view = { λ a. record { transport = a.transport; max_inflight = a.max_inflight } };
 
     ghost invariant = { λ a. T.counts a.transport ≡ no_counts };
 }
@@ -28,7 +30,7 @@ impl<T: Transport> Arrived<T> {
     /// A connection that came.
     pub fn new(transport: T, max_inflight: MaxInflight) -> Arrived<T>
         requires { T.counts transport ≡ no_counts }
-        ensures { result ≡ transport }
+        ensures { result ≡ record { transport = transport; max_inflight = max_inflight } }
     {
         Arrived {
             transport,
@@ -38,7 +40,7 @@ impl<T: Transport> Arrived<T> {
 
     /// Its transport, and the most messages that its client may have unacknowledged.
     pub fn into_parts(self) -> (T, MaxInflight)
-        ensures same { result.0 ≡ self }
+        ensures same { self ≡ record { transport = result.0; max_inflight = result.1 } }
         ensures fresh { T.counts result.0 ≡ no_counts }
     {
         let Arrived {

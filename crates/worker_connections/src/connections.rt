@@ -1,13 +1,14 @@
 //! The connections of a worker: those that it received are open, or have ended and are counted.
-ghost use Rattle.std.specs.Prelude.{◌≡◌, ◌<◌, ◌+◌, ℕ, [], None, true, false, replicate, length};
+ghost use Rattle.std.specs.Prelude.{◌≡◌, ◌<◌, ◌+◌, ℕ, [], None, true, false, All, replicate, length};
 ghost use Rattle.group_queue.specs.Places.{PlaceState};
+ghost use Rattle.group_queue.specs.Ports.{PortState};
 ghost use Rattle.service_table.specs.Cells.{FollowsIn, InCell, Turns, ended_by, occupied};
 ghost use Rattle.service_table.specs.declared.turned.Turned.{Turned as AnyTurned};
 ghost use Rattle.shared_supply.specs.Calls.{Calls};
 ghost use Rattle.shared_supply.specs.Waking.{KeepsAtMost, no_wakes};
-ghost use Rattle.shared_supply.specs.Workers.{Begins, Leaves, is_visiting};
-ghost use Rattle.worker_connections.specs.Counting.{none_served};
-ghost use Rattle.worker_connections.specs.Serving.{AreFresh, AreServed, GoesBy, IsDone, Rounds, StaysOf, Tells, live};
+ghost use Rattle.shared_supply.specs.Workers.{Begins as BeginsVisit, Leaves as LeavesVisit, is_visiting};
+ghost use Rattle.worker_connections.specs.Chains.{HasRunTo};
+ghost use Rattle.worker_connections.specs.Serving.{AreCounted, AreFresh, GoesBy, IsDone, Rounds, StaysOf, Tells, live, run_of, wakes_of, with_wakes};
 ghost use Rattle.worker_connections.specs.Members.{HasTaker, TakesIn as WouldTake, one_called_if};
 ghost use Rattle.worker_bells.specs.Wishing.{IsWished};
 ghost use Rattle.worker_connections.specs.Sweeping.{AreTicked, Begins, HasGone, IsInTime, Notes, WaitsInTime, looked};
@@ -22,9 +23,9 @@ use crate::sweeps::Sweeps;
 use broker_groups::{Broker, BrokerPlace};
 use call_history::HistoryName;
 use conn_channel::{Received, Receiver};
-use conn_engine::Opening;
 use conn_service::{Direction, Round};
 use service_table::{ServiceTable, Turned};
+use shared_desk::DeskPass;
 use shared_supply::{SharedSupply, Tally, Wakes};
 use std::marker::Model;
 use std::sync::Wait;
@@ -33,8 +34,9 @@ use worker_bells::{Members, SLOTS};
 
 /// The connections that a worker received, each in a cell of its table as long as it is open, and what they ask of the broker.
 ///
-/// Contracts see it as a `ConnectionsState`: what was received of the channel, which connections are open and when they went on, and how many have ended in
-/// which way. Each of them lived as a connection is served, from its opening on.
+/// Contracts see it as a `ConnectionsState`: what was received of the channel, which connections are open and when they went on, how many have ended in
+/// which way, and what they ask. All that came of it is one run, from a supply through which nothing was published: each deed of it began at the state that the one
+/// before it left, and is of one of these connections.
 pub struct Connections<'a, 'g, B: Broker, N: HistoryName, T: Transport + Drop, R: Wait> {
     receiver: Receiver<Arrived<T>>,
     table: ServiceTable<BrokerPlace<B>, T>,
@@ -47,16 +49,30 @@ pub struct Connections<'a, 'g, B: Broker, N: HistoryName, T: Transport + Drop, R
 impl<'a, 'g, B: Broker, N: HistoryName, T: Transport + Drop, R: Wait> Model
     for Connections<'a, 'g, B, N, T, R> {
     ghost use Rattle.std.specs.Prelude.{◌≡◌, length};
+    ghost use Rattle.worker_connections.specs.Chains.{HasRunTo};
     ghost use Rattle.worker_connections.specs.Serving.{ConnectionsState, IsAccounted};
     ghost use Rattle.worker_connections.specs.Sweeping.{AreSwept};
     ghost use Rattle.worker_connections.specs.Members.{AreWished};
 
     ghost Value = { ConnectionsState T };
 
-    ghost view = { λ c. record { receiver = c.receiver; cells = c.table; served = c.served; sweeps = c.sweeps; wakes = c.supply.wakes } };
+    ghost view = { λ c. record { receiver = c.receiver; cells = c.table; served = c.served; sweeps = c.sweeps; supply = c.supply } };
 
-    ghost invariant = { λ c. IsAccounted B.group T.counts T.given T.accepted (length c.receiver.received) c.table c.served × AreSwept c.sweeps c.table
-        × (length c.members ≡ length c.table) × AreWished c.table c.members };
+    ghost invariant = { λ c. IsAccounted (length c.receiver.received) c.table c.served × AreSwept c.sweeps c.table
+        × (length c.members ≡ length c.table) × AreWished c.table c.members
+        × HasRunTo B.group T.counts T.given T.accepted (record { supply = c.supply; cells = c.table; received = c.receiver.received; served = c.served }) };
+}
+
+/// What the connections of a worker give back.
+pub struct Returned<B: Broker, N: HistoryName, T: Transport + Drop> {
+    /// What they had of the broker.
+    pub hand: Hand<B>,
+    /// Their end of the channel.
+    pub receiver: Receiver<Arrived<T>>,
+    /// How they ended.
+    pub served: ServedCounts,
+    /// What they know of the calls of the broker's desk.
+    pub pass: DeskPass<BrokerPlace<B>, N>,
 }
 
 /// What came through the channel.
@@ -89,7 +105,8 @@ impl<'a, 'g, B: Broker, N: HistoryName, T: Transport + Drop, R: Wait> Connection
     T,
     R,
 > {
-    /// None yet, of those that this end of the channel will receive; this table is for them, these are their wishes, and this supply is what they ask.
+    /// None yet, of those that this end of the channel will receive; this table is for them, these are their wishes, and this supply is what they ask. Nothing was
+    /// published through its ports.
     pub fn new(
         receiver: Receiver<Arrived<T>>,
         table: ServiceTable<BrokerPlace<B>, T>,
@@ -99,7 +116,8 @@ impl<'a, 'g, B: Broker, N: HistoryName, T: Transport + Drop, R: Wait> Connection
         requires receiver { receiver.received ≡ [] }
         requires table { table ≡ replicate (length members) None }
         requires supply { supply.wakes ≡ no_wakes }
-        ensures { AreFresh receiver result }
+        requires unsent { All (λ (port : PortState). port.sent ≡ []) supply.ports }
+        ensures { AreFresh receiver supply.ports result }
     {
         Connections {
             receiver,
@@ -207,7 +225,7 @@ impl<'a, 'g, B: Broker, N: HistoryName, T: Transport + Drop, R: Wait> Connection
     /// Counts, where a ring was heard, that another worker called this one for a message of the group of this slot.
     pub fn count_call_if(&mut self, slot: usize, heard: bool)
         requires { slot < 8 }
-        ensures { self.new ≡ record self.old { wakes = one_called_if heard slot self.old.wakes } }
+        ensures { self.new ≡ with_wakes self.old (one_called_if heard slot (wakes_of self.old)) }
     {
         if heard {
             self.supply.count_call(slot);
@@ -216,23 +234,23 @@ impl<'a, 'g, B: Broker, N: HistoryName, T: Transport + Drop, R: Wait> Connection
 
     /// For each slot, how many messages of its group they brought that others may wait for.
     pub fn messages(&self) -> [u32; SLOTS]
-        ensures { result ≡ self.now.wakes.messages }
+        ensures { result ≡ (wakes_of self.now).messages }
     {
         self.supply.wakes().messages
     }
 
     /// Keeps of these messages so many of each group at most, and gives back how many more there are.
     pub fn keep(&mut self, most: &[u32; SLOTS]) -> [u32; SLOTS]
-        ensures kept { KeepsAtMost most.now result self.old.wakes self.new.wakes }
-        ensures same { self.new ≡ record self.old { wakes = self.new.wakes } }
+        ensures kept { KeepsAtMost most.now result (wakes_of self.old) (wakes_of self.new) }
+        ensures same { self.new ≡ with_wakes self.old (wakes_of self.new) }
     {
         self.supply.keep_messages(most)
     }
 
     /// What they did since it was last asked that others may wait for.
     pub fn take_wakes(&mut self) -> Wakes
-        ensures told { result ≡ self.old.wakes }
-        ensures cleared { self.new ≡ record self.old { wakes = no_wakes } }
+        ensures told { result ≡ wakes_of self.old }
+        ensures cleared { self.new ≡ with_wakes self.old no_wakes }
     {
         self.supply.take_wakes()
     }
@@ -242,6 +260,7 @@ impl<'a, 'g, B: Broker, N: HistoryName, T: Transport + Drop, R: Wait> Connection
     pub fn receive<Q: Poller<T>>(&mut self, rt: &R, poller: &mut Q) -> Came
         ensures same { StaysOf self.old self.new }
         ensures sweeps { self.new.sweeps ≡ self.old.sweeps }
+        ensures supply { self.new.supply ≡ self.old.supply }
     {
         if self.receiver.is_ended() {
             return Came::Nothing;
@@ -249,18 +268,7 @@ impl<'a, 'g, B: Broker, N: HistoryName, T: Transport + Drop, R: Wait> Connection
         let now = self.sweeps.latest;
         match self.receiver.receive(rt) {
             Received::Connection(arrived) => {
-                let (transport, max_inflight) = arrived.into_parts();
-                let opening = Opening {
-                    at: now,
-                    max_inflight,
-                };
-                take_in(
-                    &mut self.table,
-                    &mut self.served,
-                    poller,
-                    transport,
-                    opening,
-                )
+                take_in(&mut self.table, &mut self.served, poller, arrived, now)
             }
             Received::EndMark => Came::EndMark,
             Received::Nothing => Came::Nothing,
@@ -332,10 +340,15 @@ impl<'a, 'g, B: Broker, N: HistoryName, T: Transport + Drop, R: Wait> Connection
         turned
     }
 
-    /// What they had of the broker, the end of the channel, and how they ended. Any that is still open ends as where the broker closes.
-    pub fn into_parts(self) -> (Hand<B>, Receiver<Arrived<T>>, ServedCounts)
-        ensures receiver { result.1 ≡ self.entry.receiver }
-        ensures served { (live self.entry ≡ 0) → AreServed B.group T.counts T.given T.accepted (length self.entry.receiver.received) result.2 }
+    /// What they had of the broker and know of its desk, the end of the channel, and how they ended: these are what their run has come to. Any that is still open
+    /// ends as where the broker closes.
+    pub fn into_parts(self) -> Returned<B, N, T>
+        ensures receiver { result.receiver ≡ self.entry.receiver }
+        ensures served { result.served ≡ self.entry.served }
+        ensures counted { live self.entry ≡ 0 → AreCounted (length self.entry.receiver.received) result.served }
+        ensures ran { HasRunTo B.group T.counts T.given T.accepted (run_of self.entry) }
+        ensures ports { live self.entry ≡ 0 → result.hand.ports ≡ self.entry.supply.ports }
+        ensures desk { live self.entry ≡ 0 → result.pass ≡ self.entry.supply.desk }
     {
         let Connections {
             receiver,
@@ -347,8 +360,13 @@ impl<'a, 'g, B: Broker, N: HistoryName, T: Transport + Drop, R: Wait> Connection
         } = self;
         drop(members);
         abandon(table, &mut supply);
-        let (key, ports, _desk) = supply.into_parts();
-        (Hand { key, ports }, receiver, served)
+        let (key, ports, pass) = supply.into_parts();
+        Returned {
+            hand: Hand { key, ports },
+            receiver,
+            served,
+            pass,
+        }
     }
 }
 
@@ -365,7 +383,7 @@ fn turn<'a, 'g, B: Broker, N: HistoryName, T: Transport, R: Wait, X: Crossing>(
 ) -> Turned<T>
     requires cell { cell < length table.old }
     requires room { 0 < length buffer.old }
-    ensures turns { InCell table.old cell (λ before after. Turns (Calls B.group) Begins Leaves is_visiting (λ (p : PlaceState). p.group) T.counts T.given T.accepted now before supply.old result after supply.new) table.new }
+    ensures turns { InCell table.old cell (λ before after. Turns (Calls B.group) BeginsVisit LeavesVisit is_visiting (λ (p : PlaceState). p.group) T.counts T.given T.accepted now before supply.old result after supply.new) table.new }
     ensures way { InCell table.old cell (λ before after. FollowsIn T.given T.accepted direction now before result after) table.new }
     ensures len { length table.new ≡ length table.old }
     ensures count { occupied table.old ≡ occupied table.new + ended_by result }
@@ -377,6 +395,8 @@ fn turn<'a, 'g, B: Broker, N: HistoryName, T: Transport, R: Wait, X: Crossing>(
 fn abandon<'a, 'g, B: Broker, N: HistoryName, T: Transport + Drop, R: Wait>(
     table: ServiceTable<BrokerPlace<B>, T>,
     supply: &mut SharedSupply<'a, 'g, B, N, R>,
-) {
+)
+    ensures { occupied table ≡ 0 → supply.new ≡ supply.old }
+{
     table.abandon(supply, 0);
 }

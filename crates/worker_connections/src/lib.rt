@@ -15,7 +15,7 @@ mod served;
 mod sweeps;
 
 pub use arrived::Arrived;
-pub use connections::{Came, Connections, Went};
+pub use connections::{Came, Connections, Returned, Went};
 pub use hand::Hand;
 pub use poller::Poller;
 pub use served::ServedCounts;

@@ -1,5 +1,5 @@
 //! Where a worker waits.
-ghost use Rattle.std.specs.Prelude.{◌≡◌};
+ghost use Rattle.worker_connections.specs.Arrivals.{IsWatched};
 
 use std::sync::Wait;
 use transport::Transport;
@@ -8,7 +8,7 @@ use transport::Transport;
 pub trait Poller<T: Transport> {
     /// Watches a transport from now on, under the least number that is free; `None` where there is none, or the system refuses.
     fn register(&mut self, transport: &mut T) -> Option<usize>
-        ensures { T.counts transport.new ≡ T.counts transport.old };
+        ensures { IsWatched T.counts T.given T.accepted transport.old transport.new };
 
     /// Watches it no more. Its number is free.
     fn let_go(&mut self, number: usize, transport: &mut T);

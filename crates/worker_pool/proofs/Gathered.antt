@@ -1,16 +1,23 @@
 -- What workers give back, all together.
-use Rattle.std.proofs.Common.{◌≡◌, ℕ, ◌+◌, ◌<◌, List, [], ◌∷◌, ◌++◌, length, map, sum_by, Option, refl, sym, subst, ◌∙◌, ap, arith}
-use Rattle.std.specs.List.{AllZip}
+use Rattle.std.proofs.Common.{◌≡◌, ℕ, ◌+◌, ◌<◌, List, [], ◌∷◌, ◌++◌, length, map, sum_by, Option, refl, sym, subst, ◌∙◌, ap, append-nil, append_assoc, arith}
+use Rattle.std.specs.List.{AllByRecursion, AllZip}
+use mathlib.Core.List.{IsPrefix}
 use Rattle.std.proofs.lemmas.List.Sums.{sum_by-cons}
 use Rattle.transport.specs.declared.counts.Counts.{Counts}
-use Rattle.group_queue.specs.Ports.{GroupId}
-use Rattle.conn_channel.specs.Ends.{ReceiverState, received_by}
+use Rattle.group_jobs.specs.Stamps.{Held}
+use Rattle.session_desk.specs.Calls.{Call}
+use Rattle.group_queue.specs.Ports.{GroupId, PortState}
+use Rattle.group_queue.specs.Places.{PlaceState}
+use Rattle.conn_channel.specs.Ends.{IsSettled, ReceiverState, SenderState, end_marks_received_by, lists_of, received_by}
+use Rattle.conn_channel.specs.Interleavings.{IsInterleaving}
 use Rattle.conn_service.specs.declared.served.Served.{Served}
+use Rattle.service_table.specs.Cells.{occupied}
 use Rattle.worker_connections.specs.declared.served.ServedCounts.{ServedCounts}
+use Rattle.worker_connections.specs.Arrivals.{ArrivedState}
+use Rattle.worker_connections.specs.Chains.{HasRunTo, IsWholeRun, Run, RunState}
 use Rattle.worker_connections.specs.Counting.{counts_of}
-use Rattle.worker_connections.specs.Serving.{AreServed, live}
-use Rattle.broker_worker.specs.Resting.{WorkerState}
-use Rattle.worker_pool.specs.Pools.{AreAllServed, ServesAll, total_in}
+use Rattle.worker_connections.specs.Serving.{AreCounted, ConnectionsState, live, run_of}
+use Rattle.worker_pool.specs.Pools.{AreAllCounted, AreServed, CountsAll, HaveEnded, total_in}
 use Rattle.worker_pool.proofs.Counted.{of_all}
 
 -- two lists that go along, one element longer
@@ -20,33 +27,98 @@ zip_push Along [] (b ∷ ys) x y all one = absurd all
 zip_push Along (a ∷ xs) [] x y all one = absurd all
 zip_push Along (a ∷ xs) (b ∷ ys) x y all one = (all.0, zip_push Along xs ys x y all.1 one)
 
-module _ {T : Type 0} (group : ℕ → GroupId) (counts : T → Counts) (given accepted : T → Option (List ℕ)) where
-  -- all that these ends received was served
-  pub serves_all : (receivers : List (ReceiverState T)) (served : List ServedCounts) → AreAllServed group counts given accepted receivers served
-      → ServesAll group counts given accepted (received_by receivers) served
-  serves_all [] [] all = record { endings = []; lived = tt; counted = refl; all = refl }
-  serves_all [] (served ∷ rest) all = absurd all
-  serves_all (receiver ∷ receivers) [] all = absurd all
-  serves_all (receiver ∷ receivers) (served ∷ rest) all =
-      let others = serves_all receivers rest all.1 in
+pub map_push : {A C : Type 0} (f : A → C) (xs : List A) (x : A) → map f (xs ++ x ∷ []) ≡ map f xs ++ f x ∷ []
+map_push f [] x = refl
+map_push f (a ∷ xs) x = ap (λ (l : List _). f a ∷ l) (map_push f xs x)
+
+all_push : {A : Type 0} (P : A → Type 0) (xs : List A) (x : A) → AllByRecursion P xs → P x → AllByRecursion P (xs ++ x ∷ [])
+all_push P [] x all one = (one, tt)
+all_push P (a ∷ xs) x all one = (all.0, all_push P xs x all.1 one)
+
+all_weaker : {A : Type 0} (P Q : A → Type 0) → ((x : A) → P x → Q x) → (xs : List A) → AllByRecursion P xs → AllByRecursion Q xs
+all_weaker P Q weaker [] all = tt
+all_weaker P Q weaker (x ∷ xs) all = (weaker x all.0, all_weaker P Q weaker xs all.1)
+
+-- what begins a list begins each that goes on from it
+pub begins_longer : {A : Type 0} (xs ys zs : List A) → IsPrefix xs ys → IsPrefix ys zs → IsPrefix xs zs
+begins_longer {A} xs ys zs one two = (one.0 ++ two.0, sym (append_assoc xs one.0 two.0) ∙ ap (λ (l : List A). l ++ two.0) one.1 ∙ two.1)
+
+pub begins_itself : {A : Type 0} (xs : List A) → IsPrefix xs xs
+begins_itself xs = ([], append-nil xs)
+
+module _ {T : Type 0} where
+  -- all that these ends received is counted
+  pub counts_them : (receivers : List (ReceiverState T)) (served : List ServedCounts) → AreAllCounted receivers served → CountsAll (received_by receivers) served
+  counts_them [] [] all = record { endings = []; counted = refl; all = refl }
+  counts_them [] (served ∷ rest) all = absurd all
+  counts_them (receiver ∷ receivers) [] all = absurd all
+  counts_them (receiver ∷ receivers) (served ∷ rest) all =
+      let others = counts_them receivers rest all.1 in
       record {
         endings = all.0.endings ∷ others.endings;
-        lived = (all.0.lived, others.lived);
         counted = cc (all.0.counted, others.counted);
         all = omega (arith, sum_by-cons {X = ReceiverState T} (λ r. length r.received) receiver receivers, sum_by-cons {X = List Served} length all.0.endings others.endings, all.0.all, others.all);
       }
 
   -- one worker more gives back what it had
-  pub gathers : (receivers receivers' : List (ReceiverState T)) (served served' : List ServedCounts) (worker : WorkerState T) (receiver : ReceiverState T) (counted : ServedCounts)
-      → AreAllServed group counts given accepted receivers served → receivers' ≡ receivers ++ receiver ∷ [] → served' ≡ served ++ counted ∷ [] → receiver ≡ worker.connections.receiver
-      → (live worker.connections ≡ 0 → AreServed group counts given accepted (length worker.connections.receiver.received) counted) → live worker.connections ≡ 0 → AreAllServed group counts given accepted receivers' served'
-  gathers receivers receivers' served served' worker receiver counted all ends counts_are same tells none =
-      let Serves : ReceiverState T → ServedCounts → Type 0 = λ r c. AreServed group counts given accepted (length r.received) c in
-      let One : ReceiverState T → Type 0 = λ r. Serves r counted in
-      let Ends : List (ReceiverState T) → Type 0 = λ rs. AllZip Serves rs served' in
-      let Counts : List ServedCounts → Type 0 = λ cs. AllZip Serves (receivers ++ receiver ∷ []) cs in
-      subst Ends (sym ends) (subst Counts (sym counts_are) (zip_push Serves receivers served receiver counted all (subst One (sym same) (tells none))))
+  pub counts_one_more : (receivers receivers' : List (ReceiverState T)) (served served' : List ServedCounts) (receiver : ReceiverState T) (counted : ServedCounts)
+      → AreAllCounted receivers served → receivers' ≡ receivers ++ receiver ∷ [] → served' ≡ served ++ counted ∷ [] → AreCounted (length receiver.received) counted → AreAllCounted receivers' served'
+  counts_one_more receivers receivers' served served' receiver counted all ends counts_are one =
+      let Counts : ReceiverState T → ServedCounts → Type 0 = λ r c. AreCounted (length r.received) c in
+      let Ends : List (ReceiverState T) → Type 0 = λ rs. AllZip Counts rs served' in
+      let These : List ServedCounts → Type 0 = λ cs. AllZip Counts (receivers ++ receiver ∷ []) cs in
+      subst Ends (sym ends) (subst These (sym counts_are) (zip_push Counts receivers served receiver counted all one))
 
-  -- the counts of all workers add up to the connections
-  pub counts_all : (came : ℕ) (served : List ServedCounts) → ServesAll group counts given accepted came served → came < 18446744073709551616 → came ≡ total_in served
-  counts_all came served serves few = serves.all ∙ (sym (of_all serves.endings (omega (arith, few, serves.all))) ∙ sym (ap total_in serves.counted))
+-- the counts of all workers add up to the connections
+pub counts_all : (came : ℕ) (served : List ServedCounts) → CountsAll came served → came < 18446744073709551616 → came ≡ total_in served
+counts_all came served counts few = counts.all ∙ (sym (of_all counts.endings (omega (arith, few, counts.all))) ∙ sym (ap total_in counts.counted))
+
+module _ {T : Type 0} (group : ℕ → GroupId) (counts : T → Counts) (given accepted : T → Option (List ℕ)) where
+  -- no worker gave anything back yet
+  pub nobody : (calls : List (Call Held PlaceState)) → HaveEnded group counts given accepted [] [] [] calls
+  nobody calls = record { runs = []; whole = tt; ports_are = refl; received_are = refl; served_are = refl; told = tt }
+
+  -- one worker more did
+  pub ends : (ports ports' : List (List PortState)) (receivers receivers' : List (ReceiverState (ArrivedState T))) (served served' : List ServedCounts)
+      (calls calls' known : List (Call Held PlaceState)) (its : List PortState) (receiver : ReceiverState (ArrivedState T)) (counted : ServedCounts) (connections : ConnectionsState T)
+      → HaveEnded group counts given accepted ports receivers served calls → ports' ≡ ports ++ its ∷ [] → receivers' ≡ receivers ++ receiver ∷ [] → served' ≡ served ++ counted ∷ []
+      → HasRunTo group counts given accepted (run_of connections) → live connections ≡ 0 → its ≡ connections.supply.ports → receiver ≡ connections.receiver → counted ≡ connections.served
+      → known ≡ connections.supply.desk → IsPrefix calls calls' → IsPrefix known calls' → HaveEnded group counts given accepted ports' receivers' served' calls'
+  ends ports ports' receivers receivers' served served' calls calls' known its receiver counted connections all ports_are receivers_are served_are ran none its_are receiver_is counted_is known_is before knows =
+      let run : Run T = ran.run in
+      let Begins : List (Call Held PlaceState) → Run T → Type 0 = λ those one. IsPrefix one.last.supply.desk those in
+      record {
+        runs = all.runs ++ run ∷ [];
+        whole = all_push (IsWholeRun group counts given accepted) all.runs run all.whole
+            (record { is = ran.is; none_live = ap (λ (state : RunState T). occupied state.cells) ran.here ∙ none });
+        ports_are = ports_are ∙ ap (λ (l : List (List PortState)). l ++ its ∷ []) all.ports_are
+            ∙ ap (λ (p : List PortState). map (λ (one : Run T). one.last.supply.ports) all.runs ++ p ∷ []) (its_are ∙ sym (ap (λ (state : RunState T). state.supply.ports) ran.here))
+            ∙ sym (map_push (λ (one : Run T). one.last.supply.ports) all.runs run);
+        received_are = ap lists_of receivers_are ∙ map_push (λ (r : ReceiverState (ArrivedState T)). r.received) receivers receiver
+            ∙ ap (λ (l : List (List (ArrivedState T))). l ++ receiver.received ∷ []) all.received_are
+            ∙ ap (λ (r : List (ArrivedState T)). map (λ (one : Run T). one.last.received) all.runs ++ r ∷ [])
+            (ap (λ (r : ReceiverState (ArrivedState T)). r.received) receiver_is ∙ sym (ap (λ (state : RunState T). state.received) ran.here))
+            ∙ sym (map_push (λ (one : Run T). one.last.received) all.runs run);
+        served_are = served_are ∙ ap (λ (l : List ServedCounts). l ++ counted ∷ []) all.served_are
+            ∙ ap (λ (c : ServedCounts). map (λ (one : Run T). one.last.served) all.runs ++ c ∷ []) (counted_is ∙ sym (ap (λ (state : RunState T). state.served) ran.here))
+            ∙ sym (map_push (λ (one : Run T). one.last.served) all.runs run);
+        told = all_push (Begins calls') all.runs run
+            (all_weaker (Begins calls) (Begins calls') (λ one begins. begins_longer one.last.supply.desk calls calls' begins before) all.runs all.told)
+            (subst (λ (l : List (Call Held PlaceState)). IsPrefix l calls') (known_is ∙ sym (ap (λ (state : RunState T). state.supply.desk) ran.here)) knows);
+      }
+
+  -- what was sent came to them, as nothing is left where an end mark was received
+  pub serve : (sender : SenderState (ArrivedState T)) (sent : List (ArrivedState T)) (ports : List (List PortState)) (receivers : List (ReceiverState (ArrivedState T))) (served : List ServedCounts)
+      (calls : List (Call Held PlaceState)) → sent ≡ sender.sent → HaveEnded group counts given accepted ports receivers served calls → IsSettled sender receivers → 0 < end_marks_received_by receivers
+      → AreServed group counts given accepted sent calls ports served
+  serve sender sent ports receivers served calls same all settled some =
+      let whole : sent ≡ settled.past = same ∙ settled.sent ∙ ap (λ (l : List (ArrivedState T)). settled.past ++ l) (settled.last some) ∙ append-nil settled.past in
+      let Came : List (List (ArrivedState T)) → Type 0 = λ lists. IsInterleaving settled.past lists in
+      record {
+        runs = all.runs;
+        whole = all.whole;
+        came_to = subst (λ (l : List (ArrivedState T)). IsInterleaving l (map (λ (one : Run T). one.last.received) all.runs)) (sym whole) (subst Came all.received_are settled.received);
+        ports_are = all.ports_are;
+        served_are = all.served_are;
+        told = all.told;
+      }

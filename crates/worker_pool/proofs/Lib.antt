@@ -1,3 +1,4 @@
+pub mod Accepted
 pub mod Counted
 pub mod Ended
 pub mod Gathered

@@ -1,18 +1,32 @@
 -- Who takes connections from a source, and sends them to workers.
-use Rattle.std.specs.Prelude.{◌≡◌, ℕ, ◌+◌, length}
+use Rattle.std.specs.Prelude.{◌≡◌, ℕ, ◌+◌, List, ◌++◌, length, map, Option, option_map}
 use Rattle.transport.specs.declared.counts.Tally.{Tally}
 use Rattle.conn_channel.specs.Ends.{SenderState}
+use Rattle.worker_connections.specs.Arrivals.{ArrivedState}
 
--- who takes connections: their source, and the end by which each of them is sent
+-- who takes connections: their source, the end by which each of them is sent, and the most messages that the client of each may have unacknowledged
 pub record AcceptorState (T S : Type 0) : Type 0 where
   pub source : S
-  pub sender : SenderState T
+  pub sender : SenderState (ArrivedState T)
+  pub max_inflight : ℕ
 
--- each that the source gave was sent, through the same channel as before
-pub record HasAccepted {T S : Type 0} (tally : S → Tally) (old new : AcceptorState T S) : Type 0 where
+-- connections on their way to workers, over these transports, with this limit
+abbrev pub arrivals : {T : Type 0} → ℕ → List T → List (ArrivedState T)
+arrivals max_inflight transports = map (λ transport. record { transport = transport; max_inflight = max_inflight }) transports
+
+-- a source gave these, in this order, behind what it had given
+abbrev pub Gave : {T S : Type 0} → (S → Option (List T)) → S → List T → S → Type 0
+Gave arrived old came new = arrived new ≡ option_map (λ those. those ++ came) (arrived old)
+
+-- each that the source gave was sent, in its order, through the same channel as before
+pub record HasAccepted {T S : Type 0} (tally : S → Tally) (arrived : S → Option (List T)) (old new : AcceptorState T S) : Type 0 where
   pub channel : new.sender.channel ≡ old.sender.channel
   pub receivers : new.sender.receivers ≡ old.sender.receivers
-  pub each : (tally new.source).arrivals + length old.sender.sent ≡ (tally old.source).arrivals + length new.sender.sent
+  pub limit : new.max_inflight ≡ old.max_inflight
+  pub came : List T
+  pub sent : new.sender.sent ≡ old.sender.sent ++ arrivals old.max_inflight came
+  pub gave : Gave arrived old.source came new.source
+  pub each : (tally new.source).arrivals ≡ (tally old.source).arrivals + length came
 
 -- nothing but end marks was sent
 abbrev pub OnlyMarks : {T : Type 0} → SenderState T → SenderState T → Type 0

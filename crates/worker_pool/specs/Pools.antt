@@ -1,26 +1,52 @@
--- What a pool has served.
+-- The run of a pool: what each of its workers did, and which connections came to which of them.
 use Rattle.std.specs.Prelude.{◌≡◌, ℕ, List, map, length, sum_by, Option}
 use Rattle.std.specs.List.{AllByRecursion, AllZip}
+use mathlib.Core.List.{IsPrefix}
 use Rattle.transport.specs.declared.counts.Counts.{Counts}
-use Rattle.group_queue.specs.Ports.{GroupId}
-use Rattle.conn_channel.specs.Ends.{ReceiverState}
+use Rattle.group_jobs.specs.Stamps.{Held}
+use Rattle.session_desk.specs.Calls.{Call}
+use Rattle.group_queue.specs.Ports.{GroupId, PortState}
+use Rattle.group_queue.specs.Places.{PlaceState}
+use Rattle.conn_channel.specs.Ends.{ReceiverState, lists_of}
+use Rattle.conn_channel.specs.Interleavings.{IsInterleaving}
 use Rattle.conn_service.specs.declared.served.Served.{Served}
 use Rattle.worker_connections.specs.declared.served.ServedCounts.{ServedCounts}
+use Rattle.worker_connections.specs.Arrivals.{ArrivedState}
+use Rattle.worker_connections.specs.Chains.{IsWholeRun, Run}
 use Rattle.worker_connections.specs.Counting.{counts_of, total}
-use Rattle.worker_connections.specs.Serving.{AreServed, EndsLife}
+use Rattle.worker_connections.specs.Serving.{AreCounted}
 
 -- how many connections are counted by these workers
 abbrev pub total_in : List ServedCounts → ℕ
 total_in served = sum_by total served
 
-module _ {T : Type 0} (group : ℕ → GroupId) (counts : T → Counts) (given accepted : T → Option (List ℕ)) where
-  -- what each of these ends received was served, and is counted by the worker that had it
-  abbrev pub AreAllServed : List (ReceiverState T) → List ServedCounts → Type 0
-  AreAllServed receivers served = AllZip (λ receiver counted. AreServed group counts given accepted (length receiver.received) counted) receivers served
+-- each of so many connections has ended at one of these workers, and is counted there by its ending, once
+pub record CountsAll (came : ℕ) (served : List ServedCounts) : Type 0 where
+  pub endings : List (List Served)
+  pub counted : served ≡ map counts_of endings
+  pub all : came ≡ sum_by length endings
 
-  -- each of so many connections lived to its end at one of these workers, and is counted there by it, once
-  pub record ServesAll (came : ℕ) (served : List ServedCounts) : Type 0 where
-    pub endings : List (List Served)
-    pub lived : AllByRecursion (λ (of_one : List Served). AllByRecursion (EndsLife group counts given accepted) of_one) endings
-    pub counted : served ≡ map counts_of endings
-    pub all : came ≡ sum_by length endings
+-- what each of these ends received has ended, and is counted by the worker that had it
+abbrev pub AreAllCounted : {T : Type 0} → List (ReceiverState T) → List ServedCounts → Type 0
+AreAllCounted receivers served = AllZip (λ receiver counted. AreCounted (length receiver.received) counted) receivers served
+
+module _ {T : Type 0} (group : ℕ → GroupId) (counts : T → Counts) (given accepted : T → Option (List ℕ)) where
+  -- workers ran to their ends, and gave this back, all in one order; and what each knew of the desk is a beginning of these calls
+  pub record HaveEnded (ports : List (List PortState)) (receivers : List (ReceiverState (ArrivedState T))) (served : List ServedCounts) (calls : List (Call Held PlaceState)) : Type 0 where
+    pub runs : List (Run T)
+    pub whole : AllByRecursion (IsWholeRun group counts given accepted) runs
+    pub ports_are : ports ≡ map (λ run. run.last.supply.ports) runs
+    pub received_are : lists_of receivers ≡ map (λ run. run.last.received) runs
+    pub served_are : served ≡ map (λ run. run.last.served) runs
+    pub told : AllByRecursion (λ run. IsPrefix run.last.supply.desk calls) runs
+
+  -- **The run of a pool**: each worker ran to its end, through ports through which nothing was published before. These connections came, in this order, each to one of
+  -- the workers, once (`came_to`). The ports and the counts are those that the runs ended with, in one order; and what each worker knew of the desk is a beginning of
+  -- these calls
+  pub record AreServed (came : List (ArrivedState T)) (calls : List (Call Held PlaceState)) (ports : List (List PortState)) (served : List ServedCounts) : Type 0 where
+    pub runs : List (Run T)
+    pub whole : AllByRecursion (IsWholeRun group counts given accepted) runs
+    pub came_to : IsInterleaving came (map (λ run. run.last.received) runs)
+    pub ports_are : ports ≡ map (λ run. run.last.supply.ports) runs
+    pub served_are : served ≡ map (λ run. run.last.served) runs
+    pub told : AllByRecursion (λ run. IsPrefix run.last.supply.desk calls) runs

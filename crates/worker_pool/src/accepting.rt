@@ -118,7 +118,7 @@ impl<'a, B: Broker, T: Transport + Drop, S: Source<T>, W> Model for Acceptor<'a,
 
     ghost Value = { AcceptorState T S };
 
-    ghost view = { λ a. record { source = a.source; sender = a.sender } };
+    ghost view = { λ a. record { source = a.source; sender = a.sender; max_inflight = a.max_inflight } };
 
     ghost invariant = { λ a. (a.is_closed ≡ false → a.sender.end_marks_sent ≡ 0) × (a.came ≡ length a.sender.sent) × (a.came ≤ (S.tally a.source).arrivals) };
 }
@@ -133,7 +133,7 @@ impl<'a, B: Broker, T: Transport + Drop, S: Source<T>, W> Acceptor<'a, B, T, S, 
         max_inflight: MaxInflight,
     ) -> Acceptor<'a, B, T, S, W>
         requires { (sender.sent ≡ []) × (sender.end_marks_sent ≡ 0) }
-        ensures { result ≡ record { source = source; sender = sender } }
+        ensures { result ≡ record { source = source; sender = sender; max_inflight = max_inflight } }
     {
         Acceptor {
             source,
@@ -178,7 +178,7 @@ impl<'a, B: Broker, T: Transport + Drop, S: Source<T>, W: Wake> Acceptor<'a, B, 
     /// Once every worker has begun, takes connections from the source until it has ended or failed, and sends each for the worker that has the fewest. Then the
     /// broker closes: where the source had not ended, the gate is shut; every worker is called, and is sent its end mark.
     pub(crate) fn accept_all<R: Wait + Clock>(&mut self, rt: &R)
-        ensures { HasAccepted S.tally self.old self.new }
+        ensures { HasAccepted S.tally S.arrived self.old self.new }
     {
         if all_begin(rt, self.roster) {
             self.end = self.accept(rt);
@@ -191,7 +191,7 @@ impl<'a, B: Broker, T: Transport + Drop, S: Source<T>, W: Wake> Acceptor<'a, B, 
 
     /// Takes connections until the source has ended or failed.
     fn accept<R: Wait + Clock>(&mut self, rt: &R) -> SourceEnd
-        ensures { HasAccepted S.tally self.old self.new }
+        ensures { HasAccepted S.tally S.arrived self.old self.new }
     {
         'arrivals: for _ in rt.forever() {
             match self.roster.least_full() {
@@ -208,7 +208,7 @@ impl<'a, B: Broker, T: Transport + Drop, S: Source<T>, W: Wake> Acceptor<'a, B, 
 
     /// Takes what the source gives next, and sends it for this worker. How the source ended, if it did.
     fn accept_one<R: Wait>(&mut self, rt: &R, worker: usize) -> Option<SourceEnd>
-        ensures { HasAccepted S.tally self.old self.new }
+        ensures { HasAccepted S.tally S.arrived self.old self.new }
     {
         if self.is_closed {
             return Some(SourceEnd::Ended);
@@ -232,7 +232,7 @@ impl<'a, B: Broker, T: Transport + Drop, S: Source<T>, W: Wake> Acceptor<'a, B, 
 
     /// Tells every worker that the broker closes, and sends each its end mark.
     fn close<R: Wait>(&mut self, rt: &R)
-        ensures { HasAccepted S.tally self.old self.new }
+        ensures { HasAccepted S.tally S.arrived self.old self.new }
     {
         self.is_closed = true;
         self.roster.close();

@@ -1,7 +1,10 @@
 //! A pool of workers, and its run.
-ghost use Rattle.std.specs.Prelude.{◌≡◌, ◌+◌, ◌<◌, ◌≤◌, ◌^◌, [], All, length, vec_capacity, IfOk, IfErr, MatchResult};
+ghost use Rattle.std.specs.Prelude.{◌≡◌, ◌+◌, ◌<◌, ◌≤◌, ◌^◌, List, [], All, length, map, vec_capacity, IfOk, IfErr, MatchResult};
+ghost use mathlib.Core.List.{IsPrefix};
 ghost use Rattle.conn_channel.specs.Ends.{AreOf, end_marks_received_by, new_receiver};
-ghost use Rattle.worker_pool.specs.Pools.{AreAllServed, ServesAll, total_in};
+ghost use Rattle.group_queue.specs.Ports.{PortState};
+ghost use Rattle.worker_pool.specs.Accepting.{Gave, arrivals};
+ghost use Rattle.worker_pool.specs.Pools.{AreAllCounted, AreServed, CountsAll, HaveEnded, total_in};
 ghost use Rattle.worker_pool.specs.Workers.{HasServed, IsHired};
 
 use crate::accepting::{Acceptor, Closer, Taken};
@@ -9,18 +12,19 @@ use crate::provision::{Provision, provide};
 use crate::running::run_all;
 use crate::watching::Watch;
 use bell::Wake;
-use broker_groups::Broker;
+use broker_groups::{Broker, BrokerPlace};
 use broker_worker::{Gear, Kit, Roster, Worker};
 use call_history::HistoryName;
 use conn_channel::{Receiver, Sender};
 use conn_rules::MaxInflight;
+use shared_desk::DeskPass;
 use shared_supply::Hall;
 use std::alloc::Global;
 use std::rt::Clock as SystemClock;
 use std::sync::Wait;
 use std::thread::Threads;
 use transport::{Clock, Crossing, Source, Transport};
-use worker_connections::{Arrived, Hand, Poller, ServedCounts};
+use worker_connections::{Arrived, Hand, Poller, Returned, ServedCounts};
 
 /// What a pool gives back.
 #[derive(Drop)]
@@ -42,10 +46,10 @@ pub struct Unbegun<B: Broker, S> {
 /// Serves the connections of a source with as many workers as there are hands, each in a thread of its own, until the source has ended or failed, the
 /// broker's gate is shut, and all connections have ended. A thread of its own takes the connections, and another one watches the input. The gear and the
 /// alarms are in the order of workers: a worker waits at its gear's poller, which its alarm wakes. Where the source fails, the gate is shut. The client of each
-/// connection has at most so many messages unacknowledged.
+/// connection has at most so many messages unacknowledged. Nothing was published through the ports of the hands before.
 ///
-/// All that workers had of the broker comes back. Each connection that came was served by one worker, once: it lived as a connection is served, from its opening to its
-/// end, and is counted by that.
+/// All that workers had of the broker comes back. Each connection that the source gave came to one worker, once, and is in its run, from its opening to its end (`served`).
+/// The pass knows then what each worker knew of the calls of the desk.
 ///
 /// # Errors
 ///
@@ -75,15 +79,19 @@ pub fn run<
     closer: Closer<'_, B>,
     watch: &mut D,
     input: &mut I,
+    me: &mut DeskPass<BrokerPlace<B>, N>,
 ) -> Result<Pooled<B, S>, Unbegun<B, S>>
     requires workers { (1 ≤ length hands.items) × (length hands.items ≤ 64) }
     requires gear { length gear.items ≡ length hands.items }
+    requires unsent { All (λ hand. All (λ (port : PortState). port.sent ≡ []) hand.ports) hands.items }
     ensures hands { MatchResult result (λ pooled. length pooled.hands.items ≡ length hands.items) (λ unbegun. length unbegun.hands.items ≡ length hands.items) }
     ensures taken { IfOk result (λ pooled. (S.tally pooled.taken.source).arrivals ≡ (S.tally source).arrivals + pooled.taken.came) }
-    ensures served { IfOk result (λ pooled. ServesAll B.group T.counts T.given T.accepted pooled.taken.came pooled.served.items) }
+    ensures served { IfOk result (λ pooled. (came : List T) × Gave S.arrived source came pooled.taken.source × (pooled.taken.came ≡ length came)
+        × AreServed B.group T.counts T.given T.accepted (arrivals max_inflight came) me.new (map (λ hand. hand.ports) pooled.hands.items) pooled.served.items) }
     ensures counted { IfOk result (λ pooled. pooled.taken.came < 2 ^ 64 → pooled.taken.came ≡ total_in pooled.served.items) }
     ensures watched { IfOk result (λ _. D.has_watched watch.old watch.new input.old input.new) }
     ensures untouched { IfErr result (λ unbegun. unbegun.source ≡ source) }
+    ensures told { IsPrefix me.old me.new }
 {
     let Ok(
         Provision {
@@ -104,7 +112,7 @@ pub fn run<
     let mut acceptor = Acceptor::new(source, sender, &roster, closer, max_inflight);
     let mut workers = workers;
     run_all(rt, &mut acceptor, watch, input, &mut workers);
-    Ok(retire(acceptor, workers, hands, receivers, served))
+    Ok(retire(hall, acceptor, workers, hands, receivers, served, me))
 }
 
 /// Hires a worker for each hand, with a kit, who receives from the channel of this sender. Where memory is wanted for one of them, all hands come back.
@@ -131,9 +139,10 @@ fn hire<
 ) -> Result<(Vec<Worker<'a, 'g, B, N, T, Q, W, X, C, R>>, Vec<Hand<B>>), Vec<Hand<B>>>
     requires count { length hands.items ≤ 64 }
     requires kits { length kits.items ≡ length hands.items }
+    requires unsent { All (λ hand. All (λ (port : PortState). port.sent ≡ []) hand.ports) hands.items }
     requires each { All (λ kit. kit ≡ new_receiver sender.now.channel) kits.items }
     ensures hired { IfOk result (λ made. (length made.0.items ≡ length hands.items) × All (IsHired sender.now.channel) made.0.items) }
-    ensures hands { IfOk result (λ made. (length made.1.items ≡ 0) × (length hands.items ≤ vec_capacity made.1)) }
+    ensures hands { IfOk result (λ made. (made.1.items ≡ []) × (length hands.items ≤ vec_capacity made.1)) }
     ensures back { IfErr result (λ back. length back.items ≡ length hands.items) }
 {
     let mut hands = hands;
@@ -175,7 +184,12 @@ fn let_go<
 {
     let mut workers = workers;
     'workers: while let Some(worker) = workers.pop() {
-        let (hand, _receiver, _served) = worker.into_parts();
+        let Returned {
+            hand,
+            receiver: _,
+            served: _,
+            pass: _,
+        } = worker.into_parts();
         hands.push_reserved(hand);
     }
     workers.destroy_empty();
@@ -195,31 +209,37 @@ fn retire<
     C: Clock + Drop,
     R: Wait,
 >(
+    hall: &Hall<'g, B, N>,
     acceptor: Acceptor<'a, B, T, S, W>,
     workers: Vec<Worker<'a, 'g, B, N, T, Q, W, X, C, R>>,
     hands: Vec<Hand<B>>,
     receivers: Vec<Receiver<Arrived<T>>>,
     served: Vec<ServedCounts>,
+    me: &mut DeskPass<BrokerPlace<B>, N>,
 ) -> Pooled<B, S>
     requires workers { All (HasServed acceptor.sender.channel) workers.items }
     requires count { (1 ≤ length workers.items) × (length workers.items ≡ acceptor.sender.receivers) }
-    requires hands { (length hands.items ≡ 0) × (length workers.items ≤ vec_capacity hands) }
+    requires hands { (hands.items ≡ []) × (length workers.items ≤ vec_capacity hands) }
     requires receivers { (receivers.items ≡ []) × (length workers.items ≤ vec_capacity receivers) }
     requires served { (served.items ≡ []) × (length workers.items ≤ vec_capacity served) }
     ensures hands { length result.hands.items ≡ length workers.entry.items }
     ensures source { result.taken.source ≡ acceptor.entry.source }
     ensures came { result.taken.came ≡ length acceptor.entry.sender.sent }
-    ensures served { ServesAll B.group T.counts T.given T.accepted result.taken.came result.served.items }
+    ensures served { AreServed B.group T.counts T.given T.accepted acceptor.entry.sender.sent me.new (map (λ hand. hand.ports) result.hands.items) result.served.items }
+    ensures counted { CountsAll result.taken.came result.served.items }
+    ensures told { IsPrefix me.old me.new }
 {
     let mut hands = hands;
     let mut receivers = receivers;
     let mut served = served;
     gather(
+        hall,
         workers,
         acceptor.sender(),
         &mut hands,
         &mut receivers,
         &mut served,
+        me,
     );
     let (sender, taken) = acceptor.into_parts();
     sender.settle(receivers);
@@ -243,30 +263,41 @@ fn gather<
     C: Clock + Drop,
     R: Wait,
 >(
+    hall: &Hall<'g, B, N>,
     workers: Vec<Worker<'a, 'g, B, N, T, Q, W, X, C, R>>,
     sender: &Sender<Arrived<T>>,
     hands: &mut Vec<Hand<B>>,
     receivers: &mut Vec<Receiver<Arrived<T>>>,
     served: &mut Vec<ServedCounts>,
+    me: &mut DeskPass<BrokerPlace<B>, N>,
 )
     requires workers { All (HasServed sender.now.channel) workers.items }
     requires hands { length hands.old.items + length workers.items ≤ vec_capacity hands.old }
     requires receivers { length receivers.old.items + length workers.items ≤ vec_capacity receivers.old }
     requires served { length served.old.items + length workers.items ≤ vec_capacity served.old }
     requires of { AreOf sender.now.channel receivers.old.items }
-    requires all { AreAllServed B.group T.counts T.given T.accepted receivers.old.items served.old.items }
+    requires all { AreAllCounted receivers.old.items served.old.items }
+    requires ended { HaveEnded B.group T.counts T.given T.accepted (map (λ hand. hand.ports) hands.old.items) receivers.old.items served.old.items me.old }
     ensures hands { length hands.new.items ≡ length hands.old.items + length workers.entry.items }
     ensures receivers { length receivers.new.items ≡ length receivers.old.items + length workers.entry.items }
     ensures of { AreOf sender.now.channel receivers.new.items }
     ensures marks { end_marks_received_by receivers.new.items ≡ end_marks_received_by receivers.old.items + length workers.entry.items }
-    ensures all { AreAllServed B.group T.counts T.given T.accepted receivers.new.items served.new.items }
+    ensures all { AreAllCounted receivers.new.items served.new.items }
+    ensures ended { HaveEnded B.group T.counts T.given T.accepted (map (λ hand. hand.ports) hands.new.items) receivers.new.items served.new.items me.new }
+    ensures told { IsPrefix me.old me.new }
 {
     let mut workers = workers;
     'workers: while let Some(worker) = workers.pop() {
-        let (hand, receiver, counts) = worker.into_parts();
+        let Returned {
+            hand,
+            receiver,
+            served: counts,
+            pass,
+        } = worker.into_parts();
         hands.push_reserved(hand);
         receivers.push_reserved(receiver);
         served.push_reserved(counts);
+        hall.meet(me, pass);
     }
     workers.destroy_empty();
 }

@@ -30,7 +30,7 @@ impl<'a, B: Broker, T: Transport + Drop, S: Source<T>, W: Wake, R: Wait + System
     for Acceptor<'a, B, T, S, W> {
     ghost use Rattle.worker_pool.specs.Accepting.{HasAccepted};
 
-    ghost has_run = { λ old new. HasAccepted S.tally old new };
+    ghost has_run = { λ old new. HasAccepted S.tally S.arrived old new };
 
     fn labour(&mut self, rt: &R) {
         self.accept_all(rt);
@@ -84,7 +84,7 @@ pub(crate) fn run_all<
     input: &mut I,
     workers: &mut Vec<Worker<'a, 'g, B, N, T, Q, W, X, C, R>>,
 )
-    ensures accepted { HasAccepted S.tally acceptor.old acceptor.new }
+    ensures accepted { HasAccepted S.tally S.arrived acceptor.old acceptor.new }
     ensures watched { D.has_watched watch.old watch.new input.old input.new }
     ensures run { HaveRun workers.old.items workers.new.items }
 {

@@ -3,11 +3,12 @@ use Rattle.std.proofs.Common.{◌≡◌, ◌++◌, [], ◌∷◌, Some, length, 
 use Rattle.std.proofs.Math.ListN.{length-append}
 use Rattle.std.proofs.lemmas.List.Elements.{All-pop, All-push, All-same}
 use Rattle.conn_channel.specs.Ends.{ReceiverState, new_receiver}
+use Rattle.worker_connections.specs.Arrivals.{ArrivedState}
 use Rattle.broker_worker.proofs.kit.add_kits.Goals as goal
 
 pub kits-preserved : goal.kits-preserved
 kits-preserved g c =
-    let IsNew : ReceiverState g.row.T.Denot → Type 0 = λ receiver. receiver ≡ new_receiver c.args.sender.now.channel in
+    let IsNew : ReceiverState (ArrivedState g.row.T.Denot) → Type 0 = λ receiver. receiver ≡ new_receiver c.args.sender.now.channel in
     let left = All-pop IsNew c.kits.receivers.items c.pop-in-Some.new.self.items (Some c.in-Some-Some.receiver) c.in-Some-Some.ensures.items c.kits.invariant.receivers.each in
     let gear_left = simp length-append at (ap length c.in-Some.ensures.items) in
     let receivers_left = simp length-append at (ap length c.in-Some-Some.ensures.items) in

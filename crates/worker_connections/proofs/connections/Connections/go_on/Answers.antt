@@ -6,6 +6,7 @@ use Rattle.service_table.specs.Cells.{FollowsIn, InCell, Turns as TurnsIn}
 use Rattle.shared_supply.specs.Calls.{Calls}
 use Rattle.shared_supply.specs.Workers.{Worker, Begins, Leaves, is_visiting}
 use Rattle.worker_connections.proofs.Accounting.{behind_round}
+use Rattle.worker_connections.proofs.Chaining.{went}
 use Rattle.worker_connections.proofs.Swept.{rounds}
 use Rattle.worker_connections.proofs.Wished.{wished_noted}
 use Rattle.worker_connections.specs.Serving.{ConnectionsState}
@@ -13,28 +14,28 @@ use Rattle.worker_connections.proofs.connections.Connections.go_on.Goals as goal
 
 pub invariant_of-self : goal.invariant_of-self
 invariant_of-self g c = (
-  behind_round g.B.Broker.group g.T.Transport.counts g.T.Transport.given g.T.Transport.accepted _ c.self.inside.table c.turn-turned.new.table c.self.inside.served c.count_behind.new.self
-      c.self.inside.sweeps.latest c.args.cell c.allow.new.self c.turn-turned.new.supply c.turn-turned.result
-      c.self.invariant.0 c.turn-turned.ensures.turns c.turn-turned.ensures.count c.count_behind.ensures,
+  behind_round _ c.self.inside.table c.turn-turned.new.table c.self.inside.served c.count_behind.new.self c.turn-turned.result
+      c.self.invariant.0 c.turn-turned.ensures.count c.count_behind.ensures,
   rounds (Calls g.B.Broker.group) Begins Leaves is_visiting (λ (p : PlaceState). p.group) g.T.Transport.counts g.T.Transport.given g.T.Transport.accepted
       c.self.inside.table c.turn-turned.new.table c.args.cell c.len.result c.allow.new.self c.turn-turned.new.supply c.turn-turned.result
       c.self.inside.sweeps c.note.new.self c.self.invariant.1 c.turn-turned.ensures.turns c.len.ensures c.note.ensures,
   omega (arith, c.self.invariant.2, c.turn-turned.ensures.len, ap length c.note_held.ensures, ap length c.note_wish.ensures.2, length-set c.self.inside.members c.args.cell c.note_wish.ensures.0),
   wished_noted c.self.inside.table c.turn-turned.new.table c.self.inside.members c.note_held.new.members c.args.cell c.turn-turned.ensures.turns.before c.turn-turned.ensures.turns.after c.note_wish.ensures.0
       c.self.invariant.2 c.self.invariant.3 c.turn-turned.ensures.turns.has c.turn-turned.ensures.turns.is c.note_wish.ensures.1 (c.note_held.ensures ∙ c.note_wish.ensures.2),
+  went g.B.Broker.group g.T.Transport.counts g.T.Transport.given g.T.Transport.accepted c.self.inside.supply c.allow.new.self c.turn-turned.new.supply c.args.most c.self.inside.table c.turn-turned.new.table
+      c.self.inside.receiver.received c.self.inside.served c.count_behind.new.self c.self.inside.sweeps.latest c.args.cell c.turn-turned.result
+      c.self.invariant.4 c.allow.ensures c.turn-turned.ensures.turns c.count_behind.ensures,
 )
 
 pub returns-clause-made : goal.returns-clause-made
 returns-clause-made g c =
-    let TurnsAs : ConnectionsState g.row.T.Denot → Type 0 = λ old. InCell old.cells c.args.cell
-    (λ one other. TurnsIn (Calls g.B.Broker.group) Begins Leaves is_visiting (λ (p : PlaceState). p.group) g.T.Transport.counts g.T.Transport.given g.T.Transport.accepted old.sweeps.latest one c.allow.new.self c.turn-turned.result other c.turn-turned.new.supply)
-    c.turn-turned.new.table in
+    let TurnsAs : Worker → ConnectionsState g.row.T.Denot → Type 0 = λ allowed old. InCell old.cells c.args.cell
+    (λ one other. TurnsIn (Calls g.B.Broker.group) Begins Leaves is_visiting (λ (p : PlaceState). p.group) g.T.Transport.counts g.T.Transport.given g.T.Transport.accepted old.sweeps.latest one
+    allowed c.turn-turned.result other c.turn-turned.new.supply) c.turn-turned.new.table in
     let Goes : ConnectionsState g.row.T.Denot → Type 0 = λ old. InCell old.cells c.args.cell
     (λ one other. FollowsIn g.T.Transport.given g.T.Transport.accepted c.args.direction old.sweeps.latest one c.turn-turned.result other) c.turn-turned.new.table in
+    let allowed = c.allow.ensures ∙ ap (λ (state : ConnectionsState g.row.T.Denot). record state.supply { allowance = c.args.most }) c.self.view_is in
     record {
-      before = c.allow.new.self;
-      behind = c.turn-turned.new.supply;
-      allowed = ap (λ (w : Worker). w.allowance) c.allow.ensures;
-      turns = subst TurnsAs c.self.view_is c.turn-turned.ensures.turns;
+      turns = subst (λ (w : Worker). TurnsAs w c.args.self.now) allowed (subst (TurnsAs c.allow.new.self) c.self.view_is c.turn-turned.ensures.turns);
       way = subst Goes c.self.view_is c.turn-turned.ensures.way;
     }

@@ -3,4 +3,4 @@ use Rattle.worker_pool.specs.Accepting.{HasAccepted}
 use Rattle.worker_pool.proofs.accepting.Acceptor.accept.Given as goal
 
 abbrev pub invariant-arrivals : goal.invariant-arrivals
-invariant-arrivals g l = HasAccepted g.S.Source.tally l.fn.self l.self
+invariant-arrivals g l = HasAccepted g.S.Source.tally g.S.Source.arrived l.fn.self l.self

@@ -1,0 +1,134 @@
+-- The run of a worker goes on, deed by deed.
+use Rattle.std.proofs.Common.{◌≡◌, ◌+◌, ℕ, List, [], ◌∷◌, ◌++◌, Option, Some, None, replicate, All, refl, sym, subst, ap, ◌∙◌, inl, inr, append-nil, append_assoc}
+use Rattle.std.specs.List.{slice_get, slice_set}
+use Rattle.transport.specs.declared.counts.Counts.{Counts}
+use Rattle.group_queue.specs.Ports.{GroupId, PortState}
+use Rattle.group_queue.specs.Places.{PlaceState}
+use Rattle.conn_service.specs.declared.served.Served.{Served}
+use Rattle.conn_service.specs.declared.served.Served.TheVariants.{Memory}
+use Rattle.conn_service.specs.Services.{ServiceState}
+use Rattle.service_table.specs.Cells.{InCell, Turns}
+use Rattle.service_table.specs.declared.turned.Turned.{Turned}
+use Rattle.service_table.specs.declared.turned.Turned.TheVariants.{Vacant, Goes, Ended}
+use Rattle.shared_supply.specs.Calls.{Calls}
+use Rattle.shared_supply.specs.Waking.{no_wakes}
+use Rattle.shared_supply.specs.Workers.{Worker, Begins, Leaves, is_visiting}
+use Rattle.shared_supply.specs.declared.wakes.Wakes.{Wakes}
+use Rattle.worker_connections.specs.declared.served.ServedCounts.{ServedCounts}
+use Rattle.worker_connections.specs.Arrivals.{ArrivedState}
+use Rattle.worker_connections.specs.Counting.{counted, counted_behind, none_served}
+use Rattle.worker_connections.specs.Serving.{TakesIn}
+use Rattle.worker_connections.specs.Chains.{Deed, Opened, Closed, Allowed, Went, Passed, Woke, Run, RunState, Makes, MakesAll, HasRunTo, IsRun, came_in, came_by}
+
+module _ {T : Type 0} (group : ℕ → GroupId) (counts : T → Counts) (given accepted : T → Option (List ℕ)) where
+  abbrev Table : Type 0
+  Table = List (Option (ServiceState PlaceState T))
+
+  makes_on : (deeds : List (Deed T)) (deed : Deed T) (old mid new : RunState T) → MakesAll group counts given accepted deeds old mid → Makes group counts given accepted deed mid new
+      → MakesAll group counts given accepted (deeds ++ deed ∷ []) old new
+  makes_on [] deed old mid new first then = (new, subst (λ (state : RunState T). Makes group counts given accepted deed state new) first then, refl)
+  makes_on (one ∷ deeds) deed old mid new first then = (first.0, first.1, makes_on deeds deed first.0 mid new first.2 then)
+
+  -- one deed more
+  pub runs_on : (deed : Deed T) (old new : RunState T) → HasRunTo group counts given accepted old → Makes group counts given accepted deed old new → HasRunTo group counts given accepted new
+  runs_on deed old new ran makes = record {
+    run = record { first = ran.run.first; deeds = ran.run.deeds ++ deed ∷ []; last = new };
+    is = record {
+      begun = ran.is.begun;
+      made = makes_on ran.run.deeds deed ran.run.first old new (subst (λ (state : RunState T). MakesAll group counts given accepted ran.run.deeds ran.run.first state) ran.here ran.is.made) makes;
+    };
+    here = refl;
+  }
+
+  -- none yet
+  pub runs_from : (count : ℕ) (supply : Worker) (cells : Table) (received : List (ArrivedState T)) → cells ≡ replicate count None → received ≡ [] → supply.wakes ≡ no_wakes
+      → All (λ (port : PortState). port.sent ≡ []) supply.ports
+      → HasRunTo group counts given accepted (record { supply = supply; cells = cells; received = received; served = none_served })
+  runs_from count supply cells received free none quiet unsent =
+      let first : RunState T = record { supply = supply; cells = cells; received = received; served = none_served } in
+      record {
+        run = record { first = first; deeds = []; last = first };
+        is = record { begun = record { count = count; free = free; none_came = none; none_ended = refl; none_waits = quiet; none_sent = unsent }; made = refl };
+        here = refl;
+      }
+
+  -- one came
+  pub comes : (arrived : ArrivedState T) (supply : Worker) (cells cells' : Table) (received received' : List (ArrivedState T)) (served served' : ServedCounts) (now : ℕ) → received' ≡ received ++ arrived ∷ []
+      → HasRunTo group counts given accepted (record { supply = supply; cells = cells; received = received; served = served })
+      → TakesIn counts given accepted now arrived cells served cells' served'
+      → HasRunTo group counts given accepted (record { supply = supply; cells = cells'; received = received'; served = served' })
+  comes arrived supply cells cells' received received' served served' now more ran (inl opened) =
+      runs_on (Opened arrived opened.0 now) _ _ ran (opened.1.0, opened.1.1, opened.1.2, λ i. record { supply = supply; cells = cells'; received = more i; served = opened.2 i })
+  comes arrived supply cells cells' received received' served served' now more ran (inr refused) =
+      runs_on (Closed arrived) _ _ ran (λ i. record { supply = supply; cells = refused.0 i; received = more i; served = refused.1 i })
+
+  -- the connection in a cell went on by a round
+  goes : (supply supply' : Worker) (cells cells' : Table) (received : List (ArrivedState T)) (served served' : ServedCounts) (now cell : ℕ)
+      (before after : Option (ServiceState PlaceState T)) (turned : Turned T) → slice_get cells cell ≡ Some before → cells' ≡ slice_set cells cell after
+      → Turns (Calls group) Begins Leaves is_visiting (λ (p : PlaceState). p.group) counts given accepted now before supply turned after supply'
+      → served' ≡ counted_behind turned served
+      → (deed : Deed T) × Makes group counts given accepted deed (record { supply = supply; cells = cells; received = received; served = served })
+      (record { supply = supply'; cells = cells'; received = received; served = served' })
+  goes supply supply' cells cells' received served served' now cell None after turned has is made counted_is =
+      let same : served' ≡ served = subst (λ (t : Turned T). served' ≡ counted_behind t served) made.0 counted_is in (
+        Passed cell, (
+        record { before = None; after = after; has = has; becomes = (refl, made.1); is = is },
+        λ i. record { supply = made.2 i; cells = cells'; received = received; served = same i }),
+      )
+  goes supply supply' cells cells' received served served' now cell (Some service) after Vacant has is made counted_is = absurd made.2
+  goes supply supply' cells cells' received served served' now cell (Some service) after (Goes round) has is made counted_is = (
+    Went cell now made.1.led.acts None, (
+    record {
+      before = Some service;
+      after = after;
+      has = has;
+      becomes = record { service = service; here = refl; behind = made.0; round = made.1; acts_are = refl; leaves = made.2.1 };
+      is = is;
+    },
+    λ i. record { supply = supply'; cells = cells'; received = received; served = counted_is i }),
+  )
+  goes supply supply' cells cells' received served served' now cell (Some service) after (Ended how transport) has is made counted_is = (
+    Went cell now made.1.led.acts (Some how), (
+    record {
+      before = Some service;
+      after = after;
+      has = has;
+      becomes = record { service = service; here = refl; behind = made.0; round = made.1; acts_are = refl; leaves = (made.2.0.0, made.2.0.1, made.2.2) };
+      is = is;
+    },
+    λ i. record { supply = supply'; cells = cells'; received = received; served = counted_is i }),
+  )
+
+  -- so many messages were allowed, and then it went on by a round
+  pub went : (supply allowed supply' : Worker) (most : ℕ) (cells cells' : Table) (received : List (ArrivedState T)) (served served' : ServedCounts) (now cell : ℕ) (turned : Turned T)
+      → HasRunTo group counts given accepted (record { supply = supply; cells = cells; received = received; served = served })
+      → allowed ≡ record supply { allowance = most }
+      → InCell cells cell (λ before after. Turns (Calls group) Begins Leaves is_visiting (λ (p : PlaceState). p.group) counts given accepted now before allowed turned after supply') cells'
+      → served' ≡ counted_behind turned served
+      → HasRunTo group counts given accepted (record { supply = supply'; cells = cells'; received = received; served = served' })
+  went supply allowed supply' most cells cells' received served served' now cell turned ran allows made counted_is =
+      let deed = goes allowed supply' cells cells' received served served' now cell made.before made.after turned made.has made.is made.becomes counted_is in
+      runs_on deed.0 _ _
+      (runs_on (Allowed most) _ (record { supply = allowed; cells = cells; received = received; served = served }) ran
+      (λ i. record { supply = allows i; cells = cells; received = received; served = served })) deed.1
+
+  -- it was called, or told others
+  pub wakes_on : (supply supply' : Worker) (cells : Table) (received : List (ArrivedState T)) (served : ServedCounts) (wakes : Wakes) → supply' ≡ record supply { wakes = wakes }
+      → HasRunTo group counts given accepted (record { supply = supply; cells = cells; received = received; served = served })
+      → HasRunTo group counts given accepted (record { supply = supply'; cells = cells; received = received; served = served })
+  wakes_on supply supply' cells received served wakes is ran =
+      runs_on Woke _ _ ran (wakes, λ i. record { supply = is i; cells = cells; received = received; served = served })
+
+  -- each connection that came stands in the list of deeds, once, and nothing else does
+  came_one : (deed : Deed T) (old new : RunState T) → Makes group counts given accepted deed old new → new.received ≡ old.received ++ came_in deed
+  came_one (Opened arrived cell now) old new does = ap (λ (s : RunState T). s.received) does.3
+  came_one (Closed arrived) old new does = ap (λ (s : RunState T). s.received) does
+  came_one (Allowed most) old new does = ap (λ (s : RunState T). s.received) does ∙ sym (append-nil old.received)
+  came_one (Went cell now acts how) old new does = ap (λ (s : RunState T). s.received) does.1 ∙ sym (append-nil old.received)
+  came_one (Passed cell) old new does = ap (λ (s : RunState T). s.received) does.1 ∙ sym (append-nil old.received)
+  came_one Woke old new does = ap (λ (s : RunState T). s.received) does.1 ∙ sym (append-nil old.received)
+
+  pub came_all : (deeds : List (Deed T)) (old new : RunState T) → MakesAll group counts given accepted deeds old new → new.received ≡ old.received ++ came_by deeds
+  came_all [] old new does = ap (λ (s : RunState T). s.received) does ∙ sym (append-nil old.received)
+  came_all (deed ∷ deeds) old new does =
+      came_all deeds does.0 new does.2 ∙ ap (λ (l : List (ArrivedState T)). l ++ came_by deeds) (came_one deed old does.0 does.1) ∙ append_assoc old.received (came_in deed) (came_by deeds)

@@ -1,0 +1,14 @@
+-- The run goes on by that.
+use Rattle.shared_supply.specs.Waking.{one_called}
+use Rattle.worker_connections.proofs.Chaining.{wakes_on}
+use Rattle.worker_connections.proofs.connections.Connections.count_call_if.Goals as goal
+
+pub invariant_of-self : goal.invariant_of-self
+invariant_of-self g c = (
+  c.self.invariant.0,
+  c.self.invariant.1,
+  c.self.invariant.2,
+  c.self.invariant.3,
+  wakes_on g.B.Broker.group g.T.Transport.counts g.T.Transport.given g.T.Transport.accepted c.self.inside.supply c.count_call.new.self c.self.inside.table c.self.inside.receiver.received
+      c.self.inside.served (one_called c.args.slot c.self.inside.supply.wakes) c.count_call.ensures c.self.invariant.4,
+)

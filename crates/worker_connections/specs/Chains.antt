@@ -1,0 +1,132 @@
+-- The run of a worker: what it did, one deed after the other, each at the state that the one before it left, from ports through which nothing was published.
+use Rattle.std.specs.Prelude.{◌≡◌, ℕ, List, [], ◌∷◌, ◌++◌, Option, Some, None, All, replicate, slice_get}
+use Rattle.std.specs.List.{flat_map}
+use Rattle.transport.specs.declared.counts.Counts.{Counts}
+use Rattle.group_queue.specs.Ports.{GroupId, PortState}
+use Rattle.group_queue.specs.Places.{PlaceState}
+use Rattle.conn_laws.specs.Quotas.{IsWithinLimit, IsWithinQuota}
+use Rattle.conn_engine.specs.declared.standing.Opening.{Opening}
+use Rattle.conn_engine.specs.declared.standing.Standing.TheVariants.{Ended}
+use Rattle.conn_service.specs.declared.served.Served.{Served}
+use Rattle.conn_service.specs.declared.served.Served.TheVariants.{Memory}
+use Rattle.conn_service.specs.Acts.{Act}
+use Rattle.conn_service.specs.Services.{ServiceState}
+use Rattle.conn_service.specs.Lives.{DoesAll, Rounds}
+use Rattle.service_table.specs.Cells.{InCell, Opens, occupied}
+use Rattle.shared_supply.specs.Calls.{Calls}
+use Rattle.shared_supply.specs.Waking.{no_wakes}
+use Rattle.shared_supply.specs.Workers.{Worker, Begins, Leaves, is_visiting}
+use Rattle.shared_supply.specs.declared.wakes.Wakes.{Wakes}
+use Rattle.worker_connections.specs.declared.served.ServedCounts.{ServedCounts}
+use Rattle.worker_connections.specs.Arrivals.{ArrivedState, IsWatched, opening_at}
+use Rattle.worker_connections.specs.Counting.{counted, counted_if, none_served}
+
+-- what a worker did
+pub data Deed (T : Type 0) : Type 0 where
+  -- this connection came, and was opened in this cell at this moment
+  Opened : (arrived : ArrivedState T) → (cell now : ℕ) → Deed T
+  -- this connection came, and was closed at once: memory was wanted, or the system did not watch it
+  Closed : (arrived : ArrivedState T) → Deed T
+  -- so many messages at most are to be handed out from now on
+  Allowed : (most : ℕ) → Deed T
+  -- the connection in this cell went on by a round at this moment, of these acts; and ended so, if it did
+  Went : (cell now : ℕ) → (acts : List Act) → (how : Option Served) → Deed T
+  -- nobody was in the cell
+  Passed : (cell : ℕ) → Deed T
+  -- it told others what they wait for, or was called
+  Woke : Deed T
+
+-- what a worker has: what it asks, its connections, those that came, in order, and how connections ended
+pub record RunState (T : Type 0) : Type 0 where
+  pub supply : Worker
+  pub cells : List (Option (ServiceState PlaceState T))
+  pub received : List (ArrivedState T)
+  pub served : ServedCounts
+
+-- the run of a worker: from its first state to its last one
+pub record Run (T : Type 0) : Type 0 where
+  pub first : RunState T
+  pub deeds : List (Deed T)
+  pub last : RunState T
+
+-- nothing came yet, and nothing was published: so what its ports have in the end was published in the run
+pub record IsFirst {T : Type 0} (state : RunState T) : Type 0 where
+  pub count : ℕ
+  pub free : state.cells ≡ replicate count None
+  pub none_came : state.received ≡ []
+  pub none_ended : state.served ≡ none_served
+  pub none_waits : state.supply.wakes ≡ no_wakes
+  pub none_sent : All (λ (port : PortState). port.sent ≡ []) state.supply.ports
+
+-- behind a round: it goes on in its cell, or has ended so and left it
+abbrev pub LeavesCell : {T : Type 0} → Option Served → ServiceState PlaceState T → Option (ServiceState PlaceState T) → Type 0
+LeavesCell None behind after = after ≡ Some behind
+LeavesCell (Some how) behind after = (behind.ending ≡ Some how) × (behind.client.conn.standing ≡ Ended) × (after ≡ None)
+
+module _ {T : Type 0} (group : ℕ → GroupId) (counts : T → Counts) (given accepted : T → Option (List ℕ)) where
+  -- a round of a connection of a broker with these groups, in which nobody else uses its worker's supply
+  abbrev pub RoundsOf : ℕ → ServiceState PlaceState T → Worker → ServiceState PlaceState T → Worker → Type 0
+  RoundsOf now service supply behind supply' =
+      Rounds (Calls group) Begins Leaves is_visiting (λ (p : PlaceState). p.group) counts given accepted now service supply behind supply'
+
+  -- the connection in a cell goes on by a round of these acts
+  pub record GoesOn (now : ℕ) (acts : List Act) (how : Option Served) (before : Option (ServiceState PlaceState T)) (supply : Worker) (after : Option (ServiceState PlaceState T)) (supply' : Worker) : Type 0 where
+    pub service : ServiceState PlaceState T
+    pub here : before ≡ Some service
+    pub behind : ServiceState PlaceState T
+    pub round : RoundsOf now service supply behind supply'
+    pub acts_are : acts ≡ round.led.acts
+    pub leaves : LeavesCell how behind after
+
+  -- what a deed makes of the worker
+  abbrev pub Makes : Deed T → RunState T → RunState T → Type 0
+  Makes (Opened arrived cell now) old new =
+      (watched : T) × IsWatched counts given accepted arrived.transport watched × InCell old.cells cell (Opens (opening_at now arrived) watched) new.cells
+      × (new ≡ record old { cells = new.cells; received = old.received ++ arrived ∷ [] })
+  Makes (Closed arrived) old new = new ≡ record old { received = old.received ++ arrived ∷ []; served = counted Memory old.served }
+  Makes (Allowed most) old new = new ≡ record old { supply = record old.supply { allowance = most } }
+  Makes (Went cell now acts how) old new =
+      InCell old.cells cell (λ before after. GoesOn now acts how before old.supply after new.supply) new.cells
+      × (new ≡ record old { supply = new.supply; cells = new.cells; served = counted_if how old.served })
+  Makes (Passed cell) old new =
+      InCell old.cells cell (λ before after. (before ≡ None) × (after ≡ None)) new.cells × (new ≡ record old { cells = new.cells })
+  Makes Woke old new = (wakes : Wakes) × (new ≡ record old { supply = record old.supply { wakes = wakes } })
+
+  -- these deeds, one after the other
+  abbrev pub MakesAll : List (Deed T) → RunState T → RunState T → Type 0
+  MakesAll [] old new = new ≡ old
+  MakesAll (deed ∷ deeds) old new = (mid : RunState T) × Makes deed old mid × MakesAll deeds mid new
+
+  -- its deeds lead from the one to the other
+  pub record IsRun (run : Run T) : Type 0 where
+    pub begun : IsFirst run.first
+    pub made : MakesAll run.deeds run.first run.last
+
+  -- the worker ran to this state: one list of deeds, of which all is told
+  pub record HasRunTo (state : RunState T) : Type 0 where
+    pub run : Run T
+    pub is : IsRun run
+    pub here : run.last ≡ state
+
+  -- it ran to its end: all connections that came to it have ended
+  pub record IsWholeRun (run : Run T) : Type 0 where
+    pub is : IsRun run
+    pub none_live : occupied run.last.cells ≡ 0
+
+  -- **Within the Receive Maximum** (4.9): at each state of the run, each connection in a cell, and whatever it does in a round from there, has no more PUBLISH packets
+  -- unacknowledged than its Receive Maximum, and than this limit
+  pub record KeepsReceiveMaximum (limit : ℕ) (run : Run T) : Type 0 where
+    pub kept : (these those : List (Deed T)) (mid : RunState T) → run.deeds ≡ these ++ those → MakesAll these run.first mid
+        → (cell : ℕ) (service : ServiceState PlaceState T) → slice_get mid.cells cell ≡ Some (Some service)
+        → (acts : List Act) (later : ServiceState PlaceState T) (supply supply' : Worker)
+        → DoesAll (Calls group) Begins Leaves is_visiting (λ (p : PlaceState). p.group) counts given accepted acts service supply later supply'
+        → IsWithinQuota later.client.conn.standing × IsWithinLimit limit later.client.conn.standing
+
+-- the connections that came by a deed, and by these
+abbrev pub came_in : {T : Type 0} → Deed T → List (ArrivedState T)
+came_in (Opened arrived cell now) = arrived ∷ []
+came_in (Closed arrived) = arrived ∷ []
+came_in _ = []
+
+abbrev pub came_by : {T : Type 0} → List (Deed T) → List (ArrivedState T)
+came_by deeds = flat_map came_in deeds

@@ -1,0 +1,52 @@
+-- What was accepted goes on.
+use Rattle.std.proofs.Common.{◌≡◌, ◌+◌, ℕ, List, [], ◌∷◌, ◌++◌, length, map, Option, Some, None, refl, sym, subst, ap, ◌∙◌, append-nil, append_assoc, length-append, arith}
+use Rattle.std.specs.Prelude.{option_map}
+use Rattle.transport.specs.declared.counts.Tally.{Tally}
+use Rattle.conn_channel.specs.Ends.{SenderState}
+use Rattle.worker_connections.specs.Arrivals.{ArrivedState}
+use Rattle.worker_pool.specs.Accepting.{AcceptorState, Gave, HasAccepted, OnlyMarks, arrivals}
+
+arrivals-append : {T : Type 0} (limit : ℕ) (these those : List T) → arrivals limit (these ++ those) ≡ arrivals limit these ++ arrivals limit those
+arrivals-append limit [] those = refl
+arrivals-append {T} limit (one ∷ these) those =
+    ap (λ (l : List (ArrivedState T)). record { transport = one; max_inflight = limit } ∷ l) (arrivals-append limit these those)
+
+none_given : {T : Type 0} (known : Option (List T)) → known ≡ option_map (λ those. those ++ []) known
+none_given None = refl
+none_given (Some those) = ap (λ (l : List _). Some l) (sym (append-nil those))
+
+more_given : {T : Type 0} (known : Option (List T)) (these those : List T)
+    → option_map (λ all. all ++ those) (option_map (λ all. all ++ these) known) ≡ option_map (λ all. all ++ (these ++ those)) known
+more_given None these those = refl
+more_given (Some all) these those = ap (λ (l : List _). Some l) (append_assoc all these those)
+
+module _ {T S : Type 0} (tally : S → Tally) (arrived : S → Option (List T)) where
+  -- nothing was taken
+  pub none : (old new : AcceptorState T S) → new.source ≡ old.source → OnlyMarks old.sender new.sender → new.max_inflight ≡ old.max_inflight
+      → HasAccepted tally arrived old new
+  none old new source marks limit = record {
+    channel = ap (λ (s : SenderState (ArrivedState T)). s.channel) marks;
+    receivers = ap (λ (s : SenderState (ArrivedState T)). s.receivers) marks;
+    limit = limit;
+    came = [];
+    sent = ap (λ (s : SenderState (ArrivedState T)). s.sent) marks ∙ sym (append-nil old.sender.sent);
+    gave = ap arrived source ∙ none_given (arrived old.source);
+    each = omega (arith, ap (λ (s : S). (tally s).arrivals) source);
+  }
+
+  -- and behind that more
+  pub more : (old mid new : AcceptorState T S) → HasAccepted tally arrived old mid → HasAccepted tally arrived mid new → HasAccepted tally arrived old new
+  more old mid new one two =
+      let theirs : arrivals mid.max_inflight two.came ≡ arrivals old.max_inflight two.came = ap (λ n. arrivals n two.came) one.limit in
+      record {
+        channel = two.channel ∙ one.channel;
+        receivers = two.receivers ∙ one.receivers;
+        limit = two.limit ∙ one.limit;
+        came = one.came ++ two.came;
+        sent = two.sent ∙ ap (λ (l : List (ArrivedState T)). l ++ arrivals mid.max_inflight two.came) one.sent
+            ∙ append_assoc old.sender.sent (arrivals old.max_inflight one.came) (arrivals mid.max_inflight two.came)
+            ∙ ap (λ (l : List (ArrivedState T)). old.sender.sent ++ (arrivals old.max_inflight one.came ++ l)) theirs
+            ∙ ap (λ (l : List (ArrivedState T)). old.sender.sent ++ l) (sym (arrivals-append old.max_inflight one.came two.came));
+        gave = two.gave ∙ ap (λ known. option_map (λ all. all ++ two.came) known) one.gave ∙ more_given (arrived old.source) one.came two.came;
+        each = omega (arith, one.each, two.each, length-append one.came two.came);
+      }
