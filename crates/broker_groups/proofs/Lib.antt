@@ -4,3 +4,4 @@ pub mod Outs
 pub mod Dealing
 pub mod Sorted
 pub mod Finishing
+pub mod Unsent

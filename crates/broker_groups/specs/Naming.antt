@@ -13,6 +13,10 @@ pub record AreRows (group : ℕ → GroupId) (workers slot : ℕ) (rows : List (
   pub many : (k : ℕ) (row : Vec PortState) → slice_get rows k ≡ Some row → length row.items ≡ workers
   pub its : (k : ℕ) (row : Vec PortState) → slice_get rows k ≡ Some row → All (IsBrokerPort group (slot + k)) row.items
 
+-- nothing was sent through any of these ports
+abbrev pub AreUnsent : List PortState → Type 0
+AreUnsent ports = All (λ (port : PortState). port.sent ≡ []) ports
+
 -- nothing is out at the place
 abbrev pub HasNoneOut : PlaceState → Type 0
 HasNoneOut place = HasOut place []
@@ -22,6 +26,7 @@ pub record IsOfBroker (gate : GateId) (group : ℕ → GroupId) (workers : ℕ) 
   pub groups : AreBrokerGroups gate group opened.groups.items
   pub rows : length opened.ports.items ≡ 8
   pub ports : AreRows group workers 0 opened.ports.items
+  pub unsent : All (λ (row : Vec PortState). AreUnsent row.items) opened.ports.items
   pub places : All (λ (row : Vec PlaceState). All (IsBrokerPlace group) row.items) opened.places.items
   pub fresh : All (λ (row : Vec PlaceState). All HasNoneOut row.items) opened.places.items
 

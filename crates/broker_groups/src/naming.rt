@@ -2,7 +2,7 @@
 ghost use Rattle.std.specs.Prelude.{◌≡◌, ℕ, ◌+◌, ◌++◌, length, sum_by, All, IfOk};
 ghost use Rattle.group_queue.specs.Ports.{PortState};
 ghost use Rattle.broker_groups.specs.Brokers.{IsBrokerPlace, IsBrokerPort};
-ghost use Rattle.broker_groups.specs.Naming.{in_a_row, worth_of_all, worth_of_rows, AreRows, HasNoneOut, IsHand, IsOfBroker};
+ghost use Rattle.broker_groups.specs.Naming.{in_a_row, worth_of_all, worth_of_rows, AreRows, AreUnsent, HasNoneOut, IsHand, IsOfBroker};
 
 use crate::broker::Broker;
 use crate::groups::BrokerGroups;
@@ -35,6 +35,7 @@ impl<'a> Opened<'a> {
 
         // Each port is some worker's.
         ensures ports { IfOk result (λ named. (worth : PortState → ℕ) → worth_of_all worth named.ports.items ≡ worth_of_rows worth self.entry.ports.items) }
+        ensures unsent { IfOk result (λ named. All AreUnsent named.ports.items) }
         ensures places { IfOk result (λ named. named.places.items ≡ in_a_row self.entry.places.items) }
         ensures fresh { IfOk result (λ named. All HasNoneOut named.places.items) }
     {

@@ -1,6 +1,6 @@
 //! A worker: what it has, and its turns.
-ghost use Rattle.std.specs.Prelude.{◌≡◌, [], All, None, true, length, replicate, IfErr, IfOk};
-ghost use Rattle.group_queue.specs.Ports.{PortState};
+ghost use Rattle.std.specs.Prelude.{◌≡◌, [], None, true, length, replicate, IfErr, IfOk};
+ghost use Rattle.broker_groups.specs.Naming.{AreUnsent};
 ghost use Rattle.worker_connections.specs.Chains.{HasRunTo};
 ghost use Rattle.worker_connections.specs.Serving.{AreCounted, AreFresh, IsDone, Rounds, StaysOf, live, run_of, wakes_of};
 ghost use Rattle.broker_worker.specs.Offering.{OffersEach, OffersInSweep};
@@ -86,7 +86,7 @@ impl<
         crossing: &'a X,
     ) -> Result<Worker<'a, 'g, B, N, T, Q, W, X, C, R>, Hand<B>>
         requires received { kit.received ≡ [] }
-        requires unsent { All (λ (port : PortState). port.sent ≡ []) hand.ports }
+        requires unsent { AreUnsent hand.ports }
         ensures fresh { IfOk result (λ worker. AreFresh kit hand.ports worker.connections) }
         ensures back { IfErr result (λ back. back ≡ hand) }
     {

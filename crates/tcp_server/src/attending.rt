@@ -1,6 +1,7 @@
 //! Serving the connections of a broker that is open, to its reports.
-ghost use Rattle.std.specs.Prelude.{◌≡◌, ◌≤◌, true, [], length, map, vec_capacity, Ok, IfOk, IfErr};
+ghost use Rattle.std.specs.Prelude.{◌≡◌, ◌≤◌, true, [], All, length, map, vec_capacity, Ok, IfOk, IfErr};
 ghost use Rattle.std.specs.Io.KnownBytes.{IsAtEnd};
+ghost use Rattle.broker_groups.specs.Naming.{AreUnsent};
 ghost use Rattle.line_io.specs.declared.error.RunError.TheVariants.{Memory};
 ghost use Rattle.tcp_server.specs.Lines.{lines_of, report_of, EndsBy};
 ghost use Rattle.tcp_server.specs.Reporting.{AreReportsAt, HaveCapacity};
@@ -75,6 +76,7 @@ pub(crate) fn attend<
     requires hands { (1 ≤ length hands.items) × (length hands.items ≤ 64) }
     requires room { (room.items ≡ []) × (length hands.items ≤ vec_capacity room) }
     requires crew { length crew.gear.items ≡ length hands.items }
+    requires unsent { All (λ hand. AreUnsent hand.ports) hands.items }
     ensures reported { IfOk result (λ reported. AreReportsAt reported.end (B.group 0).capacity (length hands.items) groups.now reported.text.items) }
     ensures read { IfOk result (λ reported. reported.end ≡ Ok Served.Ended → IsAtEnd (I.remaining input.new)) }
     ensures cause { IfErr result (λ error. error ≡ Memory) }

@@ -1,8 +1,8 @@
 //! A broker: how it is opened, and how it ends.
-ghost use Rattle.std.specs.Prelude.{◌≡◌, ◌+◌, ◌≤◌, [], length, vec_capacity, IfOk, IfErr};
+ghost use Rattle.std.specs.Prelude.{◌≡◌, ◌+◌, ◌≤◌, [], All, length, vec_capacity, IfOk, IfErr};
 ghost use Rattle.line_io.specs.declared.error.RunError.TheVariants.{Memory};
 ghost use Rattle.gate_word.specs.Seats.{AreSeatsOf};
-ghost use Rattle.broker_groups.specs.Naming.{IsOfBroker};
+ghost use Rattle.broker_groups.specs.Naming.{AreUnsent, IsOfBroker};
 
 use broker_groups::{Broker, BrokerPlace, Key, Named, Opened, Ports};
 use call_history::HistoryName;
@@ -39,6 +39,7 @@ pub(crate) fn open<'g, B: Broker, N: HistoryName, R: Wait>(
     requires opened { IsOfBroker B.gate B.group workers opened }
     ensures seats { IfOk result (λ _. AreSeatsOf gate.now seats.new.items × (length seats.new.items ≡ 3)) }
     ensures hands { IfOk result (λ broker. length broker.hands.items ≡ workers) }
+    ensures unsent { IfOk result (λ broker. All (λ hand. AreUnsent hand.ports) broker.hands.items) }
     ensures cause { IfErr result (λ error. error ≡ Memory) }
     ensures room { IfOk result (λ broker. (broker.room.items ≡ []) × (workers ≤ vec_capacity broker.room)) }
 {
@@ -97,8 +98,10 @@ fn deal<B: Broker>(
     requires gate { gate.now ≡ B.gate }
     requires seats { AreSeatsOf gate.now seats.old.items × (length ports.items ≤ length seats.old.items) }
     requires room { (hands.items ≡ []) × (length ports.items ≤ vec_capacity hands) }
+    requires unsent { All AreUnsent ports.items }
     ensures seats { AreSeatsOf gate.now seats.new.items × (length seats.new.items + length ports.items ≡ length seats.old.items) }
     ensures hands { length result.items ≡ length ports.items }
+    ensures unsent { All (λ hand. AreUnsent hand.ports) result.items }
 {
     let mut hands = hands;
     let mut left = ports;
@@ -113,6 +116,7 @@ fn deal<B: Broker>(
 fn hand_of<B: Broker>(gate: &Gate, seat: GateSeat, ports: Ports<B>) -> Hand<B>
     requires gate { gate.now ≡ B.gate }
     requires seat { seat.gate ≡ gate.now }
+    ensures { result.ports ≡ ports }
 {
     let _ = gate;
     Hand {

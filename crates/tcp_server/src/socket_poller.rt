@@ -1,5 +1,5 @@
 //! A worker waits at a reactor for its sockets.
-ghost use Rattle.std.specs.Prelude.{◌≡◌};
+ghost use Rattle.worker_connections.specs.Arrivals.{IsWatched};
 
 use mio::net::TcpStream;
 use std::sync::Wait;

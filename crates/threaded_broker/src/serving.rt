@@ -2,7 +2,7 @@
 ghost use Rattle.std.specs.Prelude.{◌≡◌, ◌+◌, ◌≤◌, List, [], All, length, map, vec_capacity, IfOk, MatchResult};
 ghost use mathlib.Core.List.{IsPrefix};
 ghost use Rattle.final_report.specs.Brokers.{KeptItsPromisesBehind};
-ghost use Rattle.group_queue.specs.Ports.{PortState};
+ghost use Rattle.broker_groups.specs.Naming.{AreUnsent};
 ghost use Rattle.worker_pool.specs.Accepting.{Gave, arrivals};
 ghost use Rattle.worker_pool.specs.Pools.{AreServed};
 ghost use Rattle.threaded_broker.specs.Headline.{KeepsTheHeadline, RunsUntilClosed};
@@ -119,7 +119,7 @@ pub fn serve<
     requires workers { (1 ≤ length hands.items) × (length hands.items ≤ 64) }
     requires gear { length gear.items ≡ length hands.items }
     requires room { (room.items ≡ []) × (length hands.items ≤ vec_capacity room) }
-    requires unsent { All (λ hand. All (λ (port : PortState). port.sent ≡ []) hand.ports) hands.items }
+    requires unsent { All (λ hand. AreUnsent hand.ports) hands.items }
     ensures headline { IfOk result (λ outcome. (came : List T) × Gave S.arrived source came outcome.taken.source × (outcome.taken.came ≡ length came)
         × KeepsTheHeadline B.group T.counts T.given T.accepted (length hands.items) max_inflight came pass.new outcome.ended.answers.items outcome.ended.strangers.items outcome.served.items) }
     ensures history { IsPrefix pass.old pass.new }
@@ -204,7 +204,7 @@ pub fn serve_until_closed<
     requires workers { (1 ≤ length hands.items) × (length hands.items ≤ 64) }
     requires gear { length gear.items ≡ length hands.items }
     requires room { (room.items ≡ []) × (length hands.items ≤ vec_capacity room) }
-    requires unsent { All (λ hand. All (λ (port : PortState). port.sent ≡ []) hand.ports) hands.items }
+    requires unsent { All (λ hand. AreUnsent hand.ports) hands.items }
     ensures ports { IfOk result (λ closed. length closed.ports.items ≡ length hands.items) }
     ensures run { IfOk result (λ closed. (came : List T) × Gave S.arrived source came closed.taken.source × (closed.taken.came ≡ length came)
         × RunsUntilClosed B.group T.counts T.given T.accepted max_inflight came pass.new closed.ports.items closed.served.items) }
@@ -292,7 +292,7 @@ fn run_bound<
 ) -> Result<Ran<B, S>, Vec<Hand<B>>>
     requires workers { (1 ≤ length hands.items) × (length hands.items ≤ 64) }
     requires gear { length gear.items ≡ length hands.items }
-    requires unsent { All (λ hand. All (λ (port : PortState). port.sent ≡ []) hand.ports) hands.items }
+    requires unsent { All (λ hand. AreUnsent hand.ports) hands.items }
     ensures hands { MatchResult result (λ ran. length ran.pooled.hands.items ≡ length hands.items) (λ back. length back.items ≡ length hands.items) }
     ensures taken { IfOk result (λ ran. (S.tally ran.pooled.taken.source).arrivals ≡ (S.tally source).arrivals + ran.pooled.taken.came) }
     ensures served { IfOk result (λ ran. (came : List T) × Gave S.arrived source came ran.pooled.taken.source × (ran.pooled.taken.came ≡ length came)

@@ -1,7 +1,7 @@
 //! A broker that is opened, and served to its end over connections in memory.
 ghost use Rattle.std.specs.Prelude.{◌≡◌, ◌≤◌, IfSome};
 ghost use Rattle.gate_word.specs.Seats.{AreSeatsOf};
-ghost use Rattle.broker_groups.specs.Naming.{IsOfBroker};
+ghost use Rattle.broker_groups.specs.Naming.{AreUnsent, IsOfBroker};
 
 use crate::in_memory::{AlwaysReady, Meeting, NothingToWatch, Silent};
 use broker_groups::{Broker, BrokerPlace, Ended, Key, Named, Opened, Ports};
@@ -106,7 +106,8 @@ fn take_seat(gate: &Gate, seats: &mut Vec<GateSeat>) -> Option<GateSeat>
 fn hand_of<B: Broker>(gate: &Gate, seats: &mut Vec<GateSeat>, ports: Ports<B>) -> Option<Hand<B>>
     requires gate { gate.now ≡ B.gate }
     requires seats { AreSeatsOf gate.now seats.old.items }
-    ensures { AreSeatsOf gate.now seats.new.items }
+    ensures seats { AreSeatsOf gate.now seats.new.items }
+    ensures ports { IfSome result (λ hand. hand.ports ≡ ports) }
 {
     let key = Key::of(take_seat(gate, seats)?);
     Some(Hand { key, ports })
@@ -121,7 +122,9 @@ fn deal<B: Broker>(
 ) -> Option<Vec<Hand<B>>>
     requires gate { gate.now ≡ B.gate }
     requires seats { AreSeatsOf gate.now seats.old.items }
-    ensures { AreSeatsOf gate.now seats.new.items }
+    requires unsent { All AreUnsent ports.items }
+    ensures seats { AreSeatsOf gate.now seats.new.items }
+    ensures unsent { IfSome result (λ hands. All (λ hand. AreUnsent hand.ports) hands.items) }
 {
     let mut hands = Vec::new(alloc);
     let mut left = ports;
@@ -178,7 +181,9 @@ fn attend<
     accepting: Closer<'_, B>,
     ending: Closer<'_, B>,
     pass: &mut DeskPass<BrokerPlace<B>, N>,
-) -> Option<Told> {
+) -> Option<Told>
+    requires { All (λ hand. AreUnsent hand.ports) hands.items }
+{
     let (Ok(room), Ok((gear, alarms))) = (
         Vec::with_capacity(alloc, hands.len()),
         gear_for(alloc, hands.len()),

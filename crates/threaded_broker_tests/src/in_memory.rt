@@ -51,7 +51,7 @@ impl AlwaysReady {
 
 impl Poller<Scripted> for AlwaysReady {
     fn register(&mut self, transport: &mut Scripted) -> Option<usize>
-        ensures { transport.new.counts ≡ transport.old.counts }
+        ensures { transport.new ≡ transport.old }
     {
         let _ = transport;
         let number = self.least_free()?;

@@ -1,8 +1,9 @@
 -- The run of a worker goes on, deed by deed.
-use Rattle.std.proofs.Common.{◌≡◌, ◌+◌, ℕ, List, [], ◌∷◌, ◌++◌, Option, Some, None, replicate, All, refl, sym, subst, ap, ◌∙◌, inl, inr, append-nil, append_assoc}
+use Rattle.std.proofs.Common.{◌≡◌, ◌+◌, ℕ, List, [], ◌∷◌, ◌++◌, Option, Some, None, replicate, refl, sym, subst, ap, ◌∙◌, inl, inr, append-nil, append_assoc}
 use Rattle.std.specs.List.{slice_get, slice_set}
 use Rattle.transport.specs.declared.counts.Counts.{Counts}
-use Rattle.group_queue.specs.Ports.{GroupId, PortState}
+use Rattle.group_queue.specs.Ports.{GroupId}
+use Rattle.broker_groups.specs.Naming.{AreUnsent}
 use Rattle.group_queue.specs.Places.{PlaceState}
 use Rattle.conn_service.specs.declared.served.Served.{Served}
 use Rattle.conn_service.specs.declared.served.Served.TheVariants.{Memory}
@@ -42,7 +43,7 @@ module _ {T : Type 0} (group : ℕ → GroupId) (counts : T → Counts) (given a
 
   -- none yet
   pub runs_from : (count : ℕ) (supply : Worker) (cells : Table) (received : List (ArrivedState T)) → cells ≡ replicate count None → received ≡ [] → supply.wakes ≡ no_wakes
-      → All (λ (port : PortState). port.sent ≡ []) supply.ports
+      → AreUnsent supply.ports
       → HasRunTo group counts given accepted (record { supply = supply; cells = cells; received = received; served = none_served })
   runs_from count supply cells received free none quiet unsent =
       let first : RunState T = record { supply = supply; cells = cells; received = received; served = none_served } in

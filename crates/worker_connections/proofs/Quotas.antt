@@ -20,6 +20,7 @@ use Rattle.service_table.specs.Cells.{InCell, Opens}
 use Rattle.shared_supply.specs.Calls.{Calls}
 use Rattle.shared_supply.specs.Workers.{Worker, Begins, Leaves, is_visiting}
 use Rattle.worker_connections.specs.Arrivals.{ArrivedState, opening_at}
+use Rattle.worker_connections.proofs.Chaining.{came_all}
 use Rattle.worker_connections.proofs.Parts.{at_cell, both_parts}
 use Rattle.worker_connections.specs.Chains.{Deed, Opened, Closed, Allowed, Went, Passed, Woke, IsRun, KeepsReceiveMaximum, LeavesCell, Makes, MakesAll, Run, RunState, came_in, came_by}
 
@@ -92,11 +93,12 @@ module _ {T : Type 0} (group : ℕ → GroupId) (counts : T → Counts) (given a
   came_both (deed ∷ these) those = ap (λ (l : List (ArrivedState T)). came_in deed ++ l) (came_both these those) ∙ sym (append_assoc (came_in deed) (came_by these) (came_by those))
 
   -- where those that came may have no more than so many unacknowledged
-  pub within_quota : (limit : ℕ) (run : Run T) → IsRun group counts given accepted run → AllByRecursion (IsLimited limit) (came_by run.deeds)
+  pub within_quota : (limit : ℕ) (run : Run T) → IsRun group counts given accepted run → AllByRecursion (λ (arrived : ArrivedState T). arrived.max_inflight ≤ limit) run.last.received
       → KeepsReceiveMaximum group counts given accepted limit run
   within_quota limit run is few = record {
     kept = (λ these those mid split made cell service here acts later supply supply' does.
-    let all = subst (λ (deeds : List (Deed T)). AllByRecursion (IsLimited limit) (came_by deeds)) split few in
+    let came = came_all group counts given accepted run.deeds run.first run.last is.made ∙ ap (λ (l : List (ArrivedState T)). l ++ came_by run.deeds) is.begun.none_came in
+    let all = subst (λ (deeds : List (Deed T)). AllByRecursion (IsLimited limit) (came_by deeds)) split (subst (AllByRecursion (IsLimited limit)) came few) in
     let first = (both_parts (IsLimited limit) (came_by these) (came_by those) (subst (AllByRecursion (IsLimited limit)) (came_both these those) all)).0 in
     let none = subst (λ (cells : List (Option (ServiceState PlaceState T))). All (IfWithin limit) cells) (sym is.begun.free) (All-replicate (IfWithin limit) is.begun.count None tt) in
     let within = at_cell (IfWithin limit) mid.cells cell (Some service) (keeps_all limit these run.first mid first made none) here in

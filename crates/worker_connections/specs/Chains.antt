@@ -1,8 +1,9 @@
 -- The run of a worker: what it did, one deed after the other, each at the state that the one before it left, from ports through which nothing was published.
-use Rattle.std.specs.Prelude.{◌≡◌, ℕ, List, [], ◌∷◌, ◌++◌, Option, Some, None, All, replicate, slice_get}
+use Rattle.std.specs.Prelude.{◌≡◌, ℕ, List, [], ◌∷◌, ◌++◌, Option, Some, None, replicate, slice_get}
 use Rattle.std.specs.List.{flat_map}
 use Rattle.transport.specs.declared.counts.Counts.{Counts}
-use Rattle.group_queue.specs.Ports.{GroupId, PortState}
+use Rattle.group_queue.specs.Ports.{GroupId}
+use Rattle.broker_groups.specs.Naming.{AreUnsent}
 use Rattle.group_queue.specs.Places.{PlaceState}
 use Rattle.conn_laws.specs.Quotas.{IsWithinLimit, IsWithinQuota}
 use Rattle.conn_engine.specs.declared.standing.Opening.{Opening}
@@ -56,7 +57,7 @@ pub record IsFirst {T : Type 0} (state : RunState T) : Type 0 where
   pub none_came : state.received ≡ []
   pub none_ended : state.served ≡ none_served
   pub none_waits : state.supply.wakes ≡ no_wakes
-  pub none_sent : All (λ (port : PortState). port.sent ≡ []) state.supply.ports
+  pub none_sent : AreUnsent state.supply.ports
 
 -- behind a round: it goes on in its cell, or has ended so and left it
 abbrev pub LeavesCell : {T : Type 0} → Option Served → ServiceState PlaceState T → Option (ServiceState PlaceState T) → Type 0

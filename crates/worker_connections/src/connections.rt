@@ -1,7 +1,7 @@
 //! The connections of a worker: those that it received are open, or have ended and are counted.
-ghost use Rattle.std.specs.Prelude.{◌≡◌, ◌<◌, ◌+◌, ℕ, [], None, true, false, All, replicate, length};
+ghost use Rattle.std.specs.Prelude.{◌≡◌, ◌<◌, ◌+◌, ℕ, [], None, true, false, replicate, length};
 ghost use Rattle.group_queue.specs.Places.{PlaceState};
-ghost use Rattle.group_queue.specs.Ports.{PortState};
+ghost use Rattle.broker_groups.specs.Naming.{AreUnsent};
 ghost use Rattle.service_table.specs.Cells.{FollowsIn, InCell, Turns, ended_by, occupied};
 ghost use Rattle.service_table.specs.declared.turned.Turned.{Turned as AnyTurned};
 ghost use Rattle.shared_supply.specs.Calls.{Calls};
@@ -116,7 +116,7 @@ impl<'a, 'g, B: Broker, N: HistoryName, T: Transport + Drop, R: Wait> Connection
         requires receiver { receiver.received ≡ [] }
         requires table { table ≡ replicate (length members) None }
         requires supply { supply.wakes ≡ no_wakes }
-        requires unsent { All (λ (port : PortState). port.sent ≡ []) supply.ports }
+        requires unsent { AreUnsent supply.ports }
         ensures { AreFresh receiver supply.ports result }
     {
         Connections {

@@ -11,6 +11,18 @@ arrivals-append limit [] those = refl
 arrivals-append {T} limit (one ∷ these) those =
     ap (λ (l : List (ArrivedState T)). record { transport = one; max_inflight = limit } ∷ l) (arrivals-append limit these those)
 
+arrivals-length : {T : Type 0} (limit : ℕ) (these : List T) → length (arrivals limit these) ≡ length these
+arrivals-length limit [] = refl
+arrivals-length limit (one ∷ these) = let rest = arrivals-length limit these in omega (arith, rest)
+
+-- where nothing was sent before, what was sent is what came
+pub sent_is : {T : Type 0} (came : List T) (first last : List (ArrivedState T)) (limit its : ℕ) → first ≡ [] → limit ≡ its → last ≡ first ++ arrivals limit came → last ≡ arrivals its came
+sent_is {T} came first last limit its none same sent =
+    sent ∙ ap (λ (l : List (ArrivedState T)). l ++ arrivals limit came) none ∙ ap (λ n. arrivals n came) same
+
+pub came_count : {T : Type 0} {limit : ℕ} (came : List T) (first last : List (ArrivedState T)) → first ≡ [] → last ≡ first ++ arrivals limit came → length last ≡ length came
+came_count {limit = limit} came first last none sent = ap length (sent_is came first last limit limit none refl sent) ∙ arrivals-length limit came
+
 none_given : {T : Type 0} (known : Option (List T)) → known ≡ option_map (λ those. those ++ []) known
 none_given None = refl
 none_given (Some those) = ap (λ (l : List _). Some l) (sym (append-nil those))

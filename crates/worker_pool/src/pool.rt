@@ -2,7 +2,7 @@
 ghost use Rattle.std.specs.Prelude.{◌≡◌, ◌+◌, ◌<◌, ◌≤◌, ◌^◌, List, [], All, length, map, vec_capacity, IfOk, IfErr, MatchResult};
 ghost use mathlib.Core.List.{IsPrefix};
 ghost use Rattle.conn_channel.specs.Ends.{AreOf, end_marks_received_by, new_receiver};
-ghost use Rattle.group_queue.specs.Ports.{PortState};
+ghost use Rattle.broker_groups.specs.Naming.{AreUnsent};
 ghost use Rattle.worker_pool.specs.Accepting.{Gave, arrivals};
 ghost use Rattle.worker_pool.specs.Pools.{AreAllCounted, AreServed, CountsAll, HaveEnded, total_in};
 ghost use Rattle.worker_pool.specs.Workers.{HasServed, IsHired};
@@ -83,7 +83,7 @@ pub fn run<
 ) -> Result<Pooled<B, S>, Unbegun<B, S>>
     requires workers { (1 ≤ length hands.items) × (length hands.items ≤ 64) }
     requires gear { length gear.items ≡ length hands.items }
-    requires unsent { All (λ hand. All (λ (port : PortState). port.sent ≡ []) hand.ports) hands.items }
+    requires unsent { All (λ hand. AreUnsent hand.ports) hands.items }
     ensures hands { MatchResult result (λ pooled. length pooled.hands.items ≡ length hands.items) (λ unbegun. length unbegun.hands.items ≡ length hands.items) }
     ensures taken { IfOk result (λ pooled. (S.tally pooled.taken.source).arrivals ≡ (S.tally source).arrivals + pooled.taken.came) }
     ensures served { IfOk result (λ pooled. (came : List T) × Gave S.arrived source came pooled.taken.source × (pooled.taken.came ≡ length came)
@@ -139,7 +139,7 @@ fn hire<
 ) -> Result<(Vec<Worker<'a, 'g, B, N, T, Q, W, X, C, R>>, Vec<Hand<B>>), Vec<Hand<B>>>
     requires count { length hands.items ≤ 64 }
     requires kits { length kits.items ≡ length hands.items }
-    requires unsent { All (λ hand. All (λ (port : PortState). port.sent ≡ []) hand.ports) hands.items }
+    requires unsent { All (λ hand. AreUnsent hand.ports) hands.items }
     requires each { All (λ kit. kit ≡ new_receiver sender.now.channel) kits.items }
     ensures hired { IfOk result (λ made. (length made.0.items ≡ length hands.items) × All (IsHired sender.now.channel) made.0.items) }
     ensures hands { IfOk result (λ made. (made.1.items ≡ []) × (length hands.items ≤ vec_capacity made.1)) }

@@ -1,6 +1,7 @@
 -- Each hand has a seat and the ports of one worker, and the seats that are left are those of the gate.
-use Rattle.std.proofs.Common.{◌≡◌, ◌+◌, ◌≤◌, length, vec_len, vec_capacity}
+use Rattle.std.proofs.Common.{◌≡◌, ◌+◌, ◌≤◌, All, length, vec_len, vec_capacity}
 use Rattle.gate_word.specs.Seats.{AreSeatsOf}
+use Rattle.broker_groups.specs.Naming.{AreUnsent}
 use Rattle.tcp_server.proofs.broker.deal.Given as goal
 
 abbrev pub invariant-hands : goal.invariant-hands
@@ -10,6 +11,8 @@ invariant-hands g l = record {
   taken : length l.seats.items + length l.hands.items ≡ length l.fn.seats.items;
   enough : length l.fn.ports.items ≤ length l.fn.seats.items;
   room : length l.fn.ports.items ≤ vec_capacity l.hands;
+  unsent : All (λ hand. AreUnsent hand.ports) l.hands.items;
+  left : All AreUnsent l.left.items;
 }
 
 abbrev pub decreases-hands : goal.decreases-hands

@@ -1,10 +1,19 @@
--- The headline: what the groups' ends promise, and the lives that the pool served.
+-- The headline: the run until the broker was closed, and what the groups' ends promise.
+use Rattle.threaded_broker.proofs.Quotas.{known_longer}
 use Rattle.threaded_broker.proofs.serving.serve.Goals as goal
 
 pub returns-clause-headline : goal.returns-clause-headline
-returns-clause-headline g c = record {
-  ports = c.in_ok-closed.closed.ports.items;
-  every_worker = c.in_ok-closed.ensures.ports;
-  promises = c.in_ok-ended.ensures.kept;
-  within_receive_maximum = c.in_ok-closed.ensures.within;
-}
+returns-clause-headline g c =
+    let closed = c.in_ok-closed.closed in
+    let ran = c.in_ok-closed.ensures.run in (
+      ran.0,
+      ran.1,
+      ran.2,
+      record {
+        ports = closed.ports.items;
+        every_worker = c.in_ok-closed.ensures.ports;
+        run = known_longer g.B.Broker.group g.T.Transport.counts g.T.Transport.given g.T.Transport.accepted c.args.max_inflight ran.0 _ c.end.new.pass closed.ports.items closed.served.items
+            c.end.ensures.before ran.3;
+        promises = c.in_ok-ended.ensures.kept;
+      },
+    )

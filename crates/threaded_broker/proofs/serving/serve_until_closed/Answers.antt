@@ -1,8 +1,19 @@
--- The lives that the pool served.
-use Rattle.std.proofs.Common.{◌∙◌}
+-- The run of its workers.
+use Rattle.std.proofs.Common.{◌≡◌, List, map, sym, subst}
+use Rattle.group_queue.specs.Ports.{PortState}
+use Rattle.worker_pool.specs.Accepting.{arrivals}
+use Rattle.worker_pool.specs.Pools.{AreServed}
 use Rattle.threaded_broker.proofs.Quotas.{within}
 use Rattle.threaded_broker.proofs.serving.serve_until_closed.Goals as goal
 
-pub returns-in-Ok-clause-within : goal.returns-in-Ok-clause-within
-returns-in-Ok-clause-within g c =
-    within g.B.Broker.group g.T.Transport.counts g.T.Transport.given g.T.Transport.accepted c.quota_law.ensures.kept c.in-Ok.field-0.pooled.taken.came c.in-Ok.field-0.pooled.served.items c.in-Ok.ensures.served
+pub returns-in-Ok-clause-run : goal.returns-in-Ok-clause-run
+returns-in-Ok-clause-run g c =
+    let ran = c.in-Ok.ensures.served in
+    let Served : List (List PortState) → Type 0 = λ ports.
+    AreServed g.B.Broker.group g.T.Transport.counts g.T.Transport.given g.T.Transport.accepted (arrivals c.args.max_inflight ran.0) c.run_bound.new.pass ports c.in-Ok.field-0.pooled.served.items in (
+      ran.0,
+      ran.1,
+      ran.2,
+      within g.B.Broker.group g.T.Transport.counts g.T.Transport.given g.T.Transport.accepted c.args.max_inflight ran.0 c.run_bound.new.pass c.ports_of.result.items c.in-Ok.field-0.pooled.served.items
+          (subst Served (sym c.ports_of.ensures) ran.3),
+    )

@@ -1,11 +1,14 @@
 -- One worker more has given back what it had.
-use Rattle.std.proofs.Common.{◌≡◌, ◌++◌, List, [], ◌∷◌, Some, length, ◌∙◌, ap, arith}
+use Rattle.std.proofs.Common.{◌≡◌, ◌++◌, List, [], ◌∷◌, Some, length, map, refl, ◌∙◌, ap, subst, sym, arith}
 use Rattle.std.proofs.Math.ListN.{length-append}
 use Rattle.std.proofs.lemmas.List.Elements.{All-pop, All-push, All-same}
 use Rattle.std.proofs.lemmas.List.Sums.{sum_by_push}
 use Rattle.conn_channel.specs.Ends.{ReceiverState, end_marks_received_by}
+use Rattle.worker_connections.specs.declared.hand.Hand.{Hand}
+use Rattle.worker_connections.specs.Arrivals.{ArrivedState}
+use Rattle.worker_connections.specs.Serving.{AreCounted}
 use Rattle.worker_pool.specs.Workers.{HasServed}
-use Rattle.worker_pool.proofs.Gathered.{gathers}
+use Rattle.worker_pool.proofs.Gathered.{begins_itself, begins_longer, counts_one_more, ends, map_push}
 use Rattle.worker_pool.proofs.pool.gather.Goals as goal
 
 pub workers-preserved : goal.workers-preserved
@@ -16,11 +19,14 @@ workers-preserved g c =
     let hands = simp length-append at (ap length c.push_reserved.ensures.items) in
     let receivers = simp length-append at (ap length c.push_reserved-in-Some.ensures.items) in
     let served = simp length-append at (ap length c.push_reserved-in-Some-2.ensures.items) in
-    let receiver = c.into_parts-hand.result.1 in
-    let is = c.into_parts-hand.ensures.receiver in
-    let Of : ReceiverState g.row.T.Denot → Type 0 = λ r. r.channel ≡ c.args.sender.now.channel in
-    let mark = ap (λ (r : ReceiverState g.row.T.Denot). r.end_marks_received) is in
-    let marks = ap (λ (rs : List (ReceiverState g.row.T.Denot)). end_marks_received_by rs) c.push_reserved-in-Some.ensures.items ∙ sum_by_push (λ (r : ReceiverState g.row.T.Denot). r.end_marks_received) c.workers.receivers.items receiver in
+    let returned = c.into_parts.result in
+    let receiver = returned.receiver in
+    let is = c.into_parts.ensures.receiver in
+    let Of : ReceiverState (ArrivedState g.row.T.Denot) → Type 0 = λ r. r.channel ≡ c.args.sender.now.channel in
+    let mark = ap (λ (r : ReceiverState (ArrivedState g.row.T.Denot)). r.end_marks_received) is in
+    let marks = ap (λ (rs : List (ReceiverState (ArrivedState g.row.T.Denot))). end_marks_received_by rs) c.push_reserved-in-Some.ensures.items ∙ sum_by_push (λ (r : ReceiverState (ArrivedState g.row.T.Denot)). r.end_marks_received) c.workers.receivers.items receiver in
+    let none = done.1.none_live in
+    let ports = ap (λ (l : List Hand). map (λ (hand : Hand). hand.ports) l) c.push_reserved.ensures.items ∙ map_push (λ (hand : Hand). hand.ports) c.workers.hands.items returned.hand in
     record {
       workers = split.0;
       hands = omega (arith, left, hands, c.workers.invariant.hands);
@@ -30,9 +36,16 @@ workers-preserved g c =
       served_room = omega (arith, left, served, c.workers.invariant.served_room, c.push_reserved-in-Some-2.ensures.capacity);
       of =
           All-same Of c.push_reserved-in-Some.new.self.items (c.workers.receivers.items ++ receiver ∷ []) c.push_reserved-in-Some.ensures.items
-          (All-push Of c.workers.receivers.items receiver c.workers.invariant.of (ap (λ (r : ReceiverState g.row.T.Denot). r.channel) is ∙ done.0));
+          (All-push Of c.workers.receivers.items receiver c.workers.invariant.of (ap (λ (r : ReceiverState (ArrivedState g.row.T.Denot)). r.channel) is ∙ done.0));
       marks = omega (arith, left, marks, mark, done.1.mark, c.workers.invariant.marks);
       all =
-          gathers g.B.Broker.group g.T.Transport.counts g.T.Transport.given g.T.Transport.accepted c.workers.receivers.items c.push_reserved-in-Some.new.self.items c.workers.served.items c.push_reserved-in-Some-2.new.self.items
-          c.in-Some.worker receiver c.into_parts-hand.result.2 c.workers.invariant.all c.push_reserved-in-Some.ensures.items c.push_reserved-in-Some-2.ensures.items is c.into_parts-hand.ensures.served done.1.none_live;
+          counts_one_more c.workers.receivers.items c.push_reserved-in-Some.new.self.items c.workers.served.items c.push_reserved-in-Some-2.new.self.items receiver returned.served
+          c.workers.invariant.all c.push_reserved-in-Some.ensures.items c.push_reserved-in-Some-2.ensures.items
+          (subst (λ (r : ReceiverState (ArrivedState g.row.T.Denot)). AreCounted (length r.received) returned.served) (sym is) (c.into_parts.ensures.counted none));
+      ended =
+          ends g.B.Broker.group g.T.Transport.counts g.T.Transport.given g.T.Transport.accepted _ _ c.workers.receivers.items c.push_reserved-in-Some.new.self.items
+          c.workers.served.items c.push_reserved-in-Some-2.new.self.items c.workers.me c.meet.new.me returned.pass returned.hand.ports receiver returned.served c.in-Some.worker.connections
+          c.workers.invariant.ended ports c.push_reserved-in-Some.ensures.items c.push_reserved-in-Some-2.ensures.items
+          c.into_parts.ensures.ran none (c.into_parts.ensures.ports none) is c.into_parts.ensures.served (c.into_parts.ensures.desk none) c.meet.ensures.mine c.meet.ensures.others;
+      told = begins_longer c.args.me.now c.workers.me c.meet.new.me c.workers.invariant.told c.meet.ensures.mine;
     }

@@ -1,7 +1,8 @@
 -- The workers that are left, and room for what they give back.
-use Rattle.std.proofs.Common.{◌≡◌, ◌+◌, ◌≤◌, All, length, vec_len, vec_capacity}
+use Rattle.std.proofs.Common.{◌≡◌, ◌+◌, ◌≤◌, All, length, map, vec_len, vec_capacity}
+use mathlib.Core.List.{IsPrefix}
 use Rattle.conn_channel.specs.Ends.{AreOf, end_marks_received_by}
-use Rattle.worker_pool.specs.Pools.{AreAllServed}
+use Rattle.worker_pool.specs.Pools.{AreAllCounted, HaveEnded}
 use Rattle.worker_pool.specs.Workers.{HasServed}
 use Rattle.worker_pool.proofs.pool.gather.Given as goal
 
@@ -15,7 +16,9 @@ invariant-workers g l = record {
   served_room : length l.served.items + length l.workers.items ≤ vec_capacity l.served;
   of : AreOf l.sender.channel l.receivers.items;
   marks : end_marks_received_by l.receivers.items + length l.workers.items ≡ end_marks_received_by l.fn.receivers.items + length l.fn.workers.items;
-  all : AreAllServed g.B.Broker.group g.T.Transport.counts g.T.Transport.given g.T.Transport.accepted l.receivers.items l.served.items;
+  all : AreAllCounted l.receivers.items l.served.items;
+  ended : HaveEnded g.B.Broker.group g.T.Transport.counts g.T.Transport.given g.T.Transport.accepted (map (λ hand. hand.ports) l.hands.items) l.receivers.items l.served.items l.me;
+  told : IsPrefix l.fn.me l.me;
 }
 
 abbrev pub decreases-workers : goal.decreases-workers

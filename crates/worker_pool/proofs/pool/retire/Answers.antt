@@ -1,29 +1,49 @@
 -- What workers give back that have ended.
-use Rattle.std.proofs.Common.{◌≡◌, ◌<◌, length, sym, subst, ◌∙◌, ap, All, arith}
+use Rattle.std.proofs.Common.{◌≡◌, ◌<◌, List, [], length, map, sym, subst, ◌∙◌, ap, All, arith}
 use Rattle.conn_channel.specs.Ends.{ChannelId, AreOf, end_marks_received_by}
+use Rattle.group_queue.specs.Ports.{PortState}
+use Rattle.conn_channel.specs.Ends.{ReceiverState}
+use Rattle.worker_connections.specs.declared.hand.Hand.{Hand}
+use Rattle.worker_connections.specs.declared.served.ServedCounts.{ServedCounts}
+use Rattle.worker_connections.specs.Arrivals.{ArrivedState}
+use Rattle.worker_pool.specs.Pools.{AreAllCounted, HaveEnded}
 use Rattle.worker_pool.specs.Workers.{HasServed}
-use Rattle.worker_pool.proofs.Gathered.{serves_all}
+use Rattle.worker_pool.proofs.Gathered.{counts_them, nobody, serve}
 use Rattle.worker_pool.proofs.pool.retire.Goals as goal
 
 pub gather-requires-clause-workers : goal.gather-requires-clause-workers
 gather-requires-clause-workers g c =
-    let Of : ChannelId g.row.T.Denot → Type 0 = λ channel. All (HasServed channel) c.args.workers.items in
+    let Of : ChannelId (ArrivedState g.row.T.Denot) → Type 0 = λ channel. All (HasServed channel) c.args.workers.items in
     subst Of (sym (ap (λ s. s.channel) c.sender.ensures)) c.requires.workers
+
+pub gather-requires-clause-ended : goal.gather-requires-clause-ended
+gather-requires-clause-ended g c =
+    let Ended : List (List PortState) → List (ReceiverState (ArrivedState g.row.T.Denot)) → List ServedCounts → Type 0 = λ ports receivers served.
+    HaveEnded g.B.Broker.group g.T.Transport.counts g.T.Transport.given g.T.Transport.accepted ports receivers served c.args.me.now in
+    subst (λ hands. Ended (map (λ (hand : Hand). hand.ports) hands) c.args.receivers.items c.args.served.items) (sym c.requires.hands.0)
+    (subst (λ receivers. Ended [] receivers c.args.served.items) (sym c.requires.receivers.0)
+    (subst (λ served. Ended [] [] served) (sym c.requires.served.0)
+    (nobody g.B.Broker.group g.T.Transport.counts g.T.Transport.given g.T.Transport.accepted c.args.me.now)))
 
 pub settle-requires-clause-of : goal.settle-requires-clause-of
 settle-requires-clause-of g c =
     let same : c.sender.result.now ≡ c.into_parts-sender.result.0 = c.sender.ensures ∙ sym c.into_parts-sender.ensures.sender in
-    let Of : ChannelId g.row.T.Denot → Type 0 = λ channel. AreOf channel c.gather.new.receivers.items in
+    let Of : ChannelId (ArrivedState g.row.T.Denot) → Type 0 = λ channel. AreOf channel c.gather.new.receivers.items in
     subst Of (ap (λ s. s.channel) same) c.gather.ensures.of
 
 pub returns-clause-served : goal.returns-clause-served
 returns-clause-served g c =
-    let all = serves_all g.B.Broker.group g.T.Transport.counts g.T.Transport.given g.T.Transport.accepted c.gather.new.receivers.items c.gather.new.served.items c.gather.ensures.all in
+    let some : 0 < end_marks_received_by c.gather.new.receivers.items = omega (arith, c.gather.ensures.marks, c.requires.count.0) in
+    serve g.B.Broker.group g.T.Transport.counts g.T.Transport.given g.T.Transport.accepted c.into_parts-sender.result.0 _ _ c.gather.new.receivers.items c.gather.new.served.items c.gather.new.me
+    (sym (ap (λ s. s.sent) c.into_parts-sender.ensures.sender)) c.gather.ensures.ended c.settle.ensures.settled some
+
+pub returns-clause-counted : goal.returns-clause-counted
+returns-clause-counted g c =
+    let all = counts_them c.gather.new.receivers.items c.gather.new.served.items c.gather.ensures.all in
     let sent = ap (λ s. length s.sent) c.into_parts-sender.ensures.sender in
     let some : 0 < end_marks_received_by c.gather.new.receivers.items = omega (arith, c.gather.ensures.marks, c.requires.count.0) in
     record {
       endings = all.endings;
-      lived = all.lived;
       counted = all.counted;
       all = omega (arith, all.all, sent, c.into_parts-sender.ensures.came, c.settle.ensures.balance.balance, c.settle.ensures.balance.last some);
     }

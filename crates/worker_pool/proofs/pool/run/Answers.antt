@@ -1,15 +1,19 @@
 -- What a pool gives back.
-use Rattle.std.proofs.Common.{length, All, sym, subst, ◌∙◌, ap, arith}
+use Rattle.std.proofs.Common.{◌≡◌, ◌++◌, List, [], length, map, All, sym, subst, ◌∙◌, ap, arith}
 use Rattle.conn_channel.specs.Ends.{ChannelId}
-use Rattle.worker_pool.specs.Accepting.{AcceptorState}
+use Rattle.worker_connections.specs.declared.hand.Hand.{Hand}
+use Rattle.worker_connections.specs.Arrivals.{ArrivedState}
+use Rattle.worker_pool.specs.Accepting.{AcceptorState, Gave, arrivals}
+use Rattle.worker_pool.specs.Pools.{AreServed}
 use Rattle.worker_pool.specs.Workers.{HasServed}
+use Rattle.worker_pool.proofs.Accepted.{came_count, sent_is}
 use Rattle.worker_pool.proofs.Gathered.{counts_all}
 use Rattle.worker_pool.proofs.pool.run.Goals as goal
 
 pub retire-requires-clause-workers : goal.retire-requires-clause-workers
 retire-requires-clause-workers g c =
     let channel = c.run_all.ensures.accepted.channel ∙ ap (λ (a : AcceptorState g.row.T.Denot g.row.S.Denot). a.sender.channel) c.new-acceptor.ensures in
-    let Of : ChannelId g.row.T.Denot → Type 0 = λ channel. All (HasServed channel) c.run_all.new.workers.items in
+    let Of : ChannelId (ArrivedState g.row.T.Denot) → Type 0 = λ channel. All (HasServed channel) c.run_all.new.workers.items in
     subst Of (sym channel) (c.run_all.ensures.run.served c.in-Ok.field-0.sender.channel c.in-Ok-hire.ensures.hired.1)
 
 pub retire-requires-clause-count : goal.retire-requires-clause-count
@@ -22,11 +26,29 @@ retire-requires-clause-count g c =
 
 pub returns-clause-taken : goal.returns-clause-taken
 returns-clause-taken g c =
+    let accepted = c.run_all.ensures.accepted in
     let source = ap (λ (s : g.row.S.Denot). (g.S.Source.tally s).arrivals) c.retire.ensures.source in
     let before = ap (λ (a : AcceptorState g.row.T.Denot g.row.S.Denot). (g.S.Source.tally a.source).arrivals) c.new-acceptor.ensures in
-    let none = ap (λ (a : AcceptorState g.row.T.Denot g.row.S.Denot). length a.sender.sent) c.new-acceptor.ensures ∙ ap length c.in-Ok.ensures.sender.1 in
-    omega (arith, source, before, none, c.retire.ensures.came, c.run_all.ensures.accepted.each)
+    let none = ap (λ (a : AcceptorState g.row.T.Denot g.row.S.Denot). a.sender.sent) c.new-acceptor.ensures ∙ c.in-Ok.ensures.sender.1 in
+    let count = came_count accepted.came _ _ none accepted.sent in
+    omega (arith, source, before, count, c.retire.ensures.came, accepted.each)
+
+pub returns-clause-served : goal.returns-clause-served
+returns-clause-served g c =
+    let accepted = c.run_all.ensures.accepted in
+    let first = c.new-acceptor.ensures in
+    let none = ap (λ (a : AcceptorState g.row.T.Denot g.row.S.Denot). a.sender.sent) first ∙ c.in-Ok.ensures.sender.1 in
+    let limit = ap (λ (a : AcceptorState g.row.T.Denot g.row.S.Denot). a.max_inflight) first in
+    let sent = sent_is accepted.came _ _ _ _ none limit accepted.sent in
+    let Source : g.row.S.Denot → g.row.S.Denot → Type 0 = λ old new. Gave g.S.Source.arrived old accepted.came new in
+    let Served : List (ArrivedState g.row.T.Denot) → Type 0 = λ arrived.
+    AreServed g.B.Broker.group g.T.Transport.counts g.T.Transport.given g.T.Transport.accepted arrived c.retire.new.me (map (λ (hand : Hand). hand.ports) c.retire.result.hands.items) c.retire.result.served.items in (
+      accepted.came,
+      subst (λ new. Source c.args.source new) (sym c.retire.ensures.source)
+          (subst (λ old. Source old c.run_all.new.acceptor.source) (ap (λ (a : AcceptorState g.row.T.Denot g.row.S.Denot). a.source) first) accepted.gave),
+      c.retire.ensures.came ∙ came_count accepted.came _ _ none accepted.sent,
+      subst Served sent c.retire.ensures.served,
+    )
 
 pub returns-clause-counted : goal.returns-clause-counted
-returns-clause-counted g c few =
-    counts_all g.B.Broker.group g.T.Transport.counts g.T.Transport.given g.T.Transport.accepted c.retire.result.taken.came c.retire.result.served.items c.retire.ensures.served few
+returns-clause-counted g c few = counts_all c.retire.result.taken.came c.retire.result.served.items c.retire.ensures.counted few
