@@ -1,10 +1,15 @@
--- The seats that are left are those of the gate.
-use Rattle.std.proofs.Common.{vec_len}
+-- The seats that are left are those of the gate, and each hand has ports through which nothing was sent.
+use Rattle.std.proofs.Common.{All, vec_len}
 use Rattle.gate_word.specs.Seats.{AreSeatsOf}
+use Rattle.broker_groups.specs.Naming.{AreUnsent}
 use Rattle.threaded_broker_tests.proofs.broker.deal.Given as goal
 
 abbrev pub invariant-hands : goal.invariant-hands
-invariant-hands g l = AreSeatsOf l.gate l.seats.items
+invariant-hands g l = record {
+  seats : AreSeatsOf l.gate l.seats.items;
+  unsent : All (λ hand. AreUnsent hand.ports) l.hands.items;
+  left : All AreUnsent l.left.items;
+}
 
 abbrev pub decreases-hands : goal.decreases-hands
 decreases-hands g l = vec_len l.left
