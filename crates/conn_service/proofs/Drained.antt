@@ -3,7 +3,7 @@ use Rattle.std.proofs.Common.{◌≡◌, ◌⊎◌, ℕ, Bool, true, false, List
 use Rattle.transport.specs.declared.counts.Counts.{Counts}
 use Rattle.conn_supply.specs.Facts.{Fact}
 use Rattle.conn_service.specs.Services.{ServiceState}
-use Rattle.conn_service.specs.Acts.{Act, Enters, Leaves, Reads, Writes, Steps, Loses, Fails, Starves, IsFull, IsStopped, Stalls, GivesUp, Ends, Others}
+use Rattle.conn_service.specs.Acts.{Act, Enters, Leaves, Asks, Reads, Writes, Steps, Loses, Fails, Starves, IsFull, IsStopped, Stalls, GivesUp, Ends, Others}
 use Rattle.conn_service.specs.Moments.{still_drained}
 use Rattle.conn_service.specs.Lives.{Does, DoesAll}
 use Rattle.conn_service.specs.Advances.{IsShortRead, HasShortRead, Forgets, HasForgotten}
@@ -25,6 +25,7 @@ module _ {S P T : Type 0} (call : S → Fact P → S → Type 0) (begins ends : 
       → (old.drained ≡ true) ⊎ IsShortRead act
   along_one (Enters is_open reads) old new supply supply' does is = inl (still_along reads old.drained (sym (ap (λ (s : ServiceState P T). s.drained) does.becomes) ∙ is))
   along_one Leaves old new supply supply' does is = inl (same_drained old new _ does.same refl is)
+  along_one (Asks is_kicked) old new supply supply' does is = inl (same_drained old new _ does.same refl is)
   along_one (Reads size its bytes) old new supply supply' does is = inr (sym (ap (λ (s : ServiceState P T). s.drained) does.does.becomes) ∙ is)
   along_one (Starves its bytes) old new supply supply' does is = inl (same_drained old new _ does.does.becomes refl is)
   along_one (Writes now put) old new supply supply' does is = inl (same_drained old new _ does.does.becomes refl is)
@@ -42,6 +43,7 @@ module _ {S P T : Type 0} (call : S → Fact P → S → Type 0) (begins ends : 
   forgets_one : (act : Act) (old new : ServiceState P T) (supply supply' : S) → Does call begins ends visiting slot_of counts given accepted act old supply new supply' → Forgets act → new.drained ≡ false
   forgets_one (Enters is_open reads) old new supply supply' does forgets = ap (λ (s : ServiceState P T). s.drained) does.becomes ∙ forgets_at reads old.drained forgets
   forgets_one Leaves old new supply supply' does forgets = absurd forgets
+  forgets_one (Asks is_kicked) old new supply supply' does forgets = absurd forgets
   forgets_one (Reads size its bytes) old new supply supply' does forgets = absurd forgets
   forgets_one (Starves its bytes) old new supply supply' does forgets = absurd forgets
   forgets_one (Writes now put) old new supply supply' does forgets = absurd forgets

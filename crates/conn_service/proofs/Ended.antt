@@ -7,7 +7,7 @@ use Rattle.transport.specs.declared.counts.Counts.{Counts}
 use Rattle.conn_supply.specs.Facts.{Fact}
 use Rattle.conn_service.specs.declared.served.Served.{Served}
 use Rattle.conn_service.specs.Services.{ServiceState}
-use Rattle.conn_service.specs.Acts.{Act, Enters, Leaves, Reads, Writes, Steps, Loses, Fails, Starves, IsFull, IsStopped, Stalls, GivesUp, Ends, Others, ending_in, endings_of}
+use Rattle.conn_service.specs.Acts.{Act, Enters, Leaves, Asks, Reads, Writes, Steps, Loses, Fails, Starves, IsFull, IsStopped, Stalls, GivesUp, Ends, Others, ending_in, endings_of}
 use Rattle.conn_service.specs.Lives.{Does, DoesAll}
 use Rattle.conn_service.specs.Transcripts.{IsQuiet}
 
@@ -24,6 +24,7 @@ module _ {S P T : Type 0} (call : S → Fact P → S → Type 0) (begins ends : 
       → Turns (ending_in act) old.ending new.ending
   turns (Enters is_open reads) old new supply supply' does = inl (refl, ap (λ (s : ServiceState P T). s.ending) does.becomes)
   turns Leaves old new supply supply' does = inl (refl, ap (λ (s : ServiceState P T). s.ending) does.same)
+  turns (Asks is_kicked) old new supply supply' does = inl (refl, ap (λ (s : ServiceState P T). s.ending) does.same)
   turns Others old new supply supply' does = inl (refl, ap (λ (s : ServiceState P T). s.ending) does)
   turns (Reads size its bytes) old new supply supply' does = inr (does.does.may.going, ap (λ (s : ServiceState P T). s.ending) does.does.becomes)
   turns (Starves its bytes) old new supply supply' does = inr (does.does.may.going, ap (λ (s : ServiceState P T). s.ending) does.does.becomes)
@@ -54,6 +55,7 @@ module _ {S P T : Type 0} (call : S → Fact P → S → Type 0) (begins ends : 
   quiet_one : (act : Act) (old new : ServiceState P T) (supply supply' : S) → old.ending ≢ None → Does call begins ends visiting slot_of counts given accepted act old supply new supply' → IsQuiet act
   quiet_one (Enters is_open reads) old new supply supply' ended does = tt
   quiet_one Leaves old new supply supply' ended does = tt
+  quiet_one (Asks is_kicked) old new supply supply' ended does = tt
   quiet_one Others old new supply supply' ended does = tt
   quiet_one (GivesUp now) old new supply supply' ended does = tt
   quiet_one (Reads size its bytes) old new supply supply' ended does = ended does.does.may.going

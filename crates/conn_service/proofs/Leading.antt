@@ -3,7 +3,7 @@ use Rattle.std.proofs.Common.{◌≡◌, ℕ, Bool, List, [], ◌∷◌, ◌++�
 use Rattle.transport.specs.declared.counts.Counts.{Counts}
 use Rattle.conn_supply.specs.Facts.{Fact}
 use Rattle.conn_service.specs.Services.{ServiceState}
-use Rattle.conn_service.specs.Acts.{Act, Enters, Leaves, Reads, Writes, Steps, Loses, Fails, Starves, IsFull, IsStopped, Stalls, GivesUp, Ends, Others}
+use Rattle.conn_service.specs.Acts.{Act, Enters, Leaves, Asks, Reads, Writes, Steps, Loses, Fails, Starves, IsFull, IsStopped, Stalls, GivesUp, Ends, Others}
 use Rattle.conn_service.specs.Visits.{Stand, Outside, Inside, Behind, Parting, Parted, IsStillOut, TreadsOutside, TreadsBehind, Treads, Rests, Walks}
 use Rattle.conn_service.specs.Edges.{DoesAtEdge, DoesAllAtEdge, LeadsAtEdge}
 use Rattle.conn_service.specs.Lives.{Does, DoesAll, Leads, Rounds, RoundsAll}
@@ -19,6 +19,7 @@ rests Parted = refl
 treads_outside : (now : ℕ) (act : Act) (to : Stand) → TreadsBehind now act to → TreadsOutside now act to
 treads_outside now (Enters is_open reads) to treads = inr treads
 treads_outside now Leaves to treads = absurd treads
+treads_outside now (Asks is_kicked) to treads = absurd treads
 treads_outside now (Reads size got bytes) to treads = absurd treads
 treads_outside now (Starves got bytes) to treads = absurd treads
 treads_outside now (Writes at put) to treads = (treads.0, inr treads.1)
@@ -76,6 +77,7 @@ module _ {P T : Type 0} (counts : T → Counts) (given accepted : T → Option (
       → TreadsBehind now act Behind × IsStillOut mid
   tread_behind now (Enters is_open reads) mid old between does treads = absurd does
   tread_behind now Leaves mid old between does treads = absurd treads
+  tread_behind now (Asks is_kicked) mid old between does treads = absurd treads
   tread_behind now (Reads size got bytes) mid old between does treads = absurd treads
   tread_behind now (Starves got bytes) mid old between does treads = absurd treads
   tread_behind now (Writes at put) mid old between does treads = ((treads.0, refl), treads.1)
@@ -129,6 +131,7 @@ module _ {S P T : Type 0} (call : S → Fact P → S → Type 0) (begins ends : 
   at_edge : (act : Act) (old new : ServiceState P T) (supply : S) → DoesAtEdge counts given accepted act old new → Does call begins ends visiting slot_of counts given accepted act old supply new supply
   at_edge (Enters is_open reads) old new supply does = absurd does
   at_edge Leaves old new supply does = absurd does
+  at_edge (Asks is_kicked) old new supply does = absurd does
   at_edge (Reads size got bytes) old new supply does = record { does = does; same = refl }
   at_edge (Starves got bytes) old new supply does = record { does = does; same = refl }
   at_edge (Writes now put) old new supply does = record { does = does; same = refl }

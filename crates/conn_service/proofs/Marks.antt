@@ -32,7 +32,7 @@ use Rattle.conn_laws.proofs.Ended.{ends_by, keeping}
 use Rattle.conn_laws.proofs.Transcripts.{transcribed}
 use Rattle.client_table.specs.Clients.{ClientState, moment_of, words, Moves, IsGivenUp}
 use Rattle.conn_service.specs.Services.{ServiceState}
-use Rattle.conn_service.specs.Acts.{Act, Enters, Leaves, Reads, Writes, Steps, Loses, Fails, Starves, IsFull, IsStopped, Stalls, GivesUp, Ends, Others, said_in, packets_said}
+use Rattle.conn_service.specs.Acts.{Act, Enters, Leaves, Asks, Reads, Writes, Steps, Loses, Fails, Starves, IsFull, IsStopped, Stalls, GivesUp, Ends, Others, said_in, packets_said}
 use Rattle.conn_service.specs.Moments.{fed_by}
 use Rattle.conn_service.specs.Lives.{Does}
 use Rattle.conn_service.specs.Sessions.{IsGiven, IsLegalLife}
@@ -308,6 +308,7 @@ module _ {S P T : Type 0} (call : S → Fact P → S → Type 0) (begins ends : 
       → Does call begins ends visiting slot_of counts given accepted act old supply new supply' → IsTellingAs number (done ++ act ∷ []) new
   tells_on number done (Enters is_open reads) old new supply supply' tells does = quiet_as number done (Enters is_open reads) old new refl (ap (λ (s : ServiceState P T). s.client.conn) does.becomes) tells
   tells_on number done Leaves old new supply supply' tells does = quiet_as number done Leaves old new refl (ap (λ (s : ServiceState P T). s.client.conn) does.same) tells
+  tells_on number done (Asks is_kicked) old new supply supply' tells does = quiet_as number done (Asks is_kicked) old new refl (ap (λ (s : ServiceState P T). s.client.conn) does.same) tells
   tells_on number done Others old new supply supply' tells does = quiet_as number done Others old new refl (ap (λ (s : ServiceState P T). s.client.conn) does) tells
   tells_on number done (Reads size its bytes) old new supply supply' tells does = quiet_as number done (Reads size its bytes) old new refl (ap (λ (s : ServiceState P T). s.client.conn) does.does.becomes ∙ same_conn its old.client bytes) tells
   tells_on number done (Starves its bytes) old new supply supply' tells does = quiet_as number done (Starves its bytes) old new refl (ap (λ (s : ServiceState P T). s.client.conn) does.does.becomes) tells

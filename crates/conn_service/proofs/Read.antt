@@ -20,7 +20,7 @@ use Rattle.conn_laws.proofs.Ended.{ends_by}
 use Rattle.client_table.specs.Clients.{ClientState, moment_of}
 use Rattle.client_table.specs.Streams.{longer}
 use Rattle.conn_service.specs.Services.{ServiceState}
-use Rattle.conn_service.specs.Acts.{Act, Enters, Leaves, Reads, Writes, Steps, Loses, Fails, Starves, IsFull, IsStopped, Stalls, GivesUp, Ends, Others, read_in, input_in, packet_in, fault_in, bytes_read, inputs_of, packets_read, faults_met}
+use Rattle.conn_service.specs.Acts.{Act, Enters, Leaves, Asks, Reads, Writes, Steps, Loses, Fails, Starves, IsFull, IsStopped, Stalls, GivesUp, Ends, Others, read_in, input_in, packet_in, fault_in, bytes_read, inputs_of, packets_read, faults_met}
 use Rattle.conn_service.specs.Moments.{fed_by}
 use Rattle.conn_service.specs.Lives.{Does, TakesFront}
 use Rattle.conn_service.specs.Transcripts.{ReadsItsStream}
@@ -183,6 +183,8 @@ module _ {S P T : Type 0} (call : S → Fact P → S → Type 0) (begins ends : 
       (λ still. (sym (ap (λ (s : ServiceState P T). s.ending) does.becomes) ∙ still, ap (λ (s : ServiceState P T). s.client) does.becomes)) has
   read_on done Leaves old new supply supply' has does =
       beside done Leaves old new refl refl refl (λ still. (sym (ap (λ (s : ServiceState P T). s.ending) does.same) ∙ still, ap (λ (s : ServiceState P T). s.client) does.same)) has
+  read_on done (Asks is_kicked) old new supply supply' has does =
+      beside done (Asks is_kicked) old new refl refl refl (λ still. (sym (ap (λ (s : ServiceState P T). s.ending) does.same) ∙ still, ap (λ (s : ServiceState P T). s.client) does.same)) has
   read_on done Others old new supply supply' has does =
       beside done Others old new refl refl refl (λ still. (sym (ap (λ (s : ServiceState P T). s.ending) does) ∙ still, ap (λ (s : ServiceState P T). s.client) does)) has
   read_on done (Reads size got bytes) old new supply supply' has does =

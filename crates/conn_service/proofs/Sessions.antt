@@ -7,7 +7,7 @@ use Rattle.conn_laws.proofs.Transcripts.{transcribed}
 use Rattle.conn_engine.specs.declared.input.Input.TheVariants as inputs
 use Rattle.client_table.specs.Clients.{ClientState, moment_of, IsGivenUp}
 use Rattle.conn_service.specs.Services.{ServiceState}
-use Rattle.conn_service.specs.Acts.{Act, Enters, Leaves, Reads, Writes, Steps, Loses, Fails, Starves, IsFull, IsStopped, Stalls, GivesUp, Ends, Others}
+use Rattle.conn_service.specs.Acts.{Act, Enters, Leaves, Asks, Reads, Writes, Steps, Loses, Fails, Starves, IsFull, IsStopped, Stalls, GivesUp, Ends, Others}
 use Rattle.conn_service.specs.Lives.{Does}
 use Rattle.conn_service.specs.Sessions.{TellsItsSession, TellsOfTheLast}
 
@@ -34,6 +34,7 @@ module _ {S P T : Type 0} (call : S → Fact P → S → Type 0) (begins ends : 
   tells (Fails now input) old new supply supply' does = failing.failed call slot_of supply supply' old.client.conn.number (moment_of old.client now) old.client.conn.standing input does.failed.failed
   tells (Enters is_open reads) old new supply supply' does = tt
   tells Leaves old new supply supply' does = tt
+  tells (Asks is_kicked) old new supply supply' does = tt
   tells (Reads size its bytes) old new supply supply' does = tt
   tells (Writes now put) old new supply supply' does = tt
   tells (Starves its bytes) old new supply supply' does = tt

@@ -13,7 +13,7 @@ use Rattle.conn_engine.specs.declared.standing.Standing.TheVariants.{Ended}
 use Rattle.conn_engine.specs.Step.{Steps as StepsOnce}
 use Rattle.client_table.specs.Clients.{ClientState, moment_of, words, Said, Moves, IsGivenUp}
 use Rattle.conn_service.specs.Services.{ServiceState}
-use Rattle.conn_service.specs.Acts.{Act, Enters, Leaves, Reads, Writes, Steps, Loses, Fails, Starves, IsFull, IsStopped, Stalls, GivesUp, Ends, Others}
+use Rattle.conn_service.specs.Acts.{Act, Enters, Leaves, Asks, Reads, Writes, Steps, Loses, Fails, Starves, IsFull, IsStopped, Stalls, GivesUp, Ends, Others}
 use Rattle.conn_service.specs.Moments.{fed_by}
 use Rattle.conn_service.specs.Lives.{Does}
 
@@ -49,6 +49,7 @@ module _ {S P T : Type 0} (call : S → Fact P → S → Type 0) (begins ends : 
   pub kept_on : (act : Act) (old new : ServiceState P T) (supply supply' : S) → IsWithin old → Does call begins ends visiting slot_of counts given accepted act old supply new supply' → IsWithin new
   kept_on (Enters is_open reads) old new supply supply' within does = same_client old new (ap (λ (s : ServiceState P T). s.client) does.becomes) within
   kept_on Leaves old new supply supply' within does = same_client old new (ap (λ (s : ServiceState P T). s.client) does.same) within
+  kept_on (Asks is_kicked) old new supply supply' within does = same_client old new (ap (λ (s : ServiceState P T). s.client) does.same) within
   kept_on Others old new supply supply' within does = same_client old new (ap (λ (s : ServiceState P T). s.client) does) within
   kept_on (Starves its bytes) old new supply supply' within does = same_client old new (ap (λ (s : ServiceState P T). s.client) does.does.becomes) within
   kept_on (Writes now put) old new supply supply' within does = same_client old new (ap (λ (s : ServiceState P T). s.client) does.does.becomes) within

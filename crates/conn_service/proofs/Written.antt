@@ -12,7 +12,7 @@ use Rattle.transport.specs.declared.answers.Put.TheVariants as put
 use Rattle.conn_supply.specs.Facts.{Fact}
 use Rattle.conn_service.specs.declared.served.Served.TheVariants as served
 use Rattle.conn_service.specs.Services.{ServiceState, bytes_of}
-use Rattle.conn_service.specs.Acts.{Act, Enters, Leaves, Reads, Writes, Steps, Loses, Fails, Starves, IsFull, IsStopped, Stalls, GivesUp, Ends, Others, said_in, packets_said}
+use Rattle.conn_service.specs.Acts.{Act, Enters, Leaves, Asks, Reads, Writes, Steps, Loses, Fails, Starves, IsFull, IsStopped, Stalls, GivesUp, Ends, Others, said_in, packets_said}
 use Rattle.conn_service.specs.Moments.{ending_read, ending_write}
 use Rattle.conn_service.specs.Lives.{Does}
 use Rattle.conn_service.specs.Transcripts.{WritesItsPackets}
@@ -93,6 +93,10 @@ module _ {S P T : Type 0} (call : S → Fact P → S → Type 0) (begins ends : 
       (λ is. inl (sym (ap (λ (s : ServiceState P T). s.ending) does.becomes) ∙ is)) kept
   written_on done Leaves old new supply supply' kept does =
       silent accepted first done Leaves old new refl (ap (λ (s : ServiceState P T). accepted s.transport) does.same)
+      (λ going. (sym (ap (λ (s : ServiceState P T). s.ending) does.same) ∙ going, ap (λ (s : ServiceState P T). s.outgoing) does.same))
+      (λ is. inl (sym (ap (λ (s : ServiceState P T). s.ending) does.same) ∙ is)) kept
+  written_on done (Asks is_kicked) old new supply supply' kept does =
+      silent accepted first done (Asks is_kicked) old new refl (ap (λ (s : ServiceState P T). accepted s.transport) does.same)
       (λ going. (sym (ap (λ (s : ServiceState P T). s.ending) does.same) ∙ going, ap (λ (s : ServiceState P T). s.outgoing) does.same))
       (λ is. inl (sym (ap (λ (s : ServiceState P T). s.ending) does.same) ∙ is)) kept
   written_on done Others old new supply supply' kept does =

@@ -17,6 +17,8 @@ pub data Act : Type 0 where
   Enters : (is_open reads : Bool) → Act
   -- and ends it
   Leaves : Act
+  -- whether another connection asked for its session is asked of the supply
+  Asks : (is_kicked : Bool) → Act
   -- one read of the transport into a buffer of this size, and the bytes that it gave
   Reads : (size : ℕ) → (got : Got) → (bytes : List ℕ) → Act
   -- one write of what waits

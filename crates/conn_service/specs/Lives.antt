@@ -14,7 +14,7 @@ use Rattle.client_table.specs.Clients.{words, Moves, FailsToMove, IsGivenUp}
 use Rattle.client_table.specs.Streams.{IsRead, IsInFront}
 use Rattle.conn_service.specs.declared.served.Served.TheVariants as served
 use Rattle.conn_service.specs.Services.{ServiceState, bytes_of, write_room}
-use Rattle.conn_service.specs.Acts.{Act, Enters, Leaves, Reads, Writes, Steps, Loses, Fails, Starves, IsFull, IsStopped, Stalls, GivesUp, Ends, Others, BeginsByWriting}
+use Rattle.conn_service.specs.Acts.{Act, Enters, Leaves, Asks, Reads, Writes, Steps, Loses, Fails, Starves, IsFull, IsStopped, Stalls, GivesUp, Ends, Others, BeginsByWriting}
 use Rattle.conn_service.specs.Visits.{Stand, Outside, Behind, Walks}
 use Rattle.conn_service.specs.Moments.{ticked_by, since_step, still_drained}
 use Rattle.conn_service.specs.Edges.{DoesAtEdge}
@@ -30,15 +30,15 @@ TakesFront unread inputs.Closing unread' = unread' ≡ unread
 module _ {S P T : Type 0} (call : S → Fact P → S → Type 0) (begins ends : S → S → Type 0) (visiting : S → Bool) (slot_of : P → ℕ)
     (counts : T → Counts) (given accepted : T → Option (List ℕ)) where
   -- when an input may be stepped: a packet or a fault within a visit, where there is room for what is said; a Tick within a visit, where nothing
-  -- waits to be written, or the connection is overdue or taken over, which a peer that does not read must not hold up; the end of the stream
-  -- within a visit, where the transport has ended, and all that is whole was stepped; the close where the supply is shut
+  -- waits to be written, or the connection is overdue, or the supply has just said that it is taken over, which a peer that does not read must not hold
+  -- up; the end of the stream within a visit, where the transport has ended, and all that is whole was stepped; the close where the supply is shut
   abbrev pub MayStep : Input → ℕ → ServiceState P T → S → Type 0
   MayStep (inputs.Packet packet) now service supply = (visiting supply ≡ true) × (length service.outgoing < write_room)
   MayStep (inputs.Fault fault) now service supply = (visiting supply ≡ true) × (length service.outgoing < write_room)
   MayStep inputs.Tick now service supply =
       (visiting supply ≡ true)
       × ((service.outgoing ≡ [])
-      ⊎ (IsSilentTooLong service.client.conn.standing now ⊎ call supply (Kicked service.client.conn.number true) supply))
+      ⊎ (IsSilentTooLong service.client.conn.standing now ⊎ ((asked : S) × call asked (Kicked service.client.conn.number true) supply)))
   MayStep inputs.EndOfInput now service supply = (visiting supply ≡ true) × (service.at_end ≡ true) × IsRead service.client
   MayStep inputs.Closing now service supply = visiting supply ≡ false
 
@@ -55,6 +55,11 @@ module _ {S P T : Type 0} (call : S → Fact P → S → Type 0) (begins ends : 
 
   pub record EndsVisit (old : ServiceState P T) (supply : S) (new : ServiceState P T) (supply' : S) : Type 0 where
     pub ended : ends supply supply'
+    pub same : new ≡ old
+
+  -- the supply says whether another connection asked for its session
+  pub record AsksOnce (is_kicked : Bool) (old : ServiceState P T) (supply : S) (new : ServiceState P T) (supply' : S) : Type 0 where
+    pub asked : call supply (Kicked old.client.conn.number is_kicked) supply'
     pub same : new ≡ old
 
   -- one step, whose packets wait to be written
@@ -107,6 +112,7 @@ module _ {S P T : Type 0} (call : S → Fact P → S → Type 0) (begins ends : 
   abbrev pub Does : Act → ServiceState P T → S → ServiceState P T → S → Type 0
   Does (Enters is_open reads) old supply new supply' = BeginsVisit is_open reads old supply new supply'
   Does Leaves old supply new supply' = EndsVisit old supply new supply'
+  Does (Asks is_kicked) old supply new supply' = AsksOnce is_kicked old supply new supply'
   Does (Steps now input packets next) old supply new supply' = StepsOnce now input packets next old supply new supply'
   Does (Loses now input packets next) old supply new supply' = LosesPackets now input packets next old supply new supply'
   Does (Fails now input) old supply new supply' = FailsOnce now input old supply new supply'

@@ -8,7 +8,7 @@ use Rattle.conn_engine.specs.declared.standing.Standing.TheVariants.{Ended}
 use Rattle.conn_laws.specs.Behind.{IsLast}
 use Rattle.conn_service.specs.declared.served.Served.TheVariants as served
 use Rattle.conn_service.specs.Services.{ServiceState, bytes_of}
-use Rattle.conn_service.specs.Acts.{Act, Enters, Leaves, GivesUp, Others, bytes_read, packets_read, faults_met, packets_said}
+use Rattle.conn_service.specs.Acts.{Act, Enters, Leaves, Asks, GivesUp, Others, bytes_read, packets_read, faults_met, packets_said}
 
 -- the steps took, in order, the packets that the bytes read spell, one after the other (2.1, 4.13); a fault that was met stands in front of the rest,
 -- which is what is unread as long as the connection goes on
@@ -36,6 +36,7 @@ EndsWithLast (input ∷ next ∷ rest) = (IsLast input → ⊥) × EndsWithLast 
 abbrev pub IsQuiet : Act → Type 0
 IsQuiet (Enters is_open reads) = ⊤
 IsQuiet Leaves = ⊤
+IsQuiet (Asks is_kicked) = ⊤
 IsQuiet (GivesUp now) = ⊤
 IsQuiet Others = ⊤
 IsQuiet _ = ⊥

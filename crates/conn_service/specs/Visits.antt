@@ -2,7 +2,7 @@
 use Rattle.std.specs.Prelude.{◌≡◌, ◌⊎◌, ℕ, Bool, true, false, List, [], ◌∷◌}
 use Rattle.conn_engine.specs.declared.input.Input.{Input}
 use Rattle.conn_engine.specs.declared.input.Input.TheVariants as inputs
-use Rattle.conn_service.specs.Acts.{Act, Enters, Leaves, Reads, Writes, Steps, Loses, Fails, Starves, IsFull, IsStopped, Stalls, GivesUp, Ends}
+use Rattle.conn_service.specs.Acts.{Act, Enters, Leaves, Asks, Reads, Writes, Steps, Loses, Fails, Starves, IsFull, IsStopped, Stalls, GivesUp, Ends}
 
 -- where a round stands towards the supply
 pub data Stand : Type 0 where
@@ -39,6 +39,7 @@ TreadsOutside now _ to = ⊥
 
 abbrev pub TreadsInside : ℕ → Bool → Act → Stand → Type 0
 TreadsInside now is_open Leaves to = to ≡ Behind
+TreadsInside now is_open (Asks is_kicked) to = (is_open ≡ true) × (to ≡ Inside is_open)
 TreadsInside now is_open (Reads size got bytes) to = (is_open ≡ true) × (to ≡ Inside is_open)
 TreadsInside now is_open (Starves got bytes) to = (is_open ≡ true) × (to ≡ Inside is_open)
 TreadsInside now is_open (Steps at input packets next) to = (at ≡ now) × IsSteppedIn input is_open × (to ≡ Inside is_open)

@@ -321,11 +321,16 @@ impl<P: HoldingPlace, T: Transport> Service<P, T> {
             && !self.keeps_enough()
     }
 
-    /// Whether a Tick can't wait until the transport takes more: it is overdue, or another connection asked for its session.
-    fn is_urgent<S: Supply<P>>(&self, supply: &S, now: u64) -> bool
-        ensures { result ≡ true → IsSilentTooLong self.now.client.conn.standing now ⊎ S.call supply.now (Kicked self.now.client.conn.number true) supply.now }
+    /// Whether a Tick can't wait until the transport takes more: it is overdue, or another connection asked for its session, which the supply says.
+    fn is_urgent<S: Supply<P>>(&self, supply: &mut S, now: u64) -> bool
+        ensures led { Leads S.call S.begins S.ends S.visiting P.slot_of T.counts T.given T.accepted now (Inside true) (Inside true) self.now supply.old self.now supply.new }
+        ensures urgent { result ≡ true → IsSilentTooLong self.now.client.conn.standing now ⊎ ((asked : S) × S.call asked (Kicked self.now.client.conn.number true) supply.new) }
+        ensures visiting { S.visiting supply.new ≡ S.visiting supply.old }
     {
-        self.is_overdue(now) || self.client.is_kicked(supply)
+        if self.is_overdue(now) {
+            return true;
+        }
+        self.client.is_kicked(supply)
     }
 
     /// Whether it is time for a Tick.

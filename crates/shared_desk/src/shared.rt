@@ -1,10 +1,10 @@
 //! The desk behind a lock, and how it is opened.
-ghost use Rattle.std.specs.Prelude.{◌≡◌, ◌<◌, ◌≤◌, ◌⊎◌, ◌++◌, ◌∷◌, [], true, ℕ, All, List, length, reverse, Some, None, IfOk, IfSome};
+ghost use Rattle.std.specs.Prelude.{◌≡◌, ◌<◌, ◌≤◌, ◌⊎◌, [], false, true, All, length, reverse, Some, None, IfOk, IfSome};
 ghost use mathlib.Core.List.{IsPrefix};
 ghost use Rattle.group_jobs.specs.Stamps.{Held};
 ghost use Rattle.session_desk.specs.Attaching.{asked};
 ghost use Rattle.session_desk.specs.Books.{Books, IsKicked, new_books};
-ghost use Rattle.session_desk.specs.Calls.{Call, Attach, Withdraw, Kicked, Park, ParkAsIs, Keep, Bury, Sweep, LendPlace, TakePlace};
+ghost use Rattle.session_desk.specs.Calls.{Attach, Withdraw, Kicked, Park, ParkAsIs, Keep, Bury, Sweep, LendPlace, TakePlace};
 ghost use Rattle.session_desk.specs.Places.{IsOfSlot};
 ghost use Rattle.conn_supply.specs.Holding.{IsOutAtPlace};
 ghost use Rattle.conn_supply.specs.Ready.{IsReady, IsSoundSession};
@@ -169,22 +169,16 @@ impl<P: HoldingPlace, D: HistoryName> SharedDesk<P, D> {
         self.desk.lock(rt).withdraw(&self.history, me, connection);
     }
 
-    /// Whether another connection asked for this connection's session since it was lent; a pass that knows so, where one did. The lock is taken only where
-    /// one may have.
-    pub fn kicked<R: Wait>(&self, rt: &R, connection: u16) -> Option<DeskPass<P, D>>
-        ensures yes { IfSome result (λ _. (books : Books Held P) × IsLawful P.has_out books × IsKicked books connection) }
-        ensures told { IfSome result (λ told. (before : List (Call Held P)) × (told ≡ before ++ Kicked connection true ∷ [])) }
+    /// Whether another connection asked for this connection's session since it was lent. The lock is taken only where one may have: else the answer is no, and
+    /// the pass knows what it knew.
+    pub fn kicked<R: Wait>(&self, rt: &R, me: &mut DeskPass<P, D>, connection: u16) -> bool
+        ensures yes { result ≡ true → (books : Books Held P) × IsLawful P.has_out books × IsKicked books connection }
+        ensures told { ((result ≡ false) × (me.new ≡ me.old)) ⊎ IsTold P.has_out P.slot_of P.number_of me.old (Kicked connection result) me.new }
     {
         if !self.is_marked(connection) {
-            return None;
+            return false;
         }
-        let mut desk = self.desk.lock(rt);
-        let mut told = desk.pass(&self.history);
-        if desk.kicked(&self.history, &mut told, connection) {
-            Some(told)
-        } else {
-            None
-        }
+        self.desk.lock(rt).kicked(&self.history, me, connection)
     }
 
     /// Whether a connection's session may have been asked for.

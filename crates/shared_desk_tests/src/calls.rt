@@ -75,13 +75,13 @@ fn takeover<D: HistoryName, R: Wait>(
 ) -> (bool, bool, bool) {
     let client = Bytes::from_static(b"a");
     let session = lent(desk.attach(rt, me, 0, &client, false, 0));
-    let before = desk.kicked(rt, 0).is_some();
+    let before = desk.kicked(rt, me, 0);
     dissolve(lent(desk.attach(rt, me, 1, &client, false, 0)));
-    let behind = desk.kicked(rt, 0).is_some();
+    let behind = desk.kicked(rt, me, 0);
     if let Some(session) = session {
         dissolve(desk.park_as_is(rt, me, session));
     }
-    (before, behind, desk.kicked(rt, 1).is_some())
+    (before, behind, desk.kicked(rt, me, 1))
 }
 
 /// What is said of a takeover at a new desk.

@@ -4,6 +4,21 @@ use Rattle.conn_service.proofs.Leading.{leads_on}
 use Rattle.conn_service.proofs.Advancing.{end_told}
 use Rattle.conn_service.proofs.service.Service.proceed.Goals as goal
 
+-- where something waits, the supply may be asked in front of the Tick
+pub returns-in_err-tick_if-clause-led : goal.returns-in_err-tick_if-clause-led
+returns-in_err-tick_if-clause-led g c = record {
+  led = leads_on g.S.Supply.call g.S.Supply.begins g.S.Supply.ends g.S.Supply.visiting g.P.Place.slot_of g.T.Transport.counts g.T.Transport.given g.T.Transport.accepted c.args.self.now
+      c.args.self.now c.tick_if.new.self c.args.supply.now c.is_urgent-urgent.new.supply c.tick_if.new.supply c.is_urgent-urgent.ensures.led c.tick_if.ensures.led;
+  told = search rules;
+}
+
+pub returns-then-not-is_empty-clause-led : goal.returns-then-not-is_empty-clause-led
+returns-then-not-is_empty-clause-led g c = record {
+  led = leads_on g.S.Supply.call g.S.Supply.begins g.S.Supply.ends g.S.Supply.visiting g.P.Place.slot_of g.T.Transport.counts g.T.Transport.given g.T.Transport.accepted c.args.self.now
+      c.args.self.now c.tick_if.new.self c.args.supply.now c.is_urgent-urgent.new.supply c.tick_if.new.supply c.is_urgent-urgent.ensures.led c.tick_if.ensures.led;
+  told = λ reads none. absurd (search rules);
+}
+
 pub returns-in_err-step_each-clause-led : goal.returns-in_err-step_each-clause-led
 returns-in_err-step_each-clause-led g c = record {
   led = leads_on g.S.Supply.call g.S.Supply.begins g.S.Supply.ends g.S.Supply.visiting g.P.Place.slot_of g.T.Transport.counts g.T.Transport.given g.T.Transport.accepted c.args.self.now
