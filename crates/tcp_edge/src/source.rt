@@ -1,5 +1,5 @@
 //! Where connections come from: a listener.
-ghost use Rattle.std.specs.Prelude.{◌≡◌, ◌<◌, IfOk, IfErr, IfSome, Some};
+ghost use Rattle.std.specs.Prelude.{◌≡◌, ◌<◌, IfOk, IfErr, IfSome, None, Some};
 ghost use Rattle.std.specs.IoError.{error_kind, raw_os_error};
 ghost use Rattle.tcp_edge.specs.Sources.{IsFresh, IsPortFor, is_short, open_error_of, passed_over, refused_arrival};
 ghost use Rattle.transport.specs.Counting.{ComesNew, MayCome, after_arrival};

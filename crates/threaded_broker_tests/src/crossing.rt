@@ -1,5 +1,5 @@
 //! Workers that serve at the same time.
-ghost use Rattle.std.specs.Prelude.{◌≡◌, IfOk};
+ghost use Rattle.std.specs.Prelude.{◌≡◌, None, IfOk};
 ghost use Rattle.transport.specs.Counting.{no_counts};
 
 use crate::broker::{Told, serve_all};
