@@ -12,16 +12,16 @@ use Rattle.worker_connections.specs.Arrivals.{ArrivedState}
 use Rattle.worker_connections.specs.Counting.{counted, counted_behind, none_served}
 use Rattle.worker_connections.specs.Serving.{AreCounted, IsAccounted, TakesIn}
 
-module _ {T : Type 0} where
-  abbrev Table : Type 0
-  Table = List (Option (ServiceState PlaceState T))
+abbrev Table : Type 0 → Type 0
+Table T = List (Option (ServiceState PlaceState T))
 
+module _ {T : Type 0} where
   -- no connection was received, and all cells are free
-  pub fresh : (cells : Table) → occupied cells ≡ 0 → IsAccounted 0 cells none_served
+  pub fresh : (cells : Table T) → occupied cells ≡ 0 → IsAccounted 0 cells none_served
   fresh cells none = record { endings = []; counted = refl; all = omega (arith, none) }
 
   -- behind a round those that have ended are counted
-  pub behind_round : (received : ℕ) (cells cells' : Table) (served served' : ServedCounts) (turned : Turned T) → IsAccounted received cells served
+  pub behind_round : (received : ℕ) (cells cells' : Table T) (served served' : ServedCounts) (turned : Turned T) → IsAccounted received cells served
       → occupied cells ≡ occupied cells' + ended_by turned → served' ≡ counted_behind turned served → IsAccounted received cells' served'
   behind_round received cells cells' served served' Vacant old fewer counts_it =
       record { endings = old.endings; counted = counts_it ∙ old.counted; all = omega (arith, old.all, fewer) }
@@ -31,7 +31,7 @@ module _ {T : Type 0} where
       record { endings = how ∷ old.endings; counted = counts_it ∙ ap (counted how) old.counted; all = omega (arith, old.all, fewer) }
 
   -- one more was received, and is open or counted
-  pub came_one : (counts : T → Counts) (given accepted : T → Option (List ℕ)) (now : ℕ) (arrived : ArrivedState T) (received received' : ℕ) (cells cells' : Table)
+  pub came_one : (counts : T → Counts) (given accepted : T → Option (List ℕ)) (now : ℕ) (arrived : ArrivedState T) (received received' : ℕ) (cells cells' : Table T)
       (served served' : ServedCounts) → received' ≡ received + 1 → IsAccounted received cells served → TakesIn counts given accepted now arrived cells served cells' served'
       → IsAccounted received' cells' served'
   came_one counts given accepted now arrived received received' cells cells' served served' more old (inl opened) =
@@ -40,6 +40,6 @@ module _ {T : Type 0} where
       record { endings = Memory ∷ old.endings; counted = refused.1 ∙ ap (counted Memory) old.counted; all = omega (arith, more, old.all, ap occupied refused.0) }
 
   -- where no connection is open, all that were received have ended
-  pub settled : (received : ℕ) (cells : Table) (served : ServedCounts) → IsAccounted received cells served → occupied cells ≡ 0 → AreCounted received served
+  pub settled : (received : ℕ) (cells : Table T) (served : ServedCounts) → IsAccounted received cells served → occupied cells ≡ 0 → AreCounted received served
   settled received cells served accounted none =
       record { endings = accounted.endings; counted = accounted.counted; all = omega (arith, accounted.all, none) }

@@ -117,7 +117,7 @@ impl<'a, 'g, B: Broker, N: HistoryName, T: Transport + Drop, R: Wait> Connection
         requires table { table ≡ replicate (length members) None }
         requires supply { supply.wakes ≡ no_wakes }
         requires unsent { AreUnsent supply.ports }
-        ensures { AreFresh receiver supply.ports result }
+        ensures { AreFresh receiver supply.entry.ports result }
     {
         Connections {
             receiver,
