@@ -1,12 +1,12 @@
 -- What each call of a connection makes of its worker, and what it answers.
-use Rattle.std.specs.Prelude.{◌≡◌, ◌⊎◌, ℕ, ◌<◌, ◌+◌, ◌-◌, ◌^◌, min, Bool, true, false, List, [], ◌∷◌, ◌++◌, Option, None, Result, Ok, Err}
+use Rattle.std.specs.Prelude.{◌≡◌, ◌⊎◌, ℕ, ◌<◌, ◌+◌, ◌-◌, ◌^◌, min, Bool, true, false, List, Option, None, Result, Ok, Err}
 use Rattle.mqtt_topic.specs.Names.{Share}
 use Rattle.mqtt_topic.specs.Routes.{slot_of, routed, places_of}
 use Rattle.group_jobs.specs.Stamps.{Held}
 use Rattle.session_desk.specs.declared.session.Session.{Session}
 use Rattle.session_desk.specs.Calls.{Call}
 use Rattle.session_desk.specs.Calls as desk
-use Rattle.shared_desk.specs.Histories.{IsHistory, IsTold}
+use Rattle.shared_desk.specs.Histories.{IsTold}
 use Rattle.conn_supply.specs.declared.supply.BindRefusal.{BindRefusal}
 use Rattle.conn_supply.specs.declared.supply.BindRefusal.TheVariants as bind
 use Rattle.conn_supply.specs.Facts.{Fact}
@@ -56,11 +56,6 @@ HandsIn old call new = (back : Option (Session Held PlaceState)) × AsksDesk old
 abbrev pub HandsInPlace : Worker → PlaceState → Worker → Type 0
 HandsInPlace old place new = (back : Option PlaceState) × AsksDesk old (desk.TakePlace place back) new
 
--- the desk was called for this, and said yes: so ends a history of its calls
-pub record IsToldKicked (connection : ℕ) : Type 0 where
-  pub before : List (Call Held PlaceState)
-  pub legal : IsHistory HasOut (λ (p : PlaceState). p.group) (λ (p : PlaceState). p.number) (before ++ desk.Kicked connection true ∷ [])
-
 -- a share is bound: 205 and 206 as the routes have them
 abbrev pub Binds : KnownState → Share → Result ℕ BindRefusal → KnownState → Type 0
 Binds old share (Ok slot) new = BindAnswers old share (Ok slot) new
@@ -72,7 +67,7 @@ module _ (group : ℕ → GroupId) where
   abbrev pub Calls : Worker → Fact PlaceState → Worker → Type 0
   Calls old (Attach request answer) new = AsksDesk (waking old (asking_back answer old.wakes)) (desk.Attach request answer) new
   Calls old (Withdraw connection) new = AsksDesk old (desk.Withdraw connection) new
-  Calls old (Kicked connection answer) new = (answer ≡ true → IsToldKicked connection) × (new ≡ old)
+  Calls old (Kicked connection answer) new = ((answer ≡ false) × (new ≡ old)) ⊎ AsksDesk old (desk.Kicked connection answer) new
   Calls old (Park session now answer) new = AsksDesk (waking old (freeing old.wakes)) (desk.Park session now answer) new
   Calls old (ParkAsIs session) new = HandsIn (waking old (freeing old.wakes)) (λ back. desk.ParkAsIs session back) new
   Calls old (Keep session) new = HandsIn old (λ back. desk.Keep session back) new

@@ -77,15 +77,9 @@ impl<'a, 'g, B: Broker, N: HistoryName, R: Wait> Supply<BrokerPlace<B>>
         hall.desk.withdraw(self.rt, &mut self.desk, connection);
     }
 
-    fn kicked(&self, connection: u16) -> bool {
+    fn kicked(&mut self, connection: u16) -> bool {
         let hall = self.hall;
-        match hall.desk.kicked(self.rt, connection) {
-            Some(told) => {
-                told.is_history();
-                true
-            }
-            None => false,
-        }
+        hall.desk.kicked(self.rt, &mut self.desk, connection)
     }
 
     fn park(
