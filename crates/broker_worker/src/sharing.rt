@@ -2,7 +2,7 @@
 ghost use Rattle.std.specs.Prelude.{◌≡◌, ◌<◌, List, ℕ, IfSome};
 ghost use Rattle.shared_supply.specs.Waking.{KeepsAtMost};
 ghost use Rattle.worker_bells.specs.Ringing.{AreRung};
-ghost use Rattle.worker_connections.specs.Serving.{Rounds};
+ghost use Rattle.worker_connections.specs.Serving.{Rounds, wakes_of, with_wakes};
 
 use crate::worker::{READ_SIZE, Worker};
 use bell::Wake;
