@@ -1,7 +1,9 @@
 -- What was accepted goes on.
 use Rattle.std.proofs.Common.{◌≡◌, ◌+◌, ℕ, List, [], ◌∷◌, ◌++◌, length, map, Option, Some, None, refl, sym, subst, ap, ◌∙◌, append-nil, append_assoc, length-append, arith}
 use Rattle.std.specs.Prelude.{option_map}
+use Rattle.transport.specs.declared.answers.Arrival.TheVariants.{Came}
 use Rattle.transport.specs.declared.counts.Tally.{Tally}
+use Rattle.transport.specs.Counting.{after_arrival, after_came}
 use Rattle.conn_channel.specs.Ends.{SenderState}
 use Rattle.worker_connections.specs.Arrivals.{ArrivedState}
 use Rattle.worker_pool.specs.Accepting.{AcceptorState, Gave, HasAccepted, OnlyMarks, arrivals}
@@ -20,8 +22,8 @@ pub sent_is : {T : Type 0} (came : List T) (first last : List (ArrivedState T)) 
 sent_is {T} came first last limit its none same sent =
     sent ∙ ap (λ (l : List (ArrivedState T)). l ++ arrivals limit came) none ∙ ap (λ n. arrivals n came) same
 
-pub came_count : {T : Type 0} {limit : ℕ} (came : List T) (first last : List (ArrivedState T)) → first ≡ [] → last ≡ first ++ arrivals limit came → length last ≡ length came
-came_count {limit = limit} came first last none sent = ap length (sent_is came first last limit limit none refl sent) ∙ arrivals-length limit came
+pub came_count : {T : Type 0} (limit : ℕ) (came : List T) (first last : List (ArrivedState T)) → first ≡ [] → last ≡ first ++ arrivals limit came → length last ≡ length came
+came_count limit came first last none sent = ap length (sent_is came first last limit limit none refl sent) ∙ arrivals-length limit came
 
 none_given : {T : Type 0} (known : Option (List T)) → known ≡ option_map (λ those. those ++ []) known
 none_given None = refl
@@ -44,6 +46,21 @@ module _ {T S : Type 0} (tally : S → Tally) (arrived : S → Option (List T)) 
     sent = ap (λ (s : SenderState (ArrivedState T)). s.sent) marks ∙ sym (append-nil old.sender.sent);
     gave = ap arrived source ∙ none_given (arrived old.source);
     each = omega (arith, ap (λ (s : S). (tally s).arrivals) source);
+  }
+
+  -- one came, and was sent
+  pub one : (old : AcceptorState T S) (source : S) (sender : SenderState (ArrivedState T)) (transport : T) → tally source ≡ after_arrival (Came transport) (tally old.source)
+      → arrived source ≡ after_came (Came transport) (arrived old.source)
+      → sender ≡ record old.sender { sent = old.sender.sent ++ record { transport = transport; max_inflight = old.max_inflight } ∷ [] }
+      → HasAccepted tally arrived old (record { source = source; sender = sender; max_inflight = old.max_inflight })
+  one old source sender transport counted told is = record {
+    channel = ap (λ (s : SenderState (ArrivedState T)). s.channel) is;
+    receivers = ap (λ (s : SenderState (ArrivedState T)). s.receivers) is;
+    limit = refl;
+    came = transport ∷ [];
+    sent = ap (λ (s : SenderState (ArrivedState T)). s.sent) is;
+    gave = told;
+    each = ap (λ (t : Tally). t.arrivals) counted;
   }
 
   -- and behind that more

@@ -180,13 +180,27 @@ impl<'a, B: Broker, T: Transport + Drop, S: Source<T>, W: Wake> Acceptor<'a, B, 
     pub(crate) fn accept_all<R: Wait + Clock>(&mut self, rt: &R)
         ensures { HasAccepted S.tally S.arrived self.old self.new }
     {
+        self.accept_begun(rt);
+        self.shut_unless_ended();
+        self.close(rt);
+    }
+
+    /// Once every worker has begun, takes connections until the source has ended or failed; none where a worker does not begin in time.
+    fn accept_begun<R: Wait + Clock>(&mut self, rt: &R)
+        ensures { HasAccepted S.tally S.arrived self.old self.new }
+    {
         if all_begin(rt, self.roster) {
             self.end = self.accept(rt);
         }
+    }
+
+    /// Shuts the gate, where the source had not ended.
+    fn shut_unless_ended(&mut self)
+        ensures { self.new ≡ self.old }
+    {
         if self.end != SourceEnd::Ended {
             self.closer.shut();
         }
-        self.close(rt);
     }
 
     /// Takes connections until the source has ended or failed.

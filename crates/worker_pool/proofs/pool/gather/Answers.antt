@@ -19,14 +19,14 @@ workers-preserved g c =
     let hands = simp length-append at (ap length c.push_reserved.ensures.items) in
     let receivers = simp length-append at (ap length c.push_reserved-in-Some.ensures.items) in
     let served = simp length-append at (ap length c.push_reserved-in-Some-2.ensures.items) in
-    let returned = c.into_parts.result in
+    let returned = c.into_parts-hand.result in
     let receiver = returned.receiver in
-    let is = c.into_parts.ensures.receiver in
+    let is = c.into_parts-hand.ensures.receiver in
     let Of : ReceiverState (ArrivedState g.row.T.Denot) → Type 0 = λ r. r.channel ≡ c.args.sender.now.channel in
     let mark = ap (λ (r : ReceiverState (ArrivedState g.row.T.Denot)). r.end_marks_received) is in
     let marks = ap (λ (rs : List (ReceiverState (ArrivedState g.row.T.Denot))). end_marks_received_by rs) c.push_reserved-in-Some.ensures.items ∙ sum_by_push (λ (r : ReceiverState (ArrivedState g.row.T.Denot)). r.end_marks_received) c.workers.receivers.items receiver in
     let none = done.1.none_live in
-    let ports = ap (λ (l : List Hand). map (λ (hand : Hand). hand.ports) l) c.push_reserved.ensures.items ∙ map_push (λ (hand : Hand). hand.ports) c.workers.hands.items returned.hand in
+    let ports = ap (λ (l : List (Hand g.row.B.Denot)). map (λ (hand : Hand g.row.B.Denot). hand.ports) l) c.push_reserved.ensures.items ∙ map_push (λ (hand : Hand g.row.B.Denot). hand.ports) c.workers.hands.items returned.hand in
     record {
       workers = split.0;
       hands = omega (arith, left, hands, c.workers.invariant.hands);
@@ -41,11 +41,11 @@ workers-preserved g c =
       all =
           counts_one_more c.workers.receivers.items c.push_reserved-in-Some.new.self.items c.workers.served.items c.push_reserved-in-Some-2.new.self.items receiver returned.served
           c.workers.invariant.all c.push_reserved-in-Some.ensures.items c.push_reserved-in-Some-2.ensures.items
-          (subst (λ (r : ReceiverState (ArrivedState g.row.T.Denot)). AreCounted (length r.received) returned.served) (sym is) (c.into_parts.ensures.counted none));
+          (subst (λ (r : ReceiverState (ArrivedState g.row.T.Denot)). AreCounted (length r.received) returned.served) (sym is) (c.into_parts-hand.ensures.counted none));
       ended =
           ends g.B.Broker.group g.T.Transport.counts g.T.Transport.given g.T.Transport.accepted _ _ c.workers.receivers.items c.push_reserved-in-Some.new.self.items
           c.workers.served.items c.push_reserved-in-Some-2.new.self.items c.workers.me c.meet.new.me returned.pass returned.hand.ports receiver returned.served c.in-Some.worker.connections
           c.workers.invariant.ended ports c.push_reserved-in-Some.ensures.items c.push_reserved-in-Some-2.ensures.items
-          c.into_parts.ensures.ran none (c.into_parts.ensures.ports none) is c.into_parts.ensures.served (c.into_parts.ensures.desk none) c.meet.ensures.mine c.meet.ensures.others;
+          c.into_parts-hand.ensures.ran none (c.into_parts-hand.ensures.ports none) is c.into_parts-hand.ensures.served (c.into_parts-hand.ensures.desk none) c.meet.ensures.mine c.meet.ensures.others;
       told = begins_longer c.args.me.now c.workers.me c.meet.new.me c.workers.invariant.told c.meet.ensures.mine;
     }

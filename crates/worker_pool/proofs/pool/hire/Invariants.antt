@@ -1,5 +1,6 @@
 -- Those hired so far, and what is left for the others.
 use Rattle.std.proofs.Common.{◌≡◌, ◌+◌, ◌≤◌, All, length, vec_len, vec_capacity}
+use Rattle.broker_groups.specs.Naming.{AreUnsent}
 use Rattle.conn_channel.specs.Ends.{new_receiver}
 use Rattle.worker_pool.specs.Workers.{IsHired}
 use Rattle.worker_pool.proofs.pool.hire.Given as goal
@@ -10,6 +11,7 @@ invariant-kits g l = record {
   each : All (λ kit. kit ≡ new_receiver l.sender.channel) l.kits.items;
   count : length l.workers.items + length l.hands.items ≡ length l.fn.hands.items;
   hired : All (IsHired l.sender.channel) l.workers.items;
+  unsent : All (λ hand. AreUnsent hand.ports) l.hands.items;
   hands : length l.fn.hands.items ≤ vec_capacity l.hands;
   workers : length l.fn.hands.items ≤ vec_capacity l.workers;
 }

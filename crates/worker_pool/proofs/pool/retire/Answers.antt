@@ -20,7 +20,7 @@ pub gather-requires-clause-ended : goal.gather-requires-clause-ended
 gather-requires-clause-ended g c =
     let Ended : List (List PortState) → List (ReceiverState (ArrivedState g.row.T.Denot)) → List ServedCounts → Type 0 = λ ports receivers served.
     HaveEnded g.B.Broker.group g.T.Transport.counts g.T.Transport.given g.T.Transport.accepted ports receivers served c.args.me.now in
-    subst (λ hands. Ended (map (λ (hand : Hand). hand.ports) hands) c.args.receivers.items c.args.served.items) (sym c.requires.hands.0)
+    subst (λ hands. Ended (map (λ (hand : Hand g.row.B.Denot). hand.ports) hands) c.args.receivers.items c.args.served.items) (sym c.requires.hands.0)
     (subst (λ receivers. Ended [] receivers c.args.served.items) (sym c.requires.receivers.0)
     (subst (λ served. Ended [] [] served) (sym c.requires.served.0)
     (nobody g.B.Broker.group g.T.Transport.counts g.T.Transport.given g.T.Transport.accepted c.args.me.now)))

@@ -30,7 +30,7 @@ returns-clause-taken g c =
     let source = ap (λ (s : g.row.S.Denot). (g.S.Source.tally s).arrivals) c.retire.ensures.source in
     let before = ap (λ (a : AcceptorState g.row.T.Denot g.row.S.Denot). (g.S.Source.tally a.source).arrivals) c.new-acceptor.ensures in
     let none = ap (λ (a : AcceptorState g.row.T.Denot g.row.S.Denot). a.sender.sent) c.new-acceptor.ensures ∙ c.in-Ok.ensures.sender.1 in
-    let count = came_count accepted.came _ _ none accepted.sent in
+    let count = came_count _ accepted.came _ _ none accepted.sent in
     omega (arith, source, before, count, c.retire.ensures.came, accepted.each)
 
 pub returns-clause-served : goal.returns-clause-served
@@ -42,11 +42,11 @@ returns-clause-served g c =
     let sent = sent_is accepted.came _ _ _ _ none limit accepted.sent in
     let Source : g.row.S.Denot → g.row.S.Denot → Type 0 = λ old new. Gave g.S.Source.arrived old accepted.came new in
     let Served : List (ArrivedState g.row.T.Denot) → Type 0 = λ arrived.
-    AreServed g.B.Broker.group g.T.Transport.counts g.T.Transport.given g.T.Transport.accepted arrived c.retire.new.me (map (λ (hand : Hand). hand.ports) c.retire.result.hands.items) c.retire.result.served.items in (
+    AreServed g.B.Broker.group g.T.Transport.counts g.T.Transport.given g.T.Transport.accepted arrived c.retire.new.me (map (λ (hand : Hand g.row.B.Denot). hand.ports) c.retire.result.hands.items) c.retire.result.served.items in (
       accepted.came,
       subst (λ new. Source c.args.source new) (sym c.retire.ensures.source)
           (subst (λ old. Source old c.run_all.new.acceptor.source) (ap (λ (a : AcceptorState g.row.T.Denot g.row.S.Denot). a.source) first) accepted.gave),
-      c.retire.ensures.came ∙ came_count accepted.came _ _ none accepted.sent,
+      c.retire.ensures.came ∙ came_count _ accepted.came _ _ none accepted.sent,
       subst Served sent c.retire.ensures.served,
     )
 
