@@ -29,7 +29,7 @@ pub record ServeEnds (words : List (List ℕ)) (old new : Streams) (exit : Exit)
   pub service : Service
   pub asked : AskForService words service
   pub ended : Result (Unit {0}) RunError
-  pub served : IsServedAt service.port service.setup.capacity service.workers service.setup.groups ended old.output new.output
+  pub served : IsServedAt service.port service.setup.capacity service.workers service.setup.max_inflight service.setup.groups ended old.output new.output
   pub read : IfOk ended (λ done. IsAtEnd new.input)
   pub told : Tells ended exit.told old.errors new.errors
   pub ends_with : exit.status ≡ status_at ended

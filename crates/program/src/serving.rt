@@ -114,7 +114,7 @@ fn serve_as<H: Threads + Wait + Net + Clock + Sync, R: Read + Send, W: Write>(
     reader: &mut R,
     output: &mut W,
 ) -> Result<(), RunError>
-    ensures written { IsServedAt service.port service.setup.capacity service.workers service.setup.groups result (W.contents output.old) (W.contents output.new) }
+    ensures written { IsServedAt service.port service.setup.capacity service.workers service.setup.max_inflight service.setup.groups result (W.contents output.old) (W.contents output.new) }
     ensures read { IfOk result (λ _. IsAtEnd (R.remaining reader.new)) }
 {
     let Service {

@@ -61,11 +61,7 @@ impl<'g, B: Broker, N: HistoryName> Hall<'g, B, N> {
     }
 
     /// A pass takes in what another one knows of the calls of the desk.
-    pub fn meet(
-        &self,
-        me: &mut DeskPass<BrokerPlace<B>, N>,
-        other: DeskPass<BrokerPlace<B>, N>,
-    )
+    pub fn meet(&self, me: &mut DeskPass<BrokerPlace<B>, N>, other: DeskPass<BrokerPlace<B>, N>)
         ensures mine { IsPrefix me.old me.new }
         ensures others { IsPrefix other me.new }
     {

@@ -19,30 +19,30 @@ use Rattle.tcp_server.specs.Reporting.{AreReports, AreReportsAt, HaveCapacity}
 use Rattle.tcp_server.specs.Serving.{WritesAll, BeginsToWrite, EndsUnreported, IsServed}
 
 -- where the reports were written, that is what is written by how the broker ends
-pub whole : (line : List ℕ) (capacity workers : ℕ) (given : List Share) (result : Result (Unit {0}) RunError) (old new : Option (List ℕ)) → WritesAll line capacity workers given result old new
-    → IsServed line capacity workers given result old new
-whole line capacity workers given (Ok done) old new written = written
-whole line capacity workers given (Err ReadFailed) old new written = written
-whole line capacity workers given (Err TooManyReads) old new written = absurd written.reports.ends
-whole line capacity workers given (Err WriteFailed) old new written = absurd written.reports.ends
-whole line capacity workers given (Err Network) old new written = inr written
-whole line capacity workers given (Err Memory) old new written = inr written
-whole line capacity workers given (Err Unfinished) old new written = written
-whole line capacity workers given (Err (Line number)) old new written = absurd written.reports.ends
+pub whole : (line : List ℕ) (capacity workers max_inflight : ℕ) (given : List Share) (result : Result (Unit {0}) RunError) (old new : Option (List ℕ)) → WritesAll line capacity workers max_inflight given result old new
+    → IsServed line capacity workers max_inflight given result old new
+whole line capacity workers max_inflight given (Ok done) old new written = written
+whole line capacity workers max_inflight given (Err ReadFailed) old new written = written
+whole line capacity workers max_inflight given (Err TooManyReads) old new written = absurd written.reports.ends
+whole line capacity workers max_inflight given (Err WriteFailed) old new written = absurd written.reports.ends
+whole line capacity workers max_inflight given (Err Network) old new written = inr written
+whole line capacity workers max_inflight given (Err Memory) old new written = inr written
+whole line capacity workers max_inflight given (Err Unfinished) old new written = written
+whole line capacity workers max_inflight given (Err (Line number)) old new written = absurd written.reports.ends
 
-pub all : {X : Type 0} (line : List ℕ) (capacity workers : ℕ) (given : List Share) (end : Result X RunError) (result : Result (Unit {0}) RunError) (old mid new : Option (List ℕ)) (text : List ℕ)
-    → ((reports : List (Result Report FinishError)) → EndsBy end reports → EndsBy result reports) → AreReportsAt end capacity workers given text → Appends old mid line → Appends mid new text
-    → IsServed line capacity workers given result old new
-all line capacity workers given end result old mid new text how told first second =
-    whole line capacity workers given result old new (record {
+pub all : {X : Type 0} (line : List ℕ) (capacity workers max_inflight : ℕ) (given : List Share) (end : Result X RunError) (result : Result (Unit {0}) RunError) (old mid new : Option (List ℕ)) (text : List ℕ)
+    → ((reports : List (Result Report FinishError)) → EndsBy end reports → EndsBy result reports) → AreReportsAt end capacity workers max_inflight given text → Appends old mid line → Appends mid new text
+    → IsServed line capacity workers max_inflight given result old new
+all line capacity workers max_inflight given end result old mid new text how told first second =
+    whole line capacity workers max_inflight given result old new (record {
       text = text;
       reports = record { reports = told.reports; ends = how (map report_of told.reports.answers) told.ends };
       written = Appends-then old mid new line text first second;
     })
 
-pub begun : (line : List ℕ) (capacity workers : ℕ) (given : List Share) (old mid new : Option (List ℕ)) (text : List ℕ) → AreReports capacity workers given text → Appends old mid line → Begins mid new text
-    → BeginsToWrite line capacity workers given old new
-begun line capacity workers given old mid new text reports first second = record {
+pub begun : (line : List ℕ) (capacity workers max_inflight : ℕ) (given : List Share) (old mid new : Option (List ℕ)) (text : List ℕ) → AreReports capacity workers max_inflight given text → Appends old mid line → Begins mid new text
+    → BeginsToWrite line capacity workers max_inflight given old new
+begun line capacity workers max_inflight given old mid new text reports first second = record {
   text = text;
   reports = reports;
   begun = record {
@@ -53,14 +53,14 @@ begun line capacity workers given old mid new text reports first second = record
   };
 }
 
-pub unreported : (line : List ℕ) (capacity workers : ℕ) (given : List Share) (error : RunError) (old new : Option (List ℕ)) → EndsUnreported line error old new → IsServed line capacity workers given (Err error) old new
-unreported line capacity workers given ReadFailed old new ends = absurd ends
-unreported line capacity workers given TooManyReads old new ends = absurd ends
-unreported line capacity workers given WriteFailed old new ends = inl ends
-unreported line capacity workers given Network old new ends = absurd ends
-unreported line capacity workers given Memory old new ends = inl ends
-unreported line capacity workers given Unfinished old new ends = absurd ends
-unreported line capacity workers given (Line number) old new ends = absurd ends
+pub unreported : (line : List ℕ) (capacity workers max_inflight : ℕ) (given : List Share) (error : RunError) (old new : Option (List ℕ)) → EndsUnreported line error old new → IsServed line capacity workers max_inflight given (Err error) old new
+unreported line capacity workers max_inflight given ReadFailed old new ends = absurd ends
+unreported line capacity workers max_inflight given TooManyReads old new ends = absurd ends
+unreported line capacity workers max_inflight given WriteFailed old new ends = inl ends
+unreported line capacity workers max_inflight given Network old new ends = absurd ends
+unreported line capacity workers max_inflight given Memory old new ends = inl ends
+unreported line capacity workers max_inflight given Unfinished old new ends = absurd ends
+unreported line capacity workers max_inflight given (Line number) old new ends = absurd ends
 
 pub no_memory : (line : List ℕ) (error : RunError) (known : Option (List ℕ)) → error ≡ Memory → EndsUnreported line error known known
 no_memory line error known is = subst (λ e. EndsUnreported line e known known) (sym is) (inl (Keeps-refl known))
@@ -81,6 +81,6 @@ pub same_capacity : (group : ℕ → GroupId) (capacity : ℕ) → HaveCapacity 
 same_capacity group capacity have slot few = have slot few ∙ sym (have 0 (omega arith))
 
 -- and so have those of its reports
-pub of_capacity : {X : Type 0} (end : Result X RunError) (group : ℕ → GroupId) (capacity workers : ℕ) (given : List Share) (text : List ℕ) → HaveCapacity group capacity
-    → AreReportsAt end (group 0).capacity workers given text → AreReportsAt end capacity workers given text
-of_capacity end group capacity workers given text have reports = subst (λ n. AreReportsAt end n workers given text) (have 0 (omega arith)) reports
+pub of_capacity : {X : Type 0} (end : Result X RunError) (group : ℕ → GroupId) (capacity workers max_inflight : ℕ) (given : List Share) (text : List ℕ) → HaveCapacity group capacity
+    → AreReportsAt end (group 0).capacity workers max_inflight given text → AreReportsAt end capacity workers max_inflight given text
+of_capacity end group capacity workers max_inflight given text have reports = subst (λ n. AreReportsAt end n workers max_inflight given text) (have 0 (omega arith)) reports

@@ -27,22 +27,22 @@ unknown connection = None
 abbrev pub HaveCapacity : (ℕ → GroupId) → ℕ → Type 0
 HaveCapacity group capacity = (slot : ℕ) → slot < 8 → (group slot).capacity ≡ capacity
 
--- A broker with groups of this capacity and so many workers kept the headline to its end, and these are the lines of the reports that its groups gave: of each slot to which a share is bound, as each
+-- A broker with groups of this capacity, so many workers and this limit for each connection kept the headline to its end, and these are the lines of the reports that its groups gave: of each slot to which a share is bound, as each
 -- that was there from the start is, unless all eight slots are bound, and of whose group there is a report.
-pub record AreReports (capacity workers : ℕ) (given : List Share) (text : List ℕ) : Type 0 where
+pub record AreReports (capacity workers max_inflight : ℕ) (given : List Share) (text : List ℕ) : Type 0 where
   pub group : ℕ → GroupId
   pub room : HaveCapacity group capacity
   pub answers : List (Result Report (Unfinished Nobody))
   pub strangers : List Held
   pub calls : List (Call Held PlaceState)
-  pub came : ℕ
+  pub came : List Connection
   pub served : List ServedCounts
-  pub headline : KeepsTheHeadline group (λ (connection : Connection). connection.counts) unknown unknown workers calls answers strangers came served
+  pub headline : KeepsTheHeadline group (λ (connection : Connection). connection.counts) unknown unknown workers max_inflight came calls answers strangers served
   pub shares : List Share
   pub bound : All (IsBoundIn shares) given
   pub lines : text ≡ lines_of shares (map report_of answers)
 
 -- the same of a broker that ends so, as the reports of its groups decide
-pub record AreReportsAt {X : Type 0} (end : Result X RunError) (capacity workers : ℕ) (given : List Share) (text : List ℕ) : Type 0 where
-  pub reports : AreReports capacity workers given text
+pub record AreReportsAt {X : Type 0} (end : Result X RunError) (capacity workers max_inflight : ℕ) (given : List Share) (text : List ℕ) : Type 0 where
+  pub reports : AreReports capacity workers max_inflight given text
   pub ends : EndsBy end (map report_of reports.answers)

@@ -77,7 +77,7 @@ pub(crate) fn attend<
     requires room { (room.items ≡ []) × (length hands.items ≤ vec_capacity room) }
     requires crew { length crew.gear.items ≡ length hands.items }
     requires unsent { All (λ hand. AreUnsent hand.ports) hands.items }
-    ensures reported { IfOk result (λ reported. AreReportsAt reported.end (B.group 0).capacity (length hands.items) groups.now reported.text.items) }
+    ensures reported { IfOk result (λ reported. AreReportsAt reported.end (B.group 0).capacity (length hands.items) max_inflight groups.now reported.text.items) }
     ensures read { IfOk result (λ reported. reported.end ≡ Ok Served.Ended → IsAtEnd (I.remaining input.new)) }
     ensures cause { IfErr result (λ error. error ≡ Memory) }
 {

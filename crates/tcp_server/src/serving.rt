@@ -65,7 +65,7 @@ pub fn serve_at<R: Threads + Wait + Net + SystemClock + Sync, I: Read + Send, O:
 ) -> Result<(), RunError>
     requires capacity { (1 ≤ capacity) × (capacity ≤ 65536) }
     requires workers { (1 ≤ workers) × (workers ≤ 64) }
-    ensures written { IsServedAt port capacity workers groups result (O.contents output.old) (O.contents output.new) }
+    ensures written { IsServedAt port capacity workers max_inflight groups result (O.contents output.old) (O.contents output.new) }
     ensures read { IfOk result (λ _. IsAtEnd (I.remaining input.new)) }
 {
     match TcpSource::open(rt, address, port) {
@@ -98,7 +98,7 @@ pub fn serve_with<R: Threads + Wait + Net + SystemClock + Sync, I: Read + Send, 
 ) -> Result<(), RunError>
     requires capacity { (1 ≤ capacity) × (capacity ≤ 65536) }
     requires workers { (1 ≤ workers) × (workers ≤ 64) }
-    ensures written { IsServed (listening_line source.port) capacity workers groups result (O.contents output.old) (O.contents output.new) }
+    ensures written { IsServed (listening_line source.port) capacity workers max_inflight groups result (O.contents output.old) (O.contents output.new) }
     ensures read { IfOk result (λ _. IsAtEnd (I.remaining input.new)) }
 {
     let port = source.port();
@@ -179,7 +179,7 @@ fn live<
     requires seats { AreSeatsOf gate.now seats.items × (length seats.items ≡ workers + 3) }
     requires opened { IsOfBroker B.gate B.group workers opened }
     requires capacity { HaveCapacity B.group (B.group 0).capacity }
-    ensures reported { IfOk result (λ reported. AreReportsAt reported.end (B.group 0).capacity workers groups.now reported.text.items) }
+    ensures reported { IfOk result (λ reported. AreReportsAt reported.end (B.group 0).capacity workers max_inflight groups.now reported.text.items) }
     ensures written { IfOk result (λ reported. Appends (O.contents output.old) (O.contents output.new) line.now) }
     ensures read { IfOk result (λ reported. reported.end ≡ Ok Served.Ended → IsAtEnd (I.remaining input.new)) }
     ensures failed { IfErr result (λ error. EndsUnreported line.now error (O.contents output.old) (O.contents output.new)) }
@@ -235,7 +235,7 @@ fn live_with<
     requires seats { AreSeatsOf gate.now seats.items × (length seats.items ≡ workers + 3) }
     requires opened { IsOfBroker B.gate B.group workers opened }
     requires capacity { HaveCapacity B.group (B.group 0).capacity }
-    ensures reported { IfOk result (λ reported. AreReportsAt reported.end (B.group 0).capacity workers groups.now reported.text.items) }
+    ensures reported { IfOk result (λ reported. AreReportsAt reported.end (B.group 0).capacity workers max_inflight groups.now reported.text.items) }
     ensures written { IfOk result (λ reported. Appends (O.contents output.old) (O.contents output.new) line.now) }
     ensures read { IfOk result (λ reported. reported.end ≡ Ok Served.Ended → IsAtEnd (I.remaining input.new)) }
     ensures failed { IfErr result (λ error. EndsUnreported line.now error (O.contents output.old) (O.contents output.new)) }

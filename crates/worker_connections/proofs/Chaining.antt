@@ -72,32 +72,38 @@ module _ {T : Type 0} (group : ℕ → GroupId) (counts : T → Counts) (given a
       (record { supply = supply'; cells = cells'; received = received; served = served' })
   goes supply supply' cells cells' received served served' now cell None after turned has is made counted_is =
       let same : served' ≡ served = subst (λ (t : Turned T). served' ≡ counted_behind t served) made.0 counted_is in (
-        Passed cell, (
-        record { before = None; after = after; has = has; becomes = (refl, made.1); is = is },
-        λ i. record { supply = made.2 i; cells = cells'; received = received; served = same i }),
+        Passed cell,
+        (
+          record { before = None; after = after; has = has; becomes = (refl, made.1); is = is },
+          λ i. record { supply = made.2 i; cells = cells'; received = received; served = same i },
+        ),
       )
   goes supply supply' cells cells' received served served' now cell (Some service) after Vacant has is made counted_is = absurd made.2
   goes supply supply' cells cells' received served served' now cell (Some service) after (Goes round) has is made counted_is = (
-    Went cell now made.1.led.acts None, (
-    record {
-      before = Some service;
-      after = after;
-      has = has;
-      becomes = record { service = service; here = refl; behind = made.0; round = made.1; acts_are = refl; leaves = made.2.1 };
-      is = is;
-    },
-    λ i. record { supply = supply'; cells = cells'; received = received; served = counted_is i }),
+    Went cell now made.1.led.acts None,
+    (
+      record {
+        before = Some service;
+        after = after;
+        has = has;
+        becomes = record { service = service; here = refl; behind = made.0; round = made.1; acts_are = refl; leaves = made.2.1 };
+        is = is;
+      },
+      λ i. record { supply = supply'; cells = cells'; received = received; served = counted_is i },
+    ),
   )
   goes supply supply' cells cells' received served served' now cell (Some service) after (Ended how transport) has is made counted_is = (
-    Went cell now made.1.led.acts (Some how), (
-    record {
-      before = Some service;
-      after = after;
-      has = has;
-      becomes = record { service = service; here = refl; behind = made.0; round = made.1; acts_are = refl; leaves = (made.2.0.0, made.2.0.1, made.2.2) };
-      is = is;
-    },
-    λ i. record { supply = supply'; cells = cells'; received = received; served = counted_is i }),
+    Went cell now made.1.led.acts (Some how),
+    (
+      record {
+        before = Some service;
+        after = after;
+        has = has;
+        becomes = record { service = service; here = refl; behind = made.0; round = made.1; acts_are = refl; leaves = (made.2.0.0, made.2.0.1, made.2.2) };
+        is = is;
+      },
+      λ i. record { supply = supply'; cells = cells'; received = received; served = counted_is i },
+    ),
   )
 
   -- so many messages were allowed, and then it went on by a round

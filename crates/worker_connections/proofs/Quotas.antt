@@ -54,9 +54,10 @@ module _ {T : Type 0} (group : ℕ → GroupId) (counts : T → Counts) (given a
   within_all limit (act ∷ acts) old new supply supply' within does =
       within_all limit acts does.0 new does.1 supply'
       (kept_on (Calls group) Begins Leaves is_visiting (λ (p : PlaceState). p.group) counts given accepted (Within limit) (tt, tt)
-      (λ number now standing standing' input sent next from to stepped kept.
-      (quotas.within (Calls group) (λ (p : PlaceState). p.group) number now standing standing' input sent next from to stepped kept.0,
-      limits.within (Calls group) (λ (p : PlaceState). p.group) limit number now standing standing' input sent next from to stepped kept.1))
+      (λ number now standing standing' input sent next from to stepped kept. (
+        quotas.within (Calls group) (λ (p : PlaceState). p.group) number now standing standing' input sent next from to stepped kept.0,
+        limits.within (Calls group) (λ (p : PlaceState). p.group) limit number now standing standing' input sent next from to stepped kept.1,
+      ))
       act old does.0 supply does.1 within does.2) does.3
 
   keeps : (limit : ℕ) (deed : Deed T) (old new : RunState T) → AllByRecursion (IsLimited limit) (came_in deed) → Makes group counts given accepted deed old new
@@ -97,10 +98,10 @@ module _ {T : Type 0} (group : ℕ → GroupId) (counts : T → Counts) (given a
       → KeepsReceiveMaximum group counts given accepted limit run
   within_quota limit run is few = record {
     kept = (λ these those mid split made cell service here acts later supply supply' does.
-    let came = came_all group counts given accepted run.deeds run.first run.last is.made ∙ ap (λ (l : List (ArrivedState T)). l ++ came_by run.deeds) is.begun.none_came in
-    let all = subst (λ (deeds : List (Deed T)). AllByRecursion (IsLimited limit) (came_by deeds)) split (subst (AllByRecursion (IsLimited limit)) came few) in
-    let first = (both_parts (IsLimited limit) (came_by these) (came_by those) (subst (AllByRecursion (IsLimited limit)) (came_both these those) all)).0 in
-    let none = subst (λ (cells : List (Option (ServiceState PlaceState T))). All (IfWithin limit) cells) (sym is.begun.free) (All-replicate (IfWithin limit) is.begun.count None tt) in
-    let within = at_cell (IfWithin limit) mid.cells cell (Some service) (keeps_all limit these run.first mid first made none) here in
-    within_all limit acts service later supply supply' within does);
+        let came = came_all group counts given accepted run.deeds run.first run.last is.made ∙ ap (λ (l : List (ArrivedState T)). l ++ came_by run.deeds) is.begun.none_came in
+        let all = subst (λ (deeds : List (Deed T)). AllByRecursion (IsLimited limit) (came_by deeds)) split (subst (AllByRecursion (IsLimited limit)) came few) in
+        let first = (both_parts (IsLimited limit) (came_by these) (came_by those) (subst (AllByRecursion (IsLimited limit)) (came_both these those) all)).0 in
+        let none = subst (λ (cells : List (Option (ServiceState PlaceState T))). All (IfWithin limit) cells) (sym is.begun.free) (All-replicate (IfWithin limit) is.begun.count None tt) in
+        let within = at_cell (IfWithin limit) mid.cells cell (Some service) (keeps_all limit these run.first mid first made none) here in
+        within_all limit acts service later supply supply' within does);
   }

@@ -16,7 +16,6 @@ pub struct Arrived<T: Transport> {
 impl<T: Transport> Model for Arrived<T> {
     ghost use Rattle.std.specs.Prelude.{◌≡◌};
     ghost use Rattle.transport.specs.Counting.{no_counts};
-
     ghost use Rattle.worker_connections.specs.Arrivals.{ArrivedState};
 
     ghost Value = { ArrivedState T };

@@ -1,4 +1,5 @@
 -- The headline: the run until the broker was closed, and what the groups' ends promise.
+use Rattle.worker_pool.proofs.Gathered.{begins_longer}
 use Rattle.threaded_broker.proofs.Quotas.{known_longer}
 use Rattle.threaded_broker.proofs.serving.serve.Goals as goal
 
@@ -17,3 +18,9 @@ returns-clause-headline g c =
         promises = c.in_ok-ended.ensures.kept;
       },
     )
+
+pub returns-clause-history : goal.returns-clause-history
+returns-clause-history g c = begins_longer _ _ _ c.in_ok-closed.ensures.history c.end.ensures.before
+
+pub returns-in_err-ended-clause-history : goal.returns-in_err-ended-clause-history
+returns-in_err-ended-clause-history g c = begins_longer _ _ _ c.in_ok-closed.ensures.history c.end.ensures.before
