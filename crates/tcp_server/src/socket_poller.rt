@@ -1,5 +1,4 @@
 //! A worker waits at a reactor for its sockets.
-ghost use Rattle.worker_connections.specs.Arrivals.{IsWatched};
 
 use mio::net::TcpStream;
 use std::sync::Wait;
@@ -21,9 +20,7 @@ impl SocketPoller {
 }
 
 impl Poller<Socket<TcpStream>> for SocketPoller {
-    fn register(&mut self, transport: &mut Socket<TcpStream>) -> Option<usize>
-        ensures { transport.new.counts ≡ transport.old.counts }
-    {
+    fn register(&mut self, transport: &mut Socket<TcpStream>) -> Option<usize> {
         self.reactor.register(transport).ok()
     }
 
