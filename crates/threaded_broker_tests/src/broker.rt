@@ -126,11 +126,11 @@ fn deal<B: Broker>(
     ensures seats { AreSeatsOf gate.now seats.new.items }
     ensures unsent { IfSome result (λ hands. All (λ hand. AreUnsent hand.ports) hands.items) }
 {
-    let mut hands = Vec::new(alloc);
+    let mut hands = Vec::with_capacity(alloc, ports.len()).ok()?;
     let mut left = ports;
     'hands: while let Some(ports) = left.pop() {
         let hand = hand_of(gate, seats, ports)?;
-        hands.push(hand).ok()?;
+        hands.push_reserved(hand);
     }
     Some(hands)
 }
