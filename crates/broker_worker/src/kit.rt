@@ -1,37 +1,76 @@
 //! What each worker has for itself, made before any worker is.
 ghost use Rattle.std.specs.Prelude.{◌≡◌, ◌≤◌, ◌++◌, [], ◌∷◌, All, length, IfOk, OnOk};
 ghost use Rattle.conn_channel.specs.Ends.{AreReceivers, new_receiver};
+ghost use Rattle.worker_connections.specs.Closing.{HasClosedNone};
 
 use crate::marks::Marks;
 use bell::Wake;
 use conn_channel::{Receiver, Sender};
 use conn_supply::NoMemory;
 use std::alloc::Global;
-use std::marker::Model;
+use std::marker::{Model, PhantomData};
 use transport::Transport;
 use worker_bells::{Held, Members, Outfit, Roster, Wish, outfits, share_of};
-use worker_connections::Arrived;
+use worker_connections::{Arrived, Poller};
 
-/// Where a worker waits, and its clock.
+/// Where a worker waits, and its clock. Contracts see it as the poller, which closed no transport yet.
 #[derive(Drop)]
-pub struct Gear<Q, C> {
-    pub poller: Q,
-    pub clock: C,
+pub struct Gear<T: Transport, Q: Poller<T>, C> {
+    poller: Q,
+    clock: C,
+    transports: PhantomData<T>,
+}
+
+impl<T: Transport, Q: Poller<T>, C> Model for Gear<T, Q, C> {
+    ghost use Rattle.worker_connections.specs.Closing.{HasClosedNone};
+
+    ghost Value = { Q };
+
+    ghost view = { λ g. g.poller };
+
+    ghost invariant = { λ g. HasClosedNone (Q.closed g.poller) };
+}
+
+impl<T: Transport, Q: Poller<T>, C> Gear<T, Q, C> {
+    /// A worker waits at this poller, which closed no transport yet, and has this clock.
+    pub fn new(poller: Q, clock: C) -> Gear<T, Q, C>
+        requires { HasClosedNone (Q.closed poller) }
+        ensures { result ≡ poller }
+    {
+        Gear {
+            poller,
+            clock,
+            transports: PhantomData,
+        }
+    }
+
+    /// The poller and the clock.
+    pub(crate) fn into_parts(self) -> (Q, C)
+        ensures same { result.0 ≡ self }
+        ensures none_closed { HasClosedNone (Q.closed result.0) }
+    {
+        let Gear {
+            poller,
+            clock,
+            transports: _,
+        } = self;
+        (poller, clock)
+    }
 }
 
 /// What the worker of a number has for itself. Contracts see it as its end of the channel.
 #[derive(Drop)]
-pub struct Kit<T: Transport + Drop, Q, W, C> {
+pub struct Kit<T: Transport + Drop, Q: Poller<T>, W, C> {
     pub(crate) number: usize,
     pub(crate) share: u16,
-    pub(crate) gear: Gear<Q, C>,
+    pub(crate) gear: Gear<T, Q, C>,
     pub(crate) receiver: Receiver<Arrived<T>>,
     pub(crate) outfit: Outfit<W>,
     pub(crate) due: Marks,
     pub(crate) members: Members,
 }
 
-impl<T: Transport + Drop, Q, W, C> Model for Kit<T, Q, W, C> {
+impl<T: Transport + Drop, Q: Poller<T>, W, C> Model for Kit<T, Q, W, C> {
     ghost use Rattle.std.specs.Prelude.{◌≡◌, length};
     ghost use Rattle.conn_channel.specs.Ends.{ReceiverState};
     ghost use Rattle.worker_connections.specs.Arrivals.{ArrivedState};
@@ -48,9 +87,9 @@ impl<T: Transport + Drop, Q, W, C> Model for Kit<T, Q, W, C> {
 /// # Errors
 ///
 /// Want of memory.
-pub fn kits<T: Transport + Drop, Q: Drop, W: Wake + Drop, C: Drop>(
+pub fn kits<T: Transport + Drop, Q: Poller<T> + Drop, W: Wake + Drop, C: Drop>(
     alloc: Global,
-    gear: Vec<Gear<Q, C>>,
+    gear: Vec<Gear<T, Q, C>>,
     roster: &Roster<W>,
     sender: &Sender<Arrived<T>>,
     receivers: Vec<Receiver<Arrived<T>>>,
@@ -75,10 +114,10 @@ pub fn kits<T: Transport + Drop, Q: Drop, W: Wake + Drop, C: Drop>(
 }
 
 /// The kits of all workers, the last worker's first.
-fn add_kits<T: Transport + Drop, Q: Drop, W: Drop, C: Drop>(
+fn add_kits<T: Transport + Drop, Q: Poller<T> + Drop, W: Drop, C: Drop>(
     alloc: Global,
     kits: &mut Vec<Kit<T, Q, W, C>>,
-    gear: &mut Vec<Gear<Q, C>>,
+    gear: &mut Vec<Gear<T, Q, C>>,
     sender: &Sender<Arrived<T>>,
     receivers: &mut Vec<Receiver<Arrived<T>>>,
     outfits: &mut Vec<Outfit<W>>,
@@ -100,12 +139,12 @@ fn add_kits<T: Transport + Drop, Q: Drop, W: Drop, C: Drop>(
 }
 
 /// One kit more: that of the worker of a number.
-fn add_kit<T: Transport + Drop, Q: Drop, W: Drop, C: Drop>(
+fn add_kit<T: Transport + Drop, Q: Poller<T> + Drop, W: Drop, C: Drop>(
     alloc: Global,
     kits: &mut Vec<Kit<T, Q, W, C>>,
     number: usize,
     share: u16,
-    gear: Gear<Q, C>,
+    gear: Gear<T, Q, C>,
     receiver: Receiver<Arrived<T>>,
     outfit: Outfit<W>,
 ) -> Result<(), NoMemory>

@@ -27,6 +27,19 @@ impl<
     C: Clock + Drop,
     R: Wait,
 > Worker<'a, 'g, B, N, T, Q, W, X, C, R> {
+    /// Connections that may be read or written are due.
+    pub(crate) fn mark_ready(&mut self)
+        ensures connections { self.new.connections ≡ self.old.connections }
+        ensures bells { self.new.bells ≡ self.old.bells }
+    {
+        'ready: for _ in 0..self.connections.len() {
+            match self.connections.take_ready() {
+                Some(cell) => self.due.mark(cell),
+                None => return,
+            }
+        }
+    }
+
     /// Reads of each connection that is due, once; or of all of them, where a sweep has begun. What is to be written to them is due then.
     pub(crate) fn serve_due(&mut self, all: bool, buffer: &mut [u8; READ_SIZE])
         requires late { all ≡ true → HasGone 0 (length self.old.connections.cells) self.old.connections.sweeps }
@@ -87,7 +100,6 @@ impl<
         let went = self.connections.round(
             cell,
             self.crossing,
-            &mut self.poller,
             worker,
             buffer,
             direction,
@@ -101,20 +113,6 @@ impl<
             direction,
             went,
         )
-    }
-}
-
-/// Those that may be read or written are due: of so many cells.
-pub(crate) fn mark_ready<T: Transport, Q: Poller<T>>(
-    poller: &mut Q,
-    due: &mut Marks,
-    count: usize,
-) {
-    for _ in 0..count {
-        match poller.take_ready() {
-            Some(cell) => due.mark(cell),
-            None => return,
-        }
     }
 }
 

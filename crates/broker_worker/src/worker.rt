@@ -8,9 +8,8 @@ ghost use Rattle.shared_supply.specs.Waking.{no_wakes};
 ghost use Rattle.broker_worker.specs.Resting.{MayWait};
 ghost use Rattle.worker_connections.specs.Sweeping.{AreTicked, IsInTime};
 
-use crate::kit::{Gear, Kit};
+use crate::kit::Kit;
 use crate::marks::Marks;
-use crate::rounds::mark_ready;
 use crate::sharing::Sharing;
 use bell::Wake;
 use broker_groups::{Broker, BrokerPlace};
@@ -31,13 +30,23 @@ pub(crate) const READ_SIZE: usize = 4_096;
 /// For how many milliseconds a worker that is to end waits for its end mark before it looks again.
 pub(crate) const END_PAUSE: u64 = 1;
 
-/// What a worker has: where it waits, its connections, what it asks of the broker, and how it calls others and is called.
+/// What a worker has: its connections, with what they ask of the broker and where it waits for them, and how it calls others and is called.
 ///
 /// Contracts see it as a `WorkerState`: its connections, and what it has of the bells.
-pub struct Worker<'a, 'g, B: Broker, N: HistoryName, T: Transport + Drop, Q, W, X, C, R: Wait> {
+pub struct Worker<
+    'a,
+    'g,
+    B: Broker,
+    N: HistoryName,
+    T: Transport + Drop,
+    Q: Poller<T>,
+    W,
+    X,
+    C,
+    R: Wait,
+> {
     pub(crate) number: usize,
-    pub(crate) connections: Connections<'a, 'g, B, N, T, R>,
-    pub(crate) poller: Q,
+    pub(crate) connections: Connections<'a, 'g, B, N, T, Q, R>,
     pub(crate) outfit: Outfit<W>,
     pub(crate) roster: &'a Roster<W>,
     pub(crate) crossing: &'a X,
@@ -50,8 +59,18 @@ pub struct Worker<'a, 'g, B: Broker, N: HistoryName, T: Transport + Drop, Q, W, 
     pub(crate) sharing: Sharing,
 }
 
-impl<'a, 'g, B: Broker, N: HistoryName, T: Transport + Drop, Q, W, X, C, R: Wait> Model
-    for Worker<'a, 'g, B, N, T, Q, W, X, C, R> {
+impl<
+    'a,
+    'g,
+    B: Broker,
+    N: HistoryName,
+    T: Transport + Drop,
+    Q: Poller<T>,
+    W,
+    X,
+    C,
+    R: Wait,
+> Model for Worker<'a, 'g, B, N, T, Q, W, X, C, R> {
     ghost use Rattle.broker_worker.specs.Resting.{WorkerState};
 
     ghost Value = { WorkerState T };
@@ -110,15 +129,16 @@ impl<
         } = kit;
         let Hand { key, ports } = hand;
         let supply = SharedSupply::new(rt, alloc, hall, key, ports, known);
-        let connections = Connections::new(receiver, table, supply, members);
-        Ok(Worker::of(number, connections, gear, outfit, due, roster, crossing))
+        let (poller, clock) = gear.into_parts();
+        let connections = Connections::new(receiver, table, supply, members, poller);
+        Ok(Worker::of(number, connections, clock, outfit, due, roster, crossing))
     }
 
     /// A worker of a number, which has these connections.
     fn of(
         number: usize,
-        connections: Connections<'a, 'g, B, N, T, R>,
-        gear: Gear<Q, C>,
+        connections: Connections<'a, 'g, B, N, T, Q, R>,
+        clock: C,
         outfit: Outfit<W>,
         due: Marks,
         roster: &'a Roster<W>,
@@ -126,11 +146,9 @@ impl<
     ) -> Worker<'a, 'g, B, N, T, Q, W, X, C, R>
         ensures { result.connections ≡ connections.entry }
     {
-        let Gear { poller, clock } = gear;
         Worker {
             number,
             connections,
-            poller,
             outfit,
             roster,
             crossing,
@@ -170,7 +188,7 @@ impl<
         ensures offered { OffersInSweep B.group T.counts T.given T.accepted self.old.connections self.new.connections }
     {
         self.wait(rt, pause);
-        mark_ready(&mut self.poller, &mut self.due, self.connections.len());
+        self.mark_ready();
         self.hear();
         self.serve(buffer);
         self.outlook()
@@ -209,7 +227,7 @@ impl<
         ensures same { StaysOf self.old.connections self.new.connections }
         ensures begun { self.new.connections.sweeps.begun ≡ self.old.connections.sweeps.begun }
     {
-        let called = self.poller.wait(rt, pause);
+        let called = self.connections.wait(rt, pause);
         self.connections.look(self.clock.now());
         if called {
             self.answer(rt);
@@ -249,16 +267,17 @@ impl<
         ensures same { StaysOf self.old.connections self.new.connections }
         ensures begun { self.new.connections.sweeps.begun ≡ self.old.connections.sweeps.begun }
     {
-        let came = self.connections.receive(rt, &mut self.poller);
+        let came = self.connections.receive(rt);
         note_came(&mut self.due, self.roster, self.number, came);
     }
 
-    /// What it had of the broker and knows of its desk, its end of the channel, and how its connections ended: these are what its run has come to. Any connection that is
-    /// still open ends as where the broker closes.
-    pub fn into_parts(self) -> Returned<B, N, T>
+    /// What it had of the broker and knows of its desk, its end of the channel, how its connections ended, and where it waited: these are what its run has come to. Any
+    /// connection that is still open ends as where the broker closes.
+    pub fn into_parts(self) -> Returned<B, N, T, Q>
         ensures receiver { result.receiver ≡ self.entry.connections.receiver }
         ensures served { result.served ≡ self.entry.connections.served }
         ensures counted { live self.entry.connections ≡ 0 → AreCounted (length self.entry.connections.receiver.received) result.served }
+        ensures closed { Q.closed result.poller ≡ self.entry.connections.closed }
         ensures ran { HasRunTo B.group T.counts T.given T.accepted (run_of self.entry.connections) }
         ensures ports { live self.entry.connections ≡ 0 → result.hand.ports ≡ self.entry.connections.supply.ports }
         ensures desk { live self.entry.connections ≡ 0 → result.pass ≡ self.entry.connections.supply.desk }
@@ -266,7 +285,6 @@ impl<
         let Worker {
             number: _,
             connections,
-            poller,
             outfit,
             roster: _,
             crossing: _,
@@ -276,7 +294,6 @@ impl<
             waits: _,
             sharing: _,
         } = self;
-        drop(poller);
         drop(outfit);
         drop(clock);
         drop(due);

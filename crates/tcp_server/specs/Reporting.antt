@@ -37,7 +37,8 @@ pub record AreReports (capacity workers max_inflight : ℕ) (given : List Share)
   pub calls : List (Call Held PlaceState)
   pub came : List Connection
   pub served : List ServedCounts
-  pub headline : KeepsTheHeadline group (λ (connection : Connection). connection.counts) unknown unknown workers max_inflight came calls answers strangers served
+  pub closed : List (Option (List Connection))
+  pub headline : KeepsTheHeadline group (λ (connection : Connection). connection.counts) unknown unknown workers max_inflight came calls answers strangers served closed
   pub shares : List Share
   pub bound : All (IsBoundIn shares) given
   pub lines : text ≡ lines_of shares (map report_of answers)

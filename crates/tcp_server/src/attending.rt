@@ -119,9 +119,9 @@ pub(crate) fn attend<
 }
 
 /// What is written of a broker that has ended, and how it ends.
-fn tell<S: Drop>(
+fn tell<S: Drop, Q: Drop>(
     alloc: Global,
-    outcome: Outcome<'_, S>,
+    outcome: Outcome<'_, S, Q>,
     is_read: bool,
 ) -> Result<Reported, RunError>
     ensures lines { IfOk result (λ reported. reported.text.items ≡ lines_of outcome.entry.shares.items (map report_of outcome.entry.ended.answers.items)) }
@@ -134,6 +134,7 @@ fn tell<S: Drop>(
         shares,
         served: _,
         taken,
+        pollers: _,
         drained: _,
     } = outcome;
     let_go_of_all(strangers);

@@ -4,16 +4,17 @@ ghost use Rattle.std.specs.Prelude.{◌≡◌, length, IfSome};
 use crate::elapsed::Elapsed;
 use crate::socket_poller::SocketPoller;
 use broker_worker::Gear;
+use mio::net::TcpStream;
 use std::alloc::Global;
 use std::net::Net;
 use std::rt::Clock as SystemClock;
 use std::time::Instant;
-use tcp_edge::{Alarm, Reactor};
+use tcp_edge::{Alarm, Reactor, Socket};
 
 /// A reactor and a clock for each worker, and the alarms that wake them, in their order.
 #[derive(Drop)]
 pub(crate) struct Crew<'a, R> {
-    pub(crate) gear: Vec<Gear<SocketPoller, Elapsed<'a, R>>>,
+    pub(crate) gear: Vec<Gear<Socket<TcpStream>, SocketPoller, Elapsed<'a, R>>>,
     pub(crate) alarms: Vec<Alarm>,
 }
 
@@ -33,7 +34,7 @@ pub(crate) fn crew_of<R: Net + SystemClock>(
         let (reactor, alarm) = Reactor::open(rt, alloc).ok()?;
         let poller = SocketPoller::new(reactor);
         let clock = Elapsed::since(rt, start);
-        gear.push(Gear { poller, clock }).ok()?;
+        gear.push(Gear::new(poller, clock)).ok()?;
         alarms.push(alarm).ok()?;
     }
     Some(Crew { gear, alarms })

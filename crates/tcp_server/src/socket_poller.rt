@@ -1,4 +1,5 @@
 //! A worker waits at a reactor for its sockets.
+ghost use Rattle.std.specs.Prelude.{◌≡◌, None};
 
 use mio::net::TcpStream;
 use std::sync::Wait;
@@ -20,13 +21,18 @@ impl SocketPoller {
 }
 
 impl Poller<Socket<TcpStream>> for SocketPoller {
+    ghost closed = { λ _. None };
+
     fn register(&mut self, transport: &mut Socket<TcpStream>) -> Option<usize> {
         self.reactor.register(transport).ok()
     }
 
-    fn let_go(&mut self, number: usize, transport: &mut Socket<TcpStream>) {
-        if self.reactor.has(number) {
-            let _refused = self.reactor.let_go(number, transport);
+    fn close(&mut self, number: Option<usize>, transport: Socket<TcpStream>) {
+        let mut transport = transport;
+        if let Some(number) = number {
+            if self.reactor.has(number) {
+                let _refused = self.reactor.let_go(number, &mut transport);
+            }
         }
     }
 

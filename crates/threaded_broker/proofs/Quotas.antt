@@ -48,9 +48,9 @@ module _ {T : Type 0} (group : ℕ → GroupId) (counts : T → Counts) (given a
   each_run limit (run ∷ runs) whole few = (within_quota group counts given accepted limit run whole.0.is few.0, each_run limit runs whole.1 few.1)
 
   -- a broker that was served kept to it
-  pub within : (limit : ℕ) (came : List T) (calls : List (Call Held PlaceState)) (ports : List (List PortState)) (served : List ServedCounts)
-      → AreServed group counts given accepted (arrivals limit came) calls ports served → RunsUntilClosed group counts given accepted limit came calls ports served
-  within limit came calls ports served workers = record {
+  pub within : (limit : ℕ) (came : List T) (calls : List (Call Held PlaceState)) (ports : List (List PortState)) (served : List ServedCounts) (closed : List (Option (List T)))
+      → AreServed group counts given accepted (arrivals limit came) calls ports served closed → RunsUntilClosed group counts given accepted limit came calls ports served closed
+  within limit came calls ports served closed workers = record {
     workers = workers;
     within_receive_maximum = each_run limit workers.runs workers.whole
         (of_each (λ (arrived : ArrivedState T). arrived.max_inflight ≤ limit) (arrivals limit came) (map (λ (run : Run T). run.last.received) workers.runs) workers.came_to (limited limit came));
@@ -62,15 +62,17 @@ module _ {T : Type 0} (group : ℕ → GroupId) (counts : T → Counts) (given a
   told_longer calls calls' (run ∷ runs) longer told = (begins_longer run.last.supply.desk calls calls' told.0 longer, told_longer calls calls' runs longer told.1)
 
   -- more calls are known of the desk
-  pub known_longer : (limit : ℕ) (came : List T) (calls calls' : List (Call Held PlaceState)) (ports : List (List PortState)) (served : List ServedCounts) → IsPrefix calls calls'
-      → RunsUntilClosed group counts given accepted limit came calls ports served → RunsUntilClosed group counts given accepted limit came calls' ports served
-  known_longer limit came calls calls' ports served longer run = record {
+  pub known_longer : (limit : ℕ) (came : List T) (calls calls' : List (Call Held PlaceState)) (ports : List (List PortState)) (served : List ServedCounts) (closed : List (Option (List T)))
+      → IsPrefix calls calls' → RunsUntilClosed group counts given accepted limit came calls ports served closed
+      → RunsUntilClosed group counts given accepted limit came calls' ports served closed
+  known_longer limit came calls calls' ports served closed longer run = record {
     workers = record {
       runs = run.workers.runs;
       whole = run.workers.whole;
       came_to = run.workers.came_to;
       ports_are = run.workers.ports_are;
       served_are = run.workers.served_are;
+      closed_are = run.workers.closed_are;
       told = told_longer calls calls' run.workers.runs longer run.workers.told;
     };
     within_receive_maximum = run.within_receive_maximum;

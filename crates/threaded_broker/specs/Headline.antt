@@ -16,20 +16,23 @@ use Rattle.worker_pool.specs.Pools.{AreServed}
 use Rattle.final_report.specs.Brokers.{KeptItsPromisesBehind}
 
 module _ {T : Type 0} (group : ℕ → GroupId) (counts : T → Counts) (given accepted : T → Option (List ℕ)) where
-  -- the run of a broker until it was closed: these connections came to its workers, these calls of its desk are known, and these ports and counts the workers gave back;
-  -- and at no moment of it did a connection have more unacknowledged PUBLISH packets than its Receive Maximum, and than this limit (4.9)
-  pub record RunsUntilClosed (max_inflight : ℕ) (came : List T) (calls : List (Call Held PlaceState)) (ports : List (List PortState)) (served : List ServedCounts) : Type 0 where
-    pub workers : AreServed group counts given accepted (arrivals max_inflight came) calls ports served
+  -- the run of a broker until it was closed: these connections came to its workers, these calls of its desk are known, these ports and counts the workers gave back, and
+  -- these transports they closed, each as it was then; and at no moment of it did a connection have more unacknowledged PUBLISH packets than its Receive Maximum, and than
+  -- this limit (4.9)
+  pub record RunsUntilClosed (max_inflight : ℕ) (came : List T) (calls : List (Call Held PlaceState)) (ports : List (List PortState)) (served : List ServedCounts)
+      (closed : List (Option (List T))) : Type 0 where
+    pub workers : AreServed group counts given accepted (arrivals max_inflight came) calls ports served closed
     pub within_receive_maximum : AllByRecursion (KeepsReceiveMaximum group counts given accepted max_inflight) workers.runs
 
-  -- **The headline**, of the one run of a broker: these connections came, in this order, and each is in the run of one worker, from its opening to its end (`run`). Through
+  -- **The headline**, of the one run of a broker: these connections came, in this order, and each is in the run of one worker, from its opening to its end, at which it was
+  -- closed as the run left it (`run`). Through
   -- the ports that the runs ended with, and with the sessions, places and messages that the calls of the desk led to, of each group whose report is given (`promises`): each
   -- message that was accepted was first handed to at most one member (`first_once`), each member's first hand-outs from a publisher keep that publisher's order (`in_order`),
   -- a refused message went to nobody else (`refused_for_good`), and the report gives each accepted message exactly one fate (`one_fate`), which it had (`what_happened`). No
   -- connection had more unacknowledged PUBLISH packets than its Receive Maximum. That nothing is handed out after close is said by the token of the drained gate
   pub record KeepsTheHeadline (workers max_inflight : ℕ) (came : List T) (calls : List (Call Held PlaceState)) (answers : List (Result Report (Unfinished Nobody)))
-      (strangers : List Held) (served : List ServedCounts) : Type 0 where
+      (strangers : List Held) (served : List ServedCounts) (closed : List (Option (List T))) : Type 0 where
     pub ports : List (List PortState)
     pub every_worker : length ports ≡ workers
-    pub run : RunsUntilClosed max_inflight came calls ports served
+    pub run : RunsUntilClosed max_inflight came calls ports served closed
     pub promises : KeptItsPromisesBehind group calls ports answers strangers

@@ -30,7 +30,7 @@ use worker_connections::{Hand, Poller, ServedCounts};
 use worker_pool::{Closer, Pooled, Taken, Unbegun, Watch, run};
 
 /// What became of a broker that was served to its end.
-pub struct Outcome<'g, S> {
+pub struct Outcome<'g, S, Q> {
     /// The report of each group, in the order of slots, or why there is none.
     pub ended: Ended<'g>,
     /// The shares that are bound, in the order of their slots.
@@ -39,12 +39,14 @@ pub struct Outcome<'g, S> {
     pub served: Vec<ServedCounts>,
     /// Where the connections came from, and how many.
     pub taken: Taken<S>,
+    /// Where the workers waited, which closed all connections.
+    pub pollers: Vec<Q>,
     /// Nobody is inside the broker's gate, nor ever will be.
     pub drained: Drained,
 }
 
 /// A broker that was served, whose gate is drained.
-pub struct Closed<'g, B: Broker, N: HistoryName, S> {
+pub struct Closed<'g, B: Broker, N: HistoryName, S, Q> {
     pub hall: Hall<'g, B, N>,
     /// The ports of all its workers.
     pub ports: Vec<Ports<B>>,
@@ -54,6 +56,8 @@ pub struct Closed<'g, B: Broker, N: HistoryName, S> {
     pub served: Vec<ServedCounts>,
     /// Where the connections came from, and how many.
     pub taken: Taken<S>,
+    /// Where the workers waited, which closed all connections.
+    pub pollers: Vec<Q>,
     /// Nobody is inside the broker's gate, nor ever will be.
     pub drained: Drained,
 }
@@ -68,8 +72,9 @@ pub struct Closed<'g, B: Broker, N: HistoryName, S> {
 ///
 /// **What a broker promises**, in every schedule of its threads, whatever its transports do (`headline`), is of this one run. The connections that the source gave, in its
 /// order, came each to one worker, once; and what each worker did is one list of deeds, from the ports that it was given, through which nothing was published, to those that
-/// it gave back: it opened each connection that came to it in a cell, or closed it for want of memory, and went on with the connection in a cell by a round, each at the
-/// state that the deed before it left (`run`). Through just these ports, of each group whose report is given:
+/// it gave back: it opened each connection that came to it in a cell, or closed it as it came where an allocation failed, and went on with the connection in a cell by a
+/// round, each at the state that the deed before it left (`run`). What its poller closed is just that: of each connection its transport, as the deed by which it ended left
+/// it. Through just these ports, of each group whose report is given:
 ///
 /// - each message that was accepted was first handed to at most one member, once (`first_once`);
 /// - each member's first hand-outs from a publisher keep that publisher's order (`in_order`);
@@ -105,7 +110,7 @@ pub fn serve<
     shares: &[Share],
     hands: Vec<Hand<B>>,
     room: Vec<Ports<B>>,
-    gear: Vec<Gear<Q, C>>,
+    gear: Vec<Gear<T, Q, C>>,
     alarms: Vec<W>,
     source: S,
     max_inflight: MaxInflight,
@@ -115,13 +120,13 @@ pub fn serve<
     watch: &mut D,
     input: &mut I,
     pass: &mut DeskPass<BrokerPlace<B>, N>,
-) -> Result<Outcome<'g, S>, NoMemory>
+) -> Result<Outcome<'g, S, Q>, NoMemory>
     requires workers { (1 ≤ length hands.items) × (length hands.items ≤ 64) }
     requires gear { length gear.items ≡ length hands.items }
     requires room { (room.items ≡ []) × (length hands.items ≤ vec_capacity room) }
     requires unsent { All (λ hand. AreUnsent hand.ports) hands.items }
     ensures headline { IfOk result (λ outcome. (came : List T) × Gave S.arrived source came outcome.taken.source × (outcome.taken.came ≡ length came)
-        × KeepsTheHeadline B.group T.counts T.given T.accepted (length hands.items) max_inflight came pass.new outcome.ended.answers.items outcome.ended.strangers.items outcome.served.items) }
+        × KeepsTheHeadline B.group T.counts T.given T.accepted (length hands.items) max_inflight came pass.new outcome.ended.answers.items outcome.ended.strangers.items outcome.served.items (map Q.closed outcome.pollers.items)) }
     ensures history { IsPrefix pass.old pass.new }
     ensures closed { IfOk result (λ outcome. outcome.drained ≡ B.gate) }
     ensures taken { IfOk result (λ outcome. (S.tally outcome.taken.source).arrivals ≡ (S.tally source).arrivals + outcome.taken.came) }
@@ -152,6 +157,7 @@ pub fn serve<
         shares,
         served,
         taken,
+        pollers,
         drained,
     } = closed;
     let ended = end(rt, alloc, &drained, hall, ports, pass)?;
@@ -160,6 +166,7 @@ pub fn serve<
         shares,
         served,
         taken,
+        pollers,
         drained,
     })
 }
@@ -190,7 +197,7 @@ pub fn serve_until_closed<
     shares: &[Share],
     hands: Vec<Hand<B>>,
     room: Vec<Ports<B>>,
-    gear: Vec<Gear<Q, C>>,
+    gear: Vec<Gear<T, Q, C>>,
     alarms: Vec<W>,
     source: S,
     max_inflight: MaxInflight,
@@ -200,14 +207,14 @@ pub fn serve_until_closed<
     watch: &mut D,
     input: &mut I,
     pass: &mut DeskPass<BrokerPlace<B>, N>,
-) -> Result<Closed<'g, B, N, S>, NoMemory>
+) -> Result<Closed<'g, B, N, S, Q>, NoMemory>
     requires workers { (1 ≤ length hands.items) × (length hands.items ≤ 64) }
     requires gear { length gear.items ≡ length hands.items }
     requires room { (room.items ≡ []) × (length hands.items ≤ vec_capacity room) }
     requires unsent { All (λ hand. AreUnsent hand.ports) hands.items }
     ensures ports { IfOk result (λ closed. length closed.ports.items ≡ length hands.items) }
     ensures run { IfOk result (λ closed. (came : List T) × Gave S.arrived source came closed.taken.source × (closed.taken.came ≡ length came)
-        × RunsUntilClosed B.group T.counts T.given T.accepted max_inflight came pass.new closed.ports.items closed.served.items) }
+        × RunsUntilClosed B.group T.counts T.given T.accepted max_inflight came pass.new closed.ports.items closed.served.items (map Q.closed closed.pollers.items)) }
     ensures history { IsPrefix pass.old pass.new }
     ensures closed { IfOk result (λ closed. closed.drained ≡ B.gate) }
     ensures taken { IfOk result (λ closed. (S.tally closed.taken.source).arrivals ≡ (S.tally source).arrivals + closed.taken.came) }
@@ -238,6 +245,7 @@ pub fn serve_until_closed<
                 hands,
                 served,
                 taken,
+                pollers,
             } = pooled;
             Ok(Closed {
                 hall,
@@ -245,6 +253,7 @@ pub fn serve_until_closed<
                 shares,
                 served,
                 taken,
+                pollers,
                 drained,
             })
         }
@@ -256,8 +265,8 @@ pub fn serve_until_closed<
 }
 
 /// What a pool gives back, and the shares that are bound then, in the order of their slots.
-struct Ran<B: Broker, S> {
-    pooled: Pooled<B, S>,
+struct Ran<B: Broker, S, Q> {
+    pooled: Pooled<B, S, Q>,
     shares: Vec<Share>,
 }
 
@@ -280,7 +289,7 @@ fn run_bound<
     hall: &Hall<'_, B, N>,
     shares: &[Share],
     hands: Vec<Hand<B>>,
-    gear: Vec<Gear<Q, C>>,
+    gear: Vec<Gear<T, Q, C>>,
     alarms: Vec<W>,
     source: S,
     max_inflight: MaxInflight,
@@ -289,14 +298,14 @@ fn run_bound<
     watch: &mut D,
     input: &mut I,
     pass: &mut DeskPass<BrokerPlace<B>, N>,
-) -> Result<Ran<B, S>, Vec<Hand<B>>>
+) -> Result<Ran<B, S, Q>, Vec<Hand<B>>>
     requires workers { (1 ≤ length hands.items) × (length hands.items ≤ 64) }
     requires gear { length gear.items ≡ length hands.items }
     requires unsent { All (λ hand. AreUnsent hand.ports) hands.items }
     ensures hands { MatchResult result (λ ran. length ran.pooled.hands.items ≡ length hands.items) (λ back. length back.items ≡ length hands.items) }
     ensures taken { IfOk result (λ ran. (S.tally ran.pooled.taken.source).arrivals ≡ (S.tally source).arrivals + ran.pooled.taken.came) }
     ensures served { IfOk result (λ ran. (came : List T) × Gave S.arrived source came ran.pooled.taken.source × (ran.pooled.taken.came ≡ length came)
-        × AreServed B.group T.counts T.given T.accepted (arrivals max_inflight came) pass.new (map (λ hand. hand.ports) ran.pooled.hands.items) ran.pooled.served.items) }
+        × AreServed B.group T.counts T.given T.accepted (arrivals max_inflight came) pass.new (map (λ hand. hand.ports) ran.pooled.hands.items) ran.pooled.served.items (map Q.closed ran.pooled.pollers.items)) }
     ensures told { IsPrefix pass.old pass.new }
     ensures watched { IfOk result (λ _. D.has_watched watch.old watch.new input.old input.new) }
     ensures shares { IfOk result (λ ran. All (IsBoundIn ran.shares.items) shares.now) }

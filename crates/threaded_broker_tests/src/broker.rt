@@ -64,12 +64,13 @@ fn count_reports(ended: Ended<'_>) -> usize {
 }
 
 /// What came of a broker that was served to its end.
-fn told_of<S: Drop>(outcome: Outcome<'_, S>) -> Told {
+fn told_of<S: Drop>(outcome: Outcome<'_, S, AlwaysReady>) -> Told {
     let Outcome {
         ended,
         shares: _,
         served,
         taken,
+        pollers: _,
         drained: _,
     } = outcome;
     let mut well = 0u64;
@@ -139,14 +140,11 @@ fn deal<B: Broker>(
 fn gear_for(
     alloc: Global,
     workers: usize,
-) -> Result<(Vec<Gear<AlwaysReady, SetClock>>, Vec<Silent>), AllocError> {
+) -> Result<(Vec<Gear<Scripted, AlwaysReady, SetClock>>, Vec<Silent>), AllocError> {
     let mut gear = Vec::with_capacity(alloc, workers)?;
     let mut alarms = Vec::with_capacity(alloc, workers)?;
     for _ in 0..workers {
-        gear.push(Gear {
-            poller: AlwaysReady::new(alloc)?,
-            clock: SetClock { moment: 0 },
-        })?;
+        gear.push(Gear::new(AlwaysReady::new(alloc)?, SetClock { moment: 0 }))?;
         alarms.push(Silent)?;
     }
     Ok((gear, alarms))

@@ -1,5 +1,5 @@
 //! Connections in memory: what waits for them, what wakes a worker, and where workers meet.
-ghost use Rattle.std.specs.Prelude.{◌≡◌, ⊤};
+ghost use Rattle.std.specs.Prelude.{◌≡◌, None, ⊤};
 
 use bell::Wake;
 use std::alloc::{AllocError, Global};
@@ -50,6 +50,8 @@ impl AlwaysReady {
 }
 
 impl Poller<Scripted> for AlwaysReady {
+    ghost closed = { λ _. None };
+
     fn register(&mut self, transport: &mut Scripted) -> Option<usize> {
         let _ = transport;
         let number = self.least_free()?;
@@ -57,9 +59,11 @@ impl Poller<Scripted> for AlwaysReady {
         Some(number)
     }
 
-    fn let_go(&mut self, number: usize, transport: &mut Scripted) {
-        let _ = transport;
-        self.note(number, false);
+    fn close(&mut self, number: Option<usize>, transport: Scripted) {
+        drop(transport);
+        if let Some(number) = number {
+            self.note(number, false);
+        }
     }
 
     fn wait<R: Wait>(&mut self, rt: &R, at_most: u64) -> bool {

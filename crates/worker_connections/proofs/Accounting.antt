@@ -32,12 +32,13 @@ module _ {T : Type 0} where
 
   -- one more was received, and is open or counted
   pub came_one : (counts : T → Counts) (given accepted : T → Option (List ℕ)) (now : ℕ) (arrived : ArrivedState T) (received received' : ℕ) (cells cells' : Table T)
-      (served served' : ServedCounts) → received' ≡ received + 1 → IsAccounted received cells served → TakesIn counts given accepted now arrived cells served cells' served'
+      (served served' : ServedCounts) (closed closed' : Option (List T)) → received' ≡ received + 1 → IsAccounted received cells served
+      → TakesIn counts given accepted now arrived cells served closed cells' served' closed'
       → IsAccounted received' cells' served'
-  came_one counts given accepted now arrived received received' cells cells' served served' more old (inl opened) =
+  came_one counts given accepted now arrived received received' cells cells' served served' closed closed' more old (inl opened) =
       record { endings = old.endings; counted = opened.2 ∙ old.counted; all = omega (arith, more, old.all, opened.1.3) }
-  came_one counts given accepted now arrived received received' cells cells' served served' more old (inr refused) =
-      record { endings = Memory ∷ old.endings; counted = refused.1 ∙ ap (counted Memory) old.counted; all = omega (arith, more, old.all, ap occupied refused.0) }
+  came_one counts given accepted now arrived received received' cells cells' served served' closed closed' more old (inr refused) =
+      record { endings = Memory ∷ old.endings; counted = refused.1 ∙ ap (counted Memory) old.counted; all = omega (arith, more, old.all, ap occupied refused.0.0) }
 
   -- where no connection is open, all that were received have ended
   pub settled : (received : ℕ) (cells : Table T) (served : ServedCounts) → IsAccounted received cells served → occupied cells ≡ 0 → AreCounted received served

@@ -17,6 +17,7 @@ use Rattle.shared_supply.specs.Workers.{Worker, Begins, Leaves, is_visiting}
 use Rattle.shared_supply.specs.declared.wakes.Wakes.{Wakes}
 use Rattle.worker_connections.specs.declared.served.ServedCounts.{ServedCounts}
 use Rattle.worker_connections.specs.Arrivals.{ArrivedState}
+use Rattle.worker_connections.specs.Closing.{HasClosedNone, and_closed, closed_after}
 use Rattle.worker_connections.specs.Counting.{counted, counted_behind, none_served}
 use Rattle.worker_connections.specs.Serving.{TakesIn}
 use Rattle.worker_connections.specs.Chains.{Deed, Opened, Closed, Allowed, Went, Passed, Woke, Run, RunState, Makes, MakesAll, HasRunTo, IsRun, came_in, came_by}
@@ -42,94 +43,114 @@ module _ {T : Type 0} (group : ℕ → GroupId) (counts : T → Counts) (given a
   }
 
   -- none yet
-  pub runs_from : (count : ℕ) (supply : Worker) (cells : Table) (received : List (ArrivedState T)) → cells ≡ replicate count None → received ≡ [] → supply.wakes ≡ no_wakes
-      → AreUnsent supply.ports
-      → HasRunTo group counts given accepted (record { supply = supply; cells = cells; received = received; served = none_served })
-  runs_from count supply cells received free none quiet unsent =
-      let first : RunState T = record { supply = supply; cells = cells; received = received; served = none_served } in
+  pub runs_from : (count : ℕ) (supply : Worker) (cells : Table) (received : List (ArrivedState T)) (closed : Option (List T)) → cells ≡ replicate count None → received ≡ []
+      → supply.wakes ≡ no_wakes → AreUnsent supply.ports → HasClosedNone closed
+      → HasRunTo group counts given accepted (record { supply = supply; cells = cells; received = received; served = none_served; closed = closed })
+  runs_from count supply cells received closed free none quiet unsent open =
+      let first : RunState T = record { supply = supply; cells = cells; received = received; served = none_served; closed = closed } in
       record {
         run = record { first = first; deeds = []; last = first };
-        is = record { begun = record { count = count; free = free; none_came = none; none_ended = refl; none_waits = quiet; none_sent = unsent }; made = refl };
+        is = record { begun = record { count = count; free = free; none_came = none; none_ended = refl; none_waits = quiet; none_closed = open; none_sent = unsent }; made = refl };
         here = refl;
       }
 
   -- one came
-  pub comes : (arrived : ArrivedState T) (supply : Worker) (cells cells' : Table) (received received' : List (ArrivedState T)) (served served' : ServedCounts) (now : ℕ) → received' ≡ received ++ arrived ∷ []
-      → HasRunTo group counts given accepted (record { supply = supply; cells = cells; received = received; served = served })
-      → TakesIn counts given accepted now arrived cells served cells' served'
-      → HasRunTo group counts given accepted (record { supply = supply; cells = cells'; received = received'; served = served' })
-  comes arrived supply cells cells' received received' served served' now more ran (inl opened) =
-      runs_on (Opened arrived opened.0 now) _ _ ran (opened.1.0, opened.1.1, opened.1.2, λ i. record { supply = supply; cells = cells'; received = more i; served = opened.2 i })
-  comes arrived supply cells cells' received received' served served' now more ran (inr refused) =
-      runs_on (Closed arrived) _ _ ran (λ i. record { supply = supply; cells = refused.0 i; received = more i; served = refused.1 i })
+  pub comes : (arrived : ArrivedState T) (supply : Worker) (cells cells' : Table) (received received' : List (ArrivedState T)) (served served' : ServedCounts) (closed closed' : Option (List T))
+      (now : ℕ) → received' ≡ received ++ arrived ∷ []
+      → HasRunTo group counts given accepted (record { supply = supply; cells = cells; received = received; served = served; closed = closed })
+      → TakesIn counts given accepted now arrived cells served closed cells' served' closed'
+      → HasRunTo group counts given accepted (record { supply = supply; cells = cells'; received = received'; served = served'; closed = closed' })
+  comes arrived supply cells cells' received received' served served' closed closed' now more ran (inl opened) =
+      runs_on (Opened arrived opened.0 now) _ _ ran
+      (opened.1.0, opened.1.1, opened.1.2, λ i. record { supply = supply; cells = cells'; received = more i; served = opened.2 i; closed = opened.1.4 i })
+  comes arrived supply cells cells' received received' served served' closed closed' now more ran (inr refused) =
+      runs_on (Closed arrived) _ _ ran
+      (refused.0.1.0, refused.0.1.1, λ i. record { supply = supply; cells = refused.0.0 i; received = more i; served = refused.1 i; closed = refused.0.1.2 i })
 
   -- the connection in a cell went on by a round
-  goes : (supply supply' : Worker) (cells cells' : Table) (received : List (ArrivedState T)) (served served' : ServedCounts) (now cell : ℕ)
+  goes : (supply supply' : Worker) (cells cells' : Table) (received : List (ArrivedState T)) (served served' : ServedCounts) (closed closed' : Option (List T)) (now cell : ℕ)
       (before after : Option (ServiceState PlaceState T)) (turned : Turned T) → slice_get cells cell ≡ Some before → cells' ≡ slice_set cells cell after
       → Turns (Calls group) Begins Leaves is_visiting (λ (p : PlaceState). p.group) counts given accepted now before supply turned after supply'
-      → served' ≡ counted_behind turned served
-      → (deed : Deed T) × Makes group counts given accepted deed (record { supply = supply; cells = cells; received = received; served = served })
-      (record { supply = supply'; cells = cells'; received = received; served = served' })
-  goes supply supply' cells cells' received served served' now cell None after turned has is made counted_is =
-      let same : served' ≡ served = subst (λ (t : Turned T). served' ≡ counted_behind t served) made.0 counted_is in (
+      → served' ≡ counted_behind turned served → closed' ≡ closed_after turned closed
+      → (deed : Deed T) × Makes group counts given accepted deed (record { supply = supply; cells = cells; received = received; served = served; closed = closed })
+      (record { supply = supply'; cells = cells'; received = received; served = served'; closed = closed' })
+  goes supply supply' cells cells' received served served' closed closed' now cell None after turned has is made counted_is closed_is =
+      let same : served' ≡ served = subst (λ (t : Turned T). served' ≡ counted_behind t served) made.0 counted_is in
+      let open : closed' ≡ closed = subst (λ (t : Turned T). closed' ≡ closed_after t closed) made.0 closed_is in (
         Passed cell,
         (
           record { before = None; after = after; has = has; becomes = (refl, made.1); is = is },
-          λ i. record { supply = made.2 i; cells = cells'; received = received; served = same i },
+          λ i. record { supply = made.2 i; cells = cells'; received = received; served = same i; closed = open i },
         ),
       )
-  goes supply supply' cells cells' received served served' now cell (Some service) after Vacant has is made counted_is = absurd made.2
-  goes supply supply' cells cells' received served served' now cell (Some service) after (Goes round) has is made counted_is = (
+  goes supply supply' cells cells' received served served' closed closed' now cell (Some service) after Vacant has is made counted_is closed_is = absurd made.2
+  goes supply supply' cells cells' received served served' closed closed' now cell (Some service) after (Goes round) has is made counted_is closed_is = (
     Went cell now made.1.led.acts None,
     (
       record {
         before = Some service;
         after = after;
         has = has;
-        becomes = record { service = service; here = refl; behind = made.0; round = made.1; acts_are = refl; leaves = made.2.1 };
+        becomes = record { service = service; here = refl; behind = made.0; round = made.1; acts_are = refl; leaves = made.2.1; closes = closed_is };
         is = is;
       },
-      λ i. record { supply = supply'; cells = cells'; received = received; served = counted_is i },
+      λ i. record { supply = supply'; cells = cells'; received = received; served = counted_is i; closed = closed' },
     ),
   )
-  goes supply supply' cells cells' received served served' now cell (Some service) after (Ended how transport) has is made counted_is = (
+  goes supply supply' cells cells' received served served' closed closed' now cell (Some service) after (Ended how transport) has is made counted_is closed_is = (
     Went cell now made.1.led.acts (Some how),
     (
       record {
         before = Some service;
         after = after;
         has = has;
-        becomes = record { service = service; here = refl; behind = made.0; round = made.1; acts_are = refl; leaves = (made.2.0.0, made.2.0.1, made.2.2) };
+        becomes = record {
+          service = service;
+          here = refl;
+          behind = made.0;
+          round = made.1;
+          acts_are = refl;
+          leaves = (made.2.0.0, made.2.0.1, made.2.2);
+          closes = subst (λ (t : T). closed' ≡ and_closed t closed) made.2.1 closed_is;
+        };
         is = is;
       },
-      λ i. record { supply = supply'; cells = cells'; received = received; served = counted_is i },
+      λ i. record { supply = supply'; cells = cells'; received = received; served = counted_is i; closed = closed' },
     ),
   )
 
   -- so many messages were allowed, and then it went on by a round
-  pub went : (supply allowed supply' : Worker) (most : ℕ) (cells cells' : Table) (received : List (ArrivedState T)) (served served' : ServedCounts) (now cell : ℕ) (turned : Turned T)
-      → HasRunTo group counts given accepted (record { supply = supply; cells = cells; received = received; served = served })
+  pub went : (supply allowed supply' : Worker) (most : ℕ) (cells cells' : Table) (received : List (ArrivedState T)) (served served' : ServedCounts) (closed closed' : Option (List T)) (now cell : ℕ)
+      (turned : Turned T) → HasRunTo group counts given accepted (record { supply = supply; cells = cells; received = received; served = served; closed = closed })
       → allowed ≡ record supply { allowance = most }
       → InCell cells cell (λ before after. Turns (Calls group) Begins Leaves is_visiting (λ (p : PlaceState). p.group) counts given accepted now before allowed turned after supply') cells'
-      → served' ≡ counted_behind turned served
-      → HasRunTo group counts given accepted (record { supply = supply'; cells = cells'; received = received; served = served' })
-  went supply allowed supply' most cells cells' received served served' now cell turned ran allows made counted_is =
-      let deed = goes allowed supply' cells cells' received served served' now cell made.before made.after turned made.has made.is made.becomes counted_is in
+      → served' ≡ counted_behind turned served → closed' ≡ closed_after turned closed
+      → HasRunTo group counts given accepted (record { supply = supply'; cells = cells'; received = received; served = served'; closed = closed' })
+  went supply allowed supply' most cells cells' received served served' closed closed' now cell turned ran allows made counted_is closed_is =
+      let deed = goes allowed supply' cells cells' received served served' closed closed' now cell made.before made.after turned made.has made.is made.becomes counted_is closed_is in
       runs_on deed.0 _ _
-      (runs_on (Allowed most) _ (record { supply = allowed; cells = cells; received = received; served = served }) ran
-      (λ i. record { supply = allows i; cells = cells; received = received; served = served })) deed.1
+      (runs_on (Allowed most) _ (record { supply = allowed; cells = cells; received = received; served = served; closed = closed }) ran
+      (λ i. record { supply = allows i; cells = cells; received = received; served = served; closed = closed })) deed.1
 
   -- it was called, or told others
-  pub wakes_on : (supply supply' : Worker) (cells : Table) (received : List (ArrivedState T)) (served : ServedCounts) (wakes : Wakes) → supply' ≡ record supply { wakes = wakes }
-      → HasRunTo group counts given accepted (record { supply = supply; cells = cells; received = received; served = served })
-      → HasRunTo group counts given accepted (record { supply = supply'; cells = cells; received = received; served = served })
-  wakes_on supply supply' cells received served wakes is ran =
-      runs_on Woke _ _ ran (wakes, λ i. record { supply = is i; cells = cells; received = received; served = served })
+  pub wakes_on : (supply supply' : Worker) (cells : Table) (received : List (ArrivedState T)) (served : ServedCounts) (closed : Option (List T)) (wakes : Wakes)
+      → supply' ≡ record supply { wakes = wakes }
+      → HasRunTo group counts given accepted (record { supply = supply; cells = cells; received = received; served = served; closed = closed })
+      → HasRunTo group counts given accepted (record { supply = supply'; cells = cells; received = received; served = served; closed = closed })
+  wakes_on supply supply' cells received served closed wakes is ran =
+      runs_on Woke _ _ ran (wakes, λ i. record { supply = is i; cells = cells; received = received; served = served; closed = closed })
+
+  -- it waited at its poller, which closed nothing
+  pub waits_on : (supply : Worker) (cells : Table) (received : List (ArrivedState T)) (served : ServedCounts) (closed closed' : Option (List T)) → closed' ≡ closed
+      → HasRunTo group counts given accepted (record { supply = supply; cells = cells; received = received; served = served; closed = closed })
+      → HasRunTo group counts given accepted (record { supply = supply; cells = cells; received = received; served = served; closed = closed' })
+  waits_on supply cells received served closed closed' same ran =
+      subst (λ (those : Option (List T)). HasRunTo group counts given accepted (record { supply = supply; cells = cells; received = received; served = served; closed = those })) (sym same) ran
 
   -- each connection that came stands in the list of deeds, once, and nothing else does
   came_one : (deed : Deed T) (old new : RunState T) → Makes group counts given accepted deed old new → new.received ≡ old.received ++ came_in deed
   came_one (Opened arrived cell now) old new does = ap (λ (s : RunState T). s.received) does.3
-  came_one (Closed arrived) old new does = ap (λ (s : RunState T). s.received) does
+  came_one (Closed arrived) old new does = ap (λ (s : RunState T). s.received) does.2
   came_one (Allowed most) old new does = ap (λ (s : RunState T). s.received) does ∙ sym (append-nil old.received)
   came_one (Went cell now acts how) old new does = ap (λ (s : RunState T). s.received) does.1 ∙ sym (append-nil old.received)
   came_one (Passed cell) old new does = ap (λ (s : RunState T). s.received) does.1 ∙ sym (append-nil old.received)

@@ -149,7 +149,8 @@ module _ {S P T : Type 0} (call : S → Fact P → S → Type 0) (begins ends : 
 
 -- behind one that came
 pub came_one : {T : Type 0} (counts : T → Counts) (given accepted : T → Option (List ℕ)) (arrived : ArrivedState T) (cells cells' : List (Option (ServiceState PlaceState T)))
-    (served served' : ServedCounts) (sweeps : Sweeps) → AreSwept sweeps cells → TakesIn counts given accepted sweeps.latest arrived cells served cells' served' → AreSwept sweeps cells'
-came_one counts given accepted arrived cells cells' served served' sweeps are (inl opened) =
+    (served served' : ServedCounts) (closed closed' : Option (List T)) (sweeps : Sweeps) → AreSwept sweeps cells
+    → TakesIn counts given accepted sweeps.latest arrived cells served closed cells' served' closed' → AreSwept sweeps cells'
+came_one counts given accepted arrived cells cells' served served' closed closed' sweeps are (inl opened) =
     opened_one cells cells' opened.0 (opening_at sweeps.latest arrived) opened.1.0 sweeps refl are opened.1.2
-came_one counts given accepted arrived cells cells' served served' sweeps are (inr refused) = subst (λ those. AreSwept sweeps those) (sym refused.0) are
+came_one counts given accepted arrived cells cells' served served' closed closed' sweeps are (inr refused) = subst (λ those. AreSwept sweeps those) (sym refused.0.0) are

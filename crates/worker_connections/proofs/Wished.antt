@@ -87,14 +87,14 @@ module _ {T : Type 0} where
 
   -- nor would one that came
   pub wished_came : (counts : T → Counts) (given accepted : T → Option (List ℕ)) (arrived : ArrivedState T) (cells cells' : List (Option (ServiceState PlaceState T)))
-      (served served' : ServedCounts) (wishes : List Wish) (now : ℕ) → length wishes ≡ length cells
-      → AreWished cells wishes → TakesInOne counts given accepted now arrived cells served cells' served' → (length wishes ≡ length cells') × AreWished cells' wishes
-  wished_came counts given accepted arrived cells cells' served served' wishes now long are (inl opened) = (
+      (served served' : ServedCounts) (closed closed' : Option (List T)) (wishes : List Wish) (now : ℕ) → length wishes ≡ length cells
+      → AreWished cells wishes → TakesInOne counts given accepted now arrived cells served closed cells' served' closed' → (length wishes ≡ length cells') × AreWished cells' wishes
+  wished_came counts given accepted arrived cells cells' served served' closed closed' wishes now long are (inl opened) = (
     omega (arith, long, ap length opened.1.2.is, length-set cells opened.0 opened.1.2.after),
     wished_opened cells cells' wishes opened.0 (opening_at now arrived) opened.1.0 are opened.1.2,
   )
-  wished_came counts given accepted arrived cells cells' served served' wishes now long are (inr refused) =
-      subst (λ those. (length wishes ≡ length those) × AreWished those wishes) (sym refused.0) (long, are)
+  wished_came counts given accepted arrived cells cells' served served' closed closed' wishes now long are (inr refused) =
+      subst (λ those. (length wishes ≡ length those) × AreWished those wishes) (sym refused.0.0) (long, are)
 
   -- behind a round the wish of the connection in its cell is noted
   pub wished_noted : (cells cells' : List (Option (ServiceState PlaceState T))) (wishes wishes' : List Wish) (cell : ℕ) (before after : Option (ServiceState PlaceState T)) (wish : Wish)

@@ -20,29 +20,32 @@ use Rattle.shared_supply.specs.Workers.{Worker, Begins, Leaves, is_visiting}
 use Rattle.shared_supply.specs.declared.wakes.Wakes.{Wakes}
 use Rattle.worker_connections.specs.declared.served.ServedCounts.{ServedCounts}
 use Rattle.worker_connections.specs.Arrivals.{ArrivedState, IsWatched, opening_at}
+use Rattle.worker_connections.specs.Closing.{HasClosedNone, and_closed, closed_if}
 use Rattle.worker_connections.specs.Counting.{counted, counted_if, none_served}
 
 -- what a worker did
 pub data Deed (T : Type 0) : Type 0 where
   -- this connection came, and was opened in this cell at this moment
   Opened : (arrived : ArrivedState T) → (cell now : ℕ) → Deed T
-  -- this connection came, and was closed at once: memory was wanted, or the system did not watch it
+  -- this connection came, and was closed at once, as it came: an allocation failed, or the system did not watch it
   Closed : (arrived : ArrivedState T) → Deed T
   -- so many messages at most are to be handed out from now on
   Allowed : (most : ℕ) → Deed T
-  -- the connection in this cell went on by a round at this moment, of these acts; and ended so, if it did
+  -- the connection in this cell went on by a round at this moment, of these acts; and ended so and was closed, if it did
   Went : (cell now : ℕ) → (acts : List Act) → (how : Option Served) → Deed T
   -- nobody was in the cell
   Passed : (cell : ℕ) → Deed T
   -- it told others what they wait for, or was called
   Woke : Deed T
 
--- what a worker has: what it asks, its connections, those that came, in order, and how connections ended
+-- what a worker has: what it asks, its connections, those that came, in order, how connections ended, and which transports it closed, each as it was then, in order;
+-- `None` where its poller does not tell that
 pub record RunState (T : Type 0) : Type 0 where
   pub supply : Worker
   pub cells : List (Option (ServiceState PlaceState T))
   pub received : List (ArrivedState T)
   pub served : ServedCounts
+  pub closed : Option (List T)
 
 -- the run of a worker: from its first state to its last one
 pub record Run (T : Type 0) : Type 0 where
@@ -57,6 +60,7 @@ pub record IsFirst {T : Type 0} (state : RunState T) : Type 0 where
   pub none_came : state.received ≡ []
   pub none_ended : state.served ≡ none_served
   pub none_waits : state.supply.wakes ≡ no_wakes
+  pub none_closed : HasClosedNone state.closed
   pub none_sent : AreUnsent state.supply.ports
 
 -- behind a round: it goes on in its cell, or has ended so and left it
@@ -70,25 +74,29 @@ module _ {T : Type 0} (group : ℕ → GroupId) (counts : T → Counts) (given a
   RoundsOf now service supply behind supply' =
       Rounds (Calls group) Begins Leaves is_visiting (λ (p : PlaceState). p.group) counts given accepted now service supply behind supply'
 
-  -- the connection in a cell goes on by a round of these acts
-  pub record GoesOn (now : ℕ) (acts : List Act) (how : Option Served) (before : Option (ServiceState PlaceState T)) (supply : Worker) (after : Option (ServiceState PlaceState T)) (supply' : Worker) : Type 0 where
+  -- the connection in a cell goes on by a round of these acts; where that ends it, its transport is closed as the round left it
+  pub record GoesOn (now : ℕ) (acts : List Act) (how : Option Served) (before : Option (ServiceState PlaceState T)) (supply : Worker) (closed : Option (List T))
+      (after : Option (ServiceState PlaceState T)) (supply' : Worker) (closed' : Option (List T)) : Type 0 where
     pub service : ServiceState PlaceState T
     pub here : before ≡ Some service
     pub behind : ServiceState PlaceState T
     pub round : RoundsOf now service supply behind supply'
     pub acts_are : acts ≡ round.led.acts
     pub leaves : LeavesCell how behind after
+    pub closes : closed' ≡ closed_if how behind.transport closed
 
   -- what a deed makes of the worker
   abbrev pub Makes : Deed T → RunState T → RunState T → Type 0
   Makes (Opened arrived cell now) old new =
       (watched : T) × IsWatched counts given accepted arrived.transport watched × InCell old.cells cell (Opens (opening_at now arrived) watched) new.cells
       × (new ≡ record old { cells = new.cells; received = old.received ++ arrived ∷ [] })
-  Makes (Closed arrived) old new = new ≡ record old { received = old.received ++ arrived ∷ []; served = counted Memory old.served }
+  Makes (Closed arrived) old new =
+      (watched : T) × IsWatched counts given accepted arrived.transport watched
+      × (new ≡ record old { received = old.received ++ arrived ∷ []; served = counted Memory old.served; closed = and_closed watched old.closed })
   Makes (Allowed most) old new = new ≡ record old { supply = record old.supply { allowance = most } }
   Makes (Went cell now acts how) old new =
-      InCell old.cells cell (λ before after. GoesOn now acts how before old.supply after new.supply) new.cells
-      × (new ≡ record old { supply = new.supply; cells = new.cells; served = counted_if how old.served })
+      InCell old.cells cell (λ before after. GoesOn now acts how before old.supply old.closed after new.supply new.closed) new.cells
+      × (new ≡ record old { supply = new.supply; cells = new.cells; served = counted_if how old.served; closed = new.closed })
   Makes (Passed cell) old new =
       InCell old.cells cell (λ before after. (before ≡ None) × (after ≡ None)) new.cells × (new ≡ record old { cells = new.cells })
   Makes Woke old new = (wakes : Wakes) × (new ≡ record old { supply = record old.supply { wakes = wakes } })

@@ -1,5 +1,6 @@
 pub mod Arrivals
 pub mod Chains
+pub mod Closing
 pub mod Counting
 pub mod Lives
 pub mod Members

@@ -23,17 +23,19 @@ use Rattle.worker_connections.specs.declared.served.ServedCounts.{ServedCounts}
 use Rattle.worker_connections.specs.declared.sweeps.Sweeps.{Sweeps}
 use Rattle.worker_connections.specs.Arrivals.{ArrivedState, IsWatched, opening_at}
 use Rattle.worker_connections.specs.Chains.{RunState}
+use Rattle.worker_connections.specs.Closing.{and_closed}
 use Rattle.worker_connections.specs.Counting.{counted, counts_of, none_served}
 use Rattle.worker_connections.specs.Sweeping.{KeepsMoment}
 
--- the end of the channel, the cells with the connections that are open, the counts of those that have ended, when those that are open went on, and what they ask
--- of the broker
+-- the end of the channel, the cells with the connections that are open, the counts of those that have ended, when those that are open went on, what they ask
+-- of the broker, and the transports that were closed, each as it was then, where that is known
 pub record ConnectionsState (T : Type 0) : Type 0 where
   pub receiver : ReceiverState (ArrivedState T)
   pub cells : List (Option (ServiceState PlaceState T))
   pub served : ServedCounts
   pub sweeps : Sweeps
   pub supply : Worker
+  pub closed : Option (List T)
 
 -- how many connections are open
 abbrev pub live : {T : Type 0} → ConnectionsState T → ℕ
@@ -50,7 +52,13 @@ with_wakes connections wakes = record connections { supply = record connections.
 -- what the run of their worker has come to
 abbrev pub run_of : {T : Type 0} → ConnectionsState T → RunState T
 run_of connections =
-    record { supply = connections.supply; cells = connections.cells; received = connections.receiver.received; served = connections.served }
+    record {
+      supply = connections.supply;
+      cells = connections.cells;
+      received = connections.receiver.received;
+      served = connections.served;
+      closed = connections.closed;
+    }
 
 -- none was received yet
 pub record AreFresh {T : Type 0} (receiver : ReceiverState (ArrivedState T)) (ports : List PortState) (connections : ConnectionsState T) : Type 0 where
@@ -75,18 +83,20 @@ pub record IsDone {T : Type 0} (connections : ConnectionsState T) : Type 0 where
   pub mark : connections.receiver.end_marks_received ≡ 1
   pub none_live : live connections ≡ 0
 
--- a connection that came is opened in a cell at this moment, over its transport as it is watched; or in none
-abbrev pub Admits : {T : Type 0} → (T → Counts) → (T → Option (List ℕ)) → (T → Option (List ℕ)) → (now : ℕ) → ArrivedState T → List (Option (ServiceState PlaceState T)) → Option ℕ
-    → List (Option (ServiceState PlaceState T)) → Type 0
-Admits counts given accepted now arrived old None new = new ≡ old
-Admits {T} counts given accepted now arrived old (Some cell) new =
-    (watched : T) × IsWatched counts given accepted arrived.transport watched × InCell old cell (Opens (opening_at now arrived) watched) new × (occupied new ≡ occupied old + 1)
+-- a connection that came is opened in a cell at this moment, over its transport as it is watched; or in none, and its transport is closed as it came
+abbrev pub Admits : {T : Type 0} → (T → Counts) → (T → Option (List ℕ)) → (T → Option (List ℕ)) → (now : ℕ) → ArrivedState T → List (Option (ServiceState PlaceState T)) → Option (List T)
+    → Option ℕ → List (Option (ServiceState PlaceState T)) → Option (List T) → Type 0
+Admits {T} counts given accepted now arrived old closed None new closed' =
+    (new ≡ old) × ((watched : T) × IsWatched counts given accepted arrived.transport watched × (closed' ≡ and_closed watched closed))
+Admits {T} counts given accepted now arrived old closed (Some cell) new closed' =
+    (watched : T) × IsWatched counts given accepted arrived.transport watched × InCell old cell (Opens (opening_at now arrived) watched) new × (occupied new ≡ occupied old + 1) × (closed' ≡ closed)
 
--- it is open then, or has ended and is counted as one for which there was no memory
+-- it is open then, or has ended and is counted as one for which an allocation failed
 abbrev pub TakesIn : {T : Type 0} → (T → Counts) → (T → Option (List ℕ)) → (T → Option (List ℕ)) → (now : ℕ) → ArrivedState T → List (Option (ServiceState PlaceState T)) → ServedCounts
-    → List (Option (ServiceState PlaceState T)) → ServedCounts → Type 0
-TakesIn counts given accepted now arrived old served new served' =
-    ((cell : ℕ) × Admits counts given accepted now arrived old (Some cell) new × (served' ≡ served)) ⊎ (Admits counts given accepted now arrived old None new × (served' ≡ counted Memory served))
+    → Option (List T) → List (Option (ServiceState PlaceState T)) → ServedCounts → Option (List T) → Type 0
+TakesIn counts given accepted now arrived old served closed new served' closed' =
+    ((cell : ℕ) × Admits counts given accepted now arrived old closed (Some cell) new closed' × (served' ≡ served))
+    ⊎ (Admits counts given accepted now arrived old closed None new closed' × (served' ≡ counted Memory served))
 
 -- what a connection waits for behind a round; none where there is none, or it has ended
 abbrev pub round_of : {T : Type 0} → Turned T → Option Round

@@ -1,25 +1,27 @@
 //! A connection that came is opened in a cell, and one that has ended is closed.
-ghost use Rattle.worker_connections.specs.Serving.{Admits, TakesIn};
+ghost use Rattle.std.specs.Prelude.{◌≡◌};
+ghost use Rattle.worker_connections.specs.Closing.{closed_after};
+ghost use Rattle.worker_connections.specs.Serving.{Admits, TakesIn, Tells};
 
 use crate::arrived::Arrived;
-use crate::connections::Came;
+use crate::connections::{Came, Went};
 use crate::poller::Poller;
 use crate::served::ServedCounts;
 use broker_groups::{Broker, BrokerPlace};
 use conn_engine::Opening;
 use conn_service::Served;
-use service_table::ServiceTable;
+use service_table::{ServiceTable, Turned};
 use transport::Transport;
 
-/// Opens a connection that came, at this moment; where it can't, it counts it as ended.
-pub(crate) fn take_in<B: Broker, T: Transport + Drop, Q: Poller<T>>(
+/// Opens a connection that came, at this moment; where it can't, it closes it and counts it as ended.
+pub(crate) fn take_in<B: Broker, T: Transport, Q: Poller<T>>(
     table: &mut ServiceTable<BrokerPlace<B>, T>,
     served: &mut ServedCounts,
     poller: &mut Q,
     arrived: Arrived<T>,
     now: u64,
 ) -> Came
-    ensures { TakesIn T.counts T.given T.accepted now arrived table.old served.old table.new served.new }
+    ensures { TakesIn T.counts T.given T.accepted now arrived table.old served.old (Q.closed poller.old) table.new served.new (Q.closed poller.new) }
 {
     match admit(table, poller, arrived, now) {
         Some(cell) => Came::Opened(cell),
@@ -31,20 +33,23 @@ pub(crate) fn take_in<B: Broker, T: Transport + Drop, Q: Poller<T>>(
 }
 
 /// Opens a connection in the cell of the number under which the poller watches it. That cell; `None` where it was closed.
-fn admit<B: Broker, T: Transport + Drop, Q: Poller<T>>(
+fn admit<B: Broker, T: Transport, Q: Poller<T>>(
     table: &mut ServiceTable<BrokerPlace<B>, T>,
     poller: &mut Q,
     arrived: Arrived<T>,
     now: u64,
 ) -> Option<usize>
-    ensures { Admits T.counts T.given T.accepted now arrived table.old result table.new }
+    ensures { Admits T.counts T.given T.accepted now arrived table.old (Q.closed poller.old) result table.new (Q.closed poller.new) }
 {
     let (mut transport, max_inflight) = arrived.into_parts();
-    let cell = poller.register(&mut transport)?;
-    if cell >= table.len() {
-        close(poller, cell, transport);
-        return None;
-    }
+    let number = poller.register(&mut transport);
+    let cell = match number {
+        Some(cell) if cell < table.len() => cell,
+        _ => {
+            poller.close(number, transport);
+            return None;
+        }
+    };
     let opening = Opening {
         at: now,
         max_inflight,
@@ -52,14 +57,27 @@ fn admit<B: Broker, T: Transport + Drop, Q: Poller<T>>(
     match table.open(cell, opening, transport) {
         Ok(()) => Some(cell),
         Err(transport) => {
-            close(poller, cell, transport);
+            poller.close(number, transport);
             None
         }
     }
 }
 
-/// Closes a connection that was watched.
-pub(crate) fn close<T: Transport + Drop, Q: Poller<T>>(poller: &mut Q, cell: usize, transport: T) {
-    let mut transport = transport;
-    poller.let_go(cell, &mut transport);
+/// What a round made of the connection in a cell; where it has ended, it is closed.
+pub(crate) fn settle<T: Transport, Q: Poller<T>>(
+    poller: &mut Q,
+    cell: usize,
+    turned: Turned<T>,
+) -> Went
+    ensures told { Tells turned result }
+    ensures closed { Q.closed poller.new ≡ closed_after turned (Q.closed poller.old) }
+{
+    match turned {
+        Turned::Vacant => Went::Nowhere,
+        Turned::Goes(round) => Went::On(round),
+        Turned::Ended(_, transport) => {
+            poller.close(Some(cell), transport);
+            Went::ToItsEnd
+        }
+    }
 }

@@ -8,12 +8,13 @@ ghost use Rattle.shared_supply.specs.Calls.{Calls};
 ghost use Rattle.shared_supply.specs.Waking.{KeepsAtMost, no_wakes};
 ghost use Rattle.shared_supply.specs.Workers.{Begins as BeginsVisit, Leaves as LeavesVisit, is_visiting};
 ghost use Rattle.worker_connections.specs.Chains.{HasRunTo};
+ghost use Rattle.worker_connections.specs.Closing.{HasClosedNone};
 ghost use Rattle.worker_connections.specs.Serving.{AreCounted, AreFresh, GoesBy, IsDone, Rounds, StaysOf, Tells, live, run_of, wakes_of, with_wakes};
 ghost use Rattle.worker_connections.specs.Members.{HasTaker, TakesIn as WouldTake, one_called_if};
 ghost use Rattle.worker_bells.specs.Wishing.{IsWished};
 ghost use Rattle.worker_connections.specs.Sweeping.{AreTicked, Begins, HasGone, IsInTime, Notes, WaitsInTime, looked};
 
-use crate::admitting::{close, take_in};
+use crate::admitting::{settle, take_in};
 use crate::arrived::Arrived;
 use crate::hand::Hand;
 use crate::noting::{note_held, note_wish};
@@ -32,22 +33,31 @@ use std::sync::Wait;
 use transport::{Crossing, Transport};
 use worker_bells::{Members, SLOTS};
 
-/// The connections that a worker received, each in a cell of its table as long as it is open, and what they ask of the broker.
+/// The connections that a worker received, each in a cell of its table as long as it is open, what they ask of the broker, and where the worker waits for them.
 ///
 /// Contracts see it as a `ConnectionsState`: what was received of the channel, which connections are open and when they went on, how many have ended in
-/// which way, and what they ask. All that came of it is one run, from a supply through which nothing was published: each deed of it began at the state that the one
+/// which way, what they ask, and which transports were closed. All that came of it is one run, from a supply through which nothing was published: each deed of it began at the state that the one
 /// before it left, and is of one of these connections.
-pub struct Connections<'a, 'g, B: Broker, N: HistoryName, T: Transport + Drop, R: Wait> {
+pub struct Connections<
+    'a,
+    'g,
+    B: Broker,
+    N: HistoryName,
+    T: Transport + Drop,
+    Q: Poller<T>,
+    R: Wait,
+> {
     receiver: Receiver<Arrived<T>>,
     table: ServiceTable<BrokerPlace<B>, T>,
     supply: SharedSupply<'a, 'g, B, N, R>,
     served: ServedCounts,
     sweeps: Sweeps,
     members: Members,
+    poller: Q,
 }
 
-impl<'a, 'g, B: Broker, N: HistoryName, T: Transport + Drop, R: Wait> Model
-    for Connections<'a, 'g, B, N, T, R> {
+impl<'a, 'g, B: Broker, N: HistoryName, T: Transport + Drop, Q: Poller<T>, R: Wait> Model
+    for Connections<'a, 'g, B, N, T, Q, R> {
     ghost use Rattle.std.specs.Prelude.{◌≡◌, length};
     ghost use Rattle.worker_connections.specs.Chains.{HasRunTo};
     ghost use Rattle.worker_connections.specs.Serving.{ConnectionsState, IsAccounted};
@@ -56,15 +66,15 @@ impl<'a, 'g, B: Broker, N: HistoryName, T: Transport + Drop, R: Wait> Model
 
     ghost Value = { ConnectionsState T };
 
-    ghost view = { λ c. record { receiver = c.receiver; cells = c.table; served = c.served; sweeps = c.sweeps; supply = c.supply } };
+    ghost view = { λ c. record { receiver = c.receiver; cells = c.table; served = c.served; sweeps = c.sweeps; supply = c.supply; closed = Q.closed c.poller } };
 
     ghost invariant = { λ c. IsAccounted (length c.receiver.received) c.table c.served × AreSwept c.sweeps c.table
         × (length c.members ≡ length c.table) × AreWished c.table c.members
-        × HasRunTo B.group T.counts T.given T.accepted (record { supply = c.supply; cells = c.table; received = c.receiver.received; served = c.served }) };
+        × HasRunTo B.group T.counts T.given T.accepted (record { supply = c.supply; cells = c.table; received = c.receiver.received; served = c.served; closed = Q.closed c.poller }) };
 }
 
 /// What the connections of a worker give back.
-pub struct Returned<B: Broker, N: HistoryName, T: Transport + Drop> {
+pub struct Returned<B: Broker, N: HistoryName, T: Transport + Drop, Q> {
     /// What they had of the broker.
     pub hand: Hand<B>,
     /// Their end of the channel.
@@ -73,6 +83,8 @@ pub struct Returned<B: Broker, N: HistoryName, T: Transport + Drop> {
     pub served: ServedCounts,
     /// What they know of the calls of the broker's desk.
     pub pass: DeskPass<BrokerPlace<B>, N>,
+    /// Where their worker waited, which closed their transports.
+    pub poller: Q,
 }
 
 /// What came through the channel.
@@ -97,26 +109,29 @@ pub enum Went {
     ToItsEnd,
 }
 
-impl<'a, 'g, B: Broker, N: HistoryName, T: Transport + Drop, R: Wait> Connections<
+impl<'a, 'g, B: Broker, N: HistoryName, T: Transport + Drop, Q: Poller<T>, R: Wait> Connections<
     'a,
     'g,
     B,
     N,
     T,
+    Q,
     R,
 > {
-    /// None yet, of those that this end of the channel will receive; this table is for them, these are their wishes, and this supply is what they ask. Nothing was
-    /// published through its ports.
+    /// None yet, of those that this end of the channel will receive; this table is for them, these are their wishes, this supply is what they ask, and at this poller
+    /// their worker waits for them. Nothing was published through the supply's ports, and the poller closed no transport.
     pub fn new(
         receiver: Receiver<Arrived<T>>,
         table: ServiceTable<BrokerPlace<B>, T>,
         supply: SharedSupply<'a, 'g, B, N, R>,
         members: Members,
-    ) -> Connections<'a, 'g, B, N, T, R>
+        poller: Q,
+    ) -> Connections<'a, 'g, B, N, T, Q, R>
         requires receiver { receiver.received ≡ [] }
         requires table { table ≡ replicate (length members) None }
         requires supply { supply.wakes ≡ no_wakes }
         requires unsent { AreUnsent supply.ports }
+        requires closed { HasClosedNone (Q.closed poller) }
         ensures { AreFresh receiver supply.entry.ports result }
     {
         Connections {
@@ -126,6 +141,7 @@ impl<'a, 'g, B: Broker, N: HistoryName, T: Transport + Drop, R: Wait> Connection
             served: ServedCounts::NONE,
             sweeps: Sweeps::NEW,
             members,
+            poller,
         }
     }
 
@@ -255,9 +271,23 @@ impl<'a, 'g, B: Broker, N: HistoryName, T: Transport + Drop, R: Wait> Connection
         self.supply.take_wakes()
     }
 
-    /// Receives what comes through the channel. A connection is watched by the poller and opened at the worker's moment; where there is no memory for it, or the
-    /// system does not watch it, it has ended at once.
-    pub fn receive<Q: Poller<T>>(&mut self, rt: &R, poller: &mut Q) -> Came
+    /// Waits until something may be read or written, or the worker is called, or for so many milliseconds. Whether it was called.
+    pub fn wait(&mut self, rt: &R, at_most: u64) -> bool
+        ensures { self.new ≡ self.old }
+    {
+        self.poller.wait(rt, at_most)
+    }
+
+    /// The cell of a connection that may be read or written, by the last wait.
+    pub fn take_ready(&mut self) -> Option<usize>
+        ensures { self.new ≡ self.old }
+    {
+        self.poller.take_ready()
+    }
+
+    /// Receives what comes through the channel. A connection is watched by the poller and opened at the worker's moment; where an allocation for it fails, or the
+    /// system does not watch it, it is closed and has ended at once.
+    pub fn receive(&mut self, rt: &R) -> Came
         ensures same { StaysOf self.old self.new }
         ensures sweeps { self.new.sweeps ≡ self.old.sweeps }
         ensures supply { self.new.supply ≡ self.old.supply }
@@ -268,7 +298,13 @@ impl<'a, 'g, B: Broker, N: HistoryName, T: Transport + Drop, R: Wait> Connection
         let now = self.sweeps.latest;
         match self.receiver.receive(rt) {
             Received::Connection(arrived) => {
-                take_in(&mut self.table, &mut self.served, poller, arrived, now)
+                take_in(
+                    &mut self.table,
+                    &mut self.served,
+                    &mut self.poller,
+                    arrived,
+                    now,
+                )
             }
             Received::EndMark => Came::EndMark,
             Received::Nothing => Came::Nothing,
@@ -276,12 +312,11 @@ impl<'a, 'g, B: Broker, N: HistoryName, T: Transport + Drop, R: Wait> Connection
     }
 
     /// The connection in a cell goes on by a round this way, at the worker's moment, in which so many messages at most are handed to its client for the first time. Where
-    /// that ends it, it is not watched any more.
-    pub fn round<X: Crossing, Q: Poller<T>>(
+    /// that ends it, it is closed.
+    pub fn round<X: Crossing>(
         &mut self,
         cell: usize,
         crossing: &X,
-        poller: &mut Q,
         worker: u32,
         buffer: &mut [u8],
         direction: Direction,
@@ -295,17 +330,10 @@ impl<'a, 'g, B: Broker, N: HistoryName, T: Transport + Drop, R: Wait> Connection
         if cell >= self.table.len() {
             return Went::Nowhere;
         }
-        match self.go_on(cell, crossing, worker, buffer, direction, most) {
-            Turned::Vacant => Went::Nowhere,
-            Turned::Goes(round) => Went::On(round),
-            Turned::Ended(_, transport) => {
-                close(poller, cell, transport);
-                Went::ToItsEnd
-            }
-        }
+        self.go_on(cell, crossing, worker, buffer, direction, most)
     }
 
-    /// The same, where there is such a cell. What became of it is noted; a connection that ended is still watched.
+    /// The same, where there is such a cell. What became of it is noted.
     fn go_on<X: Crossing>(
         &mut self,
         cell: usize,
@@ -314,12 +342,12 @@ impl<'a, 'g, B: Broker, N: HistoryName, T: Transport + Drop, R: Wait> Connection
         buffer: &mut [u8],
         direction: Direction,
         most: u32,
-    ) -> Turned<T>
+    ) -> Went
         requires cell { cell < length self.old.cells }
         requires room { 0 < length buffer.old }
         ensures goes { Rounds self.old self.new }
         ensures notes { Notes cell (length self.old.cells) self.old.sweeps self.new.sweeps }
-        ensures made { GoesBy B.group T.counts T.given T.accepted cell direction most result self.old self.new }
+        ensures made { (turned : AnyTurned T) × Tells turned result × GoesBy B.group T.counts T.given T.accepted cell direction most turned self.old self.new }
     {
         let now = self.sweeps.latest;
         self.supply.allow(most);
@@ -337,15 +365,16 @@ impl<'a, 'g, B: Broker, N: HistoryName, T: Transport + Drop, R: Wait> Connection
         self.sweeps.note(cell, self.table.len());
         note_wish(&self.table, cell, &mut self.members);
         note_held(&self.table, cell, direction, &turned, &mut self.members);
-        turned
+        settle(&mut self.poller, cell, turned)
     }
 
-    /// What they had of the broker and know of its desk, the end of the channel, and how they ended: these are what their run has come to. Any that is still open
-    /// ends as where the broker closes.
-    pub fn into_parts(self) -> Returned<B, N, T>
+    /// What they had of the broker and know of its desk, the end of the channel, how they ended, and where their worker waited: these are what their run has come to. Any
+    /// that is still open ends as where the broker closes.
+    pub fn into_parts(self) -> Returned<B, N, T, Q>
         ensures receiver { result.receiver ≡ self.entry.receiver }
         ensures served { result.served ≡ self.entry.served }
         ensures counted { live self.entry ≡ 0 → AreCounted (length self.entry.receiver.received) result.served }
+        ensures closed { Q.closed result.poller ≡ self.entry.closed }
         ensures ran { HasRunTo B.group T.counts T.given T.accepted (run_of self.entry) }
         ensures ports { live self.entry ≡ 0 → result.hand.ports ≡ self.entry.supply.ports }
         ensures desk { live self.entry ≡ 0 → result.pass ≡ self.entry.supply.desk }
@@ -357,6 +386,7 @@ impl<'a, 'g, B: Broker, N: HistoryName, T: Transport + Drop, R: Wait> Connection
             served,
             sweeps: _,
             members,
+            poller,
         } = self;
         drop(members);
         abandon(table, &mut supply);
@@ -366,6 +396,7 @@ impl<'a, 'g, B: Broker, N: HistoryName, T: Transport + Drop, R: Wait> Connection
             receiver,
             served,
             pass,
+            poller,
         }
     }
 }

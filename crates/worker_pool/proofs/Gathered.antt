@@ -75,16 +75,19 @@ counts_all came served counts few = counts.all ∙ (sym (of_all counts.endings (
 
 module _ {T : Type 0} (group : ℕ → GroupId) (counts : T → Counts) (given accepted : T → Option (List ℕ)) where
   -- no worker gave anything back yet
-  pub nobody : (calls : List (Call Held PlaceState)) → HaveEnded group counts given accepted [] [] [] calls
-  nobody calls = record { runs = []; whole = tt; ports_are = refl; received_are = refl; served_are = refl; told = tt }
+  pub nobody : (calls : List (Call Held PlaceState)) → HaveEnded group counts given accepted [] [] [] [] calls
+  nobody calls = record { runs = []; whole = tt; ports_are = refl; received_are = refl; served_are = refl; closed_are = refl; told = tt }
 
   -- one worker more did
   pub ends : (ports ports' : List (List PortState)) (receivers receivers' : List (ReceiverState (ArrivedState T))) (served served' : List ServedCounts)
-      (calls calls' known : List (Call Held PlaceState)) (its : List PortState) (receiver : ReceiverState (ArrivedState T)) (counted : ServedCounts) (connections : ConnectionsState T)
-      → HaveEnded group counts given accepted ports receivers served calls → ports' ≡ ports ++ its ∷ [] → receivers' ≡ receivers ++ receiver ∷ [] → served' ≡ served ++ counted ∷ []
+      (closed closed' : List (Option (List T))) (calls calls' known : List (Call Held PlaceState)) (its : List PortState) (receiver : ReceiverState (ArrivedState T)) (counted : ServedCounts)
+      (shut : Option (List T)) (connections : ConnectionsState T)
+      → HaveEnded group counts given accepted ports receivers served closed calls → ports' ≡ ports ++ its ∷ [] → receivers' ≡ receivers ++ receiver ∷ [] → served' ≡ served ++ counted ∷ []
+      → closed' ≡ closed ++ shut ∷ []
       → HasRunTo group counts given accepted (run_of connections) → live connections ≡ 0 → its ≡ connections.supply.ports → receiver ≡ connections.receiver → counted ≡ connections.served
-      → known ≡ connections.supply.desk → IsPrefix calls calls' → IsPrefix known calls' → HaveEnded group counts given accepted ports' receivers' served' calls'
-  ends ports ports' receivers receivers' served served' calls calls' known its receiver counted connections all ports_are receivers_are served_are ran none its_are receiver_is counted_is known_is before knows =
+      → shut ≡ connections.closed → known ≡ connections.supply.desk → IsPrefix calls calls' → IsPrefix known calls' → HaveEnded group counts given accepted ports' receivers' served' closed' calls'
+  ends ports ports' receivers receivers' served served' closed closed' calls calls' known its receiver counted shut connections all ports_are receivers_are served_are closed_are ran none its_are
+      receiver_is counted_is shut_is known_is before knows =
       let run : Run T = ran.run in
       let Begins : List (Call Held PlaceState) → Run T → Type 0 = λ those one. IsPrefix one.last.supply.desk those in
       record {
@@ -102,6 +105,9 @@ module _ {T : Type 0} (group : ℕ → GroupId) (counts : T → Counts) (given a
         served_are = served_are ∙ ap (λ (l : List ServedCounts). l ++ counted ∷ []) all.served_are
             ∙ ap (λ (c : ServedCounts). map (λ (one : Run T). one.last.served) all.runs ++ c ∷ []) (counted_is ∙ sym (ap (λ (state : RunState T). state.served) ran.here))
             ∙ sym (map_push (λ (one : Run T). one.last.served) all.runs run);
+        closed_are = closed_are ∙ ap (λ (l : List (Option (List T))). l ++ shut ∷ []) all.closed_are
+            ∙ ap (λ (c : Option (List T)). map (λ (one : Run T). one.last.closed) all.runs ++ c ∷ []) (shut_is ∙ sym (ap (λ (state : RunState T). state.closed) ran.here))
+            ∙ sym (map_push (λ (one : Run T). one.last.closed) all.runs run);
         told = all_push (Begins calls') all.runs run
             (all_weaker (Begins calls) (Begins calls') (λ one begins. begins_longer one.last.supply.desk calls calls' begins before) all.runs all.told)
             (subst (λ (l : List (Call Held PlaceState)). IsPrefix l calls') (known_is ∙ sym (ap (λ (state : RunState T). state.supply.desk) ran.here)) knows);
@@ -109,9 +115,9 @@ module _ {T : Type 0} (group : ℕ → GroupId) (counts : T → Counts) (given a
 
   -- what was sent came to them, as nothing is left where an end mark was received
   pub serve : (sender : SenderState (ArrivedState T)) (sent : List (ArrivedState T)) (ports : List (List PortState)) (receivers : List (ReceiverState (ArrivedState T))) (served : List ServedCounts)
-      (calls : List (Call Held PlaceState)) → sent ≡ sender.sent → HaveEnded group counts given accepted ports receivers served calls → IsSettled sender receivers → 0 < end_marks_received_by receivers
-      → AreServed group counts given accepted sent calls ports served
-  serve sender sent ports receivers served calls same all settled some =
+      (closed : List (Option (List T))) (calls : List (Call Held PlaceState)) → sent ≡ sender.sent → HaveEnded group counts given accepted ports receivers served closed calls
+      → IsSettled sender receivers → 0 < end_marks_received_by receivers → AreServed group counts given accepted sent calls ports served closed
+  serve sender sent ports receivers served closed calls same all settled some =
       let whole : sent ≡ settled.past = same ∙ settled.sent ∙ ap (λ (l : List (ArrivedState T)). settled.past ++ l) (settled.last some) ∙ append-nil settled.past in
       let Came : List (List (ArrivedState T)) → Type 0 = λ lists. IsInterleaving settled.past lists in
       record {
@@ -120,5 +126,6 @@ module _ {T : Type 0} (group : ℕ → GroupId) (counts : T → Counts) (given a
         came_to = subst (λ (l : List (ArrivedState T)). IsInterleaving l (map (λ (one : Run T). one.last.received) all.runs)) (sym whole) (subst Came all.received_are settled.received);
         ports_are = all.ports_are;
         served_are = all.served_are;
+        closed_are = all.closed_are;
         told = all.told;
       }

@@ -32,21 +32,24 @@ AreAllCounted receivers served = AllZip (λ receiver counted. AreCounted (length
 
 module _ {T : Type 0} (group : ℕ → GroupId) (counts : T → Counts) (given accepted : T → Option (List ℕ)) where
   -- workers ran to their ends, and gave this back, all in one order; and what each knew of the desk is a beginning of these calls
-  pub record HaveEnded (ports : List (List PortState)) (receivers : List (ReceiverState (ArrivedState T))) (served : List ServedCounts) (calls : List (Call Held PlaceState)) : Type 0 where
+  pub record HaveEnded (ports : List (List PortState)) (receivers : List (ReceiverState (ArrivedState T))) (served : List ServedCounts) (closed : List (Option (List T)))
+      (calls : List (Call Held PlaceState)) : Type 0 where
     pub runs : List (Run T)
     pub whole : AllByRecursion (IsWholeRun group counts given accepted) runs
     pub ports_are : ports ≡ map (λ run. run.last.supply.ports) runs
     pub received_are : lists_of receivers ≡ map (λ run. run.last.received) runs
     pub served_are : served ≡ map (λ run. run.last.served) runs
+    pub closed_are : closed ≡ map (λ run. run.last.closed) runs
     pub told : AllByRecursion (λ run. IsPrefix run.last.supply.desk calls) runs
 
   -- **The run of a pool**: each worker ran to its end, through ports through which nothing was published before. These connections came, in this order, each to one of
-  -- the workers, once (`came_to`). The ports and the counts are those that the runs ended with, in one order; and what each worker knew of the desk is a beginning of
-  -- these calls
-  pub record AreServed (came : List (ArrivedState T)) (calls : List (Call Held PlaceState)) (ports : List (List PortState)) (served : List ServedCounts) : Type 0 where
+  -- the workers, once (`came_to`). The ports and the counts are those that the runs ended with, and so are the transports that were closed, each as it was then, all in
+  -- one order; and what each worker knew of the desk is a beginning of these calls
+  pub record AreServed (came : List (ArrivedState T)) (calls : List (Call Held PlaceState)) (ports : List (List PortState)) (served : List ServedCounts) (closed : List (Option (List T))) : Type 0 where
     pub runs : List (Run T)
     pub whole : AllByRecursion (IsWholeRun group counts given accepted) runs
     pub came_to : IsInterleaving came (map (λ run. run.last.received) runs)
     pub ports_are : ports ≡ map (λ run. run.last.supply.ports) runs
     pub served_are : served ≡ map (λ run. run.last.served) runs
+    pub closed_are : closed ≡ map (λ run. run.last.closed) runs
     pub told : AllByRecursion (λ run. IsPrefix run.last.supply.desk calls) runs

@@ -28,13 +28,15 @@ use worker_connections::{Arrived, Hand, Poller, Returned, ServedCounts};
 
 /// What a pool gives back.
 #[derive(Drop)]
-pub struct Pooled<B: Broker, S> {
+pub struct Pooled<B: Broker, S, Q> {
     /// What its workers had of the broker.
     pub hands: Vec<Hand<B>>,
     /// How the connections of each worker ended.
     pub served: Vec<ServedCounts>,
     /// Where they came from, and how many.
     pub taken: Taken<S>,
+    /// Where its workers waited, which closed all connections.
+    pub pollers: Vec<Q>,
 }
 
 /// A pool that was not begun, for want of memory: no connection was taken. What its workers were to have comes back.
@@ -48,8 +50,8 @@ pub struct Unbegun<B: Broker, S> {
 /// alarms are in the order of workers: a worker waits at its gear's poller, which its alarm wakes. Where the source fails, the gate is shut. The client of each
 /// connection has at most so many messages unacknowledged. Nothing was published through the ports of the hands before.
 ///
-/// All that workers had of the broker comes back. Each connection that the source gave came to one worker, once, and is in its run, from its opening to its end (`served`).
-/// The pass knows then what each worker knew of the calls of the desk.
+/// All that workers had of the broker comes back, and so do their pollers, with what they closed. Each connection that the source gave came to one worker, once, and is in
+/// its run, from its opening to its end (`served`). The pass knows then what each worker knew of the calls of the desk.
 ///
 /// # Errors
 ///
@@ -71,7 +73,7 @@ pub fn run<
     alloc: Global,
     hall: &Hall<'_, B, N>,
     hands: Vec<Hand<B>>,
-    gear: Vec<Gear<Q, C>>,
+    gear: Vec<Gear<T, Q, C>>,
     alarms: Vec<W>,
     source: S,
     max_inflight: MaxInflight,
@@ -80,14 +82,14 @@ pub fn run<
     watch: &mut D,
     input: &mut I,
     me: &mut DeskPass<BrokerPlace<B>, N>,
-) -> Result<Pooled<B, S>, Unbegun<B, S>>
+) -> Result<Pooled<B, S, Q>, Unbegun<B, S>>
     requires workers { (1 ≤ length hands.items) × (length hands.items ≤ 64) }
     requires gear { length gear.items ≡ length hands.items }
     requires unsent { All (λ hand. AreUnsent hand.ports) hands.items }
     ensures hands { MatchResult result (λ pooled. length pooled.hands.items ≡ length hands.items) (λ unbegun. length unbegun.hands.items ≡ length hands.items) }
     ensures taken { IfOk result (λ pooled. (S.tally pooled.taken.source).arrivals ≡ (S.tally source).arrivals + pooled.taken.came) }
     ensures served { IfOk result (λ pooled. (came : List T) × Gave S.arrived source came pooled.taken.source × (pooled.taken.came ≡ length came)
-        × AreServed B.group T.counts T.given T.accepted (arrivals max_inflight came) me.new (map (λ hand. hand.ports) pooled.hands.items) pooled.served.items) }
+        × AreServed B.group T.counts T.given T.accepted (arrivals max_inflight came) me.new (map (λ hand. hand.ports) pooled.hands.items) pooled.served.items (map Q.closed pooled.pollers.items)) }
     ensures counted { IfOk result (λ pooled. pooled.taken.came < 2 ^ 64 → pooled.taken.came ≡ total_in pooled.served.items) }
     ensures watched { IfOk result (λ _. D.has_watched watch.old watch.new input.old input.new) }
     ensures untouched { IfErr result (λ unbegun. unbegun.source ≡ source) }
@@ -100,6 +102,7 @@ pub fn run<
             kits,
             receivers,
             served,
+            pollers,
         },
     ) = provide(alloc, gear, alarms)
     else {
@@ -112,7 +115,9 @@ pub fn run<
     let mut acceptor = Acceptor::new(source, sender, &roster, closer, max_inflight);
     let mut workers = workers;
     run_all(rt, &mut acceptor, watch, input, &mut workers);
-    Ok(retire(hall, acceptor, workers, hands, receivers, served, me))
+    Ok(retire(
+        hall, acceptor, workers, hands, receivers, served, pollers, me,
+    ))
 }
 
 /// Hires a worker for each hand, with a kit, who receives from the channel of this sender. Where memory is wanted for one of them, all hands come back.
@@ -189,7 +194,9 @@ fn let_go<
             receiver: _,
             served: _,
             pass: _,
+            poller,
         } = worker.into_parts();
+        drop(poller);
         hands.push_reserved(hand);
     }
     workers.destroy_empty();
@@ -215,23 +222,26 @@ fn retire<
     hands: Vec<Hand<B>>,
     receivers: Vec<Receiver<Arrived<T>>>,
     served: Vec<ServedCounts>,
+    pollers: Vec<Q>,
     me: &mut DeskPass<BrokerPlace<B>, N>,
-) -> Pooled<B, S>
+) -> Pooled<B, S, Q>
     requires workers { All (HasServed acceptor.sender.channel) workers.items }
     requires count { (1 ≤ length workers.items) × (length workers.items ≡ acceptor.sender.receivers) }
     requires hands { (hands.items ≡ []) × (length workers.items ≤ vec_capacity hands) }
     requires receivers { (receivers.items ≡ []) × (length workers.items ≤ vec_capacity receivers) }
     requires served { (served.items ≡ []) × (length workers.items ≤ vec_capacity served) }
+    requires pollers { (pollers.items ≡ []) × (length workers.items ≤ vec_capacity pollers) }
     ensures hands { length result.hands.items ≡ length workers.entry.items }
     ensures source { result.taken.source ≡ acceptor.entry.source }
     ensures came { result.taken.came ≡ length acceptor.entry.sender.sent }
-    ensures served { AreServed B.group T.counts T.given T.accepted acceptor.entry.sender.sent me.new (map (λ hand. hand.ports) result.hands.items) result.served.items }
+    ensures served { AreServed B.group T.counts T.given T.accepted acceptor.entry.sender.sent me.new (map (λ hand. hand.ports) result.hands.items) result.served.items (map Q.closed result.pollers.items) }
     ensures counted { CountsAll result.taken.came result.served.items }
     ensures told { IsPrefix me.old me.new }
 {
     let mut hands = hands;
     let mut receivers = receivers;
     let mut served = served;
+    let mut pollers = pollers;
     gather(
         hall,
         workers,
@@ -239,6 +249,7 @@ fn retire<
         &mut hands,
         &mut receivers,
         &mut served,
+        &mut pollers,
         me,
     );
     let (sender, taken) = acceptor.into_parts();
@@ -247,6 +258,7 @@ fn retire<
         hands,
         served,
         taken,
+        pollers,
     }
 }
 
@@ -269,21 +281,23 @@ fn gather<
     hands: &mut Vec<Hand<B>>,
     receivers: &mut Vec<Receiver<Arrived<T>>>,
     served: &mut Vec<ServedCounts>,
+    pollers: &mut Vec<Q>,
     me: &mut DeskPass<BrokerPlace<B>, N>,
 )
     requires workers { All (HasServed sender.now.channel) workers.items }
     requires hands { length hands.old.items + length workers.items ≤ vec_capacity hands.old }
     requires receivers { length receivers.old.items + length workers.items ≤ vec_capacity receivers.old }
     requires served { length served.old.items + length workers.items ≤ vec_capacity served.old }
+    requires pollers { length pollers.old.items + length workers.items ≤ vec_capacity pollers.old }
     requires of { AreOf sender.now.channel receivers.old.items }
     requires all { AreAllCounted receivers.old.items served.old.items }
-    requires ended { HaveEnded B.group T.counts T.given T.accepted (map (λ hand. hand.ports) hands.old.items) receivers.old.items served.old.items me.old }
+    requires ended { HaveEnded B.group T.counts T.given T.accepted (map (λ hand. hand.ports) hands.old.items) receivers.old.items served.old.items (map Q.closed pollers.old.items) me.old }
     ensures hands { length hands.new.items ≡ length hands.old.items + length workers.entry.items }
     ensures receivers { length receivers.new.items ≡ length receivers.old.items + length workers.entry.items }
     ensures of { AreOf sender.now.channel receivers.new.items }
     ensures marks { end_marks_received_by receivers.new.items ≡ end_marks_received_by receivers.old.items + length workers.entry.items }
     ensures all { AreAllCounted receivers.new.items served.new.items }
-    ensures ended { HaveEnded B.group T.counts T.given T.accepted (map (λ hand. hand.ports) hands.new.items) receivers.new.items served.new.items me.new }
+    ensures ended { HaveEnded B.group T.counts T.given T.accepted (map (λ hand. hand.ports) hands.new.items) receivers.new.items served.new.items (map Q.closed pollers.new.items) me.new }
     ensures told { IsPrefix me.old me.new }
 {
     let mut workers = workers;
@@ -293,10 +307,12 @@ fn gather<
             receiver,
             served: counts,
             pass,
+            poller,
         } = worker.into_parts();
         hands.push_reserved(hand);
         receivers.push_reserved(receiver);
         served.push_reserved(counts);
+        pollers.push_reserved(poller);
         hall.meet(me, pass);
     }
     workers.destroy_empty();

@@ -1,5 +1,5 @@
 -- The lines are those of the reports of a broker that kept the headline.
-use Rattle.std.proofs.Common.{All, subst}
+use Rattle.std.proofs.Common.{None, All, map, subst}
 use Rattle.threaded_broker.specs.Shares.{IsBoundIn}
 use Rattle.tcp_server.proofs.attending.attend.Goals as goal
 
@@ -13,6 +13,7 @@ returns-clause-reported g c = record {
     calls = c.serve.new.pass;
     came = c.in-Ok.ensures.headline.0;
     served = c.in-Ok.outcome.served.items;
+    closed = map (λ _. None) c.in-Ok.outcome.pollers.items;
     headline = c.in-Ok.ensures.headline.3;
     shares = c.in-Ok.outcome.shares.items;
     bound = subst (λ these. All (IsBoundIn c.in-Ok.outcome.shares.items) these) c.shares.ensures.value c.in-Ok.ensures.shares;

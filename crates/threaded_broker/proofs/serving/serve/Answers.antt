@@ -1,4 +1,5 @@
 -- The headline: the run until the broker was closed, and what the groups' ends promise.
+use Rattle.std.proofs.Common.{map}
 use Rattle.worker_pool.proofs.Gathered.{begins_longer}
 use Rattle.threaded_broker.proofs.Quotas.{known_longer}
 use Rattle.threaded_broker.proofs.serving.serve.Goals as goal
@@ -14,7 +15,7 @@ returns-clause-headline g c =
         ports = closed.ports.items;
         every_worker = c.in_ok-closed.ensures.ports;
         run = known_longer g.B.Broker.group g.T.Transport.counts g.T.Transport.given g.T.Transport.accepted c.args.max_inflight ran.0 _ c.end.new.pass closed.ports.items closed.served.items
-            c.end.ensures.before ran.3;
+            (map g.Q.Poller.closed closed.pollers.items) c.end.ensures.before ran.3;
         promises = c.in_ok-ended.ensures.kept;
       },
     )

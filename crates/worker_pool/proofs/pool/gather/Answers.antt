@@ -19,6 +19,7 @@ workers-preserved g c =
     let hands = simp length-append at (ap length c.push_reserved.ensures.items) in
     let receivers = simp length-append at (ap length c.push_reserved-in-Some.ensures.items) in
     let served = simp length-append at (ap length c.push_reserved-in-Some-2.ensures.items) in
+    let pollers = simp length-append at (ap length c.push_reserved-in-Some-3.ensures.items) in
     let returned = c.into_parts-hand.result in
     let receiver = returned.receiver in
     let is = c.into_parts-hand.ensures.receiver in
@@ -27,6 +28,7 @@ workers-preserved g c =
     let marks = ap (λ (rs : List (ReceiverState (ArrivedState g.row.T.Denot))). end_marks_received_by rs) c.push_reserved-in-Some.ensures.items ∙ sum_by_push (λ (r : ReceiverState (ArrivedState g.row.T.Denot)). r.end_marks_received) c.workers.receivers.items receiver in
     let none = done.1.none_live in
     let ports = ap (λ (l : List (Hand g.row.B.Denot)). map (λ (hand : Hand g.row.B.Denot). hand.ports) l) c.push_reserved.ensures.items ∙ map_push (λ (hand : Hand g.row.B.Denot). hand.ports) c.workers.hands.items returned.hand in
+    let shut = ap (λ (l : List g.row.Q.Denot). map g.Q.Poller.closed l) c.push_reserved-in-Some-3.ensures.items ∙ map_push g.Q.Poller.closed c.workers.pollers.items returned.poller in
     record {
       workers = split.0;
       hands = omega (arith, left, hands, c.workers.invariant.hands);
@@ -34,6 +36,7 @@ workers-preserved g c =
       receivers = omega (arith, left, receivers, c.workers.invariant.receivers);
       receivers_room = omega (arith, left, receivers, c.workers.invariant.receivers_room, c.push_reserved-in-Some.ensures.capacity);
       served_room = omega (arith, left, served, c.workers.invariant.served_room, c.push_reserved-in-Some-2.ensures.capacity);
+      pollers_room = omega (arith, left, pollers, c.workers.invariant.pollers_room, c.push_reserved-in-Some-3.ensures.capacity);
       of =
           All-same Of c.push_reserved-in-Some.new.self.items (c.workers.receivers.items ++ receiver ∷ []) c.push_reserved-in-Some.ensures.items
           (All-push Of c.workers.receivers.items receiver c.workers.invariant.of (ap (λ (r : ReceiverState (ArrivedState g.row.T.Denot)). r.channel) is ∙ done.0));
@@ -44,8 +47,10 @@ workers-preserved g c =
           (subst (λ (r : ReceiverState (ArrivedState g.row.T.Denot)). AreCounted (length r.received) returned.served) (sym is) (c.into_parts-hand.ensures.counted none));
       ended =
           ends g.B.Broker.group g.T.Transport.counts g.T.Transport.given g.T.Transport.accepted _ _ c.workers.receivers.items c.push_reserved-in-Some.new.self.items
-          c.workers.served.items c.push_reserved-in-Some-2.new.self.items c.workers.me c.meet.new.me returned.pass returned.hand.ports receiver returned.served c.in-Some.worker.connections
-          c.workers.invariant.ended ports c.push_reserved-in-Some.ensures.items c.push_reserved-in-Some-2.ensures.items
-          c.into_parts-hand.ensures.ran none (c.into_parts-hand.ensures.ports none) is c.into_parts-hand.ensures.served (c.into_parts-hand.ensures.desk none) c.meet.ensures.mine c.meet.ensures.others;
+          c.workers.served.items c.push_reserved-in-Some-2.new.self.items _ _ c.workers.me c.meet.new.me returned.pass returned.hand.ports receiver returned.served
+          (g.Q.Poller.closed returned.poller) c.in-Some.worker.connections
+          c.workers.invariant.ended ports c.push_reserved-in-Some.ensures.items c.push_reserved-in-Some-2.ensures.items shut
+          c.into_parts-hand.ensures.ran none (c.into_parts-hand.ensures.ports none) is c.into_parts-hand.ensures.served c.into_parts-hand.ensures.closed
+          (c.into_parts-hand.ensures.desk none) c.meet.ensures.mine c.meet.ensures.others;
       told = begins_longer c.args.me.now c.workers.me c.meet.new.me c.workers.invariant.told c.meet.ensures.mine;
     }

@@ -14,10 +14,12 @@ invariant-workers g l = record {
   receivers : length l.receivers.items + length l.workers.items ≡ length l.fn.receivers.items + length l.fn.workers.items;
   receivers_room : length l.receivers.items + length l.workers.items ≤ vec_capacity l.receivers;
   served_room : length l.served.items + length l.workers.items ≤ vec_capacity l.served;
+  pollers_room : length l.pollers.items + length l.workers.items ≤ vec_capacity l.pollers;
   of : AreOf l.sender.channel l.receivers.items;
   marks : end_marks_received_by l.receivers.items + length l.workers.items ≡ end_marks_received_by l.fn.receivers.items + length l.fn.workers.items;
   all : AreAllCounted l.receivers.items l.served.items;
-  ended : HaveEnded g.B.Broker.group g.T.Transport.counts g.T.Transport.given g.T.Transport.accepted (map (λ hand. hand.ports) l.hands.items) l.receivers.items l.served.items l.me;
+  ended : HaveEnded g.B.Broker.group g.T.Transport.counts g.T.Transport.given g.T.Transport.accepted (map (λ hand. hand.ports) l.hands.items) l.receivers.items l.served.items
+      (map g.Q.Poller.closed l.pollers.items) l.me;
   told : IsPrefix l.fn.me l.me;
 }
 

@@ -42,7 +42,8 @@ returns-clause-served g c =
     let sent = sent_is accepted.came _ _ _ _ none limit accepted.sent in
     let Source : g.row.S.Denot → g.row.S.Denot → Type 0 = λ old new. Gave g.S.Source.arrived old accepted.came new in
     let Served : List (ArrivedState g.row.T.Denot) → Type 0 = λ arrived.
-    AreServed g.B.Broker.group g.T.Transport.counts g.T.Transport.given g.T.Transport.accepted arrived c.retire.new.me (map (λ (hand : Hand g.row.B.Denot). hand.ports) c.retire.result.hands.items) c.retire.result.served.items in (
+    AreServed g.B.Broker.group g.T.Transport.counts g.T.Transport.given g.T.Transport.accepted arrived c.retire.new.me (map (λ (hand : Hand g.row.B.Denot). hand.ports) c.retire.result.hands.items) c.retire.result.served.items
+    (map g.Q.Poller.closed c.retire.result.pollers.items) in (
       accepted.came,
       subst (λ new. Source c.args.source new) (sym c.retire.ensures.source)
           (subst (λ old. Source old c.run_all.new.acceptor.source) (ap (λ (a : AcceptorState g.row.T.Denot g.row.S.Denot). a.source) first) accepted.gave),

@@ -26,3 +26,8 @@ pub returns-clause-desk : goal.returns-clause-desk
 returns-clause-desk g c =
     let Told : WorkerState g.row.T.Denot → Type 0 = λ state. live state.connections ≡ 0 → c.into_parts.result.pass ≡ state.connections.supply.desk in
     subst Told c.self.view_is c.into_parts.ensures.desk
+
+pub returns-clause-closed : goal.returns-clause-closed
+returns-clause-closed g c =
+    let Told : WorkerState g.row.T.Denot → Type 0 = λ state. g.Q.Poller.closed c.into_parts.result.poller ≡ state.connections.closed in
+    subst Told c.self.view_is c.into_parts.ensures.closed

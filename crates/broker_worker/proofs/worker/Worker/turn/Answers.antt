@@ -1,13 +1,12 @@
 -- What was offered was offered in a sweep of this turn.
 use Rattle.std.proofs.Common.{◌≡◌, ap, ◌∙◌}
 use Rattle.worker_connections.specs.Serving.{ConnectionsState}
-use Rattle.broker_worker.specs.Resting.{WorkerState}
 use Rattle.broker_worker.proofs.Offered.{in_turn}
 use Rattle.broker_worker.proofs.worker.Worker.turn.Goals as goal
 
 pub returns-clause-offered : goal.returns-clause-offered
 returns-clause-offered g c =
     in_turn g.B.Broker.group g.T.Transport.counts g.T.Transport.given g.T.Transport.accepted c.args.self.now.connections c.hear.new.self.connections c.serve.new.self.connections c.outlook.new.self.connections
-    (ap (λ (s : ConnectionsState g.row.T.Denot). s.sweeps.begun) c.hear.ensures.connections ∙ ap (λ (w : WorkerState g.row.T.Denot). w.connections.sweeps.begun) c.self.view_is ∙ c.wait.ensures.begun)
-    (ap (λ (s : ConnectionsState g.row.T.Denot). s.receiver.channel) c.hear.ensures.connections ∙ ap (λ (w : WorkerState g.row.T.Denot). w.connections.receiver.channel) c.self.view_is ∙ c.wait.ensures.same)
+    (ap (λ (s : ConnectionsState g.row.T.Denot). s.sweeps.begun) c.hear.ensures.connections ∙ ap (λ (s : ConnectionsState g.row.T.Denot). s.sweeps.begun) c.mark_ready.ensures.connections ∙ c.wait.ensures.begun)
+    (ap (λ (s : ConnectionsState g.row.T.Denot). s.receiver.channel) c.hear.ensures.connections ∙ ap (λ (s : ConnectionsState g.row.T.Denot). s.receiver.channel) c.mark_ready.ensures.connections ∙ c.wait.ensures.same)
     c.serve.ensures.offered c.outlook.ensures.same

@@ -10,5 +10,5 @@ invariant_of-self g c = (
   c.self.invariant.2,
   c.self.invariant.3,
   wakes_on g.B.Broker.group g.T.Transport.counts g.T.Transport.given g.T.Transport.accepted c.self.inside.supply c.count_call.new.self c.self.inside.table c.self.inside.receiver.received
-      c.self.inside.served (one_called c.args.slot c.self.inside.supply.wakes) c.count_call.ensures c.self.invariant.4,
+      c.self.inside.served (g.Q.Poller.closed c.self.inside.poller) (one_called c.args.slot c.self.inside.supply.wakes) c.count_call.ensures c.self.invariant.4,
 )

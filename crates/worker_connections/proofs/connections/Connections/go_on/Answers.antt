@@ -23,8 +23,9 @@ invariant_of-self g c = (
   wished_noted c.self.inside.table c.turn-turned.new.table c.self.inside.members c.note_held.new.members c.args.cell c.turn-turned.ensures.turns.before c.turn-turned.ensures.turns.after c.note_wish.ensures.0
       c.self.invariant.2 c.self.invariant.3 c.turn-turned.ensures.turns.has c.turn-turned.ensures.turns.is c.note_wish.ensures.1 (c.note_held.ensures ∙ c.note_wish.ensures.2),
   went g.B.Broker.group g.T.Transport.counts g.T.Transport.given g.T.Transport.accepted c.self.inside.supply c.allow.new.self c.turn-turned.new.supply c.args.most c.self.inside.table c.turn-turned.new.table
-      c.self.inside.receiver.received c.self.inside.served c.count_behind.new.self c.self.inside.sweeps.latest c.args.cell c.turn-turned.result
-      c.self.invariant.4 c.allow.ensures c.turn-turned.ensures.turns c.count_behind.ensures,
+      c.self.inside.receiver.received c.self.inside.served c.count_behind.new.self (g.Q.Poller.closed c.self.inside.poller) (g.Q.Poller.closed c.settle.new.poller)
+      c.self.inside.sweeps.latest c.args.cell c.turn-turned.result
+      c.self.invariant.4 c.allow.ensures c.turn-turned.ensures.turns c.count_behind.ensures c.settle.ensures.closed,
 )
 
 pub returns-clause-made : goal.returns-clause-made
@@ -35,7 +36,11 @@ returns-clause-made g c =
     let Goes : ConnectionsState g.row.T.Denot → Type 0 = λ old. InCell old.cells c.args.cell
     (λ one other. FollowsIn g.T.Transport.given g.T.Transport.accepted c.args.direction old.sweeps.latest one c.turn-turned.result other) c.turn-turned.new.table in
     let allowed = c.allow.ensures ∙ ap (λ (state : ConnectionsState g.row.T.Denot). record state.supply { allowance = c.args.most }) c.self.view_is in
-    record {
+    (
+      c.turn-turned.result,
+      c.settle.ensures.told,
+      record {
       turns = subst (λ (w : Worker). TurnsAs w c.args.self.now) allowed (subst (TurnsAs c.allow.new.self) c.self.view_is c.turn-turned.ensures.turns);
       way = subst Goes c.self.view_is c.turn-turned.ensures.way;
-    }
+    },
+    )

@@ -18,5 +18,5 @@ invariant_of-result g c =
       sym (ap length c.requires.table ∙ length-replicate (length c.args.members) None),
       none_wished _ c.args.table c.args.members c.requires.table,
       runs_from g.B.Broker.group g.T.Transport.counts g.T.Transport.given g.T.Transport.accepted (length c.args.members) c.args.supply c.args.table c.args.receiver.received
-          c.requires.table c.requires.receiver c.requires.supply c.requires.unsent,
+          (g.Q.Poller.closed c.args.poller) c.requires.table c.requires.receiver c.requires.supply c.requires.unsent c.requires.closed,
     )

@@ -1,0 +1,13 @@
+-- Nothing was closed, and the run is as it was.
+use Rattle.worker_connections.proofs.Chaining.{waits_on}
+use Rattle.worker_connections.proofs.connections.Connections.take_ready.Goals as goal
+
+pub invariant_of-self : goal.invariant_of-self
+invariant_of-self g c = (
+  c.self.invariant.0,
+  c.self.invariant.1,
+  c.self.invariant.2,
+  c.self.invariant.3,
+  waits_on g.B.Broker.group g.T.Transport.counts g.T.Transport.given g.T.Transport.accepted c.self.inside.supply c.self.inside.table c.self.inside.receiver.received c.self.inside.served
+      (g.Q.Poller.closed c.self.inside.poller) (g.Q.Poller.closed c.take_ready.new.self) c.take_ready.ensures c.self.invariant.4,
+)
