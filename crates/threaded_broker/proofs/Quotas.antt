@@ -1,4 +1,4 @@
--- Each worker's run is within the Receive Maximum of its connections.
+-- Each worker's run is within the Receive Maximum of its connections, and what its ports accepted was published in it.
 use Rattle.std.proofs.Common.{◌≡◌, ◌≤◌, ℕ, zero, suc, List, [], ◌∷◌, map, Option, refl, sym, subst, arith}
 use Rattle.std.specs.List.{AllByRecursion, slice_set}
 use mathlib.Core.Option.{some}
@@ -13,6 +13,8 @@ use Rattle.conn_channel.specs.Interleavings.{IsInterleaving}
 use Rattle.worker_connections.specs.declared.served.ServedCounts.{ServedCounts}
 use Rattle.worker_connections.specs.Arrivals.{ArrivedState}
 use Rattle.worker_connections.specs.Chains.{IsWholeRun, KeepsReceiveMaximum, Run}
+use Rattle.worker_connections.specs.Publishing.{IsPublishedBy}
+use Rattle.worker_connections.proofs.Publishing.{all_published}
 use Rattle.worker_connections.proofs.Quotas.{within_quota}
 use Rattle.worker_pool.specs.Accepting.{arrivals}
 use Rattle.worker_pool.specs.Pools.{AreServed}
@@ -47,6 +49,10 @@ module _ {T : Type 0} (group : ℕ → GroupId) (counts : T → Counts) (given a
   each_run limit [] whole few = tt
   each_run limit (run ∷ runs) whole few = (within_quota group counts given accepted limit run whole.0.is few.0, each_run limit runs whole.1 few.1)
 
+  each_published : (runs : List (Run T)) → AllByRecursion (IsWholeRun group counts given accepted) runs → AllByRecursion (IsPublishedBy group) runs
+  each_published [] whole = tt
+  each_published (run ∷ runs) whole = (all_published group counts given accepted run whole.0.is, each_published runs whole.1)
+
   -- a broker that was served kept to it
   pub within : (limit : ℕ) (came : List T) (calls : List (Call Held PlaceState)) (ports : List (List PortState)) (served : List ServedCounts) (closed : List (Option (List T)))
       → AreServed group counts given accepted (arrivals limit came) calls ports served closed → RunsUntilClosed group counts given accepted limit came calls ports served closed
@@ -54,6 +60,7 @@ module _ {T : Type 0} (group : ℕ → GroupId) (counts : T → Counts) (given a
     workers = workers;
     within_receive_maximum = each_run limit workers.runs workers.whole
         (of_each (λ (arrived : ArrivedState T). arrived.max_inflight ≤ limit) (arrivals limit came) (map (λ (run : Run T). run.last.received) workers.runs) workers.came_to (limited limit came));
+    published = each_published workers.runs workers.whole;
   }
 
   told_longer : (calls calls' : List (Call Held PlaceState)) (runs : List (Run T)) → IsPrefix calls calls' → AllByRecursion (λ (run : Run T). IsPrefix run.last.supply.desk calls) runs
@@ -76,4 +83,5 @@ module _ {T : Type 0} (group : ℕ → GroupId) (counts : T → Counts) (given a
       told = told_longer calls calls' run.workers.runs longer run.workers.told;
     };
     within_receive_maximum = run.within_receive_maximum;
+    published = run.published;
   }

@@ -6,3 +6,4 @@ pub mod Quotas
 pub mod Swept
 pub mod Ticking
 pub mod Wished
+pub mod Publishing

@@ -6,3 +6,4 @@ pub mod Lives
 pub mod Members
 pub mod Serving
 pub mod Sweeping
+pub mod Publishing

@@ -1,0 +1,399 @@
+-- What comes into the ports of a worker, call by call, step by step, and over its run.
+use Rattle.std.proofs.Common.{◌≡◌, ◌≢◌, ◌⊎◌, ℕ, ◌+◌, ⊥, if◌then◌else◌, Bool, true, false, List, [], ◌∷◌, ◌++◌, length, map, Option, Some, None, Result, is_some, refl, sym, ap, subst, ◌∙◌, inl, inr, ⊎_elim}
+use Rattle.std.specs.List.{cons_option, flat_map}
+use Rattle.std.specs.Option.{option_to_list}
+use Rattle.mqtt_packet.specs.declared.packet.Delivery.{Delivery}
+use Rattle.mqtt_packet.specs.declared.packet.Delivery.TheVariants.{AtMostOnce, AtLeastOnce, ExactlyOnce}
+use Rattle.mqtt_packet.specs.declared.packet.Packet.{Packet}
+use Rattle.mqtt_packet.specs.declared.packet.Packet.TheVariants as packets
+use Rattle.mqtt_packet.specs.declared.packet.Publish.{Publish}
+use Rattle.transport.specs.declared.counts.Counts.{Counts}
+use Rattle.group_jobs.specs.declared.message.Message.{Message}
+use Rattle.group_jobs.specs.declared.stamp.Stamp.{Stamp}
+use Rattle.group_queue.specs.Ports.{GroupId, PortState}
+use Rattle.group_queue.specs.Places.{PlaceState}
+use Rattle.broker_groups.specs.Offering.{OffersTo}
+use Rattle.conn_rules.specs.declared.connecting.FirstAnswer.{FirstAnswer}
+use Rattle.conn_rules.specs.declared.connecting.FirstAnswer.TheVariants as first
+use Rattle.conn_rules.specs.declared.publishing.PublishAnswer.{PublishAnswer}
+use Rattle.conn_rules.specs.declared.publishing.PublishAnswer.TheVariants as answers
+use Rattle.conn_rules.specs.Connecting.{first_answer}
+use Rattle.conn_rules.specs.Packets.{puback}
+use Rattle.conn_rules.specs.Publishing.{publish_answer, delivery_answer, identified_answer, closing_code, puback_code, message_of}
+use Rattle.conn_supply.specs.declared.reply.Reply.{Reply}
+use Rattle.conn_supply.specs.declared.reply.Then.{Then}
+use Rattle.conn_supply.specs.declared.reply.Then.TheVariants.{Go, Close, Kicked as TakenOver}
+use Rattle.conn_supply.specs.declared.supply.OfferRefusal.{OfferRefusal}
+use Rattle.conn_supply.specs.Facts.{Fact}
+use Rattle.conn_supply.specs.Facts.Fact.{Attach, Withdraw, Kicked, Park, ParkAsIs, Keep, Bury, Sweep, LendPlace, TakePlace, Bind, Find, Match, Offer, MayTake, Take, TakeBack, Settle, GiveBack}
+use Rattle.conn_supply.specs.Publishing.{Offers, AnswersPublish}
+use Rattle.conn_supply.specs.Replies.{acknowledging}
+use Rattle.conn_engine.specs.declared.input.Input.{Input}
+use Rattle.conn_engine.specs.declared.input.Input.TheVariants as inputs
+use Rattle.conn_engine.specs.declared.standing.Link.{Link}
+use Rattle.conn_engine.specs.declared.standing.Standing.{Standing}
+use Rattle.conn_engine.specs.declared.standing.Standing.TheVariants.{Unconnected, Waiting, Connected, Ended}
+use Rattle.conn_engine.specs.Step.{AnswersFirst, AnswersPacket, AnswersUnlessKicked, Concludes, FailsToStep, Hands, IsKicked, Reacts, Steps as StepsTo}
+use Rattle.conn_laws.specs.Calls.{offer_of, offered, MakesAll as MakesCalls, OffersToEach, OffersNone, OffersToSome}
+use Rattle.conn_laws.proofs.Calling.{Plain, parted}
+use Rattle.conn_laws.proofs.Failing.{failed}
+use Rattle.conn_laws.proofs.Stepping.{handed_behind, stepped}
+use Rattle.client_table.specs.Clients.{ClientState, IsGivenUp, moment_of}
+use Rattle.conn_service.specs.Acts.{Act, Enters, Leaves as Left, Asks, Reads, Writes, Steps, Loses, Fails, Starves, IsFull, IsStopped, Stalls, GivesUp, Ends, Others}
+use Rattle.conn_service.specs.Lives.{Does, DoesAll}
+use Rattle.conn_service.specs.Services.{ServiceState}
+use Rattle.conn_service.specs.Visits.{Stand, Outside, Inside, Behind, Parting, Parted, Treads, Walks}
+use Rattle.shared_supply.specs.Calls.{Calls, missing}
+use Rattle.shared_supply.specs.Workers.{Worker, Begins, Leaves, is_visiting}
+use Rattle.worker_connections.specs.Chains.{Deed, Opened, Closed, Allowed, Went, Passed, Woke, IsRun, Makes, MakesAll, Run, RunState}
+use Rattle.worker_connections.specs.Publishing.{IsPromised, IsPublished, IsPublishedBy, Publishes, PublishesAll, PublishesAt, PublishesSome, PutsInto, PutsSome, acts_in}
+
+-- nothing is found in front of a list, and nothing in it
+none_found : {X : Type 0} (found : Option X) (rest : List X) → cons_option found rest ≡ [] → (found ≡ None) × (rest ≡ [])
+none_found None rest none = (refl, none)
+none_found (Some x) rest none = absurd (cc none)
+
+abbrev slot_of : PlaceState → ℕ
+slot_of place = place.group
+
+-- a PUBLISH that is refused before any group is asked is refused with 83
+refused_at : (expires : Bool) (identifier other code : ℕ) → (if expires then answers.Refuse identifier 0x83 else answers.Offer identifier) ≡ answers.Refuse other code → code ≢ 0
+refused_at true identifier other code is = λ none. cc (is, none)
+refused_at false identifier other code is = absurd (cc is)
+
+refused_by : (closing : Option ℕ) (identifier other code : ℕ) (publish : Publish) → identified_answer closing identifier publish ≡ answers.Refuse other code → code ≢ 0
+refused_by (Some closing) identifier other code publish is = absurd (cc is)
+refused_by None identifier other code publish is = refused_at (is_some publish.properties.message_expiry_interval) identifier other code is
+
+refused_with : (delivery : Delivery) (other code : ℕ) (publish : Publish) → delivery_answer delivery publish ≡ answers.Refuse other code → code ≢ 0
+refused_with (AtLeastOnce identifier) other code publish is = refused_by (closing_code publish) identifier other code publish is
+refused_with AtMostOnce other code publish is = absurd (cc is)
+refused_with (ExactlyOnce identifier) other code publish is = absurd (cc is)
+
+module _ (group : ℕ → GroupId) where
+  missed_ports : (is_missed : Bool) (worker : Worker) → (missing is_missed worker).ports ≡ worker.ports
+  missed_ports true worker = refl
+  missed_ports false worker = refl
+
+  -- a call offers a message, or leaves the ports as they were
+  pub record IsOfferOf (fact : Fact PlaceState) (old new : List PortState) : Type 0 where
+    pub slot : ℕ
+    pub connection : ℕ
+    pub message : Message
+    pub answer : Result Stamp OfferRefusal
+    pub is : offer_of fact ≡ Some (slot, connection, message)
+    pub offers : OffersTo group old slot message answer new
+
+  abbrev OffersOrStays : Fact PlaceState → List PortState → List PortState → Type 0
+  OffersOrStays fact old new = ((offer_of fact ≡ None) × (new ≡ old)) ⊎ IsOfferOf fact old new
+
+  called : (fact : Fact PlaceState) (old new : Worker) → Calls group old fact new → OffersOrStays fact old.ports new.ports
+  called (Attach request answer) old new is = inl (refl, ap (λ (w : Worker). w.ports) is.1)
+  called (Withdraw connection) old new is = inl (refl, ap (λ (w : Worker). w.ports) is.1)
+  called (Kicked connection answer) old new (inl same) = inl (refl, ap (λ (w : Worker). w.ports) same.1)
+  called (Kicked connection answer) old new (inr told) = inl (refl, ap (λ (w : Worker). w.ports) told.1)
+  called (Park session now answer) old new is = inl (refl, ap (λ (w : Worker). w.ports) is.1)
+  called (ParkAsIs session) old new is = inl (refl, ap (λ (w : Worker). w.ports) is.1.1)
+  called (Keep session) old new is = inl (refl, ap (λ (w : Worker). w.ports) is.1.1)
+  called (Bury session) old new is = inl (refl, ap (λ (w : Worker). w.ports) is.1.1)
+  called (Sweep now answer) old new (inl same) = inl (refl, ap (λ (w : Worker). w.ports) same.1)
+  called (Sweep now answer) old new (inr told) = inl (refl, ap (λ (w : Worker). w.ports) told.1)
+  called (LendPlace slot answer) old new is = inl (refl, ap (λ (w : Worker). w.ports) is.1)
+  called (TakePlace place) old new is = inl (refl, ap (λ (w : Worker). w.ports) is.1.1)
+  called (Bind share answer) old new is = inl (refl, ap (λ (w : Worker). w.ports) is.1)
+  called (Find share answer) old new is = inl (refl, ap (λ (w : Worker). w.ports) is.1)
+  called (Match topic slots) old new is = inl (refl, ap (λ (w : Worker). w.ports) is.1)
+  called (Offer slot connection message answer) old new is =
+      inr (record { slot = slot; connection = connection; message = message; answer = answer; is = refl; offers = is.0 })
+  called (MayTake place answer) old new is = inl (refl, ap (λ (w : Worker). w.ports) is.1)
+  called (Take place place' answer) old new is = inl (refl, ap (λ (w : Worker). w.ports) is.1)
+  called (TakeBack place place' answer) old new is = inl (refl, ap (λ (w : Worker). w.ports) is.1)
+  called (Settle place place' envelope fate) old new is = inl (refl, ap (λ (w : Worker). w.ports) is.2 ∙ missed_ports is.0 old)
+  called (GiveBack place place' envelope answer) old new is = inl (refl, ap (λ (w : Worker). w.ports) is.1)
+
+  stays : (fact : Fact PlaceState) (old new : List PortState) → OffersOrStays fact old new → offer_of fact ≡ None → new ≡ old
+  stays fact old new (inl same) none = same.1
+  stays fact old new (inr offer) none = let no : Some (offer.slot, offer.connection, offer.message) ≡ None = sym offer.is ∙ none in absurd (cc no)
+
+  -- calls that offer nothing
+  all_stay : (facts : List (Fact PlaceState)) (old new : Worker) → offered facts ≡ [] → MakesCalls (Calls group) old facts new → new.ports ≡ old.ports
+  all_stay [] old new none made = ap (λ (w : Worker). w.ports) made
+  all_stay (fact ∷ facts) old new none made =
+      let parts = none_found (offer_of fact) (offered facts) none in
+      all_stay facts made.0 new parts.1 made.2 ∙ stays fact old.ports made.0.ports (called fact old made.0 made.1) parts.0
+
+  plain : {given : List Message} (old new : Worker) → Plain (Calls group) given old new → new.ports ≡ old.ports
+  plain old new calls = all_stay calls.facts old new calls.offers calls.made
+
+  -- the first of some calls, of which the others put a message into what is left of these slots
+  put_first : (fact : Fact PlaceState) (facts : List (Fact PlaceState)) (slots : List ℕ) (number : ℕ) (message : Message) (ports mid ports' : List PortState)
+      → OffersOrStays fact ports mid → cons_option (offer_of fact) (offered facts) ≡ map (λ (slot : ℕ). (slot, number, message)) slots
+      → ((rest : List ℕ) → offered facts ≡ map (λ (slot : ℕ). (slot, number, message)) rest → PutsSome group mid message rest ports') → PutsSome group ports message slots ports'
+  put_first fact facts slots number message ports mid ports' (inl same) offers others =
+      let Found : Option (ℕ × ℕ × Message) → Type 0 = λ found. cons_option found (offered facts) ≡ map (λ (slot : ℕ). (slot, number, message)) slots in
+      subst (λ (those : List PortState). PutsSome group those message slots ports') same.1 (others slots (subst Found same.0 offers))
+  put_first fact facts [] number message ports mid ports' (inr offer) offers others =
+      let Found : Option (ℕ × ℕ × Message) → Type 0 = λ found. cons_option found (offered facts) ≡ [] in
+      let no = subst Found offer.is offers in
+      absurd (cc no)
+  put_first fact facts (slot ∷ slots) number message ports mid ports' (inr offer) offers others =
+      let Found : Option (ℕ × ℕ × Message) → Type 0 = λ found. cons_option found (offered facts) ≡ (slot, number, message) ∷ map (λ (slot : ℕ). (slot, number, message)) slots in
+      let is = subst Found offer.is offers in
+      let heads : (offer.slot, offer.connection, offer.message) ≡ (slot, number, message) = cc is in
+      let tails : offered facts ≡ map (λ (slot : ℕ). (slot, number, message)) slots = cc is in (
+        offer.answer,
+        mid,
+        subst (λ (n : ℕ). OffersTo group ports n message offer.answer mid) (ap (λ (o : ℕ × ℕ × Message). o.0) heads)
+            (subst (λ (m : Message). OffersTo group ports offer.slot m offer.answer mid) (ap (λ (o : ℕ × ℕ × Message). o.2) heads) offer.offers),
+        others slots tails,
+      )
+
+  -- calls that offer a message to these slots
+  some_put : (facts : List (Fact PlaceState)) (slots : List ℕ) (number : ℕ) (message : Message) (old new : Worker)
+      → offered facts ≡ map (λ (slot : ℕ). (slot, number, message)) slots → MakesCalls (Calls group) old facts new → PutsSome group old.ports message slots new.ports
+  some_put [] [] number message old new offers made = ap (λ (w : Worker). w.ports) made
+  some_put [] (slot ∷ slots) number message old new offers made = absurd (cc offers)
+  some_put (fact ∷ facts) slots number message old new offers made =
+      put_first fact facts slots number message old.ports made.0.ports new.ports (called fact old made.0 made.1) offers
+      (λ rest found. some_put facts rest number message made.0 new found made.2)
+
+  -- a message is offered to each of these slots
+  all_put : (slots : List ℕ) (number : ℕ) (message : Message) (taken : ℕ) (old new : Worker) → Offers (Calls group) old number message slots taken new
+      → PutsInto group old.ports message slots taken new.ports
+  all_put [] number message taken old new offers = (offers.0, ap (λ (w : Worker). w.ports) offers.1)
+  all_put (slot ∷ slots) number message taken old new offers =
+      (offers.0, offers.1.ports, offers.2, offers.3, offers.4.0, offers.5, all_put slots number message offers.3 offers.1 new offers.6, offers.7)
+
+  -- a packet that promises nothing
+  abbrev IsNoPromise : Option Packet → Standing PlaceState → Type 0
+  IsNoPromise None between = between ≡ Ended
+  IsNoPromise (Some packet) between = (identifier : ℕ) → packet ≢ puback identifier 0
+
+  -- what a PUBLISH made of the ports, and its reply
+  abbrev Reply_to : Publish → List PortState → Standing PlaceState → Reply → List PortState → Type 0
+  Reply_to publish ports between reply ports' =
+      ((identifier : ℕ) × (publish_answer publish ≡ answers.Offer identifier) × (slots : List ℕ) × (taken : ℕ) × PutsInto group ports (message_of publish) slots taken ports'
+      × (reply ≡ acknowledging identifier (puback_code (length slots) taken)))
+      ⊎ ((ports' ≡ ports) × IsNoPromise reply.packet between)
+
+  -- no promise, by the packet of the reply
+  silent : (reply : Reply) (packet : Packet) (between : Standing PlaceState) → reply.packet ≡ Some packet → ((identifier : ℕ) → packet ≢ puback identifier 0) → IsNoPromise reply.packet between
+  silent reply packet between is no = subst (λ (it : Option Packet). IsNoPromise it between) (sym is) no
+
+  over : (reply : Reply) (between : Standing PlaceState) → reply.packet ≡ None → between ≡ Ended → IsNoPromise reply.packet between
+  over reply between is ended = subst (λ (it : Option Packet). IsNoPromise it between) (sym is) ended
+
+  first_answered : (answer : FirstAnswer) (old new : Worker) (number max_inflight now : ℕ) (publish : Publish) (between : Standing PlaceState) (reply : Reply)
+      → AnswersFirst (Calls group) slot_of answer old number max_inflight now (packets.Publish publish) between reply new → Reply_to publish old.ports between reply new.ports
+  first_answered first.Close old new number max_inflight now publish between reply is =
+      inr (ap (λ (w : Worker). w.ports) is.1, over reply between (ap (λ (r : Reply). r.packet) is.0.told) is.0.over)
+  first_answered (first.Refuse refusal) old new number max_inflight now publish between reply is =
+      inr (ap (λ (w : Worker). w.ports) is.1, silent reply _ between (ap (λ (r : Reply). r.packet) is.0.told) (λ identifier same. cc same))
+  first_answered first.Attach old new number max_inflight now publish between reply is = let no = is.1 in absurd (cc no)
+
+  concluded : (next : Then) (old new : Worker) (link : Link PlaceState) (now : ℕ) (standing : Standing PlaceState) → Concludes (Calls group) slot_of old link now next standing new
+      → new.ports ≡ old.ports
+  concluded Go old new link now standing concludes = ap (λ (w : Worker). w.ports) concludes.1
+  concluded Close old new link now standing concludes = plain old new (parted (Calls group) old new link.session now concludes.0)
+  concluded TakenOver old new link now standing concludes = plain old new (parted (Calls group) old new link.session now concludes.0)
+
+  published : (answer : PublishAnswer) (old mid new : Worker) (number : ℕ) (publish : Publish) (between : Standing PlaceState) (reply : Reply) → publish_answer publish ≡ answer
+      → AnswersPublish (Calls group) old number publish answer reply mid → new.ports ≡ mid.ports → Reply_to publish old.ports between reply new.ports
+  published (answers.Close code) old mid new number publish between reply answered is kept =
+      inr (kept ∙ ap (λ (w : Worker). w.ports) is.1, silent reply _ between (ap (λ (r : Reply). r.packet) is.0) (λ identifier same. cc same))
+  published (answers.Refuse other code) old mid new number publish between reply answered is kept =
+      inr (
+        kept ∙ ap (λ (w : Worker). w.ports) is.1,
+        silent reply (puback other code) between (ap (λ (r : Reply). r.packet) is.0) (λ identifier same. refused_with publish.delivery other code publish answered (cc same)),
+      )
+  published (answers.Offer identifier) old mid new number publish between reply answered is kept =
+      inl (
+        identifier,
+        answered,
+        is.slots,
+        is.taken,
+        subst (λ (ports : List PortState). PutsInto group old.ports (message_of publish) is.slots is.taken ports) (sym kept)
+            (subst (λ (ports : List PortState). PutsInto group ports (message_of publish) is.slots is.taken mid.ports)
+            (stays (Match publish.topic is.slots) old.ports is.mid.ports (called (Match publish.topic is.slots) old is.mid is.matched) refl)
+            (all_put is.slots number (message_of publish) is.taken is.mid mid is.offered)),
+        is.replied,
+      )
+
+  packet_answered : (was_kicked : Bool) (old new : Worker) (number now : ℕ) (link : Link PlaceState) (publish : Publish) (between : Standing PlaceState) (reply : Reply)
+      → AnswersUnlessKicked (Calls group) slot_of was_kicked old link now (AnswersPacket (Calls group) slot_of old number link now (packets.Publish publish)) between reply new
+      → Reply_to publish old.ports between reply new.ports
+  packet_answered true old new number now link publish between reply is =
+      inr (plain old new (parted (Calls group) old new link.session now is.1.0), silent reply _ between (ap (λ (r : Reply). r.packet) is.0) (λ identifier same. cc same))
+  packet_answered false old new number now link publish between reply is =
+      published (publish_answer publish) old is.1 new number publish between reply refl is.2.0 (concluded reply.next is.1 new is.0 now between is.3)
+
+  reacted : (standing : Standing PlaceState) (publish : Publish) (old new : Worker) (number now : ℕ) (between : Standing PlaceState) (reply : Reply)
+      → Reacts (Calls group) slot_of old number standing now (inputs.Packet (packets.Publish publish)) between reply new → Reply_to publish old.ports between reply new.ports
+  reacted (Unconnected opened) publish old new number now between reply is =
+      first_answered (first_answer (packets.Publish publish)) old new number opened.max_inflight now publish between reply is
+  reacted (Waiting request ticks) publish old new number now between reply is = absurd is
+  reacted (Connected link) publish old new number now between reply is =
+      let asked = stays (Kicked number is.0) old.ports is.1.ports (called (Kicked number is.0) old is.1 is.2) refl in
+      subst (λ (ports : List PortState). Reply_to publish ports between reply new.ports) asked (packet_answered is.0 is.1 new number now link publish between reply is.3)
+  reacted Ended publish old new number now between reply is =
+      inr (ap (λ (w : Worker). w.ports) is.1, over reply between (ap (λ (r : Reply). r.packet) is.0.told) is.0.over)
+
+  -- no promise stands in front of what is sent
+  unpromised : (packet : Option Packet) (between standing : Standing PlaceState) (old new : Worker) (these sent : List Packet) → IsNoPromise packet between
+      → Hands (Calls group) slot_of old between sent standing new → these ≡ option_to_list packet ++ sent → ¬ IsPromised these
+  unpromised None between standing old new these sent no hands is promised =
+      let none = (subst (λ (s : Standing PlaceState). Hands (Calls group) slot_of old s sent standing new) no hands).0 in
+      let some = sym promised.2 ∙ is ∙ none in
+      cc some
+  unpromised (Some packet) between standing old new these sent no hands is promised =
+      let same = sym is ∙ promised.2 in
+      no promised.0 (cc same)
+
+  -- a step of a PUBLISH
+  of_publish : (old new : Worker) (number now : ℕ) (standing standing' : Standing PlaceState) (publish : Publish) (these : List Packet) (next : Then)
+      → StepsTo (Calls group) slot_of old number standing now (inputs.Packet (packets.Publish publish)) these next standing' new
+      → PublishesAt group (inputs.Packet (packets.Publish publish)) these old.ports new.ports
+  of_publish old new number now standing standing' publish these next steps =
+      let handed = plain steps.mid new (handed_behind (Calls group) slot_of steps.between steps.mid new steps.sent standing' steps.hands) in
+      ⊎_elim
+      (λ (it : (identifier : ℕ) × (publish_answer publish ≡ answers.Offer identifier) × (slots : List ℕ) × (taken : ℕ) × PutsInto group old.ports (message_of publish) slots taken steps.mid.ports
+      × (steps.reply ≡ acknowledging identifier (puback_code (length slots) taken))).
+      inl (
+        publish,
+        refl,
+        record {
+          identifier = it.0;
+          brought = it.1;
+          slots = it.2;
+          taken = it.3;
+          puts = subst (λ (ports : List PortState). PutsInto group old.ports (message_of publish) it.2 it.3 ports) (sym handed) it.4;
+          others = steps.sent;
+          answered = steps.written ∙ ap (λ (r : Reply). option_to_list r.packet ++ steps.sent) it.5;
+        },
+      ))
+      (λ (it : (steps.mid.ports ≡ old.ports) × IsNoPromise steps.reply.packet steps.between).
+      inr (handed ∙ it.0, λ other is. unpromised steps.reply.packet steps.between standing' steps.mid new these steps.sent it.1 steps.hands steps.written))
+      (reacted standing publish old steps.mid number now steps.between steps.reply steps.reacts)
+
+  -- a step of any other input
+  of_other : (input : Input) (old new : Worker) (number now : ℕ) (standing standing' : Standing PlaceState) (these : List Packet) (next : Then)
+      → ((publish : Publish) → input ≡ inputs.Packet (packets.Publish publish) → ⊥) → StepsTo (Calls group) slot_of old number standing now input these next standing' new
+      → PublishesAt group input these old.ports new.ports
+  of_other input old new number now standing standing' these next no steps =
+      let calls = stepped (Calls group) slot_of old new number now standing standing' input these next steps in
+      ⊎_elim
+      (λ (each : OffersToEach number input calls.facts). absurd (no each.publish each.came))
+      (λ (nothing : OffersNone standing input calls.facts next). inr (all_stay calls.facts old new nothing.offers calls.made, λ publish is. absurd (no publish is)))
+      calls.offers
+
+  at_packet : (packet : Packet) (old new : Worker) (number now : ℕ) (standing standing' : Standing PlaceState) (these : List Packet) (next : Then)
+      → StepsTo (Calls group) slot_of old number standing now (inputs.Packet packet) these next standing' new → PublishesAt group (inputs.Packet packet) these old.ports new.ports
+  at_packet (packets.Publish publish) old new number now standing standing' these next steps = of_publish old new number now standing standing' publish these next steps
+  at_packet (packets.Puback puback) old new number now standing standing' these next steps = of_other _ old new number now standing standing' these next (λ publish is. cc is) steps
+  at_packet (packets.Subscribe subscribe) old new number now standing standing' these next steps = of_other _ old new number now standing standing' these next (λ publish is. cc is) steps
+  at_packet (packets.Unsubscribe unsubscribe) old new number now standing standing' these next steps = of_other _ old new number now standing standing' these next (λ publish is. cc is) steps
+  at_packet packets.Pingreq old new number now standing standing' these next steps = of_other _ old new number now standing standing' these next (λ publish is. cc is) steps
+  at_packet (packets.Disconnect disconnect) old new number now standing standing' these next steps = of_other _ old new number now standing standing' these next (λ publish is. cc is) steps
+  at_packet (packets.Connect connect) old new number now standing standing' these next steps = of_other _ old new number now standing standing' these next (λ publish is. cc is) steps
+  at_packet (packets.Connack connack) old new number now standing standing' these next steps = of_other _ old new number now standing standing' these next (λ publish is. cc is) steps
+  at_packet (packets.Suback suback) old new number now standing standing' these next steps = of_other _ old new number now standing standing' these next (λ publish is. cc is) steps
+  at_packet (packets.Unsuback unsuback) old new number now standing standing' these next steps = of_other _ old new number now standing standing' these next (λ publish is. cc is) steps
+  at_packet packets.Pingresp old new number now standing standing' these next steps = of_other _ old new number now standing standing' these next (λ publish is. cc is) steps
+  at_packet (packets.Foreign kind) old new number now standing standing' these next steps = of_other _ old new number now standing standing' these next (λ publish is. cc is) steps
+  at_packet (packets.OtherVersion version) old new number now standing standing' these next steps = of_other _ old new number now standing standing' these next (λ publish is. cc is) steps
+  at_packet packets.WithWill old new number now standing standing' these next steps = of_other _ old new number now standing standing' these next (λ publish is. cc is) steps
+
+  at_input : (input : Input) (old new : Worker) (number now : ℕ) (standing standing' : Standing PlaceState) (these : List Packet) (next : Then)
+      → StepsTo (Calls group) slot_of old number standing now input these next standing' new → PublishesAt group input these old.ports new.ports
+  at_input (inputs.Packet packet) old new number now standing standing' these next steps = at_packet packet old new number now standing standing' these next steps
+  at_input (inputs.Fault fault) old new number now standing standing' these next steps = of_other _ old new number now standing standing' these next (λ publish is. cc is) steps
+  at_input inputs.Tick old new number now standing standing' these next steps = of_other _ old new number now standing standing' these next (λ publish is. cc is) steps
+  at_input inputs.EndOfInput old new number now standing standing' these next steps = of_other _ old new number now standing standing' these next (λ publish is. cc is) steps
+  at_input inputs.Closing old new number now standing standing' these next steps = of_other _ old new number now standing standing' these next (λ publish is. cc is) steps
+
+  -- a step in which an allocation failed
+  at_failed : (input : Input) (old new : Worker) (number now : ℕ) (standing : Standing PlaceState) → FailsToStep (Calls group) slot_of old number standing now input new
+      → PublishesSome group input old.ports new.ports
+  at_failed input old new number now standing fails =
+      let calls = failed (Calls group) slot_of old new number now standing input fails in
+      ⊎_elim
+      (λ (some : OffersToSome number input calls.facts).
+      inl (some.publish, some.came, (some.slots, some_put calls.facts some.slots number (message_of some.publish) old new some.offers calls.made)))
+      (λ (nothing : offered calls.facts ≡ []). inr (all_stay calls.facts old new nothing calls.made))
+      calls.offers
+
+  -- a connection that is given up
+  given_up : (old new : Worker) (client client' : ClientState PlaceState) (now : ℕ) → IsGivenUp (Calls group) slot_of old client now inputs.EndOfInput client' new → new.ports ≡ old.ports
+  given_up old new client client' now (inl moved) =
+      ⊎_elim
+      (λ (it : (publish : Publish) × (inputs.EndOfInput ≡ inputs.Packet (packets.Publish publish)) × IsPublished group publish moved.0.packets old.ports new.ports). let no = it.1 in absurd (cc no))
+      (λ (it : (new.ports ≡ old.ports) × ((publish : Publish) → inputs.EndOfInput ≡ inputs.Packet (packets.Publish publish) → ¬ IsPromised moved.0.packets)). it.0)
+      (at_input inputs.EndOfInput old new client.conn.number (moment_of client now) client.conn.standing client'.conn.standing moved.0.packets moved.0.next moved.1.stepped)
+  given_up old new client client' now (inr fails) =
+      ⊎_elim
+      (λ (it : (publish : Publish) × (inputs.EndOfInput ≡ inputs.Packet (packets.Publish publish)) × ((slots : List ℕ) × PutsSome group old.ports (message_of publish) slots new.ports)).
+      let no = it.1 in absurd (cc no))
+      (λ (same : new.ports ≡ old.ports). same)
+      (at_failed inputs.EndOfInput old new client.conn.number (moment_of client now) client.conn.standing fails.failed)
+
+  -- what others do is in no round
+  no_others : (now : ℕ) (from to : Stand) → Treads now from Others to → ⊥
+  no_others now Outside to treads = treads
+  no_others now (Inside is_open) to treads = treads
+  no_others now Behind to treads = treads
+  no_others now Parting to treads = treads
+  no_others now Parted to treads = treads
+
+  both : (these those : List Act) (ports mid ports' : List PortState) → PublishesAll group these ports mid → PublishesAll group those mid ports' → PublishesAll group (these ++ those) ports ports'
+  both [] those ports mid ports' first then = subst (λ (from : List PortState). PublishesAll group those from ports') first then
+  both (act ∷ these) those ports mid ports' first then = (first.0, first.1, both these those first.0 mid ports' first.2 then)
+
+  module _ {T : Type 0} (counts : T → Counts) (given accepted : T → Option (List ℕ)) where
+    acted : (act : Act) (old new : ServiceState PlaceState T) (supply supply' : Worker) (now : ℕ) (from to : Stand)
+        → Does (Calls group) Begins Leaves is_visiting slot_of counts given accepted act old supply new supply' → Treads now from act to → Publishes group act supply.ports supply'.ports
+    acted (Enters is_open reads) old new supply supply' now from to does treads = does.begun.ports
+    acted Left old new supply supply' now from to does treads = ap (λ (w : Worker). w.ports) does.ended.becomes
+    acted (Asks is_kicked) old new supply supply' now from to does treads =
+        stays (Kicked old.client.conn.number is_kicked) supply.ports supply'.ports (called (Kicked old.client.conn.number is_kicked) supply supply' does.asked) refl
+    acted (Reads size got bytes) old new supply supply' now from to does treads = ap (λ (w : Worker). w.ports) does.same
+    acted (Writes at put) old new supply supply' now from to does treads = ap (λ (w : Worker). w.ports) does.same
+    acted (Steps at input these next) old new supply supply' now from to does treads =
+        at_input input supply supply' old.client.conn.number (moment_of old.client at) old.client.conn.standing new.client.conn.standing these next does.moved.stepped
+    acted (Loses at input these next) old new supply supply' now from to does treads =
+        at_input input supply supply' old.client.conn.number (moment_of old.client at) old.client.conn.standing new.client.conn.standing these next does.moved.stepped
+    acted (Fails at input) old new supply supply' now from to does treads =
+        at_failed input supply supply' old.client.conn.number (moment_of old.client at) old.client.conn.standing does.failed.failed
+    acted (Starves got bytes) old new supply supply' now from to does treads = ap (λ (w : Worker). w.ports) does.same
+    acted (IsFull at) old new supply supply' now from to does treads = given_up supply supply' old.client new.client at does.given_up
+    acted IsStopped old new supply supply' now from to does treads = ap (λ (w : Worker). w.ports) does.same
+    acted (Stalls at) old new supply supply' now from to does treads = ap (λ (w : Worker). w.ports) does.same
+    acted (GivesUp at) old new supply supply' now from to does treads = given_up supply supply' old.client new.client at does.given_up
+    acted Ends old new supply supply' now from to does treads = ap (λ (w : Worker). w.ports) does.same
+    acted Others old new supply supply' now from to does treads = absurd (no_others now from to treads)
+
+    walked : (acts : List Act) (old new : ServiceState PlaceState T) (supply supply' : Worker) (now : ℕ) (from to : Stand)
+        → DoesAll (Calls group) Begins Leaves is_visiting slot_of counts given accepted acts old supply new supply' → Walks now from acts to → PublishesAll group acts supply.ports supply'.ports
+    walked [] old new supply supply' now from to does walks = ap (λ (w : Worker). w.ports) does.1
+    walked (act ∷ acts) old new supply supply' now from to does walks =
+        (does.1.ports, acted act old does.0 supply does.1 now from walks.0 does.2 walks.1, walked acts does.0 new does.1 supply' now walks.0 to does.3 walks.2)
+
+    done : (deed : Deed T) (old new : RunState T) → Makes group counts given accepted deed old new → PublishesAll group (acts_in deed) old.supply.ports new.supply.ports
+    done (Opened arrived cell now) old new does = ap (λ (s : RunState T). s.supply.ports) does.3
+    done (Closed arrived) old new does = ap (λ (s : RunState T). s.supply.ports) does.2
+    done (Allowed most) old new does = ap (λ (s : RunState T). s.supply.ports) does
+    done (Went cell now acts how) old new does =
+        let goes = does.0.becomes in
+        subst (λ (those : List Act). PublishesAll group those old.supply.ports new.supply.ports) (sym goes.acts_are)
+        (walked goes.round.led.acts goes.service goes.behind old.supply new.supply now Outside Behind goes.round.led.does goes.round.led.walks)
+    done (Passed cell) old new does = ap (λ (s : RunState T). s.supply.ports) does.1
+    done Woke old new does = ap (λ (s : RunState T). s.supply.ports) does.1
+
+    done_all : (deeds : List (Deed T)) (old new : RunState T) → MakesAll group counts given accepted deeds old new
+        → PublishesAll group (flat_map acts_in deeds) old.supply.ports new.supply.ports
+    done_all [] old new does = ap (λ (s : RunState T). s.supply.ports) does
+    done_all (deed ∷ deeds) old new does =
+        both (acts_in deed) (flat_map acts_in deeds) old.supply.ports does.0.supply.ports new.supply.ports (done deed old does.0 does.1) (done_all deeds does.0 new does.2)
+
+    -- all that came into the ports was published by the acts of the run
+    pub all_published : (run : Run T) → IsRun group counts given accepted run → IsPublishedBy group run
+    all_published run is = record { published = done_all run.deeds run.first run.last is.made }
