@@ -97,14 +97,9 @@ impl<
         ensures made { cell < length self.old.connections.cells → (turned : AnyTurned T) × (result ≡ round_of turned) × GoesBy B.group T.counts T.given T.accepted cell direction most turned self.old.connections self.new.connections }
     {
         let worker = u32::try_from(self.number).unwrap_or(u32::MAX);
-        let went = self.connections.round(
-            cell,
-            self.crossing,
-            worker,
-            buffer,
-            direction,
-            most,
-        );
+        let went = self
+            .connections
+            .round(cell, self.crossing, worker, buffer, direction, most);
         note_went(
             &mut self.due,
             self.roster,

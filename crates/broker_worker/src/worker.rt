@@ -59,18 +59,8 @@ pub struct Worker<
     pub(crate) sharing: Sharing,
 }
 
-impl<
-    'a,
-    'g,
-    B: Broker,
-    N: HistoryName,
-    T: Transport + Drop,
-    Q: Poller<T>,
-    W,
-    X,
-    C,
-    R: Wait,
-> Model for Worker<'a, 'g, B, N, T, Q, W, X, C, R> {
+impl<'a, 'g, B: Broker, N: HistoryName, T: Transport + Drop, Q: Poller<T>, W, X, C, R: Wait> Model
+    for Worker<'a, 'g, B, N, T, Q, W, X, C, R> {
     ghost use Rattle.broker_worker.specs.Resting.{WorkerState};
 
     ghost Value = { WorkerState T };

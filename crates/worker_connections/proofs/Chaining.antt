@@ -12,15 +12,14 @@ use Rattle.service_table.specs.Cells.{InCell, Turns}
 use Rattle.service_table.specs.declared.turned.Turned.{Turned}
 use Rattle.service_table.specs.declared.turned.Turned.TheVariants.{Vacant, Goes, Ended}
 use Rattle.shared_supply.specs.Calls.{Calls}
-use Rattle.shared_supply.specs.Waking.{no_wakes}
+use Rattle.shared_supply.specs.Waking.{KeepsAtMost, no_wakes, one_called}
 use Rattle.shared_supply.specs.Workers.{Worker, Begins, Leaves, is_visiting}
-use Rattle.shared_supply.specs.declared.wakes.Wakes.{Wakes}
 use Rattle.worker_connections.specs.declared.served.ServedCounts.{ServedCounts}
 use Rattle.worker_connections.specs.Arrivals.{ArrivedState}
 use Rattle.worker_connections.specs.Closing.{HasClosedNone, and_closed, closed_after}
 use Rattle.worker_connections.specs.Counting.{counted, counted_behind, none_served}
 use Rattle.worker_connections.specs.Serving.{TakesIn}
-use Rattle.worker_connections.specs.Chains.{Deed, Opened, Closed, Allowed, Went, Passed, Woke, Run, RunState, Makes, MakesAll, HasRunTo, IsRun, came_in, came_by}
+use Rattle.worker_connections.specs.Chains.{Deed, Opened, Closed, Allowed, Went, Passed, Called, Told, ToldAll, Run, RunState, Makes, MakesAll, HasRunTo, IsRun, came_in, came_by}
 
 module _ {T : Type 0} (group : ℕ → GroupId) (counts : T → Counts) (given accepted : T → Option (List ℕ)) where
   abbrev Table : Type 0
@@ -46,11 +45,11 @@ module _ {T : Type 0} (group : ℕ → GroupId) (counts : T → Counts) (given a
   pub runs_from : (count : ℕ) (supply : Worker) (cells : Table) (received : List (ArrivedState T)) (closed : Option (List T)) → cells ≡ replicate count None → received ≡ []
       → supply.wakes ≡ no_wakes → AreUnsent supply.ports → HasClosedNone closed
       → HasRunTo group counts given accepted (record { supply = supply; cells = cells; received = received; served = none_served; closed = closed })
-  runs_from count supply cells received closed free none quiet unsent open =
+  runs_from count supply cells received closed free none quiet unsent nothing =
       let first : RunState T = record { supply = supply; cells = cells; received = received; served = none_served; closed = closed } in
       record {
         run = record { first = first; deeds = []; last = first };
-        is = record { begun = record { count = count; free = free; none_came = none; none_ended = refl; none_waits = quiet; none_closed = open; none_sent = unsent }; made = refl };
+        is = record { begun = record { count = count; free = free; none_came = none; none_ended = refl; none_waits = quiet; none_closed = nothing; none_sent = unsent }; made = refl };
         here = refl;
       }
 
@@ -76,11 +75,11 @@ module _ {T : Type 0} (group : ℕ → GroupId) (counts : T → Counts) (given a
       (record { supply = supply'; cells = cells'; received = received; served = served'; closed = closed' })
   goes supply supply' cells cells' received served served' closed closed' now cell None after turned has is made counted_is closed_is =
       let same : served' ≡ served = subst (λ (t : Turned T). served' ≡ counted_behind t served) made.0 counted_is in
-      let open : closed' ≡ closed = subst (λ (t : Turned T). closed' ≡ closed_after t closed) made.0 closed_is in (
+      let unclosed : closed' ≡ closed = subst (λ (t : Turned T). closed' ≡ closed_after t closed) made.0 closed_is in (
         Passed cell,
         (
           record { before = None; after = after; has = has; becomes = (refl, made.1); is = is },
-          λ i. record { supply = made.2 i; cells = cells'; received = received; served = same i; closed = open i },
+          λ i. record { supply = made.2 i; cells = cells'; received = received; served = same i; closed = unclosed i },
         ),
       )
   goes supply supply' cells cells' received served served' closed closed' now cell (Some service) after Vacant has is made counted_is closed_is = absurd made.2
@@ -129,16 +128,32 @@ module _ {T : Type 0} (group : ℕ → GroupId) (counts : T → Counts) (given a
   went supply allowed supply' most cells cells' received served served' closed closed' now cell turned ran allows made counted_is closed_is =
       let deed = goes allowed supply' cells cells' received served served' closed closed' now cell made.before made.after turned made.has made.is made.becomes counted_is closed_is in
       runs_on deed.0 _ _
-      (runs_on (Allowed most) _ (record { supply = allowed; cells = cells; received = received; served = served; closed = closed }) ran
+      (runs_on (Allowed most) _ (record { supply = allowed; cells = cells; received = received; served = served; closed = closed })
       (λ i. record { supply = allows i; cells = cells; received = received; served = served; closed = closed })) deed.1
 
-  -- it was called, or told others
-  pub wakes_on : (supply supply' : Worker) (cells : Table) (received : List (ArrivedState T)) (served : ServedCounts) (closed : Option (List T)) (wakes : Wakes)
-      → supply' ≡ record supply { wakes = wakes }
+  -- it was called for a message of this group
+  pub called_on : (slot : ℕ) (supply supply' : Worker) (cells : Table) (received : List (ArrivedState T)) (served : ServedCounts) (closed : Option (List T))
+      → supply' ≡ record supply { wakes = one_called slot supply.wakes }
       → HasRunTo group counts given accepted (record { supply = supply; cells = cells; received = received; served = served; closed = closed })
       → HasRunTo group counts given accepted (record { supply = supply'; cells = cells; received = received; served = served; closed = closed })
-  wakes_on supply supply' cells received served closed wakes is ran =
-      runs_on Woke _ _ ran (wakes, λ i. record { supply = is i; cells = cells; received = received; served = served; closed = closed })
+  called_on slot supply supply' cells received served closed is ran =
+      runs_on (Called slot) _ _ ran (λ i. record { supply = is i; cells = cells; received = received; served = served; closed = closed })
+
+  -- it told others of the messages that are more than these
+  pub told_on : (most others : List ℕ) (supply supply' : Worker) (cells : Table) (received : List (ArrivedState T)) (served : ServedCounts) (closed : Option (List T))
+      → KeepsAtMost most others supply.wakes supply'.wakes → supply' ≡ record supply { wakes = supply'.wakes }
+      → HasRunTo group counts given accepted (record { supply = supply; cells = cells; received = received; served = served; closed = closed })
+      → HasRunTo group counts given accepted (record { supply = supply'; cells = cells; received = received; served = served; closed = closed })
+  told_on most others supply supply' cells received served closed keeps is ran =
+      runs_on (Told most others) _ _ ran (keeps, λ i. record { supply = is i; cells = cells; received = received; served = served; closed = closed })
+
+  -- it told others all that they wait for
+  pub told_all_on : (supply supply' : Worker) (cells : Table) (received : List (ArrivedState T)) (served : ServedCounts) (closed : Option (List T))
+      → supply' ≡ record supply { wakes = no_wakes }
+      → HasRunTo group counts given accepted (record { supply = supply; cells = cells; received = received; served = served; closed = closed })
+      → HasRunTo group counts given accepted (record { supply = supply'; cells = cells; received = received; served = served; closed = closed })
+  told_all_on supply supply' cells received served closed is ran =
+      runs_on ToldAll _ _ ran (λ i. record { supply = is i; cells = cells; received = received; served = served; closed = closed })
 
   -- it waited at its poller, which closed nothing
   pub waits_on : (supply : Worker) (cells : Table) (received : List (ArrivedState T)) (served : ServedCounts) (closed closed' : Option (List T)) → closed' ≡ closed
@@ -154,7 +169,9 @@ module _ {T : Type 0} (group : ℕ → GroupId) (counts : T → Counts) (given a
   came_one (Allowed most) old new does = ap (λ (s : RunState T). s.received) does ∙ sym (append-nil old.received)
   came_one (Went cell now acts how) old new does = ap (λ (s : RunState T). s.received) does.1 ∙ sym (append-nil old.received)
   came_one (Passed cell) old new does = ap (λ (s : RunState T). s.received) does.1 ∙ sym (append-nil old.received)
-  came_one Woke old new does = ap (λ (s : RunState T). s.received) does.1 ∙ sym (append-nil old.received)
+  came_one (Called slot) old new does = ap (λ (s : RunState T). s.received) does ∙ sym (append-nil old.received)
+  came_one (Told most others) old new does = ap (λ (s : RunState T). s.received) does.1 ∙ sym (append-nil old.received)
+  came_one ToldAll old new does = ap (λ (s : RunState T). s.received) does ∙ sym (append-nil old.received)
 
   pub came_all : (deeds : List (Deed T)) (old new : RunState T) → MakesAll group counts given accepted deeds old new → new.received ≡ old.received ++ came_by deeds
   came_all [] old new does = ap (λ (s : RunState T). s.received) does ∙ sym (append-nil old.received)

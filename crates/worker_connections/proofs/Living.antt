@@ -16,7 +16,7 @@ use Rattle.service_table.specs.Cells.{Opens}
 use Rattle.shared_supply.specs.Calls.{Calls}
 use Rattle.shared_supply.specs.Workers.{Begins, Leaves, is_visiting}
 use Rattle.worker_connections.specs.Arrivals.{ArrivedState, opening_at}
-use Rattle.worker_connections.specs.Chains.{Deed, Opened, Closed, Allowed, Went, Passed, Woke, LeavesCell, Makes, MakesAll, RunState, came_in, came_by}
+use Rattle.worker_connections.specs.Chains.{Deed, Opened, Closed, Allowed, Went, Passed, Called, Told, ToldAll, LeavesCell, Makes, MakesAll, RunState, came_in, came_by}
 use Rattle.worker_connections.specs.Lives.{HasLived, IfLived}
 use Rattle.worker_connections.proofs.Parts.{at_cell, both_parts}
 
@@ -120,7 +120,9 @@ module _ {T : Type 0} (group : ℕ → GroupId) (counts : T → Counts) (given a
   lives (Passed cell) old new fresh does all =
       let made = does.0 in
       subst AllLived (sym made.is) (All-set Lived old.cells cell made.after (subst Lived (sym made.becomes.1) tt) all)
-  lives Woke old new fresh does all = subst (λ (s : RunState T). AllLived s.cells) (sym does.1) all
+  lives (Called slot) old new fresh does all = subst (λ (s : RunState T). AllLived s.cells) (sym does) all
+  lives (Told most others) old new fresh does all = subst (λ (s : RunState T). AllLived s.cells) (sym does.1) all
+  lives ToldAll old new fresh does all = subst (λ (s : RunState T). AllLived s.cells) (sym does) all
 
   -- **Each connection has its life in the run**: at each state of it, the connection in a cell was led there by rounds from its opening, with others between them
   pub lives_all : (deeds : List (Deed T)) (old new : RunState T) → AllByRecursion (λ (arrived : ArrivedState T). counts arrived.transport ≡ no_counts) (came_by deeds)

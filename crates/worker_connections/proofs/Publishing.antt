@@ -45,7 +45,7 @@ use Rattle.conn_service.specs.Services.{ServiceState}
 use Rattle.conn_service.specs.Visits.{Stand, Outside, Inside, Behind, Parting, Parted, Treads, Walks}
 use Rattle.shared_supply.specs.Calls.{Calls, missing}
 use Rattle.shared_supply.specs.Workers.{Worker, Begins, Leaves, is_visiting}
-use Rattle.worker_connections.specs.Chains.{Deed, Opened, Closed, Allowed, Went, Passed, Woke, IsRun, Makes, MakesAll, Run, RunState}
+use Rattle.worker_connections.specs.Chains.{Deed, Opened, Closed, Allowed, Went, Passed, Called, Told, ToldAll, IsRun, Makes, MakesAll, Run, RunState}
 use Rattle.worker_connections.specs.Publishing.{IsPromised, IsPublished, IsPublishedBy, Publishes, PublishesAll, PublishesAt, PublishesSome, PutsInto, PutsSome, acts_in}
 
 -- nothing is found in front of a list, and nothing in it
@@ -386,7 +386,9 @@ module _ (group : ℕ → GroupId) where
         subst (λ (those : List Act). PublishesAll group those old.supply.ports new.supply.ports) (sym goes.acts_are)
         (walked goes.round.led.acts goes.service goes.behind old.supply new.supply now Outside Behind goes.round.led.does goes.round.led.walks)
     done (Passed cell) old new does = ap (λ (s : RunState T). s.supply.ports) does.1
-    done Woke old new does = ap (λ (s : RunState T). s.supply.ports) does.1
+    done (Called slot) old new does = ap (λ (s : RunState T). s.supply.ports) does
+    done (Told most others) old new does = ap (λ (s : RunState T). s.supply.ports) does.1
+    done ToldAll old new does = ap (λ (s : RunState T). s.supply.ports) does
 
     done_all : (deeds : List (Deed T)) (old new : RunState T) → MakesAll group counts given accepted deeds old new
         → PublishesAll group (flat_map acts_in deeds) old.supply.ports new.supply.ports

@@ -22,7 +22,7 @@ use Rattle.shared_supply.specs.Workers.{Worker, Begins, Leaves, is_visiting}
 use Rattle.worker_connections.specs.Arrivals.{ArrivedState, opening_at}
 use Rattle.worker_connections.proofs.Chaining.{came_all}
 use Rattle.worker_connections.proofs.Parts.{at_cell, both_parts}
-use Rattle.worker_connections.specs.Chains.{Deed, Opened, Closed, Allowed, Went, Passed, Woke, IsRun, KeepsReceiveMaximum, LeavesCell, Makes, MakesAll, Run, RunState, came_in, came_by}
+use Rattle.worker_connections.specs.Chains.{Deed, Opened, Closed, Allowed, Went, Passed, Called, Told, ToldAll, IsRun, KeepsReceiveMaximum, LeavesCell, Makes, MakesAll, Run, RunState, came_in, came_by}
 
 -- it has no more unacknowledged than its Receive Maximum, and than this limit
 abbrev Within : ℕ → Standing PlaceState → Type 0
@@ -80,7 +80,9 @@ module _ {T : Type 0} (group : ℕ → GroupId) (counts : T → Counts) (given a
       let made = does.0 in
       subst (λ (cells : List (Option (ServiceState PlaceState T))). All (IfWithin limit) cells) (sym made.is)
       (All-set (IfWithin limit) old.cells cell made.after (subst (λ (c : Option (ServiceState PlaceState T)). IfWithin limit c) (sym made.becomes.1) tt) all)
-  keeps limit Woke old new few does all = subst (λ (s : RunState T). All (IfWithin limit) s.cells) (sym does.1) all
+  keeps limit (Called slot) old new few does all = subst (λ (s : RunState T). All (IfWithin limit) s.cells) (sym does) all
+  keeps limit (Told most others) old new few does all = subst (λ (s : RunState T). All (IfWithin limit) s.cells) (sym does.1) all
+  keeps limit ToldAll old new few does all = subst (λ (s : RunState T). All (IfWithin limit) s.cells) (sym does) all
 
   keeps_all : (limit : ℕ) (deeds : List (Deed T)) (old new : RunState T) → AllByRecursion (IsLimited limit) (came_by deeds) → MakesAll group counts given accepted deeds old new
       → All (IfWithin limit) old.cells → All (IfWithin limit) new.cells

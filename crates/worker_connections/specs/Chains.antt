@@ -15,9 +15,8 @@ use Rattle.conn_service.specs.Services.{ServiceState}
 use Rattle.conn_service.specs.Lives.{DoesAll, Rounds}
 use Rattle.service_table.specs.Cells.{InCell, Opens, occupied}
 use Rattle.shared_supply.specs.Calls.{Calls}
-use Rattle.shared_supply.specs.Waking.{no_wakes}
+use Rattle.shared_supply.specs.Waking.{KeepsAtMost, no_wakes, one_called}
 use Rattle.shared_supply.specs.Workers.{Worker, Begins, Leaves, is_visiting}
-use Rattle.shared_supply.specs.declared.wakes.Wakes.{Wakes}
 use Rattle.worker_connections.specs.declared.served.ServedCounts.{ServedCounts}
 use Rattle.worker_connections.specs.Arrivals.{ArrivedState, IsWatched, opening_at}
 use Rattle.worker_connections.specs.Closing.{HasClosedNone, and_closed, closed_if}
@@ -35,8 +34,12 @@ pub data Deed (T : Type 0) : Type 0 where
   Went : (cell now : ℕ) → (acts : List Act) → (how : Option Served) → Deed T
   -- nobody was in the cell
   Passed : (cell : ℕ) → Deed T
-  -- it told others what they wait for, or was called
-  Woke : Deed T
+  -- another worker called it for a message of the group of this slot
+  Called : (slot : ℕ) → Deed T
+  -- of the messages that others may wait for it kept so many of each group at most, and told others of these
+  Told : (most others : List ℕ) → Deed T
+  -- it told others all that they wait for
+  ToldAll : Deed T
 
 -- what a worker has: what it asks, its connections, those that came, in order, how connections ended, and which transports it closed, each as it was then, in order;
 -- `None` where its poller does not tell that
@@ -99,7 +102,10 @@ module _ {T : Type 0} (group : ℕ → GroupId) (counts : T → Counts) (given a
       × (new ≡ record old { supply = new.supply; cells = new.cells; served = counted_if how old.served; closed = new.closed })
   Makes (Passed cell) old new =
       InCell old.cells cell (λ before after. (before ≡ None) × (after ≡ None)) new.cells × (new ≡ record old { cells = new.cells })
-  Makes Woke old new = (wakes : Wakes) × (new ≡ record old { supply = record old.supply { wakes = wakes } })
+  Makes (Called slot) old new = new ≡ record old { supply = record old.supply { wakes = one_called slot old.supply.wakes } }
+  Makes (Told most others) old new =
+      KeepsAtMost most others old.supply.wakes new.supply.wakes × (new ≡ record old { supply = record old.supply { wakes = new.supply.wakes } })
+  Makes ToldAll old new = new ≡ record old { supply = record old.supply { wakes = no_wakes } }
 
   -- these deeds, one after the other
   abbrev pub MakesAll : List (Deed T) → RunState T → RunState T → Type 0

@@ -1,6 +1,5 @@
 -- The run goes on by that.
-use Rattle.shared_supply.specs.Waking.{one_called}
-use Rattle.worker_connections.proofs.Chaining.{wakes_on}
+use Rattle.worker_connections.proofs.Chaining.{called_on}
 use Rattle.worker_connections.proofs.connections.Connections.count_call_if.Goals as goal
 
 pub invariant_of-self : goal.invariant_of-self
@@ -9,6 +8,6 @@ invariant_of-self g c = (
   c.self.invariant.1,
   c.self.invariant.2,
   c.self.invariant.3,
-  wakes_on g.B.Broker.group g.T.Transport.counts g.T.Transport.given g.T.Transport.accepted c.self.inside.supply c.count_call.new.self c.self.inside.table c.self.inside.receiver.received
-      c.self.inside.served (g.Q.Poller.closed c.self.inside.poller) (one_called c.args.slot c.self.inside.supply.wakes) c.count_call.ensures c.self.invariant.4,
+  called_on g.B.Broker.group g.T.Transport.counts g.T.Transport.given g.T.Transport.accepted c.args.slot c.self.inside.supply c.count_call.new.self c.self.inside.table
+      c.self.inside.receiver.received c.self.inside.served (g.Q.Poller.closed c.self.inside.poller) c.count_call.ensures c.self.invariant.4,
 )

@@ -35,12 +35,11 @@ returns-clause-made g c =
     allowed c.turn-turned.result other c.turn-turned.new.supply) c.turn-turned.new.table in
     let Goes : ConnectionsState g.row.T.Denot → Type 0 = λ old. InCell old.cells c.args.cell
     (λ one other. FollowsIn g.T.Transport.given g.T.Transport.accepted c.args.direction old.sweeps.latest one c.turn-turned.result other) c.turn-turned.new.table in
-    let allowed = c.allow.ensures ∙ ap (λ (state : ConnectionsState g.row.T.Denot). record state.supply { allowance = c.args.most }) c.self.view_is in
-    (
+    let allowed = c.allow.ensures ∙ ap (λ (state : ConnectionsState g.row.T.Denot). record state.supply { allowance = c.args.most }) c.self.view_is in (
       c.turn-turned.result,
       c.settle.ensures.told,
       record {
-      turns = subst (λ (w : Worker). TurnsAs w c.args.self.now) allowed (subst (TurnsAs c.allow.new.self) c.self.view_is c.turn-turned.ensures.turns);
-      way = subst Goes c.self.view_is c.turn-turned.ensures.way;
-    },
+        turns = subst (λ (w : Worker). TurnsAs w c.args.self.now) allowed (subst (TurnsAs c.allow.new.self) c.self.view_is c.turn-turned.ensures.turns);
+        way = subst Goes c.self.view_is c.turn-turned.ensures.way;
+      },
     )

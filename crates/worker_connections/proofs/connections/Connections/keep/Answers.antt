@@ -1,5 +1,5 @@
 -- The run goes on by that.
-use Rattle.worker_connections.proofs.Chaining.{wakes_on}
+use Rattle.worker_connections.proofs.Chaining.{told_on}
 use Rattle.worker_connections.proofs.connections.Connections.keep.Goals as goal
 
 pub invariant_of-self : goal.invariant_of-self
@@ -8,6 +8,7 @@ invariant_of-self g c = (
   c.self.invariant.1,
   c.self.invariant.2,
   c.self.invariant.3,
-  wakes_on g.B.Broker.group g.T.Transport.counts g.T.Transport.given g.T.Transport.accepted c.self.inside.supply c.keep_messages.new.self c.self.inside.table c.self.inside.receiver.received
-      c.self.inside.served (g.Q.Poller.closed c.self.inside.poller) c.keep_messages.new.self.wakes c.keep_messages.ensures.same c.self.invariant.4,
+  told_on g.B.Broker.group g.T.Transport.counts g.T.Transport.given g.T.Transport.accepted c.args.most.now c.keep_messages.result c.self.inside.supply c.keep_messages.new.self
+      c.self.inside.table c.self.inside.receiver.received c.self.inside.served (g.Q.Poller.closed c.self.inside.poller) c.keep_messages.ensures.kept c.keep_messages.ensures.same
+      c.self.invariant.4,
 )

@@ -1,6 +1,5 @@
 -- The run goes on by that.
-use Rattle.shared_supply.specs.Waking.{no_wakes}
-use Rattle.worker_connections.proofs.Chaining.{wakes_on}
+use Rattle.worker_connections.proofs.Chaining.{told_all_on}
 use Rattle.worker_connections.proofs.connections.Connections.take_wakes.Goals as goal
 
 pub invariant_of-self : goal.invariant_of-self
@@ -9,6 +8,6 @@ invariant_of-self g c = (
   c.self.invariant.1,
   c.self.invariant.2,
   c.self.invariant.3,
-  wakes_on g.B.Broker.group g.T.Transport.counts g.T.Transport.given g.T.Transport.accepted c.self.inside.supply c.take_wakes.new.self c.self.inside.table c.self.inside.receiver.received
-      c.self.inside.served (g.Q.Poller.closed c.self.inside.poller) no_wakes c.take_wakes.ensures.cleared c.self.invariant.4,
+  told_all_on g.B.Broker.group g.T.Transport.counts g.T.Transport.given g.T.Transport.accepted c.self.inside.supply c.take_wakes.new.self c.self.inside.table
+      c.self.inside.receiver.received c.self.inside.served (g.Q.Poller.closed c.self.inside.poller) c.take_wakes.ensures.cleared c.self.invariant.4,
 )
