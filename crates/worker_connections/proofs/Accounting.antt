@@ -1,5 +1,5 @@
 -- The connections of a worker stay accounted for.
-use Rattle.std.proofs.Common.{◌≡◌, ◌+◌, ℕ, List, [], ◌∷◌, Option, refl, sym, subst, inl, inr, ◌∙◌, ap, arith, length}
+use Rattle.std.proofs.Common.{◌≡◌, ◌+◌, ℕ, List, [], ◌∷◌, Option, refl, inl, inr, ◌∙◌, ap, arith}
 use Rattle.transport.specs.declared.counts.Counts.{Counts}
 use Rattle.group_queue.specs.Places.{PlaceState}
 use Rattle.conn_service.specs.declared.served.Served.TheVariants.{Memory}

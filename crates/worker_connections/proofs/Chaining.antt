@@ -1,12 +1,10 @@
 -- The run of a worker goes on, deed by deed.
-use Rattle.std.proofs.Common.{◌≡◌, ◌+◌, ℕ, List, [], ◌∷◌, ◌++◌, Option, Some, None, replicate, refl, sym, subst, ap, ◌∙◌, inl, inr, append-nil, append_assoc}
+use Rattle.std.proofs.Common.{◌≡◌, ℕ, List, [], ◌∷◌, ◌++◌, Option, Some, None, replicate, refl, sym, subst, ap, ◌∙◌, inl, inr, append-nil, append_assoc}
 use Rattle.std.specs.List.{slice_get, slice_set}
 use Rattle.transport.specs.declared.counts.Counts.{Counts}
 use Rattle.group_queue.specs.Ports.{GroupId}
 use Rattle.broker_groups.specs.Naming.{AreUnsent}
 use Rattle.group_queue.specs.Places.{PlaceState}
-use Rattle.conn_service.specs.declared.served.Served.{Served}
-use Rattle.conn_service.specs.declared.served.Served.TheVariants.{Memory}
 use Rattle.conn_service.specs.Services.{ServiceState}
 use Rattle.service_table.specs.Cells.{InCell, Turns}
 use Rattle.service_table.specs.declared.turned.Turned.{Turned}
@@ -17,9 +15,9 @@ use Rattle.shared_supply.specs.Workers.{Worker, Begins, Leaves, is_visiting}
 use Rattle.worker_connections.specs.declared.served.ServedCounts.{ServedCounts}
 use Rattle.worker_connections.specs.Arrivals.{ArrivedState}
 use Rattle.worker_connections.specs.Closing.{HasClosedNone, and_closed, closed_after}
-use Rattle.worker_connections.specs.Counting.{counted, counted_behind, none_served}
+use Rattle.worker_connections.specs.Counting.{counted_behind, none_served}
 use Rattle.worker_connections.specs.Serving.{TakesIn}
-use Rattle.worker_connections.specs.Chains.{Deed, Opened, Closed, Allowed, Went, Passed, Called, Told, ToldAll, Run, RunState, Makes, MakesAll, HasRunTo, IsRun, came_in, came_by}
+use Rattle.worker_connections.specs.Chains.{Deed, Opened, Closed, Allowed, Went, Passed, Called, Told, ToldAll, RunState, Makes, MakesAll, HasRunTo, came_in, came_by}
 
 module _ {T : Type 0} (group : ℕ → GroupId) (counts : T → Counts) (given accepted : T → Option (List ℕ)) where
   abbrev Table : Type 0
@@ -128,7 +126,7 @@ module _ {T : Type 0} (group : ℕ → GroupId) (counts : T → Counts) (given a
   went supply allowed supply' most cells cells' received served served' closed closed' now cell turned ran allows made counted_is closed_is =
       let deed = goes allowed supply' cells cells' received served served' closed closed' now cell made.before made.after turned made.has made.is made.becomes counted_is closed_is in
       runs_on deed.0 _ _
-      (runs_on (Allowed most) _ (record { supply = allowed; cells = cells; received = received; served = served; closed = closed })
+      (runs_on (Allowed most) _ (record { supply = allowed; cells = cells; received = received; served = served; closed = closed }) ran
       (λ i. record { supply = allows i; cells = cells; received = received; served = served; closed = closed })) deed.1
 
   -- it was called for a message of this group

@@ -1,5 +1,5 @@
 -- What comes into the ports of a worker, call by call, step by step, and over its run.
-use Rattle.std.proofs.Common.{◌≡◌, ◌≢◌, ◌⊎◌, ℕ, ◌+◌, ⊥, if◌then◌else◌, Bool, true, false, List, [], ◌∷◌, ◌++◌, length, map, Option, Some, None, Result, is_some, refl, sym, ap, subst, ◌∙◌, inl, inr, ⊎_elim}
+use Rattle.std.proofs.Common.{◌≡◌, ◌≢◌, ◌⊎◌, ℕ, if◌then◌else◌, Bool, true, false, List, [], ◌∷◌, ◌++◌, length, map, Option, Some, None, Result, is_some, refl, sym, ap, subst, ◌∙◌, inl, inr, ⊎_elim}
 use Rattle.std.specs.List.{cons_option, flat_map}
 use Rattle.std.specs.Option.{option_to_list}
 use Rattle.mqtt_packet.specs.declared.packet.Delivery.{Delivery}
@@ -33,7 +33,7 @@ use Rattle.conn_engine.specs.declared.input.Input.TheVariants as inputs
 use Rattle.conn_engine.specs.declared.standing.Link.{Link}
 use Rattle.conn_engine.specs.declared.standing.Standing.{Standing}
 use Rattle.conn_engine.specs.declared.standing.Standing.TheVariants.{Unconnected, Waiting, Connected, Ended}
-use Rattle.conn_engine.specs.Step.{AnswersFirst, AnswersPacket, AnswersUnlessKicked, Concludes, FailsToStep, Hands, IsKicked, Reacts, Steps as StepsTo}
+use Rattle.conn_engine.specs.Step.{AnswersFirst, AnswersPacket, AnswersUnlessKicked, Concludes, FailsToStep, Hands, Reacts, Steps as StepsTo}
 use Rattle.conn_laws.specs.Calls.{offer_of, offered, MakesAll as MakesCalls, OffersToEach, OffersNone, OffersToSome}
 use Rattle.conn_laws.proofs.Calling.{Plain, parted}
 use Rattle.conn_laws.proofs.Failing.{failed}
@@ -69,6 +69,11 @@ refused_with : (delivery : Delivery) (other code : ℕ) (publish : Publish) → 
 refused_with (AtLeastOnce identifier) other code publish is = refused_by (closing_code publish) identifier other code publish is
 refused_with AtMostOnce other code publish is = absurd (cc is)
 refused_with (ExactlyOnce identifier) other code publish is = absurd (cc is)
+
+-- the Reason Code of a PUBACK
+abbrev code_of : Packet → ℕ
+code_of (packets.Puback puback) = puback.reason_code
+code_of _ = 0
 
 module _ (group : ℕ → GroupId) where
   missed_ports : (is_missed : Bool) (worker : Worker) → (missing is_missed worker).ports ≡ worker.ports
@@ -113,7 +118,7 @@ module _ (group : ℕ → GroupId) where
 
   stays : (fact : Fact PlaceState) (old new : List PortState) → OffersOrStays fact old new → offer_of fact ≡ None → new ≡ old
   stays fact old new (inl same) none = same.1
-  stays fact old new (inr offer) none = let no : Some (offer.slot, offer.connection, offer.message) ≡ None = sym offer.is ∙ none in absurd (cc no)
+  stays fact old new (inr offer) none = let never : Some (offer.slot, offer.connection, offer.message) ≡ None = sym offer.is ∙ none in absurd (cc never)
 
   -- calls that offer nothing
   all_stay : (facts : List (Fact PlaceState)) (old new : Worker) → offered facts ≡ [] → MakesCalls (Calls group) old facts new → new.ports ≡ old.ports
@@ -134,8 +139,8 @@ module _ (group : ℕ → GroupId) where
       subst (λ (those : List PortState). PutsSome group those message slots ports') same.1 (others slots (subst Found same.0 offers))
   put_first fact facts [] number message ports mid ports' (inr offer) offers others =
       let Found : Option (ℕ × ℕ × Message) → Type 0 = λ found. cons_option found (offered facts) ≡ [] in
-      let no = subst Found offer.is offers in
-      absurd (cc no)
+      let never = subst Found offer.is offers in
+      absurd (cc never)
   put_first fact facts (slot ∷ slots) number message ports mid ports' (inr offer) offers others =
       let Found : Option (ℕ × ℕ × Message) → Type 0 = λ found. cons_option found (offered facts) ≡ (slot, number, message) ∷ map (λ (slot : ℕ). (slot, number, message)) slots in
       let is = subst Found offer.is offers in
@@ -178,7 +183,7 @@ module _ (group : ℕ → GroupId) where
 
   -- no promise, by the packet of the reply
   silent : (reply : Reply) (packet : Packet) (between : Standing PlaceState) → reply.packet ≡ Some packet → ((identifier : ℕ) → packet ≢ puback identifier 0) → IsNoPromise reply.packet between
-  silent reply packet between is no = subst (λ (it : Option Packet). IsNoPromise it between) (sym is) no
+  silent reply packet between is never = subst (λ (it : Option Packet). IsNoPromise it between) (sym is) never
 
   over : (reply : Reply) (between : Standing PlaceState) → reply.packet ≡ None → between ≡ Ended → IsNoPromise reply.packet between
   over reply between is ended = subst (λ (it : Option Packet). IsNoPromise it between) (sym is) ended
@@ -189,7 +194,7 @@ module _ (group : ℕ → GroupId) where
       inr (ap (λ (w : Worker). w.ports) is.1, over reply between (ap (λ (r : Reply). r.packet) is.0.told) is.0.over)
   first_answered (first.Refuse refusal) old new number max_inflight now publish between reply is =
       inr (ap (λ (w : Worker). w.ports) is.1, silent reply _ between (ap (λ (r : Reply). r.packet) is.0.told) (λ identifier same. cc same))
-  first_answered first.Attach old new number max_inflight now publish between reply is = let no = is.1 in absurd (cc no)
+  first_answered first.Attach old new number max_inflight now publish between reply is = let never = is.1 in absurd (cc never)
 
   concluded : (next : Then) (old new : Worker) (link : Link PlaceState) (now : ℕ) (standing : Standing PlaceState) → Concludes (Calls group) slot_of old link now next standing new
       → new.ports ≡ old.ports
@@ -204,7 +209,7 @@ module _ (group : ℕ → GroupId) where
   published (answers.Refuse other code) old mid new number publish between reply answered is kept =
       inr (
         kept ∙ ap (λ (w : Worker). w.ports) is.1,
-        silent reply (puback other code) between (ap (λ (r : Reply). r.packet) is.0) (λ identifier same. refused_with publish.delivery other code publish answered (cc same)),
+        silent reply (puback other code) between (ap (λ (r : Reply). r.packet) is.0) (λ identifier same. refused_with publish.delivery other code publish answered (ap code_of same)),
       )
   published (answers.Offer identifier) old mid new number publish between reply answered is kept =
       inl (
@@ -241,13 +246,13 @@ module _ (group : ℕ → GroupId) where
   -- no promise stands in front of what is sent
   unpromised : (packet : Option Packet) (between standing : Standing PlaceState) (old new : Worker) (these sent : List Packet) → IsNoPromise packet between
       → Hands (Calls group) slot_of old between sent standing new → these ≡ option_to_list packet ++ sent → ¬ IsPromised these
-  unpromised None between standing old new these sent no hands is promised =
-      let none = (subst (λ (s : Standing PlaceState). Hands (Calls group) slot_of old s sent standing new) no hands).0 in
+  unpromised None between standing old new these sent never hands is promised =
+      let none = (subst (λ (s : Standing PlaceState). Hands (Calls group) slot_of old s sent standing new) never hands).0 in
       let some = sym promised.2 ∙ is ∙ none in
       cc some
-  unpromised (Some packet) between standing old new these sent no hands is promised =
+  unpromised (Some packet) between standing old new these sent never hands is promised =
       let same = sym is ∙ promised.2 in
-      no promised.0 (cc same)
+      never promised.0 (cc same)
 
   -- a step of a PUBLISH
   of_publish : (old new : Worker) (number now : ℕ) (standing standing' : Standing PlaceState) (publish : Publish) (these : List Packet) (next : Then)
@@ -279,11 +284,11 @@ module _ (group : ℕ → GroupId) where
   of_other : (input : Input) (old new : Worker) (number now : ℕ) (standing standing' : Standing PlaceState) (these : List Packet) (next : Then)
       → ((publish : Publish) → input ≡ inputs.Packet (packets.Publish publish) → ⊥) → StepsTo (Calls group) slot_of old number standing now input these next standing' new
       → PublishesAt group input these old.ports new.ports
-  of_other input old new number now standing standing' these next no steps =
+  of_other input old new number now standing standing' these next never steps =
       let calls = stepped (Calls group) slot_of old new number now standing standing' input these next steps in
       ⊎_elim
-      (λ (each : OffersToEach number input calls.facts). absurd (no each.publish each.came))
-      (λ (nothing : OffersNone standing input calls.facts next). inr (all_stay calls.facts old new nothing.offers calls.made, λ publish is. absurd (no publish is)))
+      (λ (each : OffersToEach number input calls.facts). absurd (never each.publish each.came))
+      (λ (nothing : OffersNone standing input calls.facts next). inr (all_stay calls.facts old new nothing.offers calls.made, λ publish is. absurd (never publish is)))
       calls.offers
 
   at_packet : (packet : Packet) (old new : Worker) (number now : ℕ) (standing standing' : Standing PlaceState) (these : List Packet) (next : Then)
@@ -326,13 +331,13 @@ module _ (group : ℕ → GroupId) where
   given_up : (old new : Worker) (client client' : ClientState PlaceState) (now : ℕ) → IsGivenUp (Calls group) slot_of old client now inputs.EndOfInput client' new → new.ports ≡ old.ports
   given_up old new client client' now (inl moved) =
       ⊎_elim
-      (λ (it : (publish : Publish) × (inputs.EndOfInput ≡ inputs.Packet (packets.Publish publish)) × IsPublished group publish moved.0.packets old.ports new.ports). let no = it.1 in absurd (cc no))
+      (λ (it : (publish : Publish) × (inputs.EndOfInput ≡ inputs.Packet (packets.Publish publish)) × IsPublished group publish moved.0.packets old.ports new.ports). let never = it.1 in absurd (cc never))
       (λ (it : (new.ports ≡ old.ports) × ((publish : Publish) → inputs.EndOfInput ≡ inputs.Packet (packets.Publish publish) → ¬ IsPromised moved.0.packets)). it.0)
       (at_input inputs.EndOfInput old new client.conn.number (moment_of client now) client.conn.standing client'.conn.standing moved.0.packets moved.0.next moved.1.stepped)
   given_up old new client client' now (inr fails) =
       ⊎_elim
       (λ (it : (publish : Publish) × (inputs.EndOfInput ≡ inputs.Packet (packets.Publish publish)) × ((slots : List ℕ) × PutsSome group old.ports (message_of publish) slots new.ports)).
-      let no = it.1 in absurd (cc no))
+      let never = it.1 in absurd (cc never))
       (λ (same : new.ports ≡ old.ports). same)
       (at_failed inputs.EndOfInput old new client.conn.number (moment_of client now) client.conn.standing fails.failed)
 
@@ -345,8 +350,8 @@ module _ (group : ℕ → GroupId) where
   no_others now Parted to treads = treads
 
   both : (these those : List Act) (ports mid ports' : List PortState) → PublishesAll group these ports mid → PublishesAll group those mid ports' → PublishesAll group (these ++ those) ports ports'
-  both [] those ports mid ports' first then = subst (λ (from : List PortState). PublishesAll group those from ports') first then
-  both (act ∷ these) those ports mid ports' first then = (first.0, first.1, both these those first.0 mid ports' first.2 then)
+  both [] those ports mid ports' first later = subst (λ (from : List PortState). PublishesAll group those from ports') first later
+  both (act ∷ these) those ports mid ports' first later = (first.0, first.1, both these those first.0 mid ports' first.2 later)
 
   module _ {T : Type 0} (counts : T → Counts) (given accepted : T → Option (List ℕ)) where
     acted : (act : Act) (old new : ServiceState PlaceState T) (supply supply' : Worker) (now : ℕ) (from to : Stand)

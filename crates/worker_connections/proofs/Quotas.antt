@@ -1,5 +1,5 @@
 -- At each state of a worker's run, each of its connections is within its Receive Maximum (4.9), and so is whatever it does from there.
-use Rattle.std.proofs.Common.{◌≡◌, ◌≤◌, ℕ, List, [], ◌∷◌, ◌++◌, Option, Some, None, replicate, All, refl, sym, subst, ap, ◌∙◌, append_assoc}
+use Rattle.std.proofs.Common.{◌≡◌, ◌≤◌, ℕ, List, [], ◌∷◌, ◌++◌, Option, Some, None, All, refl, sym, subst, ap, ◌∙◌, append_assoc}
 use Rattle.std.specs.Bool.{⊤}
 use Rattle.std.specs.List.{AllByRecursion}
 use Rattle.std.proofs.lemmas.List.Elements.{All-set, All-replicate}
@@ -16,7 +16,7 @@ use Rattle.conn_service.specs.Services.{ServiceState}
 use Rattle.conn_service.specs.Acts.{Act}
 use Rattle.conn_service.specs.Lives.{DoesAll}
 use Rattle.conn_service.proofs.Standings.{kept_on}
-use Rattle.service_table.specs.Cells.{InCell, Opens}
+use Rattle.service_table.specs.Cells.{Opens}
 use Rattle.shared_supply.specs.Calls.{Calls}
 use Rattle.shared_supply.specs.Workers.{Worker, Begins, Leaves, is_visiting}
 use Rattle.worker_connections.specs.Arrivals.{ArrivedState, opening_at}

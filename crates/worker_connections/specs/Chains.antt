@@ -6,7 +6,6 @@ use Rattle.group_queue.specs.Ports.{GroupId}
 use Rattle.broker_groups.specs.Naming.{AreUnsent}
 use Rattle.group_queue.specs.Places.{PlaceState}
 use Rattle.conn_laws.specs.Quotas.{IsWithinLimit, IsWithinQuota}
-use Rattle.conn_engine.specs.declared.standing.Opening.{Opening}
 use Rattle.conn_engine.specs.declared.standing.Standing.TheVariants.{Ended}
 use Rattle.conn_service.specs.declared.served.Served.{Served}
 use Rattle.conn_service.specs.declared.served.Served.TheVariants.{Memory}

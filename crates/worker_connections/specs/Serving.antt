@@ -1,7 +1,6 @@
 -- The connections of a worker of a broker: each that it received is open, or has ended and is counted by its ending.
 use Rattle.std.specs.Prelude.{◌≡◌, ◌⊎◌, ℕ, ◌+◌, List, length, Option, Some, None}
 use Rattle.transport.specs.declared.counts.Counts.{Counts}
-use Rattle.transport.specs.Counting.{no_counts}
 use Rattle.group_queue.specs.Ports.{GroupId, PortState}
 use Rattle.group_queue.specs.Places.{PlaceState}
 use Rattle.conn_channel.specs.Ends.{ReceiverState}
