@@ -1,0 +1,8 @@
+//! Tests of `tcp_edge`: both ends of connections in one process, over the loopback.
+
+mod alone;
+mod bells;
+mod echo;
+mod ends;
+mod peers;
+mod sources;

@@ -1,0 +1,3 @@
+//! Tests of `transport`: each call once with ample memory, and some stories over scripts.
+
+mod stories;

@@ -1,5 +1,0 @@
-use Rattle.std.proofs.Common.{◌≡◌}
-use Rattle.gate_word_tests.proofs.threads.visit_often.Given as goal
-
-abbrev pub invariant-visits : goal.invariant-visits
-invariant-visits l = l.seat.gate ≡ l.gate

@@ -1,7 +1,0 @@
-//! Tests of `gate_word`'s public items, of what no clause says.
-#![tactic(auto)]
-
-#[cfg(test)]
-mod one_thread;
-#[cfg(test)]
-mod threads;

@@ -1,0 +1,4 @@
+//! Tests of `dispatch_core`.
+
+mod groups;
+mod jobs;

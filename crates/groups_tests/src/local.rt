@@ -1,0 +1,4 @@
+//! Tests of `local_group`.
+
+mod groups;
+mod refusals;

@@ -1,0 +1,5 @@
+//! Tests of `conn_rules`.
+
+mod answers;
+mod reading;
+mod sent;

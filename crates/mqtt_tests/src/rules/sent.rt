@@ -1,0 +1,107 @@
+//! The packets that the broker sends, byte for byte.
+use crate::rules::reading::packet;
+use crate::written;
+use bytes::Bytes;
+use conn_rules::{accepting, disconnect, job, puback, refusing, suback, unsuback};
+use group_jobs::Message;
+use mqtt_fields::Fault;
+use mqtt_packet::{ConnectRefusal, NonEmpty, Packet, PacketIdentifier, ReasonCode, Text};
+use std::alloc::Global;
+use std::test::Fail;
+
+// The bytes of a packet, in hex digits.
+fn sent(alloc: Global, packet: Packet) -> Result<String, Fail> {
+    let bytes = written(alloc, packet)?;
+    Ok(hex::encode(alloc, &bytes)?)
+}
+
+#[test]
+fn connacks(rt: HostRuntime) -> Result<(), Fail> {
+    let present = sent(rt.alloc(), accepting(true, None))?;
+    assert_eq!(rt; present.as_str(), "200e01000b2401250027000100002900");
+    let assigned = Text::parse(Bytes::from_static(b"auto-00000001"));
+    let new = sent(rt.alloc(), accepting(false, assigned))?;
+    let wanted = "201e00001b12000d6175746f2d30303030303030312401250027000100002900";
+    assert_eq!(rt; new.as_str(), wanted);
+    let refused = sent(rt.alloc(), refusing(ConnectRefusal::ServerBusy))?;
+    assert_eq!(rt; refused.as_str(), "2003008900");
+    Ok(())
+}
+
+// The PUBACK of identifier 7 with a Reason Code.
+fn acknowledged(alloc: Global, code: ReasonCode) -> Result<String, Fail> {
+    let seven = PacketIdentifier::new(7).ok_or("7 is an identifier")?;
+    sent(alloc, puback(alloc, seven, code))
+}
+
+// The DISCONNECT with a Reason Code.
+fn closed(alloc: Global, code: ReasonCode) -> Result<String, Fail> {
+    sent(alloc, disconnect(alloc, code))
+}
+
+#[test]
+fn pubacks_and_disconnects(rt: HostRuntime) -> Result<(), Fail> {
+    let taken = acknowledged(rt.alloc(), ReasonCode::SUCCESS)?;
+    assert_eq!(rt; taken.as_str(), "40020007");
+    let full = acknowledged(rt.alloc(), ReasonCode::QUOTA_EXCEEDED)?;
+    assert_eq!(rt; full.as_str(), "4003000797");
+    let normal = closed(rt.alloc(), ReasonCode::SUCCESS)?;
+    assert_eq!(rt; normal.as_str(), "e000");
+    let taken_over = closed(rt.alloc(), ReasonCode::SESSION_TAKEN_OVER)?;
+    assert_eq!(rt; taken_over.as_str(), "e0018e");
+    Ok(())
+}
+
+// Reason Codes of entries.
+fn codes(alloc: Global, codes: &[ReasonCode]) -> Result<NonEmpty<ReasonCode>, Fault> {
+    NonEmpty::from_vec(Vec::from_slice(alloc, codes)?).ok_or(Fault::Memory)
+}
+
+#[test]
+fn subacks_and_unsubacks(rt: HostRuntime) -> Result<(), Fail> {
+    let seven = PacketIdentifier::new(7).ok_or("7 is an identifier")?;
+    let granted = [ReasonCode::GRANTED_QOS_1, ReasonCode::QUOTA_EXCEEDED];
+    let subscribed = sent(rt.alloc(), suback(seven, codes(rt.alloc(), &granted)?))?;
+    assert_eq!(rt; subscribed.as_str(), "90050007000197");
+    let left = [ReasonCode::SUCCESS, ReasonCode::NO_SUBSCRIPTION_EXISTED];
+    let unsubscribed = sent(rt.alloc(), unsuback(seven, codes(rt.alloc(), &left)?))?;
+    assert_eq!(rt; unsubscribed.as_str(), "b0050007000011");
+    Ok(())
+}
+
+// The bytes of a PUBLISH as it goes out under identifier 1; none where it is another packet.
+fn passed_on(alloc: Global, digits: &str, dup: bool) -> Result<Vec<u8>, Fault> {
+    let Some(one) = PacketIdentifier::new(1) else {
+        return Ok(Vec::new(alloc));
+    };
+    match packet(alloc, digits) {
+        Ok(Some(Packet::Publish(publish))) => {
+            let message = Message {
+                topic: publish.topic,
+                properties: publish.properties,
+                payload: publish.payload,
+            };
+            let packet = job(dup, &message, one).or(Err(Fault::Memory))?;
+            written(alloc, packet)
+        }
+        Ok(other) => {
+            drop(other);
+            Ok(Vec::new(alloc))
+        }
+        Err(fault) => Err(fault),
+    }
+}
+
+#[test]
+fn jobs(rt: HostRuntime) -> Result<(), Fail> {
+    let digits = "3A0D00016100070601010300016242";
+    let rows = [
+        (false, "320d00016100010601010300016242"),
+        (true, "3a0d00016100010601010300016242"),
+    ];
+    for (dup, wanted) in &rows {
+        let bytes = passed_on(rt.alloc(), digits, *dup)?;
+        assert_eq!(rt; hex::encode(rt.alloc(), &bytes)?.as_str(), *wanted);
+    }
+    Ok(())
+}

@@ -1,0 +1,190 @@
+//! Stories of clients and connections.
+use crate::desks::hall::{
+    TestDesk, Told, ask, both, bury, connect, end, join, leave, nothing, only, open, park, rests,
+};
+use crate::spot::Spot;
+use bytes::Bytes;
+use session_desk::Membership;
+use std::alloc::Global;
+use std::process::Abort;
+use std::test::Fail;
+
+#[test]
+fn takeover(rt: HostRuntime) -> Result<(), Fail> {
+    let mut desk = open(&rt, rt.alloc());
+    let client = Bytes::from_static(b"device");
+    let first = only(&rt, ask(&rt, &mut desk, 1, &client, false, 0), Told::New);
+    let second = nothing(&rt, ask(&rt, &mut desk, 2, &client, false, 1));
+    let third = nothing(&rt, ask(&rt, &mut desk, 3, &client, false, 2));
+    let again = nothing(&rt, ask(&rt, &mut desk, 2, &client, false, 3));
+    assert_eq!(rt;
+        [second, third, again],
+        [Told::Replace(1), Told::Busy, Told::Replace(1)]
+    );
+    assert!(rt; desk.kicked(1) && !desk.kicked(2) && !desk.kicked(3));
+    park(&rt, &mut desk, first, 3_600, 4);
+    let resumed = only(
+        &rt,
+        ask(&rt, &mut desk, 2, &client, false, 5),
+        Told::Resumed,
+    );
+    let third = nothing(&rt, ask(&rt, &mut desk, 3, &client, false, 6));
+    desk.withdraw(3);
+    let first = nothing(&rt, ask(&rt, &mut desk, 1, &client, false, 7));
+    assert_eq!(rt; [third, first], [Told::Replace(2), Told::Replace(2)]);
+    assert!(rt; desk.kicked(2));
+    park(&rt, &mut desk, resumed, 1, 8);
+    assert_eq!(rt; end(&rt, desk), (0, 0));
+    Ok(())
+}
+
+#[test]
+fn expiry(rt: HostRuntime) -> Result<(), Fail> {
+    let mut desk = open(&rt, rt.alloc());
+    let client = Bytes::from_static(b"device");
+    let session = only(&rt, ask(&rt, &mut desk, 1, &client, false, 0), Told::New);
+    park(&rt, &mut desk, session, 3_600, 50);
+    rests(&rt, &mut desk, 50 + 3_599_999);
+    let due = desk.sweep(50 + 3_600_000);
+    bury(&rt, &mut desk, due);
+    let session = only(&rt, ask(&rt, &mut desk, 1, &client, false, 0), Told::New);
+    park(&rt, &mut desk, session, u32::MAX, 0);
+    rests(&rt, &mut desk, u64::MAX);
+    assert_eq!(rt; end(&rt, desk), (0, 0));
+    Ok(())
+}
+
+#[test]
+fn clean_start(rt: HostRuntime) -> Result<(), Fail> {
+    let mut desk = open(&rt, rt.alloc());
+    let client = Bytes::from_static(b"device");
+    let mut session = only(&rt, ask(&rt, &mut desk, 1, &client, false, 0), Told::New);
+    connect(&mut session, 1);
+    assert_eq!(rt; session.window.put(7), Ok(1));
+    session.window.down();
+    park(&rt, &mut desk, session, 60, 0);
+    let (new, ended) = both(&rt, ask(&rt, &mut desk, 2, &client, true, 1));
+    assert!(rt; new.window.is_empty());
+    assert_eq!(rt; ended.window.len(), 1);
+    assert_eq!(rt; [ended.identity.number(), new.identity.number()], [0, 1]);
+    // Its retirement finds no memory, and goes on at a later sweep.
+    match desk.keep(ended) {
+        None => {}
+        Some(_back) => panic!(rt; "handed back"),
+    }
+    leave(&rt, &mut desk, new, 2);
+    match desk.sweep(3) {
+        Some(mut ended) => {
+            if !ended.window.is_up() {
+                assert_eq!(rt; ended.window.take_first(), Some((1, 7)));
+            }
+            bury(&rt, &mut desk, Some(ended));
+        }
+        None => panic!(rt; "no session"),
+    }
+    assert_eq!(rt; end(&rt, desk), (0, 0));
+    Ok(())
+}
+
+#[test]
+fn names(rt: HostRuntime) -> Result<(), Fail> {
+    let mut desk = open(&rt, rt.alloc());
+    let none = Bytes::from_static(b"");
+    let second = Bytes::from_static(b"auto-00000002");
+    let taken = only(&rt, ask(&rt, &mut desk, 1, &second, false, 0), Told::New);
+    let one = only(&rt, ask(&rt, &mut desk, 2, &none, false, 0), Told::New);
+    let three = only(&rt, ask(&rt, &mut desk, 3, &none, false, 0), Told::New);
+    assert_eq!(rt;
+        one.identity.client().as_slice(),
+        b"auto-00000001".as_slice()
+    );
+    assert_eq!(rt;
+        three.identity.client().as_slice(),
+        b"auto-00000003".as_slice()
+    );
+    leave(&rt, &mut desk, one, 1);
+    leave(&rt, &mut desk, three, 1);
+    let four = only(&rt, ask(&rt, &mut desk, 3, &none, false, 2), Told::New);
+    assert_eq!(rt;
+        four.identity.client().as_slice(),
+        b"auto-00000004".as_slice()
+    );
+    leave(&rt, &mut desk, four, 3);
+    leave(&rt, &mut desk, taken, 3);
+    assert_eq!(rt; end(&rt, desk), (0, 0));
+    Ok(())
+}
+
+#[test]
+fn places(rt: HostRuntime) -> Result<(), Fail> {
+    let mut desk = open(&rt, rt.alloc());
+    for place in [Spot::Second, Spot::First] {
+        assert_eq!(rt; desk.take_place(place), None);
+    }
+    assert_eq!(rt; desk.take_place(Spot::First), Some(Spot::First));
+    assert_eq!(rt; desk.lend_place(4), None);
+    assert_eq!(rt; desk.lend_place(3), Some(Spot::First));
+    assert_eq!(rt; desk.lend_place(3), Some(Spot::Second));
+    assert_eq!(rt; desk.lend_place(3), None);
+    let client = Bytes::from_static(b"member");
+    let mut session = only(&rt, ask(&rt, &mut desk, 1, &client, false, 0), Told::New);
+    join(&rt, &mut session, Membership::Member(Spot::Second));
+    leave(&rt, &mut desk, session, 1);
+    assert_eq!(rt; desk.lend_place(3), Some(Spot::Second));
+    assert_eq!(rt; desk.take_place(Spot::First), None);
+    let mut session = only(&rt, ask(&rt, &mut desk, 1, &client, false, 2), Told::New);
+    join(&rt, &mut session, Membership::Leaving(Spot::Second));
+    connect(&mut session, 9);
+    assert_eq!(rt; session.window.put(5), Ok(1));
+    park(&rt, &mut desk, session, 60, 3);
+    assert_eq!(rt; end(&rt, desk), (2, 1));
+    Ok(())
+}
+
+#[test]
+fn abandoned(rt: HostRuntime) -> Result<(), Fail> {
+    let mut desk = open(&rt, rt.alloc());
+    assert_eq!(rt; desk.take_place(Spot::First), None);
+    let client = Bytes::from_static(b"member");
+    let mut session = only(&rt, ask(&rt, &mut desk, 1, &client, false, 0), Told::New);
+    join(&rt, &mut session, Membership::Member(Spot::Second));
+    connect(&mut session, 2);
+    assert_eq!(rt; session.window.put(5), Ok(1));
+    assert_eq!(rt; session.window.put(6), Ok(2));
+    park(&rt, &mut desk, session, 60, 1);
+    desk.abandon();
+    Ok(())
+}
+
+/// The identifier of the client with this number.
+fn client_of(rt: &impl Abort, alloc: Global, number: u16) -> Bytes {
+    let bytes = number.to_be_bytes();
+    match Bytes::copy_from_slice(alloc, &bytes).or_else(|_| Bytes::copy_from_slice(alloc, &bytes)) {
+        Ok(client) => client,
+        Err(_) => panic!(rt; "out of memory"),
+    }
+}
+
+/// Asks for a session of each of 256 clients, and parks each.
+fn fill(rt: &impl Abort, alloc: Global, desk: &mut TestDesk) {
+    for number in 0..256u16 {
+        let client = client_of(rt, alloc, number);
+        let session = only(rt, ask(rt, desk, number, &client, false, 0), Told::New);
+        park(rt, desk, session, 60, 0);
+    }
+}
+
+#[test]
+fn full(rt: HostRuntime) -> Result<(), Fail> {
+    let known = client_of(&rt, rt.alloc(), 7);
+    let further = client_of(&rt, rt.alloc(), 256);
+    let mut desk = open(&rt, rt.alloc());
+    fill(&rt, rt.alloc(), &mut desk);
+    let refused = nothing(&rt, ask(&rt, &mut desk, 1, &further, false, 1));
+    let clean = nothing(&rt, ask(&rt, &mut desk, 1, &known, true, 1));
+    assert_eq!(rt; [refused, clean], [Told::Refused(701), Told::Refused(701)]);
+    let resumed = only(&rt, ask(&rt, &mut desk, 1, &known, false, 1), Told::Resumed);
+    park(&rt, &mut desk, resumed, 60, 2);
+    assert_eq!(rt; end(&rt, desk), (0, 0));
+    Ok(())
+}

@@ -1,5 +1,0 @@
-use Rattle.shared_desk_tests.proofs.calls.a_client_comes_again.Given as goal
-
--- the desk that was just opened
-abbrev pub ghosts-two_visits : goal.ghosts-two_visits
-ghosts-two_visits g a = record { history = a.opened }

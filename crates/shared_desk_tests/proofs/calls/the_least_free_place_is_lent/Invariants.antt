@@ -1,5 +1,0 @@
-use Rattle.shared_desk_tests.proofs.calls.the_least_free_place_is_lent.Given as goal
-
--- the desk that was just opened
-abbrev pub ghosts-places_day : goal.ghosts-places_day
-ghosts-places_day g a = record { history = a.opened }

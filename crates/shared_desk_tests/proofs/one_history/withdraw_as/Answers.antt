@@ -1,5 +1,0 @@
-use Rattle.shared_desk_tests.proofs.Standing.{stands_told}
-use Rattle.shared_desk_tests.proofs.one_history.withdraw_as.Goals as goal
-
-pub returns : goal.returns
-returns g c = stands_told _ _ _ c.withdraw.ensures.told

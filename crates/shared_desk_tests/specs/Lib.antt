@@ -1,2 +1,0 @@
-pub mod Spots
-pub mod Standing

@@ -1,0 +1,4 @@
+//! Tests of `bell`.
+
+mod one_thread;
+mod threads;

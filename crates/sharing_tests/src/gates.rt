@@ -1,0 +1,4 @@
+//! Tests of `gate_word`.
+
+mod one_thread;
+mod threads;

@@ -1,0 +1,4 @@
+//! Tests of `shared_routes`.
+
+mod one_thread;
+mod threads;
