@@ -3,7 +3,6 @@ use Rattle.std.proofs.Common.{◌≡◌, ℕ, suc, ◌+◌, List, [], ◌∷◌,
 use Rattle.group_jobs.specs.Stamps.{Held}
 use Rattle.group_jobs.specs.declared.report.Report.{Report}
 use Rattle.group_queue.specs.declared.finish.Unfinished.{Unfinished}
-use Rattle.group_queue.specs.declared.witness.Nobody.{Nobody}
 use Rattle.group_queue.specs.Ports.{GroupId, PortState, IsPortOf}
 use Rattle.group_queue.specs.Places.{PlaceState, IsPlaceOf}
 use Rattle.group_queue.specs.Finishing.{Finishes}
@@ -38,7 +37,7 @@ joined_length [] ports = omega (arith, length-append ports [])
 joined_length (first ∷ before) ports = length-append first (joined (before ++ ports ∷ [])) ∙ omega (arith, joined_length before ports, length-append first (joined before))
 
 -- what comes back of a group that was given its own is its own
-pub own_of : (group : GroupId) (ports : List PortState) (places : List PlaceState) (held : List Held) (answer : Result Report (Unfinished Nobody)) → All (IsPortOf group) ports → All (IsPlaceOf group) places
+pub own_of : {W : Type 0} (group : GroupId) (ports : List PortState) (places : List PlaceState) (held : List Held) (answer : Result Report (Unfinished W)) → All (IsPortOf group) ports → All (IsPlaceOf group) places
     → Finishes group ports places held answer → IsItsOwn answer
 own_of group ports places held (Ok report) of_ports of_places is = tt
 own_of group ports places held (Err left) of_ports of_places is = (

@@ -8,16 +8,20 @@ use Rattle.dispatch_core.specs.JobRuns.{count_of}
 use Rattle.dispatch_core.proofs.JobLists.{count_of-append, count_of-cons, count_of_contained}
 use Rattle.group_jobs.specs.declared.error.JobError.{JobError}
 use Rattle.group_jobs.specs.declared.fate.Fate.{Fate}
+use Rattle.group_jobs.specs.declared.ledger.Ledger.{Ledger}
 use Rattle.group_jobs.specs.Stamps.{Held, job_of}
 use Rattle.group_jobs.specs.Dockets.{TakesOff}
 use Rattle.group_queue.specs.declared.posted.Posted.{Posted}
+use Rattle.group_queue.specs.declared.view.Bag.{Bag}
+use Rattle.group_queue.specs.declared.view.View.{View}
 use Rattle.group_queue.specs.Places.{PlaceState, Holds, IsHandedOut, KeepsPlace, SettlesHeld, GatherAnswers, GiveBackAnswers, TakeAnswers, TakeBackAnswers}
+use Rattle.shared_ledger.specs.declared.share.Share.{Share}
 use Rattle.shared_ledger.specs.Givers.{Gathers}
 use Rattle.group_queue.proofs.Checks.{positive, both}
 use Rattle.conn_supply.specs.declared.supply.NoMemory.{NoMemory}
 use Rattle.conn_supply.specs.Holding.{IsAmong, KeepsOut, FindsOut, SpendsOut, ReturnsOut}
 use Rattle.broker_groups.specs.Outs.{HasOut, IsHandedTo, jobs_out}
-use Rattle.broker_groups.specs.Answers.{in_group, seen_ledger, seen_main, seen_returns}
+use Rattle.broker_groups.specs.Answers.{in_group}
 
 -- it is the same place
 record IsSame (old new : PlaceState) : Type 0 where
@@ -105,17 +109,17 @@ of_kept : (old new : PlaceState) → KeepsPlace old new → KeepsOut HasOut old 
 of_kept old new keep = keeps old new (record { group = ap (λ (p : PlaceState). p.group) keep.others; number = ap (λ (p : PlaceState). p.number) keep.others }) keep.docket.out
 
 -- what the calls of a group say, as what is out
-pub taken : (old new : PlaceState) (answer : Result (Option Held) NoMemory) → TakeAnswers seen_main old (in_group answer) new → FindsOut HasOut old answer new
-taken old new (Ok (Some envelope)) is all has =
+pub taken : (saw : List Posted → List View → Type 0) (old new : PlaceState) (answer : Result (Option Held) NoMemory) → TakeAnswers saw old (in_group answer) new → FindsOut HasOut old answer new
+taken saw old new (Ok (Some envelope)) is all has =
     finds old new is.posted envelope all (record { group = ap (λ (p : PlaceState). p.group) is.others; number = ap (λ (p : PlaceState). p.number) is.others }) is.handed has
-taken old new (Ok None) is all has = of_kept old new is.0 all has
-taken old new (Err refusal) is all has = of_kept old new is.0 all has
+taken saw old new (Ok None) is all has = of_kept old new is.0 all has
+taken saw old new (Err refusal) is all has = of_kept old new is.0 all has
 
-pub taken_back : (old new : PlaceState) (answer : Result (Option Held) NoMemory) → TakeBackAnswers seen_returns old (in_group answer) new → FindsOut HasOut old answer new
-taken_back old new (Ok (Some envelope)) is all has =
+pub taken_back : (saw : List Posted → List Bag → Type 0) (old new : PlaceState) (answer : Result (Option Held) NoMemory) → TakeBackAnswers saw old (in_group answer) new → FindsOut HasOut old answer new
+taken_back saw old new (Ok (Some envelope)) is all has =
     finds old new is.posted envelope all (record { group = ap (λ (p : PlaceState). p.group) is.others; number = ap (λ (p : PlaceState). p.number) is.others }) is.handed has
-taken_back old new (Ok None) is all has = of_kept old new is.0 all has
-taken_back old new (Err refusal) is all has = of_kept old new is.0 all has
+taken_back saw old new (Ok None) is all has = of_kept old new is.0 all has
+taken_back saw old new (Err refusal) is all has = of_kept old new is.0 all has
 
 pub settled : (old new : PlaceState) (envelope : Held) (fate : Fate) → SettlesHeld old (job_of envelope.stamp) fate new → SpendsOut HasOut old envelope new
 settled old new envelope fate is =
@@ -131,11 +135,11 @@ pub reserved : (old new : PlaceState) → KeepsPlace old new → KeepsOut HasOut
 reserved old new is = of_kept old new is
 
 -- what a place gathers is not out at it
-gathers_out : (old new : PlaceState) (answer : Result Bool JobError) → Gathers seen_ledger old.giver old.docket answer new.giver new.docket → new.docket.out ≡ old.docket.out
-gathers_out old new (Ok true) is = is.out
-gathers_out old new (Ok false) is = ap (λ d. d.out) is.1
-gathers_out old new (Err refusal) is = ap (λ d. d.out) is.1
+gathers_out : (saw : List Ledger → List Share → Type 0) (old new : PlaceState) (answer : Result Bool JobError) → Gathers saw old.giver old.docket answer new.giver new.docket → new.docket.out ≡ old.docket.out
+gathers_out saw old new (Ok true) is = is.out
+gathers_out saw old new (Ok false) is = ap (λ d. d.out) is.1
+gathers_out saw old new (Err refusal) is = ap (λ d. d.out) is.1
 
-pub gathered : (old new : PlaceState) (answer : Result Bool JobError) → GatherAnswers seen_ledger old answer new → KeepsOut HasOut old new
-gathered old new answer is =
-    keeps old new (record { group = ap (λ (p : PlaceState). p.group) is.1; number = ap (λ (p : PlaceState). p.number) is.1 }) (gathers_out old new answer is.0)
+pub gathered : (saw : List Ledger → List Share → Type 0) (old new : PlaceState) (answer : Result Bool JobError) → GatherAnswers saw old answer new → KeepsOut HasOut old new
+gathered saw old new answer is =
+    keeps old new (record { group = ap (λ (p : PlaceState). p.group) is.1; number = ap (λ (p : PlaceState). p.number) is.1 }) (gathers_out saw old new answer is.0)

@@ -15,12 +15,14 @@ abbrev pub in_group : Result (Option Held) NoMemory → Result (Option Held) Job
 in_group (Ok found) = Ok found
 in_group (Err refusal) = Err Memory
 
--- a broker's groups have no witness: whatever stands in a group's queues, and in its ledger's, counts as seen
-abbrev pub seen_main : List Posted → List View → Type 0
-seen_main items views = ⊤
+-- what the witness of a broker's groups saw: of the queue of a group's ledger, of its main queue, and of its returns queue
+abbrev pub Sights : Type 1
+Sights = record {
+  saw_ledger : List Ledger → List Share → Type 0;
+  saw_main : List Posted → List View → Type 0;
+  saw_returns : List Posted → List Bag → Type 0;
+}
 
-abbrev pub seen_returns : List Posted → List Bag → Type 0
-seen_returns items views = ⊤
-
-abbrev pub seen_ledger : List Ledger → List Share → Type 0
-seen_ledger items views = ⊤
+-- what a broker's witness saw where it has none: whatever stands there counts as seen
+abbrev pub all_seen : Sights
+all_seen = record { saw_ledger = λ items views. ⊤; saw_main = λ items views. ⊤; saw_returns = λ items views. ⊤ }

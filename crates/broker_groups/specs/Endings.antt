@@ -4,7 +4,6 @@ use Rattle.std.specs.Global.{Vec}
 use Rattle.group_jobs.specs.Stamps.{Held}
 use Rattle.group_jobs.specs.declared.report.Report.{Report}
 use Rattle.group_queue.specs.declared.finish.Unfinished.{Unfinished}
-use Rattle.group_queue.specs.declared.witness.Nobody.{Nobody}
 use Rattle.group_queue.specs.Ports.{GroupId, PortState, IsPortOf}
 use Rattle.group_queue.specs.Places.{PlaceState, IsPlaceOf}
 use Rattle.group_queue.specs.Finishing.{Finishes}
@@ -34,30 +33,30 @@ abbrev pub IsAny : ℕ → Held → Type 0
 IsAny slot envelope = Unit {0}
 
 -- each group was ended with its own ports, places and messages
-pub record AreEnded (group : ℕ → GroupId) (ports : List (List PortState)) (places : List PlaceState) (held : List Held) (answers : List (Result Report (Unfinished Nobody))) : Type 0 where
+pub record AreEnded {W : Type 0} (group : ℕ → GroupId) (ports : List (List PortState)) (places : List PlaceState) (held : List Held) (answers : List (Result Report (Unfinished W))) : Type 0 where
   pub all : length answers ≡ 8
   -- the group of a slot has the number of that slot
   pub slots : (slot : ℕ) → slot < 8 → (group slot).slot ≡ slot
-  pub each : (slot : ℕ) (answer : Result Report (Unfinished Nobody)) → slice_get answers slot ≡ Some answer
+  pub each : (slot : ℕ) (answer : Result Report (Unfinished W)) → slice_get answers slot ≡ Some answer
       → Finishes (group slot) (at_slot port_slot slot (joined ports)) (at_slot place_slot slot places) (at_slot held_slot slot held) answer
 
 -- each group was ended with the row of its slot
-pub record AreFinished (group : ℕ → GroupId) (ports : List (Vec PortState)) (places : List (Vec PlaceState)) (held : List (Vec Held)) (answers : List (Result Report (Unfinished Nobody))) : Type 0 where
+pub record AreFinished {W : Type 0} (group : ℕ → GroupId) (ports : List (Vec PortState)) (places : List (Vec PlaceState)) (held : List (Vec Held)) (answers : List (Result Report (Unfinished W))) : Type 0 where
   pub all : length answers ≡ 8
-  pub each : (slot : ℕ) (answer : Result Report (Unfinished Nobody)) (its_ports : Vec PortState) (its_places : Vec PlaceState) (its_held : Vec Held)
+  pub each : (slot : ℕ) (answer : Result Report (Unfinished W)) (its_ports : Vec PortState) (its_places : Vec PlaceState) (its_held : Vec Held)
       → slice_get answers slot ≡ Some answer → slice_get ports slot ≡ Some its_ports → slice_get places slot ≡ Some its_places → slice_get held slot ≡ Some its_held
       → Finishes (group slot) its_ports.items its_places.items its_held.items answer
 
 -- the ports and places of a group that was not ended are that group's
-abbrev pub IsItsOwn : Result Report (Unfinished Nobody) → Type 0
+abbrev pub IsItsOwn : {W : Type 0} → Result Report (Unfinished W) → Type 0
 IsItsOwn answer = IfErr answer (λ left. All (IsPortOf left.group) left.ports.items × All (IsPlaceOf left.group) left.places.items)
 
 -- whatever group it was ended and whatever it was ended with: if this is its answer, so is that
-abbrev pub IsAgain : Result Report (Unfinished Nobody) → Result Report (Unfinished Nobody) → Type 0
+abbrev pub IsAgain : {W : Type 0} → Result Report (Unfinished W) → Result Report (Unfinished W) → Type 0
 IsAgain first last =
     (group : GroupId) (ports : List PortState) (places : List PlaceState) (held : List Held) → Finishes group ports places held first → Finishes group ports places held last
 
 -- the same of each group
-pub record AreAgain (first last : List (Result Report (Unfinished Nobody))) : Type 0 where
+pub record AreAgain {W : Type 0} (first last : List (Result Report (Unfinished W))) : Type 0 where
   pub all : length last ≡ length first
-  pub each : (slot : ℕ) (answer again : Result Report (Unfinished Nobody)) → slice_get first slot ≡ Some answer → slice_get last slot ≡ Some again → IsAgain answer again
+  pub each : (slot : ℕ) (answer again : Result Report (Unfinished W)) → slice_get first slot ≡ Some answer → slice_get last slot ≡ Some again → IsAgain answer again

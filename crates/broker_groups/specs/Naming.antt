@@ -22,7 +22,7 @@ abbrev pub HasNoneOut : PlaceState → Type 0
 HasNoneOut place = HasOut place []
 
 -- what was opened is a broker's of this name, for so many workers
-pub record IsOfBroker (gate : GateId) (group : ℕ → GroupId) (workers : ℕ) (opened : Opened) : Type 0 where
+pub record IsOfBroker {W : Type 0} (gate : GateId) (group : ℕ → GroupId) (workers : ℕ) (opened : Opened W) : Type 0 where
   pub groups : AreBrokerGroups gate group opened.groups.items
   pub rows : length opened.ports.items ≡ 8
   pub ports : AreRows group workers 0 opened.ports.items

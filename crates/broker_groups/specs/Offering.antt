@@ -7,16 +7,17 @@ use Rattle.group_queue.specs.declared.error.OfferError.{OfferError}
 use Rattle.group_queue.specs.declared.error.OfferError.TheVariants as error
 use Rattle.group_queue.specs.Ports.{GroupId, PortState}
 use Rattle.group_queue.specs.Offers.{OfferAnswers}
-use Rattle.broker_groups.specs.Answers.{seen_main}
+use Rattle.group_queue.specs.declared.posted.Posted.{Posted}
+use Rattle.group_queue.specs.declared.view.View.{View}
 use Rattle.conn_supply.specs.declared.supply.OfferRefusal.{OfferRefusal}
 use Rattle.conn_supply.specs.declared.supply.OfferRefusal.TheVariants as refusal
 
 -- the message was offered through the port of this slot's group, as the group answers, and the other ports are as they were
-pub record OffersThrough (group : GroupId) (old : List PortState) (slot : ℕ) (message : Message) (answer : Result Stamp NotTaken) (new : List PortState) : Type 0 where
+pub record OffersThrough (group : GroupId) (saw : List Posted → List View → Type 0) (old : List PortState) (slot : ℕ) (message : Message) (answer : Result Stamp NotTaken) (new : List PortState) : Type 0 where
   pub before : PortState
   pub there : slice_get old slot ≡ Some before
   pub after : PortState
-  pub answers : OfferAnswers seen_main group before message answer after
+  pub answers : OfferAnswers saw group before message answer after
   pub becomes : new ≡ slice_set old slot after
 
 -- what a connection is told of a group's answer
@@ -29,7 +30,7 @@ told (Ok stamp) = Ok stamp
 told (Err refused) = Err (told_as refused.error)
 
 -- the answer is that of the slot's group; there is no group from slot 8 on, as if it were closed
-abbrev pub OffersTo : (ℕ → GroupId) → List PortState → ℕ → Message → Result Stamp OfferRefusal → List PortState → Type 0
-OffersTo group old slot message answer new =
+abbrev pub OffersTo : (ℕ → GroupId) → (List Posted → List View → Type 0) → List PortState → ℕ → Message → Result Stamp OfferRefusal → List PortState → Type 0
+OffersTo group saw old slot message answer new =
     ((8 ≤ slot) × (answer ≡ Err refusal.Shut) × (new ≡ old))
-    ⊎ ((slot < 8) × ((given : Result Stamp NotTaken) × OffersThrough (group slot) old slot message given new × (answer ≡ told given)))
+    ⊎ ((slot < 8) × ((given : Result Stamp NotTaken) × OffersThrough (group slot) saw old slot message given new × (answer ≡ told given)))

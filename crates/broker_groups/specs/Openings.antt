@@ -35,7 +35,7 @@ pub record AreOpened (gate : GateId) (capacity workers count : ℕ) (groups : Li
   pub places_each : (slot : ℕ) (group : GroupId) (row : Vec PlaceState) → slice_get groups slot ≡ Some group → slice_get places slot ≡ Some row → HasPlaces group row.items
 
 -- all eight
-abbrev pub IsBrokerOpened : GateId → ℕ → ℕ → Opened → Type 0
+abbrev pub IsBrokerOpened : {W : Type 0} → GateId → ℕ → ℕ → Opened W → Type 0
 IsBrokerOpened gate capacity workers opened = AreOpened gate capacity workers 8 opened.groups.items opened.ports.items opened.places.items
 
 -- the name that a list of groups gives: the group of each slot

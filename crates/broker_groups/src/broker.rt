@@ -3,11 +3,28 @@ ghost use Rattle.std.specs.Prelude.{ℕ};
 ghost use Rattle.gate_word.specs.Seats.{GateId};
 ghost use Rattle.group_queue.specs.Ports.{GroupId};
 
-use std::marker::Brand;
+use group_queue::Witness;
+use std::marker::{Brand, PhantomData};
 
 /// Which gate and which groups a broker has: one group for each slot below [`SLOTS`]. What names a broker in its type belongs
 /// to this gate and to these groups, wherever it lies: behind a lock, with a member, or with a thread.
 pub trait Broker {
+    ghost use Rattle.std.specs.Prelude.{ℕ};
+    ghost use Rattle.gate_word.specs.Seats.{GateId};
+    ghost use Rattle.group_queue.specs.Ports.{GroupId};
+
+    /// The witness of its groups: what was seen of their queues, for contracts alone.
+    type Seen: Witness;
+
+    /// Its gate.
+    ghost gate: { GateId };
+
+    /// Its group of each slot.
+    ghost group: { ℕ → GroupId };
+}
+
+/// The name of a broker without its witness.
+pub trait BrokerName {
     ghost use Rattle.std.specs.Prelude.{ℕ};
     ghost use Rattle.gate_word.specs.Seats.{GateId};
     ghost use Rattle.group_queue.specs.Ports.{GroupId};
@@ -19,12 +36,26 @@ pub trait Broker {
     ghost group: { ℕ → GroupId };
 }
 
-/// A broker is named at a call: a function over every broker is called at `Brand`, and the proof of the call says which gate
+/// A broker is named at a call: a function over every name is called at `Brand`, and the proof of the call says which gate
 /// and groups it is called with.
-impl Broker for Brand {
+impl BrokerName for Brand {
     ghost use Rattle.broker_groups.specs.Brokers.{no_gate, no_group};
 
     ghost gate = { no_gate };
 
     ghost group = { λ _. no_group };
+}
+
+/// The broker of this name whose groups have this witness.
+pub struct Witnessed<N, W> {
+    name: PhantomData<N>,
+    witness: PhantomData<W>,
+}
+
+impl<N: BrokerName, W: Witness> Broker for Witnessed<N, W> {
+    type Seen = W;
+
+    ghost gate = { N.gate };
+
+    ghost group = { N.group };
 }

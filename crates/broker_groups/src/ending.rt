@@ -13,14 +13,16 @@ use crate::place::BrokerPlace;
 use crate::ports::Ports;
 use crate::sorting::{empty_rows, sort_held, sort_places, sort_ports};
 use group_jobs::{Envelope, Report};
-use group_queue::{FinishError, Place, Port, SharedGroup, Unfinished};
+use group_queue::{
+    FinishError, LawfulWitness, Nobody, Place, Port, SharedGroup, Unfinished, Witness,
+};
 use std::alloc::{AllocError, Global};
 use std::sync::Wait;
 
 /// What became of a broker's groups.
-pub struct Ended<'a> {
+pub struct Ended<'a, W: Witness = Nobody> {
     /// The report of each group, in the order of slots, or why there is none.
-    pub answers: Vec<Result<Report, Unfinished<'a>>>,
+    pub answers: Vec<Result<Report, Unfinished<'a, W>>>,
     /// Envelopes whose stamp names no group of a broker.
     pub strangers: Vec<Envelope>,
 }
@@ -57,19 +59,22 @@ fn spend(held: Vec<Envelope>) {
 }
 
 /// Where ports, places and envelopes are sorted into, by slot.
-struct Rows {
-    ports: Vec<Vec<Port>>,
-    places: Vec<Vec<Place>>,
+struct Rows<W: Witness> {
+    ports: Vec<Vec<Port<W>>>,
+    places: Vec<Vec<Place<W>>>,
     held: Vec<Vec<Envelope>>,
 }
 
 /// Where the answer of each group stands: once all were ended, and once it was tried again.
-struct AnswerRows<'a> {
-    first: Vec<Result<Report, Unfinished<'a>>>,
-    last: Vec<Result<Report, Unfinished<'a>>>,
+struct AnswerRows<'a, W: Witness> {
+    first: Vec<Result<Report, Unfinished<'a, W>>>,
+    last: Vec<Result<Report, Unfinished<'a, W>>>,
 }
 
-impl<'a, B: Broker> BrokerGroups<'a, B> {
+impl<'a, B: Broker> BrokerGroups<'a, B>
+where
+    B::Seen: LawfulWitness,
+{
     /// Ends each group with those of these ports, places and envelopes that are of its slot, as
     /// [`SharedGroup::finish`](group_queue::SharedGroup::finish) says. A group that has not the memory for its report is ended
     /// once more when all others were, since what they had is free by then. A step of a queue may wait for another thread's.
@@ -84,7 +89,7 @@ impl<'a, B: Broker> BrokerGroups<'a, B> {
         ports: Vec<Ports<B>>,
         places: Vec<BrokerPlace<B>>,
         held: Vec<Envelope>,
-    ) -> Result<Ended<'a>, Unended<'a, B>>
+    ) -> Result<Ended<'a, B::Seen>, Unended<'a, B>>
         ensures ended { IfOk result (λ ended. AreEnded B.group ports.items places.items held.items ended.answers.items) }
         ensures strangers { IfOk result (λ ended. ended.strangers.items ≡ at_slot held_slot 8 held.items) }
         ensures left { IfErr result (λ left. (left.groups ≡ self.entry) × (left.ports.items ≡ ports.items) × (left.places.items ≡ places.items) × (left.held.items ≡ held.items)) }
@@ -107,7 +112,7 @@ fn make_rows<'a, B: Broker>(
     ports: &[Ports<B>],
     places: usize,
     held: usize,
-) -> Result<(Rows, AnswerRows<'a>), AllocError>
+) -> Result<(Rows<B::Seen>, AnswerRows<'a, B::Seen>), AllocError>
     ensures ports { IfOk result (λ made. (length made.0.ports.items ≡ 8) × All (IsEmptyRow (length (joined ports.now))) made.0.ports.items) }
     ensures places { IfOk result (λ made. (length made.0.places.items ≡ 8) × All (IsEmptyRow places) made.0.places.items) }
     ensures held { IfOk result (λ made. (length made.0.held.items ≡ 9) × All (IsEmptyRow held) made.0.held.items) }
@@ -137,7 +142,7 @@ fn make_rows<'a, B: Broker>(
 }
 
 /// Makes the room that the answers want.
-fn answer_rows<'a>(alloc: Global) -> Result<AnswerRows<'a>, AllocError>
+fn answer_rows<'a, W: Witness>(alloc: Global) -> Result<AnswerRows<'a, W>, AllocError>
     ensures first { IfOk result (λ made. (made.first.items ≡ []) × (8 ≤ vec_capacity made.first)) }
     ensures last { IfOk result (λ made. (made.last.items ≡ []) × (8 ≤ vec_capacity made.last)) }
 {
@@ -167,12 +172,14 @@ fn end<'a, B: Broker, R: Wait>(
     rt: &R,
     alloc: Global,
     groups: BrokerGroups<'a, B>,
-    rows: Rows,
-    answers: AnswerRows<'a>,
+    rows: Rows<B::Seen>,
+    answers: AnswerRows<'a, B::Seen>,
     ports: Vec<Ports<B>>,
     places: Vec<BrokerPlace<B>>,
     held: Vec<Envelope>,
-) -> Ended<'a>
+) -> Ended<'a, B::Seen>
+where
+    B::Seen: LawfulWitness,
     requires ports { (length rows.ports.items ≡ 8) × All (IsEmptyRow (length (joined ports.items))) rows.ports.items }
     requires places { (length rows.places.items ≡ 8) × All (IsEmptyRow (length places.items)) rows.places.items }
     requires held { (length rows.held.items ≡ 9) × All (IsEmptyRow (length held.items)) rows.held.items }
@@ -203,12 +210,14 @@ fn end<'a, B: Broker, R: Wait>(
 fn finish_each<'a, B: Broker, R: Wait>(
     rt: &R,
     alloc: Global,
-    groups: Vec<SharedGroup<'a>>,
-    ports: Vec<Vec<Port>>,
-    places: Vec<Vec<Place>>,
+    groups: Vec<SharedGroup<'a, B::Seen>>,
+    ports: Vec<Vec<Port<B::Seen>>>,
+    places: Vec<Vec<Place<B::Seen>>>,
     held: Vec<Vec<Envelope>>,
-    answers: Vec<Result<Report, Unfinished<'a>>>,
-) -> Vec<Result<Report, Unfinished<'a>>>
+    answers: Vec<Result<Report, Unfinished<'a, B::Seen>>>,
+) -> Vec<Result<Report, Unfinished<'a, B::Seen>>>
+where
+    B::Seen: LawfulWitness,
     requires groups { AreBrokerGroups B.gate B.group groups.items }
     requires many { (length ports.items ≡ 8) × (length places.items ≡ 8) × (length held.items ≡ 8) }
     requires ports { (slot : ℕ) (row : Vec PortState) → slice_get ports.items slot ≡ Some row → All (IsPortOf (B.group slot)) row.items }
@@ -239,12 +248,12 @@ fn finish_each<'a, B: Broker, R: Wait>(
 }
 
 /// Ends those groups again that had not the memory for it.
-fn finish_again<'a, R: Wait>(
+fn finish_again<'a, W: LawfulWitness, R: Wait>(
     rt: &R,
     alloc: Global,
-    first: Vec<Result<Report, Unfinished<'a>>>,
-    answers: Vec<Result<Report, Unfinished<'a>>>,
-) -> Vec<Result<Report, Unfinished<'a>>>
+    first: Vec<Result<Report, Unfinished<'a, W>>>,
+    answers: Vec<Result<Report, Unfinished<'a, W>>>,
+) -> Vec<Result<Report, Unfinished<'a, W>>>
     requires own { All IsItsOwn first.items }
     requires answers { (answers.items ≡ []) × (length first.items ≤ vec_capacity answers) }
     ensures { AreAgain first.entry.items result.items }
@@ -259,11 +268,11 @@ fn finish_again<'a, R: Wait>(
 }
 
 /// Ends a group again that had not the memory for it, with what came back.
-fn try_again<'a, R: Wait>(
+fn try_again<'a, W: LawfulWitness, R: Wait>(
     rt: &R,
     alloc: Global,
-    answer: Result<Report, Unfinished<'a>>,
-) -> Result<Report, Unfinished<'a>>
+    answer: Result<Report, Unfinished<'a, W>>,
+) -> Result<Report, Unfinished<'a, W>>
     requires { IsItsOwn answer }
     ensures { IsAgain answer.entry result }
 {

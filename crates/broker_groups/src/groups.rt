@@ -14,7 +14,7 @@ pub const SLOTS: u8 = 8;
 ///
 /// Contracts see them as a list of `GroupId`, in the order of slots.
 pub struct BrokerGroups<'a, B: Broker> {
-    pub(crate) groups: Vec<SharedGroup<'a>>,
+    pub(crate) groups: Vec<SharedGroup<'a, B::Seen>>,
     pub(crate) of: PhantomData<B>,
 }
 
@@ -32,7 +32,7 @@ impl<'a, B: Broker> Model for BrokerGroups<'a, B> {
 
 impl<'a, B: Broker> BrokerGroups<'a, B> {
     /// The group of a slot.
-    pub fn group(&self, slot: u8) -> &SharedGroup<'a>
+    pub fn group(&self, slot: u8) -> &SharedGroup<'a, B::Seen>
         requires { slot < 8 }
         ensures group { result.now ≡ B.group slot }
         ensures slot { result.now.slot ≡ slot }
@@ -42,7 +42,7 @@ impl<'a, B: Broker> BrokerGroups<'a, B> {
     }
 
     /// The groups, in the order of slots.
-    pub fn into_groups(self) -> Vec<SharedGroup<'a>>
+    pub fn into_groups(self) -> Vec<SharedGroup<'a, B::Seen>>
         ensures same { result.items ≡ self.entry }
         ensures named { AreBrokerGroups B.gate B.group result.items }
     {

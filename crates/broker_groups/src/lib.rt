@@ -8,7 +8,7 @@
 //! let opened = Opened::open(alloc, &gate, 1_024, workers)?; // the groups, with a port for each worker and 32 places each
 //! serve::<Brand, R>(rt, alloc, &gate, seats, workers, opened) // the proof of this call names the broker by what was opened
 //!
-//! // in `serve`, over every broker `B`
+//! // in `serve`, over every name `N`: the broker `B` is `Witnessed<N, Nobody>`
 //! let Named { groups, ports, places } = opened.name::<B>(alloc, workers)?;
 //! let stamp = ports.offer(&groups, rt, &turn, slot, message)?; // a worker's ports
 //! let envelope = place.take(&groups, rt, &turn)?; // a member's place
@@ -26,7 +26,7 @@ mod place;
 mod ports;
 mod sorting;
 
-pub use broker::Broker;
+pub use broker::{Broker, BrokerName, Witnessed};
 pub use ending::{Ended, Unended};
 pub use groups::{BrokerGroups, SLOTS};
 pub use key::Key;

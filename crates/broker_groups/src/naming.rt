@@ -10,7 +10,7 @@ use crate::opening::{Opened, abandon_all};
 use crate::place::BrokerPlace;
 use crate::ports::Ports;
 use group_jobs::JobError;
-use group_queue::{Place, Port};
+use group_queue::{Place, Port, Witness};
 use std::alloc::Global;
 use std::marker::PhantomData;
 
@@ -22,13 +22,17 @@ pub struct Named<'a, B: Broker> {
     pub places: Vec<BrokerPlace<B>>,
 }
 
-impl<'a> Opened<'a> {
+impl<'a, W: Witness> Opened<'a, W> {
     /// Gives what was opened the name of a broker. Each worker gets a port of each group.
     ///
     /// # Errors
     ///
     /// 503 [`JobError::Memory`]. The groups are given up.
-    pub fn name<B: Broker>(self, alloc: Global, workers: u8) -> Result<Named<'a, B>, JobError>
+    pub fn name<B: Broker<Seen = W>>(
+        self,
+        alloc: Global,
+        workers: u8,
+    ) -> Result<Named<'a, B>, JobError>
         requires { IsOfBroker B.gate B.group workers self }
         ensures groups { IfOk result (λ named. named.groups ≡ self.entry.groups.items) }
         ensures workers { IfOk result (λ named. length named.ports.items ≡ workers) }
@@ -65,8 +69,8 @@ impl<'a> Opened<'a> {
 fn name_members<B: Broker>(
     alloc: Global,
     workers: u8,
-    ports: Vec<Vec<Port>>,
-    places: Vec<Vec<Place>>,
+    ports: Vec<Vec<Port<B::Seen>>>,
+    places: Vec<Vec<Place<B::Seen>>>,
 ) -> Result<(Vec<Ports<B>>, Vec<BrokerPlace<B>>), JobError>
     requires rows { length ports.items ≡ 8 }
     requires ports { AreRows B.group workers 0 ports.items }
@@ -85,8 +89,8 @@ fn name_members<B: Broker>(
 fn deal_ports<B: Broker>(
     alloc: Global,
     workers: u8,
-    rows: Vec<Vec<Port>>,
-) -> Result<Vec<Vec<Port>>, JobError>
+    rows: Vec<Vec<Port<B::Seen>>>,
+) -> Result<Vec<Vec<Port<B::Seen>>>, JobError>
     requires all { length rows.items ≡ 8 }
     requires rows { AreRows B.group workers 0 rows.items }
     ensures hands { IfOk result (λ hands. All (IsHand B.group 8) hands.items) }
@@ -103,7 +107,7 @@ fn deal_ports<B: Broker>(
 }
 
 /// No port for each worker.
-fn empty_hands<B: Broker>(alloc: Global, workers: u8) -> Result<Vec<Vec<Port>>, JobError>
+fn empty_hands<B: Broker>(alloc: Global, workers: u8) -> Result<Vec<Vec<Port<B::Seen>>>, JobError>
     ensures hands { IfOk result (λ hands. All (IsHand B.group 0) hands.items) }
     ensures many { IfOk result (λ hands. length hands.items ≡ workers) }
     ensures ports { IfOk result (λ hands. (worth : PortState → ℕ) → worth_of_rows worth hands.items ≡ 0) }
@@ -119,9 +123,9 @@ fn empty_hands<B: Broker>(alloc: Global, workers: u8) -> Result<Vec<Vec<Port>>, 
 fn deal_row<B: Broker>(
     alloc: Global,
     slot: u8,
-    hands: Vec<Vec<Port>>,
-    row: Vec<Port>,
-) -> Result<Vec<Vec<Port>>, JobError>
+    hands: Vec<Vec<Port<B::Seen>>>,
+    row: Vec<Port<B::Seen>>,
+) -> Result<Vec<Vec<Port<B::Seen>>>, JobError>
     requires hands { All (IsHand B.group slot) hands.items }
     requires row { All (IsBrokerPort B.group slot) row.items }
     requires many { length hands.items ≡ length row.items }
@@ -144,7 +148,10 @@ fn deal_row<B: Broker>(
 }
 
 /// Names what workers publish through.
-fn name_hands<B: Broker>(alloc: Global, hands: Vec<Vec<Port>>) -> Result<Vec<Ports<B>>, JobError>
+fn name_hands<B: Broker>(
+    alloc: Global,
+    hands: Vec<Vec<Port<B::Seen>>>,
+) -> Result<Vec<Ports<B>>, JobError>
     requires { All (IsHand B.group 8) hands.items }
     ensures many { IfOk result (λ named. length named.items ≡ length hands.items) }
     ensures ports { IfOk result (λ named. (worth : PortState → ℕ) → worth_of_all worth named.items ≡ worth_of_rows worth hands.items) }
@@ -163,7 +170,7 @@ fn name_hands<B: Broker>(alloc: Global, hands: Vec<Vec<Port>>) -> Result<Vec<Por
 /// Names all places.
 fn name_places<B: Broker>(
     alloc: Global,
-    rows: Vec<Vec<Place>>,
+    rows: Vec<Vec<Place<B::Seen>>>,
 ) -> Result<Vec<BrokerPlace<B>>, JobError>
     requires { All (λ row. All (IsBrokerPlace B.group) row.items) rows.items }
     ensures { IfOk result (λ named. named.items ≡ in_a_row rows.items) }
@@ -176,7 +183,10 @@ fn name_places<B: Broker>(
 }
 
 /// Names the places of one group, behind those of others.
-fn name_row<B: Broker>(named: &mut Vec<BrokerPlace<B>>, row: Vec<Place>) -> Result<(), JobError>
+fn name_row<B: Broker>(
+    named: &mut Vec<BrokerPlace<B>>,
+    row: Vec<Place<B::Seen>>,
+) -> Result<(), JobError>
     requires { All (IsBrokerPlace B.group) row.items }
     ensures { IfOk result (λ _. named.new.items ≡ named.old.items ++ row.items) }
 {

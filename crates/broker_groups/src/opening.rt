@@ -6,7 +6,7 @@ ghost use Rattle.broker_groups.specs.Naming.{IsOfBroker};
 use crate::groups::SLOTS;
 use gate_word::Gate;
 use group_jobs::JobError;
-use group_queue::{Place, Port, SharedGroup};
+use group_queue::{LawfulWitness, Nobody, Place, Port, SharedGroup, Witness};
 use std::alloc::Global;
 
 /// How many places a group has.
@@ -14,13 +14,13 @@ pub const PLACES: u8 = 32;
 
 /// The groups of one broker as they were opened, one for each slot, in the order of slots, with the ports and the places of
 /// each.
-pub struct Opened<'a> {
-    pub groups: Vec<SharedGroup<'a>>,
-    pub ports: Vec<Vec<Port>>,
-    pub places: Vec<Vec<Place>>,
+pub struct Opened<'a, W: Witness = Nobody> {
+    pub groups: Vec<SharedGroup<'a, W>>,
+    pub ports: Vec<Vec<Port<W>>>,
+    pub places: Vec<Vec<Place<W>>>,
 }
 
-impl<'a> Opened<'a> {
+impl<'a, W: LawfulWitness> Opened<'a, W> {
     /// Opens the groups of a broker behind a gate. In each at most `capacity` messages wait for their first hand-out, and each
     /// has a port for each worker.
     ///
@@ -32,7 +32,7 @@ impl<'a> Opened<'a> {
         gate: &'a Gate,
         capacity: usize,
         workers: u8,
-    ) -> Result<Opened<'a>, JobError>
+    ) -> Result<Opened<'a, W>, JobError>
         requires capacity { (1 ≤ capacity) × (capacity ≤ 65536) }
         requires workers { (1 ≤ workers) × (workers ≤ 64) }
         ensures opened { IfOk result (IsBrokerOpened gate.entry.now capacity workers) }
@@ -42,7 +42,7 @@ impl<'a> Opened<'a> {
         let mut places = Vec::with_capacity(alloc, usize::from(SLOTS))?;
         let mut groups = Vec::with_capacity(alloc, usize::from(SLOTS))?;
         'slots: for slot in 0..SLOTS {
-            match SharedGroup::open(alloc, gate, slot, workers, PLACES, capacity) {
+            match SharedGroup::open_with_witness(alloc, gate, slot, workers, PLACES, capacity) {
                 Ok((group, its_ports, its_places)) => {
                     groups.push_reserved(group);
                     ports.push_reserved(its_ports);
@@ -60,7 +60,9 @@ impl<'a> Opened<'a> {
             places,
         })
     }
+}
 
+impl<'a, W: Witness> Opened<'a, W> {
     /// Gives all of them up, without a word of what became of their messages.
     pub fn abandon(self) {
         let Opened {
@@ -73,7 +75,7 @@ impl<'a> Opened<'a> {
 }
 
 /// Gives groups up.
-pub(crate) fn abandon_all(groups: Vec<SharedGroup<'_>>) {
+pub(crate) fn abandon_all<W: Witness>(groups: Vec<SharedGroup<'_, W>>) {
     let mut groups = groups;
     for _ in 0..groups.len() {
         let Some(group) = groups.pop() else {

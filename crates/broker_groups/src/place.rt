@@ -4,7 +4,7 @@ ghost use Rattle.group_jobs.specs.Stamps.{job_of};
 ghost use Rattle.group_queue.specs.Places.{Holds, IsBalanced, GatherAnswers, GiveBackAnswers, IsSamePlace, KeepsPlace, KeepsRoom, SettlesHeld, TakeAnswers, TakeBackAnswers, UsesRoom};
 ghost use Rattle.conn_supply.specs.Holding.{IsAmong, FindsOut, KeepsOut, ReturnsOut, SpendsOut};
 ghost use Rattle.broker_groups.specs.Brokers.{IsBrokerPlace};
-ghost use Rattle.broker_groups.specs.Answers.{in_group, seen_ledger, seen_main, seen_returns};
+ghost use Rattle.broker_groups.specs.Answers.{in_group};
 ghost use Rattle.broker_groups.specs.Outs.{HasOut};
 
 use crate::broker::Broker;
@@ -22,7 +22,7 @@ use std::sync::Wait;
 /// Contracts see it as the `PlaceState` of its group's place.
 #[derive(Drop)]
 pub struct BrokerPlace<B: Broker> {
-    pub(crate) place: Place,
+    pub(crate) place: Place<B::Seen>,
     pub(crate) of: PhantomData<B>,
 }
 
@@ -39,7 +39,7 @@ impl<B: Broker> Model for BrokerPlace<B> {
 
 impl<B: Broker> BrokerPlace<B> {
     /// The place of its group that it is.
-    pub fn into_place(self) -> Place
+    pub fn into_place(self) -> Place<B::Seen>
         ensures same { result ≡ self }
         ensures named { IsBrokerPlace B.group result }
     {
@@ -77,7 +77,7 @@ impl<B: Broker> BrokerPlace<B> {
     }
 
     /// Is handed the oldest message of its group that was never handed out, as [`SharedGroup::take`](group_queue::SharedGroup::take)
-    /// says.
+    /// says. `None` only where the broker's witness saw that there was none.
     ///
     /// # Errors
     ///
@@ -89,7 +89,7 @@ impl<B: Broker> BrokerPlace<B> {
         turn: &Turn,
     ) -> Result<Option<Envelope>, NoMemory>
         requires { turn.now.gate ≡ B.gate }
-        ensures answer { TakeAnswers seen_main self.old (in_group result) self.new }
+        ensures answer { TakeAnswers B.Seen.saw_main self.old (in_group result) self.new }
         ensures holds { IfOk result (λ answer. IfSome answer (Holds self.new)) }
         ensures room { UsesRoom self.old (in_group result) self.new }
         ensures out { FindsOut HasOut self.old result self.new }
@@ -99,7 +99,8 @@ impl<B: Broker> BrokerPlace<B> {
     }
 
     /// Is handed the message of its group that was given back first, as
-    /// [`SharedGroup::take_back`](group_queue::SharedGroup::take_back) says.
+    /// [`SharedGroup::take_back`](group_queue::SharedGroup::take_back) says. `None` only where the broker's witness saw that
+    /// there was none.
     ///
     /// # Errors
     ///
@@ -111,7 +112,7 @@ impl<B: Broker> BrokerPlace<B> {
         turn: &Turn,
     ) -> Result<Option<Envelope>, NoMemory>
         requires { turn.now.gate ≡ B.gate }
-        ensures answer { TakeBackAnswers seen_returns self.old (in_group result) self.new }
+        ensures answer { TakeBackAnswers B.Seen.saw_returns self.old (in_group result) self.new }
         ensures holds { IfOk result (λ answer. IfSome answer (Holds self.new)) }
         ensures room { UsesRoom self.old (in_group result) self.new }
         ensures out { FindsOut HasOut self.old result self.new }
@@ -161,7 +162,7 @@ impl<B: Broker> BrokerPlace<B> {
         rt: &R,
         alloc: Global,
     ) -> Result<bool, JobError>
-        ensures answer { GatherAnswers seen_ledger self.old result self.new }
+        ensures answer { GatherAnswers B.Seen.saw_ledger self.old result self.new }
         ensures room { self.old.docket.room ≤ self.new.docket.room }
         ensures out { KeepsOut HasOut self.old self.new }
     {

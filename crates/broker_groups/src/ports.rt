@@ -17,7 +17,7 @@ use std::sync::Wait;
 /// Contracts see it as the list of its ports, in the order of their groups' slots.
 #[derive(Drop)]
 pub struct Ports<B: Broker> {
-    pub(crate) ports: Vec<Port>,
+    pub(crate) ports: Vec<Port<B::Seen>>,
     pub(crate) of: PhantomData<B>,
 }
 
@@ -35,7 +35,7 @@ impl<B: Broker> Model for Ports<B> {
 
 impl<B: Broker> Ports<B> {
     /// Its ports, in the order of their groups' slots.
-    pub fn into_ports(self) -> Vec<Port>
+    pub fn into_ports(self) -> Vec<Port<B::Seen>>
         ensures same { result.items ≡ self }
         ensures named { AreBrokerPorts B.group result.items }
     {
@@ -58,7 +58,7 @@ impl<B: Broker> Ports<B> {
         message: SharedMessage,
     ) -> Result<Stamp, OfferRefusal>
         requires { turn.now.gate ≡ B.gate }
-        ensures { OffersTo B.group self.old slot message result self.new }
+        ensures { OffersTo B.group B.Seen.saw_main self.old slot message result self.new }
     {
         if slot >= SLOTS {
             return Err(OfferRefusal::Shut);
@@ -80,7 +80,7 @@ impl<B: Broker> Ports<B> {
     ) -> Result<Stamp, NotTaken>
         requires slot { slot < 8 }
         requires turn { turn.now.gate ≡ B.gate }
-        ensures { OffersThrough (B.group slot) self.old slot message result self.new }
+        ensures { OffersThrough (B.group slot) B.Seen.saw_main self.old slot message result self.new }
     {
         let group = groups.group(slot);
         group.offer(rt, &mut self.ports[usize::from(slot)], turn, message)

@@ -57,7 +57,10 @@ fn put<T>(rows: &mut Vec<Vec<T>>, at: usize, item: T)
 }
 
 /// Sorts places.
-pub(crate) fn sort_places<B: Broker>(places: Vec<BrokerPlace<B>>, rows: &mut Vec<Vec<Place>>)
+pub(crate) fn sort_places<B: Broker>(
+    places: Vec<BrokerPlace<B>>,
+    rows: &mut Vec<Vec<Place<B::Seen>>>,
+)
     requires { AreSorted (IsPlaceAt B.group) place_slot 8 places.items places.items rows.old.items }
     ensures { AreSorted (IsPlaceAt B.group) place_slot 8 places.items [] rows.new.items }
 {
@@ -68,7 +71,7 @@ pub(crate) fn sort_places<B: Broker>(places: Vec<BrokerPlace<B>>, rows: &mut Vec
 }
 
 /// Sorts the ports of all workers.
-pub(crate) fn sort_ports<B: Broker>(all: Vec<Ports<B>>, rows: &mut Vec<Vec<Port>>)
+pub(crate) fn sort_ports<B: Broker>(all: Vec<Ports<B>>, rows: &mut Vec<Vec<Port<B::Seen>>>)
     requires { AreSorted (IsBrokerPort B.group) port_slot 8 (joined all.items) (joined all.items) rows.old.items }
     ensures { AreSorted (IsBrokerPort B.group) port_slot 8 (joined all.items) [] rows.new.items }
 {
@@ -78,7 +81,7 @@ pub(crate) fn sort_ports<B: Broker>(all: Vec<Ports<B>>, rows: &mut Vec<Vec<Port>
 }
 
 /// Sorts the ports of a worker, before those of others.
-fn put_ports<B: Broker>(ports: Ports<B>, rows: &mut Vec<Vec<Port>>)
+fn put_ports<B: Broker>(ports: Ports<B>, rows: &mut Vec<Vec<Port<B::Seen>>>)
     requires { (all rest : List PortState) × AreSorted (IsBrokerPort B.group) port_slot 8 all (ports ++ rest) rows.old.items }
     ensures { (all rest : List PortState) → AreSorted (IsBrokerPort B.group) port_slot 8 all (ports ++ rest) rows.old.items
         → AreSorted (IsBrokerPort B.group) port_slot 8 all rest rows.new.items }

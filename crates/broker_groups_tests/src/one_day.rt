@@ -3,11 +3,14 @@ ghost use Rattle.std.specs.Prelude.{◌≡◌, All, IfSome};
 ghost use Rattle.gate_word.specs.Seats.{AreSeatsOf};
 ghost use Rattle.broker_groups.specs.Naming.{HasNoneOut, IsOfBroker};
 
-use broker_groups::{Broker, BrokerGroups, BrokerPlace, Ended, Key, Named, Opened, Ports};
+use broker_groups::{
+    Broker, BrokerGroups, BrokerName, BrokerPlace, Ended, Key, Named, Opened, Ports, Witnessed,
+};
 use bytes::Bytes;
 use conn_supply::OfferRefusal;
 use gate_word::{Gate, GateSeat, Turn};
 use group_jobs::{Envelope, Fate, Message, SharedMessage, Stamp};
+use group_queue::Nobody;
 use mqtt_packet::{RareProperties, Text};
 use std::alloc::Global;
 use std::marker::Brand;
@@ -141,7 +144,7 @@ fn go_inside<B: Broker, R: Wait>(
 }
 
 /// Ends the groups, and tells what happened.
-fn end<B: Broker, R: Wait>(
+fn end<B: Broker<Seen = Nobody>, R: Wait>(
     rt: &R,
     alloc: Global,
     groups: BrokerGroups<'_, B>,
@@ -169,26 +172,26 @@ fn end<B: Broker, R: Wait>(
 }
 
 /// The day of a broker with one worker.
-fn day<B: Broker, R: Wait>(
+fn day<N: BrokerName, R: Wait>(
     rt: &R,
     alloc: Global,
     gate: &Gate,
     seat: GateSeat,
     opened: Opened<'_>,
 ) -> Option<Told>
-    requires gate { gate.now ≡ B.gate }
-    requires seat { seat.gate ≡ B.gate }
-    requires opened { IsOfBroker B.gate B.group 1 opened }
+    requires gate { gate.now ≡ N.gate }
+    requires seat { seat.gate ≡ N.gate }
+    requires opened { IsOfBroker N.gate N.group 1 opened }
 {
     let Named {
         groups,
         mut ports,
         mut places,
-    } = match opened.name::<B>(alloc, 1) {
+    } = match opened.name::<Witnessed<N, Nobody>>(alloc, 1) {
         Ok(named) => named,
         Err(_) => return None,
     };
-    let key: Key<B> = Key::of(seat);
+    let key: Key<Witnessed<N, Nobody>> = Key::of(seat);
     match gate.enter(key.into_seat()) {
         Ok(turn) => {
             let seen = go_inside(rt, alloc, &groups, &mut ports, &mut places, &turn);
@@ -250,7 +253,10 @@ fn crosses_threads<T: Send>() {}
 
 fn is_shared_by_threads<T: Sync>() {}
 
-fn may_be_threaded<B: Broker + Send + Sync>() {
+fn may_be_threaded<B: Broker + Send + Sync>()
+where
+    B::Seen: Send + Sync,
+{
     is_shared_by_threads::<BrokerGroups<'static, B>>();
     crosses_threads::<BrokerGroups<'static, B>>();
     crosses_threads::<BrokerPlace<B>>();
@@ -260,5 +266,5 @@ fn may_be_threaded<B: Broker + Send + Sync>() {
 
 #[test]
 fn what_threads_may_do_with_it() {
-    may_be_threaded::<Brand>();
+    may_be_threaded::<Witnessed<Brand, Nobody>>();
 }

@@ -3,6 +3,7 @@ use Rattle.std.proofs.Common.{◌≡◌, ◌⊎◌, ◌<◌, ◌≤◌, ◌≢�
 use Rattle.std.proofs.Math.Nat.{le_trans}
 use Rattle.transport.specs.declared.counts.Counts.{Counts}
 use Rattle.group_queue.specs.Ports.{GroupId}
+use Rattle.broker_groups.specs.Answers.{Sights}
 use Rattle.shared_supply.specs.declared.wakes.Wakes.{Wakes}
 use Rattle.worker_connections.specs.Members.{HasTaker, TakesIn}
 use Rattle.worker_connections.specs.Serving.{ConnectionsState, GoesBy, Rounds, StaysOf, round_of, with_wakes}
@@ -53,10 +54,10 @@ module _ {T : Type 0} where
   pub taker : (slot cell : ℕ) (c : ConnectionsState T) → TakesIn slot cell c.cells → HasTaker slot c.cells
   taker slot cell c takes = record { cell = cell; service = takes.service; place = takes.place; here = takes.here; takes = takes.takes; group = takes.group }
 
-module _ {T : Type 0} (group : ℕ → GroupId) (counts : T → Counts) (given accepted : T → Option (List ℕ)) where
+module _ {T : Type 0} (group : ℕ → GroupId) (seen : Sights) (counts : T → Counts) (given accepted : T → Option (List ℕ)) where
   -- a member that goes on and reads was offered one
   pub offered : (slot cell : ℕ) (old new : ConnectionsState T) (turned : Turned T) (told : Round) → TakesIn slot cell old.cells
-      → GoesBy group counts given accepted cell Outbound 1 turned old new → round_of turned ≡ Some told → told ≢ Writing → IsOffered group counts given accepted slot old new
+      → GoesBy group seen counts given accepted cell Outbound 1 turned old new → round_of turned ≡ Some told → told ≢ Writing → IsOffered group seen counts given accepted slot old new
   offered slot cell old new Vacant told takes goes is reads = absurd (cc is)
   offered slot cell old new (Goes round) told takes goes is reads =
       let same : round ≡ told = cc is in
@@ -64,25 +65,25 @@ module _ {T : Type 0} (group : ℕ → GroupId) (counts : T → Counts) (given a
   offered slot cell old new (Ended how transport) told takes goes is reads = absurd (cc is)
 
   -- something was offered behind further rounds
-  pub offers_later : (slot : ℕ) (old mid new : ConnectionsState T) → Rounds old mid → Offers group counts given accepted slot mid new → Offers group counts given accepted slot old new
+  pub offers_later : (slot : ℕ) (old mid new : ConnectionsState T) → Rounds old mid → Offers group seen counts given accepted slot mid new → Offers group seen counts given accepted slot old new
   offers_later slot old mid new rounds offers =
       ⊎_elim
-      (λ one. inl (wider (IsOffered group counts given accepted slot) old mid new new rounds one (still new)))
-      (λ each. inr (λ cell within. wider (IsAsked group counts given accepted slot cell) old mid new new rounds (each cell (omega (arith, within, rounds.count))) (still new)))
+      (λ one. inl (wider (IsOffered group seen counts given accepted slot) old mid new new rounds one (still new)))
+      (λ each. inr (λ cell within. wider (IsAsked group seen counts given accepted slot cell) old mid new new rounds (each cell (omega (arith, within, rounds.count))) (still new)))
       offers
 
   -- where no member has room, each client was asked
-  pub nobody_takes : (slot : ℕ) (c : ConnectionsState T) → (HasTaker slot c.cells → ⊥) → Offers group counts given accepted slot c c
-  nobody_takes slot c none = inr (λ cell within. here (IsAsked group counts given accepted slot cell) c c c c (still c) (inl ((λ takes. none (taker slot cell c takes)), refl)) (still c))
+  pub nobody_takes : (slot : ℕ) (c : ConnectionsState T) → (HasTaker slot c.cells → ⊥) → Offers group seen counts given accepted slot c c
+  nobody_takes slot c none = inr (λ cell within. here (IsAsked group seen counts given accepted slot cell) c c c c (still c) (inl ((λ takes. none (taker slot cell c takes)), refl)) (still c))
 
   -- each group was offered something amid further rounds
-  pub offers_each : (older old new newer : ConnectionsState T) → Rounds older old → OffersEach group counts given accepted old new → Rounds new newer
-      → OffersEach group counts given accepted older newer
-  offers_each older old new newer one each two slot few = wider (Offers group counts given accepted slot) older old new newer one (each slot few) two
+  pub offers_each : (older old new newer : ConnectionsState T) → Rounds older old → OffersEach group seen counts given accepted old new → Rounds new newer
+      → OffersEach group seen counts given accepted older newer
+  offers_each older old new newer one each two slot few = wider (Offers group seen counts given accepted slot) older old new newer one (each slot few) two
 
   -- and so in a turn, in which others were heard before, and nothing changes behind
-  pub in_turn : (old mid mid' new : ConnectionsState T) → mid.sweeps.begun ≡ old.sweeps.begun → StaysOf old mid → OffersInSweep group counts given accepted mid mid' → new ≡ mid'
-      → OffersInSweep group counts given accepted old new
+  pub in_turn : (old mid mid' new : ConnectionsState T) → mid.sweeps.begun ≡ old.sweeps.begun → StaysOf old mid → OffersInSweep group seen counts given accepted mid mid' → new ≡ mid'
+      → OffersInSweep group seen counts given accepted old new
   in_turn old mid mid' new begun stays (inl same) is = inl (ap (λ (c : ConnectionsState T). c.sweeps.begun) is ∙ same ∙ begun)
   in_turn old mid mid' new begun stays (inr some) is =
-      inr (some.0, some.1 ∙ stays, subst (λ (c : ConnectionsState T). OffersEach group counts given accepted some.0 c) (sym is) some.2)
+      inr (some.0, some.1 ∙ stays, subst (λ (c : ConnectionsState T). OffersEach group seen counts given accepted some.0 c) (sym is) some.2)

@@ -2,6 +2,7 @@
 use Rattle.std.specs.Prelude.{◌≡◌, ◌≢◌, ◌⊎◌, ℕ, ◌<◌, ◌≤◌, List, length, Option}
 use Rattle.transport.specs.declared.counts.Counts.{Counts}
 use Rattle.group_queue.specs.Ports.{GroupId}
+use Rattle.broker_groups.specs.Answers.{Sights}
 use Rattle.conn_service.specs.declared.served.Direction.TheVariants.{Outbound}
 use Rattle.conn_service.specs.declared.served.Round.{Round}
 use Rattle.conn_service.specs.declared.served.Round.TheVariants.{Writing}
@@ -14,12 +15,12 @@ use Rattle.worker_connections.specs.Serving.{ConnectionsState, GoesBy, Rounds, S
 abbrev pub Amid : {T : Type 0} → (ConnectionsState T → ConnectionsState T → Type 0) → ConnectionsState T → ConnectionsState T → Type 0
 Amid {T} Does old new = (before after : ConnectionsState T) × Rounds old before × Does before after × Rounds after new
 
-module _ {T : Type 0} (group : ℕ → GroupId) (counts : T → Counts) (given accepted : T → Option (List ℕ)) where
+module _ {T : Type 0} (group : ℕ → GroupId) (seen : Sights) (counts : T → Counts) (given accepted : T → Option (List ℕ)) where
   -- the client in a cell had an outbound round, in which it might be handed a message
   pub record MightTake (cell : ℕ) (turned : Turned T) (old new : ConnectionsState T) : Type 0 where
     pub most : ℕ
     pub some : 1 ≤ most
-    pub goes : GoesBy group counts given accepted cell Outbound most turned old new
+    pub goes : GoesBy group seen counts given accepted cell Outbound most turned old new
 
   -- the client in a cell is no member of the group of this slot that has room; or it had such a round
   abbrev pub IsAsked : (slot cell : ℕ) → ConnectionsState T → ConnectionsState T → Type 0

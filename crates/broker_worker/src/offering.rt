@@ -30,7 +30,7 @@ impl<
     /// In a sweep, offers a message to a member of each group.
     pub(crate) fn offer_if(&mut self, sweeps: bool, buffer: &mut [u8; READ_SIZE])
         ensures goes { Rounds self.old.connections self.new.connections }
-        ensures offered { sweeps ≡ true → OffersEach B.group T.counts T.given T.accepted self.old.connections self.new.connections }
+        ensures offered { sweeps ≡ true → OffersEach B.group B.Seen.Witness T.counts T.given T.accepted self.old.connections self.new.connections }
     {
         if sweeps {
             self.offer_each(buffer);
@@ -40,7 +40,7 @@ impl<
     /// Offers a message to a member of each group.
     fn offer_each(&mut self, buffer: &mut [u8; READ_SIZE])
         ensures goes { Rounds self.old.connections self.new.connections }
-        ensures offered { OffersEach B.group T.counts T.given T.accepted self.old.connections self.new.connections }
+        ensures offered { OffersEach B.group B.Seen.Witness T.counts T.given T.accepted self.old.connections self.new.connections }
     {
         'slots: for slot in 0..SLOTS {
             self.offer(slot, buffer);
@@ -51,7 +51,7 @@ impl<
     fn offer(&mut self, slot: usize, buffer: &mut [u8; READ_SIZE])
         requires { slot < 8 }
         ensures goes { Rounds self.old.connections self.new.connections }
-        ensures offered { Offers B.group T.counts T.given T.accepted slot self.old.connections self.new.connections }
+        ensures offered { Offers B.group B.Seen.Witness T.counts T.given T.accepted slot self.old.connections self.new.connections }
     {
         if !self.connections.members().has_taker(slot) {
             return;
@@ -66,7 +66,7 @@ impl<
     /// Offers a message to a member of a group, in the order of their cells.
     fn offer_to_any(&mut self, slot: usize, buffer: &mut [u8; READ_SIZE])
         ensures goes { Rounds self.old.connections self.new.connections }
-        ensures offered { Offers B.group T.counts T.given T.accepted slot self.old.connections self.new.connections }
+        ensures offered { Offers B.group B.Seen.Witness T.counts T.given T.accepted slot self.old.connections self.new.connections }
     {
         'cells: for cell in 0..self.connections.len() {
             if self.offer_to(cell, slot, buffer) {
@@ -78,8 +78,8 @@ impl<
     /// Offers a message to the client in a cell, where it is a member of a group and has room. Whether it is, and neither ended nor has to wait until it reads.
     fn offer_to(&mut self, cell: usize, slot: usize, buffer: &mut [u8; READ_SIZE]) -> bool
         ensures goes { Rounds self.old.connections self.new.connections }
-        ensures yes { result ≡ true → IsOffered B.group T.counts T.given T.accepted slot self.old.connections self.new.connections }
-        ensures no { result ≡ false → cell < length self.old.connections.cells → IsAsked B.group T.counts T.given T.accepted slot cell self.old.connections self.new.connections }
+        ensures yes { result ≡ true → IsOffered B.group B.Seen.Witness T.counts T.given T.accepted slot self.old.connections self.new.connections }
+        ensures no { result ≡ false → cell < length self.old.connections.cells → IsAsked B.group B.Seen.Witness T.counts T.given T.accepted slot cell self.old.connections self.new.connections }
     {
         if !self.connections.would_take(cell, slot) {
             return false;

@@ -94,7 +94,7 @@ impl<
     ) -> Option<Round>
         ensures goes { Rounds self.old.connections self.new.connections }
         ensures notes { cell < length self.old.connections.cells → Notes cell (length self.old.connections.cells) self.old.connections.sweeps self.new.connections.sweeps }
-        ensures made { cell < length self.old.connections.cells → (turned : AnyTurned T) × (result ≡ round_of turned) × GoesBy B.group T.counts T.given T.accepted cell direction most turned self.old.connections self.new.connections }
+        ensures made { cell < length self.old.connections.cells → (turned : AnyTurned T) × (result ≡ round_of turned) × GoesBy B.group B.Seen.Witness T.counts T.given T.accepted cell direction most turned self.old.connections self.new.connections }
     {
         let worker = u32::try_from(self.number).unwrap_or(u32::MAX);
         let went = self

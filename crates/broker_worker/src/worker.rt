@@ -175,7 +175,7 @@ impl<
         ensures same { StaysOf self.old.connections self.new.connections }
         ensures rests { MayWait result self.new }
         ensures ticked { AreTicked self.new.connections.sweeps.latest self.new.connections.cells }
-        ensures offered { OffersInSweep B.group T.counts T.given T.accepted self.old.connections self.new.connections }
+        ensures offered { OffersInSweep B.group B.Seen.Witness T.counts T.given T.accepted self.old.connections self.new.connections }
     {
         self.wait(rt, pause);
         self.mark_ready();
@@ -189,7 +189,7 @@ impl<
         ensures same { StaysOf self.old.connections self.new.connections }
         ensures in_time { IsInTime self.new.connections.sweeps }
         ensures told { wakes_of self.new.connections ≡ no_wakes }
-        ensures offered { OffersInSweep B.group T.counts T.given T.accepted self.old.connections self.new.connections }
+        ensures offered { OffersInSweep B.group B.Seen.Witness T.counts T.given T.accepted self.old.connections self.new.connections }
     {
         let all = self.connections.begin_sweep();
         self.serve_due(all, buffer);
@@ -200,7 +200,7 @@ impl<
     fn share_out(&mut self, sweeps: bool, buffer: &mut [u8; READ_SIZE])
         ensures goes { Rounds self.old.connections self.new.connections }
         ensures told { wakes_of self.new.connections ≡ no_wakes }
-        ensures offered { sweeps ≡ true → OffersEach B.group T.counts T.given T.accepted self.old.connections self.new.connections }
+        ensures offered { sweeps ≡ true → OffersEach B.group B.Seen.Witness T.counts T.given T.accepted self.old.connections self.new.connections }
     {
         self.plan();
         self.tell_beyond();
@@ -268,7 +268,7 @@ impl<
         ensures served { result.served ≡ self.entry.connections.served }
         ensures counted { live self.entry.connections ≡ 0 → AreCounted (length self.entry.connections.receiver.received) result.served }
         ensures closed { Q.closed result.poller ≡ self.entry.connections.closed }
-        ensures ran { HasRunTo B.group T.counts T.given T.accepted (run_of self.entry.connections) }
+        ensures ran { HasRunTo B.group B.Seen.Witness T.counts T.given T.accepted (run_of self.entry.connections) }
         ensures ports { live self.entry.connections ≡ 0 → result.hand.ports ≡ self.entry.connections.supply.ports }
         ensures desk { live self.entry.connections ≡ 0 → result.pass ≡ self.entry.connections.supply.desk }
     {

@@ -10,7 +10,6 @@ use Rattle.group_jobs.specs.declared.report.Report.{Report}
 use Rattle.group_jobs.specs.Reports.{fates_of, times_accepted}
 use Rattle.group_jobs.specs.Balance.{Account, AddsUp}
 use Rattle.group_queue.specs.declared.finish.Unfinished.{Unfinished}
-use Rattle.group_queue.specs.declared.witness.Nobody.{Nobody}
 use Rattle.group_queue.specs.Ports.{GroupId, PortState}
 use Rattle.group_queue.specs.Places.{PlaceState, account_of}
 use Rattle.broker_groups.specs.Endings.{AreEnded, joined, port_slot, place_slot, held_slot}
@@ -30,7 +29,7 @@ OneFate = (accounts : List Account) (report : Report) → AddsUp accounts report
 abbrev pub LawfulEnd : Type 0
 LawfulEnd = (accounts : List Account) (report : Report) → AddsUp accounts report → AreOrderly accounts report → (state : GroupState) × EndsIn accounts report state × IsLawful state
 
-module _ (group : ℕ → GroupId) (ports : List (List PortState)) (places : List PlaceState) (held : List Held) (answers : List (Result Report (Unfinished Nobody)))
+module _ {W : Type 0} (group : ℕ → GroupId) (ports : List (List PortState)) (places : List PlaceState) (held : List Held) (answers : List (Result Report (Unfinished W)))
     (ended : AreEnded group ports places held answers) where
   pub ended_in_order : OfEachReport KeepsOrder ports places held answers
   ended_in_order = λ slot report at.
@@ -67,7 +66,7 @@ module _ (group : ℕ → GroupId) (ports : List (List PortState)) (places : Lis
         (one_fate (map account_of (at_slot place_slot slot places)) report r.adds)
 
 -- and of a broker that has ended, with what its desk had
-pub kept : (group : ℕ → GroupId) (calls : List (Call Held PlaceState)) (ports : List (List PortState)) (answers : List (Result Report (Unfinished Nobody))) (strangers : List Held)
+pub kept : {W : Type 0} (group : ℕ → GroupId) (calls : List (Call Held PlaceState)) (ports : List (List PortState)) (answers : List (Result Report (Unfinished W))) (strangers : List Held)
     → OneFate → LawfulEnd → IsEnded group calls ports answers strangers → KeptItsPromisesBehind group calls ports answers strangers
 kept group calls ports answers strangers one_fate lawful_end (places, held, e) = (
   places,

@@ -17,7 +17,6 @@ use Rattle.group_queue.specs.declared.error.Lack.TheVariants.{Port, Place, Envel
 use Rattle.group_queue.specs.declared.error.FinishError.{FinishError}
 use Rattle.group_queue.specs.declared.error.FinishError.TheVariants.{Missing, Stranger, Memory}
 use Rattle.group_queue.specs.declared.finish.Unfinished.{Unfinished}
-use Rattle.group_queue.specs.declared.witness.Nobody.{Nobody}
 use Rattle.group_queue.specs.Ends.{IsBecause, times_held, times_out}
 use Rattle.group_queue.specs.Ports.{GroupId, PortState}
 use Rattle.group_queue.specs.Places.{PlaceState}
@@ -248,7 +247,7 @@ lacks_no_message group ports places held (Missing (Envelope stamp)) same because
 lacks_no_message group ports places held (Stranger stamp) same because = omega (arith, same stamp, because.3)
 lacks_no_message group ports places held Memory same because = tt
 
-pub none_lacks : (group : ℕ → GroupId) (calls : List (Call Held PlaceState)) (ports : List (List PortState)) (places : List PlaceState) (held : List Held) (answers : List (Result Report (Unfinished Nobody)))
+pub none_lacks : {W : Type 0} (group : ℕ → GroupId) (calls : List (Call Held PlaceState)) (ports : List (List PortState)) (places : List PlaceState) (held : List Held) (answers : List (Result Report (Unfinished W)))
     → AreEnded group ports places held answers → IsAllBehind calls places held → NoneLacksAMessage answers
 none_lacks group calls ports places held answers ended had slot left at =
     let less : slot < 8 = (let within = slice_get_within answers slot (Err left) at in omega (arith, within, ended.all)) in

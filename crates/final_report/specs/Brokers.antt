@@ -6,7 +6,6 @@ use Rattle.group_queue.specs.declared.error.Lack.TheVariants.{Port, Place, Envel
 use Rattle.group_queue.specs.declared.error.FinishError.{FinishError}
 use Rattle.group_queue.specs.declared.error.FinishError.TheVariants.{Missing, Stranger, Memory}
 use Rattle.group_queue.specs.declared.finish.Unfinished.{Unfinished}
-use Rattle.group_queue.specs.declared.witness.Nobody.{Nobody}
 use Rattle.group_queue.specs.Ports.{GroupId, PortState}
 use Rattle.group_queue.specs.Places.{PlaceState}
 use Rattle.broker_groups.specs.Endings.{joined, port_slot, place_slot, held_slot}
@@ -16,8 +15,8 @@ use Rattle.shared_supply.specs.Endings.{IsEndedWith}
 use Rattle.final_report.specs.Promises.{IsFirstHandedOnce, KeepsOrder, RefusesForGood, GivesOneFate, TellsWhatHappened, EndsLawfully}
 
 -- so it is of each group whose report is given, with the ports and places that are of its slot, and the messages that are out there
-abbrev pub OfEachReport : (List PortState → List PlaceState → List Held → Report → Type 0)
-    → List (List PortState) → List PlaceState → List Held → List (Result Report (Unfinished Nobody)) → Type 0
+abbrev pub OfEachReport : {W : Type 0} → (List PortState → List PlaceState → List Held → Report → Type 0)
+    → List (List PortState) → List PlaceState → List Held → List (Result Report (Unfinished W)) → Type 0
 OfEachReport Promised ports places held answers = (slot : ℕ) (report : Report) → slice_get answers slot ≡ Some (Ok report)
     → Promised (at_slot port_slot slot (joined ports)) (at_slot place_slot slot places) (at_slot held_slot slot held) report
 
@@ -30,12 +29,12 @@ LacksNoMessage (Stranger stamp) = ⊥
 LacksNoMessage Memory = ⊤
 
 -- so it is of each group that has none
-abbrev pub NoneLacksAMessage : List (Result Report (Unfinished Nobody)) → Type 0
-NoneLacksAMessage answers = (slot : ℕ) (left : Unfinished Nobody) → slice_get answers slot ≡ Some (Err left) → LacksNoMessage left.error
+abbrev pub NoneLacksAMessage : {W : Type 0} → List (Result Report (Unfinished W)) → Type 0
+NoneLacksAMessage answers = (slot : ℕ) (left : Unfinished W) → slice_get answers slot ≡ Some (Err left) → LacksNoMessage left.error
 
 -- a broker kept its promises: with these places, and these messages that sessions held, which were all that the desk had of which just these calls were made
-pub record KeptItsPromises (group : ℕ → GroupId) (calls : List (Call Held PlaceState)) (ports : List (List PortState)) (places : List PlaceState) (held : List Held)
-    (answers : List (Result Report (Unfinished Nobody))) (strangers : List Held) : Type 0 where
+pub record KeptItsPromises {W : Type 0} (group : ℕ → GroupId) (calls : List (Call Held PlaceState)) (ports : List (List PortState)) (places : List PlaceState) (held : List Held)
+    (answers : List (Result Report (Unfinished W))) (strangers : List Held) : Type 0 where
   pub ended : IsEndedWith group calls ports places held answers strangers
   pub first_once : OfEachReport IsFirstHandedOnce ports places held answers
   pub in_order : OfEachReport KeepsOrder ports places held answers
@@ -47,6 +46,6 @@ pub record KeptItsPromises (group : ℕ → GroupId) (calls : List (Call Held Pl
   pub none_lacks : NoneLacksAMessage answers
 
 -- the places and the messages that the desk had are given by its calls, but for their order
-abbrev pub KeptItsPromisesBehind : (group : ℕ → GroupId) (calls : List (Call Held PlaceState)) (ports : List (List PortState)) (answers : List (Result Report (Unfinished Nobody)))
+abbrev pub KeptItsPromisesBehind : {W : Type 0} → (group : ℕ → GroupId) (calls : List (Call Held PlaceState)) (ports : List (List PortState)) (answers : List (Result Report (Unfinished W)))
     (strangers : List Held) → Type 0
 KeptItsPromisesBehind group calls ports answers strangers = (places : List PlaceState) × (held : List Held) × KeptItsPromises group calls ports places held answers strangers

@@ -15,6 +15,7 @@ use call_history::HistoryName;
 use gate_word::{Drained, Turn};
 use group_jobs::Envelope;
 use group_jobs::laws::{lawful_end_law, one_fate_law};
+use group_queue::LawfulWitness;
 use shared_desk::DeskPass;
 use shared_supply::{Hall, StillOpen};
 use std::alloc::Global;
@@ -47,7 +48,9 @@ pub fn end_groups<'g, B: Broker, R: Wait>(
     ports: Vec<Ports<B>>,
     places: Vec<BrokerPlace<B>>,
     held: Vec<Envelope>,
-) -> Result<Ended<'g>, Unended<'g, B>>
+) -> Result<Ended<'g, B::Seen>, Unended<'g, B>>
+where
+    B::Seen: LawfulWitness,
     requires drained { drained.now ≡ B.gate }
     ensures first_once { IfOk result (λ ended. OfEachReport IsFirstHandedOnce ports.items places.items held.items ended.answers.items) }
     ensures in_order { IfOk result (λ ended. OfEachReport KeepsOrder ports.items places.items held.items ended.answers.items) }
@@ -83,7 +86,9 @@ pub fn end_broker<'g, B: Broker, N: HistoryName, R: Wait>(
     hall: Hall<'g, B, N>,
     ports: Vec<Ports<B>>,
     me: &mut DeskPass<BrokerPlace<B>, N>,
-) -> Result<Ended<'g>, StillOpen<'g, B>>
+) -> Result<Ended<'g, B::Seen>, StillOpen<'g, B>>
+where
+    B::Seen: LawfulWitness,
     requires drained { drained.now ≡ B.gate }
     ensures before { IsPrefix me.old me.new }
     ensures kept { IfOk result (λ ended. KeptItsPromisesBehind B.group me.new ports.items ended.answers.items ended.strangers.items) }

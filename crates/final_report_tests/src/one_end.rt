@@ -3,12 +3,15 @@ ghost use Rattle.std.specs.Prelude.{◌≡◌, All, IfSome};
 ghost use Rattle.gate_word.specs.Seats.{AreSeatsOf};
 ghost use Rattle.broker_groups.specs.Naming.{HasNoneOut, IsOfBroker};
 
-use broker_groups::{Broker, BrokerGroups, BrokerPlace, Ended, Key, Named, Opened, Ports};
+use broker_groups::{
+    Broker, BrokerGroups, BrokerName, BrokerPlace, Ended, Key, Named, Opened, Ports, Witnessed,
+};
 use bytes::Bytes;
 use call_history::HistoryName;
 use final_report::{end_broker, end_groups};
 use gate_word::{Drained, Gate, GateSeat, Turn};
 use group_jobs::{Envelope, Message, SharedMessage};
+use group_queue::Nobody;
 use mqtt_packet::{RareProperties, Text};
 use shared_desk::{DeskPass, OpenedDesk};
 use shared_routes::SharedRoutes;
@@ -93,7 +96,7 @@ fn close<B: Broker>(gate: &Gate, key: Key<B>) -> Option<Drained>
 }
 
 /// Ends a broker that was drained.
-fn end<B: Broker, N: HistoryName, R: Wait>(
+fn end<B: Broker<Seen = Nobody>, N: HistoryName, R: Wait>(
     rt: &R,
     alloc: Global,
     drained: &Drained,
@@ -113,7 +116,7 @@ fn end<B: Broker, N: HistoryName, R: Wait>(
 }
 
 /// Ends the groups of one, with their places in hands.
-fn end_by_hand<B: Broker, R: Wait>(
+fn end_by_hand<B: Broker<Seen = Nobody>, R: Wait>(
     rt: &R,
     alloc: Global,
     drained: &Drained,
@@ -133,7 +136,7 @@ fn end_by_hand<B: Broker, R: Wait>(
 }
 
 /// Ends one with its desk, which has all places.
-fn end_with_desk<B: Broker, R: Wait>(
+fn end_with_desk<B: Broker<Seen = Nobody>, R: Wait>(
     rt: &R,
     alloc: Global,
     gate: &Gate,
@@ -156,7 +159,7 @@ fn end_with_desk<B: Broker, R: Wait>(
 }
 
 /// The same, with a desk that is named by what it is.
-fn end_with<B: Broker, N: HistoryName, R: Wait>(
+fn end_with<B: Broker<Seen = Nobody>, N: HistoryName, R: Wait>(
     rt: &R,
     alloc: Global,
     gate: &Gate,
@@ -178,7 +181,7 @@ fn end_with<B: Broker, N: HistoryName, R: Wait>(
 }
 
 /// The day of a broker with one worker, who offers a message.
-fn day<B: Broker, R: Wait>(
+fn day<N: BrokerName, R: Wait>(
     rt: &R,
     alloc: Global,
     gate: &Gate,
@@ -187,16 +190,16 @@ fn day<B: Broker, R: Wait>(
     opened: Opened<'_>,
     has_desk: bool,
 ) -> Option<(usize, u64, usize)>
-    requires gate { gate.now ≡ B.gate }
-    requires seat { seat.gate ≡ B.gate }
-    requires spare { spare.gate ≡ B.gate }
-    requires opened { IsOfBroker B.gate B.group 1 opened }
+    requires gate { gate.now ≡ N.gate }
+    requires seat { seat.gate ≡ N.gate }
+    requires spare { spare.gate ≡ N.gate }
+    requires opened { IsOfBroker N.gate N.group 1 opened }
 {
     let Named {
         groups,
         mut ports,
         places,
-    } = match opened.name::<B>(alloc, 1) {
+    } = match opened.name::<Witnessed<N, Nobody>>(alloc, 1) {
         Ok(named) => named,
         Err(_) => return None,
     };
@@ -204,7 +207,7 @@ fn day<B: Broker, R: Wait>(
         let _offered = offer(rt, alloc, &groups, &mut ports, &turn);
         let _seat = gate.leave(turn);
     }
-    match close::<B>(gate, Key::of(spare)) {
+    match close::<Witnessed<N, Nobody>>(gate, Key::of(spare)) {
         Some(drained) if has_desk => {
             end_with_desk(rt, alloc, gate, &drained, groups, ports, places)
         }

@@ -13,7 +13,7 @@ use Rattle.conn_supply.specs.Facts.{Fact}
 use Rattle.conn_supply.specs.Facts.Fact.{Attach, Withdraw, Kicked, Park, ParkAsIs, Keep, Bury, Sweep, LendPlace, TakePlace, Bind, Find, Match, Offer, MayTake, Take, TakeBack, Settle, GiveBack}
 use Rattle.group_queue.specs.Ports.{GroupId}
 use Rattle.group_queue.specs.Places.{PlaceState, GiveBackAnswers, TakeAnswers, TakeBackAnswers}
-use Rattle.broker_groups.specs.Answers.{in_group, seen_main, seen_returns}
+use Rattle.broker_groups.specs.Answers.{in_group, Sights}
 use Rattle.broker_groups.specs.Offering.{OffersTo}
 use Rattle.broker_groups.specs.Outs.{HasOut}
 use Rattle.shared_routes.specs.Known.{KnownState, BindAnswers, HasNoSlot}
@@ -62,8 +62,8 @@ Binds old share (Ok slot) new = BindAnswers old share (Ok slot) new
 Binds old share (Err bind.NoSlot) new = HasNoSlot old share new
 Binds old share (Err bind.Memory) new = (slot_of share.text old.shares ≡ None) × (new ≡ old)
 
-module _ (group : ℕ → GroupId) where
-  -- what each call makes, with its answer, in a broker with these groups
+module _ (group : ℕ → GroupId) (seen : Sights) where
+  -- what each call makes, with its answer, in a broker with these groups, whose witness saw this
   abbrev pub Calls : Worker → Fact PlaceState → Worker → Type 0
   Calls old (Attach request answer) new = AsksDesk (waking old (asking_back answer old.wakes)) (desk.Attach request answer) new
   Calls old (Withdraw connection) new = AsksDesk old (desk.Withdraw connection) new
@@ -79,10 +79,10 @@ module _ (group : ℕ → GroupId) where
   Calls old (Find share answer) new = (answer ≡ slot_of share.text old.known.shares) × (new ≡ old)
   Calls old (Match topic slots) new = (slots ≡ places_of 0 (routed topic old.known.shares)) × (new ≡ old)
   Calls old (Offer slot connection message answer) new =
-      OffersTo group old.ports slot message answer new.ports × (new ≡ waking (record old { ports = new.ports }) (one_more_if answer slot old.wakes))
+      OffersTo group seen.saw_main old.ports slot message answer new.ports × (new ≡ waking (record old { ports = new.ports }) (one_more_if answer slot old.wakes))
   Calls old (MayTake place answer) new = IsAllowed answer old.allowance × (new ≡ old)
-  Calls old (Take place place' answer) new = TakeAnswers seen_main place (in_group answer) place' × (new ≡ handing answer place.group old)
-  Calls old (TakeBack place place' answer) new = TakeBackAnswers seen_returns place (in_group answer) place' × (new ≡ handing answer place.group old)
-  Calls old (Settle place place' envelope fate) new = (is_missed : Bool) × SettlesAndGathers place envelope fate is_missed place' × (new ≡ missing is_missed old)
+  Calls old (Take place place' answer) new = TakeAnswers seen.saw_main place (in_group answer) place' × (new ≡ handing answer place.group old)
+  Calls old (TakeBack place place' answer) new = TakeBackAnswers seen.saw_returns place (in_group answer) place' × (new ≡ handing answer place.group old)
+  Calls old (Settle place place' envelope fate) new = (is_missed : Bool) × SettlesAndGathers seen.saw_ledger place envelope fate is_missed place' × (new ≡ missing is_missed old)
   Calls old (GiveBack place place' envelope answer) new =
       GiveBackAnswers place envelope answer place' × (new ≡ waking old (one_more_if answer place.group old.wakes))

@@ -8,7 +8,6 @@ use Rattle.session_desk.specs.Calls.{Call}
 use Rattle.shared_desk.specs.Books.{IsLawful}
 use Rattle.shared_desk.specs.Histories.{Leads}
 use Rattle.group_queue.specs.declared.finish.Unfinished.{Unfinished}
-use Rattle.group_queue.specs.declared.witness.Nobody.{Nobody}
 use Rattle.group_queue.specs.Ports.{GroupId, PortState}
 use Rattle.group_queue.specs.Places.{PlaceState}
 use Rattle.broker_groups.specs.Endings.{AreEnded, held_slot}
@@ -29,17 +28,17 @@ pub record IsAllBehind (calls : List (Call Held PlaceState)) (places : List Plac
   pub all : HasAll books places held
 
 -- each group ended with the ports that are its own, and with these places and messages, which were all that the desk had behind these calls
-pub record IsEndedWith (group : ℕ → GroupId) (calls : List (Call Held PlaceState)) (ports : List (List PortState)) (places : List PlaceState) (held : List Held)
-    (answers : List (Result Report (Unfinished Nobody))) (strangers : List Held) : Type 0 where
+pub record IsEndedWith {W : Type 0} (group : ℕ → GroupId) (calls : List (Call Held PlaceState)) (ports : List (List PortState)) (places : List PlaceState) (held : List Held)
+    (answers : List (Result Report (Unfinished W))) (strangers : List Held) : Type 0 where
   pub had : IsAllBehind calls places held
   pub ended : AreEnded group ports places held answers
   pub strangers_are : strangers ≡ at_slot held_slot 8 held
 
 -- so it is of some places and messages: by the calls they are given, but for their order
-abbrev pub IsEnded : (group : ℕ → GroupId) (calls : List (Call Held PlaceState)) (ports : List (List PortState)) (answers : List (Result Report (Unfinished Nobody))) (strangers : List Held) → Type 0
+abbrev pub IsEnded : {W : Type 0} → (group : ℕ → GroupId) (calls : List (Call Held PlaceState)) (ports : List (List PortState)) (answers : List (Result Report (Unfinished W))) (strangers : List Held) → Type 0
 IsEnded group calls ports answers strangers = (places : List PlaceState) × (held : List Held) × IsEndedWith group calls ports places held answers strangers
 
 -- where an allocation failed, all that was given comes back: the ports, the routes, and the desk that these calls led to, or all that it had; the groups are the broker's, by their type
-abbrev pub IsLeft : {B : Type 0} → List (Call Held PlaceState) → List ℕ → List (List PortState) → StillOpen B → Type 0
+abbrev pub IsLeft : {B S : Type 0} → List (Call Held PlaceState) → List ℕ → List (List PortState) → StillOpen B S → Type 0
 IsLeft calls routes ports (Desk desk groups back left) = IsLedTo calls desk × (back ≡ routes) × (left.items ≡ ports)
 IsLeft calls routes ports (Groups unended back) = IsAllBehind calls unended.places.items unended.held.items × (back ≡ routes) × (unended.ports.items ≡ ports)

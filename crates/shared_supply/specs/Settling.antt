@@ -1,12 +1,13 @@
 -- How a place settles a message, and when it gathers what it settled into its group's ledger.
-use Rattle.std.specs.Prelude.{◌≡◌, ℕ, ◌+◌, ◌%◌, ◌<◌, min, length, Bool, true, false, Ok, Err}
+use Rattle.std.specs.Prelude.{◌≡◌, ℕ, ◌+◌, ◌%◌, ◌<◌, min, List, length, Bool, true, false, Ok, Err}
 use Rattle.group_jobs.specs.declared.error.JobError.TheVariants.{Memory}
 use Rattle.group_jobs.specs.declared.fate.Fate.{Fate}
 use Rattle.group_jobs.specs.declared.fate.Fate.TheVariants.{Acknowledged, Refused}
 use Rattle.group_jobs.specs.Settled.{runs_of}
 use Rattle.group_jobs.specs.Stamps.{Held, job_of}
+use Rattle.group_jobs.specs.declared.ledger.Ledger.{Ledger}
+use Rattle.shared_ledger.specs.declared.share.Share.{Share}
 use Rattle.group_queue.specs.Places.{PlaceState, GatherAnswers, IsSamePlace, SettlesHeld}
-use Rattle.broker_groups.specs.Answers.{seen_ledger}
 
 -- how many runs a place's docket has, of whatever fate, or 2^64 - 1 where they are more
 abbrev pub runs_at : PlaceState → ℕ
@@ -16,15 +17,16 @@ runs_at place = min (length (runs_of Acknowledged place.docket.settled) + length
 abbrev pub IsDue : ℕ → ℕ → Type 0
 IsDue before after = (before < after) × (after % 64 ≡ 0)
 
--- the place gathered, and what it had settled is in the group's ledger; or that was missed, as an allocation failed, and the place is as it was
-abbrev pub Gathers : PlaceState → (is_missed : Bool) → PlaceState → Type 0
-Gathers old false new = GatherAnswers seen_ledger old (Ok true) new
-Gathers old true new = GatherAnswers seen_ledger old (Err Memory) new
+module _ (saw : List Ledger → List Share → Type 0) where
+  -- the place gathered, and what it had settled is in the group's ledger; or that was missed, as an allocation failed, and the place is as it was
+  abbrev pub Gathers : PlaceState → (is_missed : Bool) → PlaceState → Type 0
+  Gathers old false new = GatherAnswers saw old (Ok true) new
+  Gathers old true new = GatherAnswers saw old (Err Memory) new
 
--- a message was settled at the place, and just where that filled a further 64 runs of its docket, the place gathered, or missed that
-pub record SettlesAndGathers (old : PlaceState) (envelope : Held) (fate : Fate) (is_missed : Bool) (new : PlaceState) : Type 0 where
-  pub settled : PlaceState
-  pub settles : SettlesHeld old (job_of envelope.stamp) fate settled
-  pub same : IsSamePlace old settled
-  pub due : IsDue (runs_at old) (runs_at settled) → Gathers settled is_missed new
-  pub spared : ¬ IsDue (runs_at old) (runs_at settled) → (new ≡ settled) × (is_missed ≡ false)
+  -- a message was settled at the place, and just where that filled a further 64 runs of its docket, the place gathered, or missed that
+  pub record SettlesAndGathers (old : PlaceState) (envelope : Held) (fate : Fate) (is_missed : Bool) (new : PlaceState) : Type 0 where
+    pub settled : PlaceState
+    pub settles : SettlesHeld old (job_of envelope.stamp) fate settled
+    pub same : IsSamePlace old settled
+    pub due : IsDue (runs_at old) (runs_at settled) → Gathers settled is_missed new
+    pub spared : ¬ IsDue (runs_at old) (runs_at settled) → (new ≡ settled) × (is_missed ≡ false)

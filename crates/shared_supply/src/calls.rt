@@ -24,7 +24,7 @@ use std::sync::Wait;
 
 impl<'a, 'g, B: Broker, N: HistoryName, R: Wait> Supply<BrokerPlace<B>>
     for SharedSupply<'a, 'g, B, N, R> {
-    ghost call = { Calls B.group };
+    ghost call = { Calls B.group B.Seen.Witness };
 
     ghost visiting = { is_visiting };
 
@@ -89,7 +89,7 @@ impl<'a, 'g, B: Broker, N: HistoryName, R: Wait> Supply<BrokerPlace<B>>
     ) -> Option<Session<Envelope, BrokerPlace<B>>>
         requires { IsSoundSession HasOut session }
         ensures same { IfSome result (λ back. back ≡ session) }
-        ensures called { Calls B.group self.old (Park session now result) self.new }
+        ensures called { Calls B.group B.Seen.Witness self.old (Park session now result) self.new }
         ensures visiting { is_visiting self.new ≡ is_visiting self.old }
     {
         self.wakes.free_session();
@@ -99,7 +99,7 @@ impl<'a, 'g, B: Broker, N: HistoryName, R: Wait> Supply<BrokerPlace<B>>
 
     fn park_as_is(&mut self, session: Session<Envelope, BrokerPlace<B>>)
         requires { IsSoundSession HasOut session }
-        ensures called { Calls B.group self.old (ParkAsIs session) self.new }
+        ensures called { Calls B.group B.Seen.Witness self.old (ParkAsIs session) self.new }
         ensures visiting { is_visiting self.new ≡ is_visiting self.old }
     {
         self.wakes.free_session();
@@ -109,7 +109,7 @@ impl<'a, 'g, B: Broker, N: HistoryName, R: Wait> Supply<BrokerPlace<B>>
 
     fn keep(&mut self, session: Session<Envelope, BrokerPlace<B>>)
         requires { IsOutAtPlace HasOut session }
-        ensures called { Calls B.group self.old (Keep session) self.new }
+        ensures called { Calls B.group B.Seen.Witness self.old (Keep session) self.new }
         ensures visiting { is_visiting self.new ≡ is_visiting self.old }
     {
         let hall = self.hall;
@@ -119,7 +119,7 @@ impl<'a, 'g, B: Broker, N: HistoryName, R: Wait> Supply<BrokerPlace<B>>
     fn bury(&mut self, session: Session<Envelope, BrokerPlace<B>>)
         requires spent { held_of session.window ≡ [] }
         requires out { IsOutAtPlace HasOut session }
-        ensures called { Calls B.group self.old (Bury session) self.new }
+        ensures called { Calls B.group B.Seen.Witness self.old (Bury session) self.new }
         ensures visiting { is_visiting self.new ≡ is_visiting self.old }
     {
         let hall = self.hall;

@@ -8,6 +8,7 @@ use crate::letting_go::let_go;
 use broker_groups::{Broker, BrokerGroups, BrokerPlace, Ended, Ports, Unended};
 use call_history::HistoryName;
 use group_jobs::Envelope;
+use group_queue::LawfulWitness;
 use session_desk::{All, Desk};
 use shared_desk::DeskPass;
 use shared_routes::SharedRoutes;
@@ -94,7 +95,12 @@ impl<'g, B: Broker, N: HistoryName> Hall<'g, B, N> {
             }),
         }
     }
+}
 
+impl<'g, B: Broker, N: HistoryName> Hall<'g, B, N>
+where
+    B::Seen: LawfulWitness,
+{
     /// Ends the broker: its desk gives all places, and the messages that its sessions held, and each group ends with what is its own, as
     /// [`BrokerGroups::finish`] says. A step of a queue may wait for another thread's.
     ///
@@ -107,7 +113,7 @@ impl<'g, B: Broker, N: HistoryName> Hall<'g, B, N> {
         alloc: Global,
         ports: Vec<Ports<B>>,
         me: &mut DeskPass<BrokerPlace<B>, N>,
-    ) -> Result<Ended<'g>, StillOpen<'g, B>>
+    ) -> Result<Ended<'g, B::Seen>, StillOpen<'g, B>>
         ensures before { IsPrefix me.old me.new }
         ensures ended { IfOk result (λ ended. IsEnded B.group me.new ports.items ended.answers.items ended.strangers.items) }
         ensures left { IfErr result (IsLeft me.new self.entry ports.items) }

@@ -24,7 +24,7 @@ pub(crate) fn settle<B: Broker, R: Wait>(
     fate: Fate,
 ) -> bool
     requires { IsAmong HasOut place.old envelope }
-    ensures settled { SettlesAndGathers place.old envelope fate result place.new }
+    ensures settled { SettlesAndGathers B.Seen.saw_ledger place.old envelope fate result place.new }
     ensures out { SpendsOut HasOut place.old envelope place.new }
 {
     let before = run_count(place);
@@ -40,7 +40,7 @@ fn gather_if_due<B: Broker, R: Wait>(
     place: &mut BrokerPlace<B>,
     before: usize,
 ) -> bool
-    ensures due { IsDue before (runs_at place.old) → Gathers place.old result place.new }
+    ensures due { IsDue before (runs_at place.old) → Gathers B.Seen.saw_ledger place.old result place.new }
     ensures spared { ¬ IsDue before (runs_at place.old) → (place.new ≡ place.old) × (result ≡ false) }
     ensures out { KeepsOut HasOut place.old place.new }
 {
@@ -59,7 +59,7 @@ fn gather<B: Broker, R: Wait>(
     groups: &BrokerGroups<'_, B>,
     place: &mut BrokerPlace<B>,
 ) -> bool
-    ensures gathers { Gathers place.old result place.new }
+    ensures gathers { Gathers B.Seen.saw_ledger place.old result place.new }
     ensures out { KeepsOut HasOut place.old place.new }
 {
     'tries: for _ in rt.forever() {

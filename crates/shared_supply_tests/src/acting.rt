@@ -10,6 +10,7 @@ use conn_rules::MaxInflight;
 use conn_supply::{HoldingPlace, NoMemory, Supply};
 use drive::drive_lines;
 use gate_word::Gate;
+use group_queue::Nobody;
 use local_server::Setup;
 use mqtt_topic::Routes;
 use plays::{Event, Play, What, all_plays, longest_wait};
@@ -167,7 +168,7 @@ impl<'t> Shift for Stage<'t> {
 impl<'t> Day for Stage<'t> {
     type Told = Vec<Counts>;
 
-    fn pass<B: Broker, N: HistoryName, R: Wait>(
+    fn pass<B: Broker<Seen = Nobody>, N: HistoryName, R: Wait>(
         &mut self,
         rt: &R,
         alloc: Global,

@@ -2,10 +2,11 @@
 ghost use Rattle.std.specs.Prelude.{◌≡◌};
 
 use crate::clients::{WRITTEN, two_clients};
-use broker_groups::{Broker, BrokerPlace, Key};
+use broker_groups::{Broker, BrokerPlace, Key, Witnessed};
 use call_history::HistoryName;
 use conn_supply::Supply;
 use gate_word::Gate;
+use group_queue::Nobody;
 use shared_supply::Hall;
 use std::alloc::Global;
 use std::marker::Brand;
@@ -40,7 +41,7 @@ impl Shift for TwoClients {
 impl Day for TwoClients {
     type Told = Vec<Counts>;
 
-    fn pass<B: Broker, N: HistoryName, R: Wait>(
+    fn pass<B: Broker<Seen = Nobody>, N: HistoryName, R: Wait>(
         &mut self,
         rt: &R,
         alloc: Global,
@@ -88,11 +89,14 @@ fn a_shut_gate(rt: HostRuntime) -> Result<(), Fail> {
 
 fn is_shared_by_threads<T: Sync>() {}
 
-fn may_be_threaded<B: Broker + Send + Sync, N: HistoryName + Send + Sync>() {
+fn may_be_threaded<B: Broker + Send + Sync, N: HistoryName + Send + Sync>()
+where
+    B::Seen: Send + Sync,
+{
     is_shared_by_threads::<Hall<'static, B, N>>();
 }
 
 #[test]
 fn what_threads_may_do_with_it() {
-    may_be_threaded::<Brand, Brand>();
+    may_be_threaded::<Witnessed<Brand, Nobody>, Brand>();
 }

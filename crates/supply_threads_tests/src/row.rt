@@ -10,6 +10,7 @@ use call_history::HistoryName;
 use conn_supply::Supply;
 use gate_word::Gate;
 use group_jobs::Envelope;
+use group_queue::Nobody;
 use session_desk::Place;
 use shared_supply::{AskedBack, Hall, Wakes};
 use std::alloc::Global;
@@ -123,7 +124,7 @@ struct Row {
 impl Day for Row {
     type Told = (Told, Result<Counts, u16>);
 
-    fn pass<B: Broker, N: HistoryName, R: Wait>(
+    fn pass<B: Broker<Seen = Nobody>, N: HistoryName, R: Wait>(
         &mut self,
         rt: &R,
         alloc: Global,

@@ -3,6 +3,7 @@
 use broker_groups::{Broker, BrokerGroups, BrokerPlace, Ended, Ports, Unended};
 use call_history::HistoryName;
 use group_jobs::{Envelope, Stamp};
+use group_queue::Nobody;
 use session_desk::{All, Desk};
 use shared_supply::Hall;
 use std::alloc::Global;
@@ -43,7 +44,7 @@ fn all_of<B: Broker>(
 }
 
 /// Ends the groups; where memory was wanted for that, once more.
-fn finish<'g, B: Broker, R: Wait>(
+fn finish<'g, B: Broker<Seen = Nobody>, R: Wait>(
     rt: &R,
     alloc: Global,
     groups: BrokerGroups<'g, B>,
@@ -154,7 +155,7 @@ fn let_go_of_out<B: Broker>(out: Out<B>) {
 }
 
 /// Ends the broker.
-pub(crate) fn end<B: Broker, N: HistoryName, R: Wait>(
+pub(crate) fn end<B: Broker<Seen = Nobody>, N: HistoryName, R: Wait>(
     rt: &R,
     alloc: Global,
     hall: Hall<'_, B, N>,

@@ -8,6 +8,7 @@ use Rattle.line_io.specs.declared.error.RunError.{RunError}
 use Rattle.line_io.specs.declared.error.RunError.TheVariants.{ReadFailed, TooManyReads, WriteFailed, Network, Memory, Unfinished, Line}
 use Rattle.mqtt_topic.specs.Names.{Share}
 use Rattle.gate_word.specs.Seats.{GateId}
+use Rattle.group_queue.specs.declared.witness.Nobody.{Nobody}
 use Rattle.group_queue.specs.Ports.{GroupId}
 use Rattle.broker_groups.specs.declared.opening.Opened.{Opened}
 use Rattle.broker_groups.specs.Brokers.{no_group}
@@ -72,7 +73,7 @@ pub not_told : (line : List ℕ) (error : RunError) (old new : Option (List ℕ)
 not_told line error old new is written = subst (λ e. EndsUnreported line e old new) (sym is) (inr written)
 
 -- the groups of a broker that was opened have the capacity that they were opened with
-pub opened_with : (gate : GateId) (capacity workers : ℕ) (opened : Opened) → IsBrokerOpened gate capacity workers opened → HaveCapacity (named_by opened.groups.items) capacity
+pub opened_with : (gate : GateId) (capacity workers : ℕ) (opened : Opened Nobody) → IsBrokerOpened gate capacity workers opened → HaveCapacity (named_by opened.groups.items) capacity
 opened_with gate capacity workers opened is slot few =
     let there = slice_get-get_or opened.groups.items slot no_group (omega (arith, few, is.groups_many)) in
     ap (λ (found : Option GroupId). (or_none found).capacity) there ∙ (is.each slot (get_or opened.groups.items slot no_group) there).capacity_is

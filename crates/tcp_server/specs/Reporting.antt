@@ -12,6 +12,7 @@ use Rattle.group_queue.specs.declared.witness.Nobody.{Nobody}
 use Rattle.tcp_edge.specs.Sockets.{SocketState}
 use Rattle.mio.specs.declared.net.stream.TcpStream.{TcpStream}
 use Rattle.worker_connections.specs.declared.served.ServedCounts.{ServedCounts}
+use Rattle.broker_groups.specs.Answers.{all_seen}
 use Rattle.threaded_broker.specs.Headline.{KeepsTheHeadline}
 use Rattle.threaded_broker.specs.Shares.{IsBoundIn}
 use Rattle.tcp_server.specs.Lines.{lines_of, report_of, EndsBy}
@@ -38,7 +39,7 @@ pub record AreReports (capacity workers max_inflight : ℕ) (given : List Share)
   pub came : List Connection
   pub served : List ServedCounts
   pub closed : List (Option (List Connection))
-  pub headline : KeepsTheHeadline group (λ (connection : Connection). connection.counts) unknown unknown workers max_inflight came calls answers strangers served closed
+  pub headline : KeepsTheHeadline group all_seen (λ (connection : Connection). connection.counts) unknown unknown workers max_inflight came calls answers strangers served closed
   pub shares : List Share
   pub bound : All (IsBoundIn shares) given
   pub lines : text ≡ lines_of shares (map report_of answers)

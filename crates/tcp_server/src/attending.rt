@@ -14,6 +14,7 @@ use crate::watching::Watching;
 use broker_groups::{Broker, BrokerPlace, Ended, Ports};
 use call_history::HistoryName;
 use conn_rules::MaxInflight;
+use group_queue::Nobody;
 use line_io::RunError;
 use mqtt_topic::Routes;
 use shared_desk::DeskPass;
@@ -54,7 +55,7 @@ pub(crate) struct Reported {
 ///
 /// [`RunError::Memory`]: nothing is written of it.
 pub(crate) fn attend<
-    B: Broker + Send + Sync,
+    B: Broker<Seen = Nobody> + Send + Sync,
     N: HistoryName + Send + Sync,
     R: Threads + Wait + Net + SystemClock + Sync,
     I: Read + Send,
@@ -121,7 +122,7 @@ pub(crate) fn attend<
 /// What is written of a broker that has ended, and how it ends.
 fn tell<S: Drop, Q: Drop>(
     alloc: Global,
-    outcome: Outcome<'_, S, Q>,
+    outcome: Outcome<'_, Nobody, S, Q>,
     is_read: bool,
 ) -> Result<Reported, RunError>
     ensures lines { IfOk result (λ reported. reported.text.items ≡ lines_of outcome.entry.shares.items (map report_of outcome.entry.ended.answers.items)) }

@@ -7,6 +7,7 @@ ghost use Rattle.broker_groups.specs.Naming.{AreUnsent, IsOfBroker};
 use broker_groups::{Broker, BrokerPlace, Key, Named, Opened, Ports};
 use call_history::HistoryName;
 use gate_word::{Gate, GateSeat};
+use group_queue::Nobody;
 use line_io::RunError;
 use shared_desk::{DeskPass, OpenedDesk};
 use shared_routes::SharedRoutes;
@@ -24,7 +25,7 @@ pub(crate) struct OpenBroker<'g, B: Broker, N: HistoryName> {
 }
 
 /// Names what was opened, the groups and the desk, and furnishes the desk.
-pub(crate) fn open<'g, B: Broker, N: HistoryName, R: Wait>(
+pub(crate) fn open<'g, B: Broker<Seen = Nobody>, N: HistoryName, R: Wait>(
     rt: &R,
     alloc: Global,
     gate: &'g Gate,

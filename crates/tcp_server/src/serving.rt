@@ -13,10 +13,11 @@ use crate::attending::{Closers, Reported, attend};
 use crate::broker::{OpenBroker, open, take_seat};
 use crate::crew::crew_of;
 use crate::listening::Awaited;
-use broker_groups::{Broker, BrokerPlace, Opened};
+use broker_groups::{Broker, BrokerName, BrokerPlace, Opened, Witnessed};
 use call_history::HistoryName;
 use conn_rules::MaxInflight;
 use gate_word::{Gate, GateSeat};
+use group_queue::Nobody;
 use line_io::{RunError, write_all};
 use mqtt_topic::Routes;
 use shared_desk::OpenedDesk;
@@ -156,7 +157,7 @@ fn answer_of(end: Result<Served, RunError>) -> Result<(), RunError>
 
 /// Opens the desk of a broker, serves, and ends it.
 fn live<
-    B: Broker + Send + Sync,
+    M: BrokerName + Send + Sync,
     R: Threads + Wait + Net + SystemClock + Sync,
     I: Read + Send,
     O: Write,
@@ -174,18 +175,18 @@ fn live<
     input: &mut I,
     output: &mut O,
 ) -> Result<Reported, RunError>
-    requires gate { gate.now ≡ B.gate }
+    requires gate { gate.now ≡ M.gate }
     requires workers { (1 ≤ workers) × (workers ≤ 64) }
     requires seats { AreSeatsOf gate.now seats.items × (length seats.items ≡ workers + 3) }
-    requires opened { IsOfBroker B.gate B.group workers opened }
-    requires capacity { HaveCapacity B.group (B.group 0).capacity }
-    ensures reported { IfOk result (λ reported. AreReportsAt reported.end (B.group 0).capacity workers max_inflight groups.now reported.text.items) }
+    requires opened { IsOfBroker M.gate M.group workers opened }
+    requires capacity { HaveCapacity M.group (M.group 0).capacity }
+    ensures reported { IfOk result (λ reported. AreReportsAt reported.end (M.group 0).capacity workers max_inflight groups.now reported.text.items) }
     ensures written { IfOk result (λ reported. Appends (O.contents output.old) (O.contents output.new) line.now) }
     ensures read { IfOk result (λ reported. reported.end ≡ Ok Served.Ended → IsAtEnd (I.remaining input.new)) }
     ensures failed { IfErr result (λ error. EndsUnreported line.now error (O.contents output.old) (O.contents output.new)) }
 {
     match OpenedDesk::open(alloc) {
-        Ok(desk) => live_with::<B, Brand, R, I, O>(
+        Ok(desk) => live_with::<Witnessed<M, Nobody>, Brand, R, I, O>(
             rt,
             alloc,
             gate,
@@ -209,7 +210,7 @@ fn live<
 
 /// Names a broker's groups and its desk, serves, and ends it, as [`live`].
 fn live_with<
-    B: Broker + Send + Sync,
+    B: Broker<Seen = Nobody> + Send + Sync,
     N: HistoryName + Send + Sync,
     R: Threads + Wait + Net + SystemClock + Sync,
     I: Read + Send,

@@ -3,9 +3,10 @@ ghost use Rattle.std.specs.Prelude.{◌≡◌, ◌≤◌, ◌<◌, IfSome};
 ghost use Rattle.gate_word.specs.Seats.{AreSeatsOf};
 ghost use Rattle.broker_groups.specs.Naming.{IsOfBroker};
 
-use broker_groups::{Broker, BrokerPlace, Key, Named, Opened, Ports};
+use broker_groups::{Broker, BrokerName, BrokerPlace, Key, Named, Opened, Ports, Witnessed};
 use call_history::HistoryName;
 use gate_word::{Gate, GateSeat};
+use group_queue::Nobody;
 use shared_desk::{DeskPass, OpenedDesk};
 use shared_routes::SharedRoutes;
 use shared_supply::Hall;
@@ -34,7 +35,7 @@ pub trait Day {
     type Told;
 
     /// Does it, and ends the broker. Where memory was wanted for that, nothing is told.
-    fn pass<B: Broker, N: HistoryName, R: Wait>(
+    fn pass<B: Broker<Seen = Nobody>, N: HistoryName, R: Wait>(
         &mut self,
         rt: &R,
         alloc: Global,
@@ -89,7 +90,7 @@ fn deal<B: Broker>(
 }
 
 /// Names what was opened, and furnishes the desk. Where memory is wanted, the groups are given up.
-pub fn build<'g, B: Broker, N: HistoryName, R: Wait>(
+pub fn build<'g, B: Broker<Seen = Nobody>, N: HistoryName, R: Wait>(
     rt: &R,
     alloc: Global,
     gate: &'g Gate,
@@ -133,7 +134,7 @@ pub fn build<'g, B: Broker, N: HistoryName, R: Wait>(
 }
 
 /// The day of a broker with so many workers.
-fn live<B: Broker, D: Day, R: Wait>(
+fn live<M: BrokerName, D: Day, R: Wait>(
     rt: &R,
     alloc: Global,
     gate: &Gate,
@@ -142,12 +143,14 @@ fn live<B: Broker, D: Day, R: Wait>(
     workers: u8,
     day: &mut D,
 ) -> Option<D::Told>
-    requires gate { gate.now ≡ B.gate }
+    requires gate { gate.now ≡ M.gate }
     requires seats { AreSeatsOf gate.now seats.items }
-    requires opened { IsOfBroker B.gate B.group workers opened }
+    requires opened { IsOfBroker M.gate M.group workers opened }
 {
     match OpenedDesk::open(alloc) {
-        Ok(desk) => live_with::<B, Brand, D, R>(rt, alloc, gate, seats, opened, desk, workers, day),
+        Ok(desk) => live_with::<Witnessed<M, Nobody>, Brand, D, R>(
+            rt, alloc, gate, seats, opened, desk, workers, day,
+        ),
         Err(_) => {
             opened.abandon();
             None
@@ -156,7 +159,7 @@ fn live<B: Broker, D: Day, R: Wait>(
 }
 
 /// The same, with a desk that is named by what it is.
-fn live_with<B: Broker, N: HistoryName, D: Day, R: Wait>(
+fn live_with<B: Broker<Seen = Nobody>, N: HistoryName, D: Day, R: Wait>(
     rt: &R,
     alloc: Global,
     gate: &Gate,

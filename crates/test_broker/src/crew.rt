@@ -7,10 +7,11 @@ use crate::broker::{Built, Hand, build};
 use crate::ending::{Counts, end};
 use crate::seen::Seen;
 use crate::worker::{keep, supply_of};
-use broker_groups::{Broker, BrokerPlace, Opened, Ports};
+use broker_groups::{Broker, BrokerName, BrokerPlace, Opened, Ports, Witnessed};
 use call_history::HistoryName;
 use conn_supply::Supply;
 use gate_word::{Gate, GateSeat};
+use group_queue::Nobody;
 use shared_desk::OpenedDesk;
 use shared_supply::Hall;
 use std::alloc::Global;
@@ -116,7 +117,7 @@ fn together<B: Broker>(alloc: Global, backs: Vec<OneBack<B>>) -> Back<B> {
 
 /// All workers work, each in a thread of its own; where memory is wanted for the threads, no ports come back.
 fn work_all<
-    B: Broker + Send + Sync,
+    B: Broker<Seen = Nobody> + Send + Sync,
     N: HistoryName + Send + Sync,
     C: Crew + Sync,
     R: Threads + Wait + Sync,
@@ -135,7 +136,7 @@ fn work_all<
 }
 
 /// All workers of a broker work, and it ends; where memory was wanted for that, nothing is told.
-fn live<B: Broker + Send + Sync, C: Crew + Sync, R: Threads + Wait + Clock + Sync>(
+fn live<M: BrokerName + Send + Sync, C: Crew + Sync, R: Threads + Wait + Clock + Sync>(
     rt: &R,
     alloc: Global,
     gate: &Gate,
@@ -144,12 +145,12 @@ fn live<B: Broker + Send + Sync, C: Crew + Sync, R: Threads + Wait + Clock + Syn
     workers: u8,
     crew: &C,
 ) -> Option<Worked>
-    requires gate { gate.now ≡ B.gate }
+    requires gate { gate.now ≡ M.gate }
     requires seats { AreSeatsOf gate.now seats.items }
-    requires opened { IsOfBroker B.gate B.group workers opened }
+    requires opened { IsOfBroker M.gate M.group workers opened }
 {
     match OpenedDesk::open(alloc) {
-        Ok(desk) => live_with::<B, Brand, C, R>(
+        Ok(desk) => live_with::<Witnessed<M, Nobody>, Brand, C, R>(
             rt, alloc, gate, seats, opened, desk, workers, crew,
         ),
         Err(_) => {
@@ -161,7 +162,7 @@ fn live<B: Broker + Send + Sync, C: Crew + Sync, R: Threads + Wait + Clock + Syn
 
 /// The same, with a desk that is named by what it is.
 fn live_with<
-    B: Broker + Send + Sync,
+    B: Broker<Seen = Nobody> + Send + Sync,
     N: HistoryName + Send + Sync,
     C: Crew + Sync,
     R: Threads + Wait + Clock + Sync,

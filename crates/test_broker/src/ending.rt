@@ -3,7 +3,7 @@
 use broker_groups::{Broker, BrokerPlace, Ended, Ports};
 use call_history::HistoryName;
 use group_jobs::{Envelope, Report};
-use group_queue::Unfinished;
+use group_queue::{Nobody, Unfinished};
 use shared_desk::DeskPass;
 use shared_supply::Hall;
 use std::alloc::Global;
@@ -76,7 +76,7 @@ fn count(alloc: Global, ended: Ended<'_>) -> Vec<Counts> {
 }
 
 /// Ends a broker, and counts its groups' messages; where memory was wanted for that, nothing is told.
-pub fn end<B: Broker, N: HistoryName, R: Wait>(
+pub fn end<B: Broker<Seen = Nobody>, N: HistoryName, R: Wait>(
     rt: &R,
     alloc: Global,
     hall: Hall<'_, B, N>,

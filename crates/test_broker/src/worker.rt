@@ -7,6 +7,7 @@ use broker_groups::{Broker, BrokerPlace, Key, Ports};
 use call_history::HistoryName;
 use conn_supply::Supply;
 use gate_word::Gate;
+use group_queue::Nobody;
 use shared_supply::{Hall, SharedSupply};
 use std::alloc::Global;
 use std::sync::Wait;
@@ -62,7 +63,7 @@ fn work<B: Broker, N: HistoryName, H: Shift, R: Wait>(
 }
 
 /// One worker of a broker works, and the broker ends.
-pub fn work_alone<B: Broker, N: HistoryName, H: Shift, R: Wait>(
+pub fn work_alone<B: Broker<Seen = Nobody>, N: HistoryName, H: Shift, R: Wait>(
     rt: &R,
     alloc: Global,
     gate: &Gate,

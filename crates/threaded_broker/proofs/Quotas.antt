@@ -8,6 +8,7 @@ use Rattle.transport.specs.declared.counts.Counts.{Counts}
 use Rattle.group_jobs.specs.Stamps.{Held}
 use Rattle.session_desk.specs.Calls.{Call}
 use Rattle.group_queue.specs.Ports.{GroupId, PortState}
+use Rattle.broker_groups.specs.Answers.{Sights}
 use Rattle.group_queue.specs.Places.{PlaceState}
 use Rattle.conn_channel.specs.Interleavings.{IsInterleaving}
 use Rattle.worker_connections.specs.declared.served.ServedCounts.{ServedCounts}
@@ -42,20 +43,20 @@ limited : {T : Type 0} (limit : ℕ) (came : List T) → AllByRecursion (λ (arr
 limited limit [] = tt
 limited limit (first ∷ came) = (omega arith, limited limit came)
 
-module _ {T : Type 0} (group : ℕ → GroupId) (counts : T → Counts) (given accepted : T → Option (List ℕ)) where
-  each_run : (limit : ℕ) (runs : List (Run T)) → AllByRecursion (IsWholeRun group counts given accepted) runs
+module _ {T : Type 0} (group : ℕ → GroupId) (seen : Sights) (counts : T → Counts) (given accepted : T → Option (List ℕ)) where
+  each_run : (limit : ℕ) (runs : List (Run T)) → AllByRecursion (IsWholeRun group seen counts given accepted) runs
       → AllByRecursion (AllByRecursion (λ (arrived : ArrivedState T). arrived.max_inflight ≤ limit)) (map (λ (run : Run T). run.last.received) runs)
-      → AllByRecursion (KeepsReceiveMaximum group counts given accepted limit) runs
+      → AllByRecursion (KeepsReceiveMaximum group seen counts given accepted limit) runs
   each_run limit [] whole few = tt
-  each_run limit (run ∷ runs) whole few = (within_quota group counts given accepted limit run whole.0.is few.0, each_run limit runs whole.1 few.1)
+  each_run limit (run ∷ runs) whole few = (within_quota group seen counts given accepted limit run whole.0.is few.0, each_run limit runs whole.1 few.1)
 
-  each_published : (runs : List (Run T)) → AllByRecursion (IsWholeRun group counts given accepted) runs → AllByRecursion (IsPublishedBy group) runs
+  each_published : (runs : List (Run T)) → AllByRecursion (IsWholeRun group seen counts given accepted) runs → AllByRecursion (IsPublishedBy group seen) runs
   each_published [] whole = tt
-  each_published (run ∷ runs) whole = (all_published group counts given accepted run whole.0.is, each_published runs whole.1)
+  each_published (run ∷ runs) whole = (all_published group seen counts given accepted run whole.0.is, each_published runs whole.1)
 
   -- a broker that was served kept to it
   pub within : (limit : ℕ) (came : List T) (calls : List (Call Held PlaceState)) (ports : List (List PortState)) (served : List ServedCounts) (closed : List (Option (List T)))
-      → AreServed group counts given accepted (arrivals limit came) calls ports served closed → RunsUntilClosed group counts given accepted limit came calls ports served closed
+      → AreServed group seen counts given accepted (arrivals limit came) calls ports served closed → RunsUntilClosed group seen counts given accepted limit came calls ports served closed
   within limit came calls ports served closed workers = record {
     workers = workers;
     within_receive_maximum = each_run limit workers.runs workers.whole
@@ -70,8 +71,8 @@ module _ {T : Type 0} (group : ℕ → GroupId) (counts : T → Counts) (given a
 
   -- more calls are known of the desk
   pub known_longer : (limit : ℕ) (came : List T) (calls calls' : List (Call Held PlaceState)) (ports : List (List PortState)) (served : List ServedCounts) (closed : List (Option (List T)))
-      → IsPrefix calls calls' → RunsUntilClosed group counts given accepted limit came calls ports served closed
-      → RunsUntilClosed group counts given accepted limit came calls' ports served closed
+      → IsPrefix calls calls' → RunsUntilClosed group seen counts given accepted limit came calls ports served closed
+      → RunsUntilClosed group seen counts given accepted limit came calls' ports served closed
   known_longer limit came calls calls' ports served closed longer run = record {
     workers = record {
       runs = run.workers.runs;

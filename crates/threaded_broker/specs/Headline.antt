@@ -6,8 +6,8 @@ use Rattle.group_jobs.specs.Stamps.{Held}
 use Rattle.session_desk.specs.Calls.{Call}
 use Rattle.group_jobs.specs.declared.report.Report.{Report}
 use Rattle.group_queue.specs.declared.finish.Unfinished.{Unfinished}
-use Rattle.group_queue.specs.declared.witness.Nobody.{Nobody}
 use Rattle.group_queue.specs.Ports.{GroupId, PortState}
+use Rattle.broker_groups.specs.Answers.{Sights}
 use Rattle.group_queue.specs.Places.{PlaceState}
 use Rattle.worker_connections.specs.declared.served.ServedCounts.{ServedCounts}
 use Rattle.worker_connections.specs.Chains.{KeepsReceiveMaximum}
@@ -16,15 +16,15 @@ use Rattle.worker_pool.specs.Accepting.{arrivals}
 use Rattle.worker_pool.specs.Pools.{AreServed}
 use Rattle.final_report.specs.Brokers.{KeptItsPromisesBehind}
 
-module _ {T : Type 0} (group : ℕ → GroupId) (counts : T → Counts) (given accepted : T → Option (List ℕ)) where
+module _ {T : Type 0} (group : ℕ → GroupId) (seen : Sights) (counts : T → Counts) (given accepted : T → Option (List ℕ)) where
   -- the run of a broker until it was closed: these connections came to its workers, these calls of its desk are known, these ports and counts the workers gave back, and
   -- these transports they closed, each as it was then; at no moment of it did a connection have more unacknowledged PUBLISH packets than its Receive Maximum, and than
   -- this limit (4.9); and all that the ports accepted came of the PUBLISH packets that these connections stepped, each answered as the groups took it (3.3.4)
   pub record RunsUntilClosed (max_inflight : ℕ) (came : List T) (calls : List (Call Held PlaceState)) (ports : List (List PortState)) (served : List ServedCounts)
       (closed : List (Option (List T))) : Type 0 where
-    pub workers : AreServed group counts given accepted (arrivals max_inflight came) calls ports served closed
-    pub within_receive_maximum : AllByRecursion (KeepsReceiveMaximum group counts given accepted max_inflight) workers.runs
-    pub published : AllByRecursion (IsPublishedBy group) workers.runs
+    pub workers : AreServed group seen counts given accepted (arrivals max_inflight came) calls ports served closed
+    pub within_receive_maximum : AllByRecursion (KeepsReceiveMaximum group seen counts given accepted max_inflight) workers.runs
+    pub published : AllByRecursion (IsPublishedBy group seen) workers.runs
 
   -- **The headline**, of the one run of a broker: these connections came, in this order, and each is in the run of one worker, from its opening to its end, at which it was
   -- closed as the run left it (`run`). Through
@@ -32,7 +32,7 @@ module _ {T : Type 0} (group : ℕ → GroupId) (counts : T → Counts) (given a
   -- message that was accepted was first handed to at most one member (`first_once`), each member's first hand-outs from a publisher keep that publisher's order (`in_order`),
   -- a refused message went to nobody else (`refused_for_good`), and the report gives each accepted message exactly one fate (`one_fate`), which it had (`what_happened`). No
   -- connection had more unacknowledged PUBLISH packets than its Receive Maximum. That nothing is handed out after close is said by the token of the drained gate
-  pub record KeepsTheHeadline (workers max_inflight : ℕ) (came : List T) (calls : List (Call Held PlaceState)) (answers : List (Result Report (Unfinished Nobody)))
+  pub record KeepsTheHeadline {W : Type 0} (workers max_inflight : ℕ) (came : List T) (calls : List (Call Held PlaceState)) (answers : List (Result Report (Unfinished W)))
       (strangers : List Held) (served : List ServedCounts) (closed : List (Option (List T))) : Type 0 where
     pub ports : List (List PortState)
     pub every_worker : length ports ≡ workers

@@ -18,6 +18,7 @@ use conn_rules::MaxInflight;
 use conn_supply::NoMemory;
 use final_report::end_broker;
 use gate_word::Drained;
+use group_queue::{LawfulWitness, Witness};
 use mqtt_topic::Share;
 use shared_desk::DeskPass;
 use shared_supply::{Hall, StillOpen};
@@ -30,9 +31,9 @@ use worker_connections::{Hand, Poller, ServedCounts};
 use worker_pool::{Closer, Pooled, Taken, Unbegun, Watch, run};
 
 /// What became of a broker that was served to its end.
-pub struct Outcome<'g, S, Q> {
+pub struct Outcome<'g, V: Witness, S, Q> {
     /// The report of each group, in the order of slots, or why there is none.
-    pub ended: Ended<'g>,
+    pub ended: Ended<'g, V>,
     /// The shares that are bound, in the order of their slots.
     pub shares: Vec<Share>,
     /// How the connections of each worker ended.
@@ -120,13 +121,15 @@ pub fn serve<
     watch: &mut D,
     input: &mut I,
     pass: &mut DeskPass<BrokerPlace<B>, N>,
-) -> Result<Outcome<'g, S, Q>, NoMemory>
+) -> Result<Outcome<'g, B::Seen, S, Q>, NoMemory>
+where
+    B::Seen: LawfulWitness + Send + Sync,
     requires workers { (1 ≤ length hands.items) × (length hands.items ≤ 64) }
     requires gear { length gear.items ≡ length hands.items }
     requires room { (room.items ≡ []) × (length hands.items ≤ vec_capacity room) }
     requires unsent { All (λ hand. AreUnsent hand.ports) hands.items }
     ensures headline { IfOk result (λ outcome. (came : List T) × Gave S.arrived source came outcome.taken.source × (outcome.taken.came ≡ length came)
-        × KeepsTheHeadline B.group T.counts T.given T.accepted (length hands.items) max_inflight came pass.new outcome.ended.answers.items outcome.ended.strangers.items outcome.served.items (map Q.closed outcome.pollers.items)) }
+        × KeepsTheHeadline B.group B.Seen.Witness T.counts T.given T.accepted (length hands.items) max_inflight came pass.new outcome.ended.answers.items outcome.ended.strangers.items outcome.served.items (map Q.closed outcome.pollers.items)) }
     ensures history { IsPrefix pass.old pass.new }
     ensures closed { IfOk result (λ outcome. outcome.drained ≡ B.gate) }
     ensures taken { IfOk result (λ outcome. (S.tally outcome.taken.source).arrivals ≡ (S.tally source).arrivals + outcome.taken.came) }
@@ -208,13 +211,15 @@ pub fn serve_until_closed<
     input: &mut I,
     pass: &mut DeskPass<BrokerPlace<B>, N>,
 ) -> Result<Closed<'g, B, N, S, Q>, NoMemory>
+where
+    B::Seen: Send + Sync,
     requires workers { (1 ≤ length hands.items) × (length hands.items ≤ 64) }
     requires gear { length gear.items ≡ length hands.items }
     requires room { (room.items ≡ []) × (length hands.items ≤ vec_capacity room) }
     requires unsent { All (λ hand. AreUnsent hand.ports) hands.items }
     ensures ports { IfOk result (λ closed. length closed.ports.items ≡ length hands.items) }
     ensures run { IfOk result (λ closed. (came : List T) × Gave S.arrived source came closed.taken.source × (closed.taken.came ≡ length came)
-        × RunsUntilClosed B.group T.counts T.given T.accepted max_inflight came pass.new closed.ports.items closed.served.items (map Q.closed closed.pollers.items)) }
+        × RunsUntilClosed B.group B.Seen.Witness T.counts T.given T.accepted max_inflight came pass.new closed.ports.items closed.served.items (map Q.closed closed.pollers.items)) }
     ensures history { IsPrefix pass.old pass.new }
     ensures closed { IfOk result (λ closed. closed.drained ≡ B.gate) }
     ensures taken { IfOk result (λ closed. (S.tally closed.taken.source).arrivals ≡ (S.tally source).arrivals + closed.taken.came) }
@@ -299,13 +304,15 @@ fn run_bound<
     input: &mut I,
     pass: &mut DeskPass<BrokerPlace<B>, N>,
 ) -> Result<Ran<B, S, Q>, Vec<Hand<B>>>
+where
+    B::Seen: Send + Sync,
     requires workers { (1 ≤ length hands.items) × (length hands.items ≤ 64) }
     requires gear { length gear.items ≡ length hands.items }
     requires unsent { All (λ hand. AreUnsent hand.ports) hands.items }
     ensures hands { MatchResult result (λ ran. length ran.pooled.hands.items ≡ length hands.items) (λ back. length back.items ≡ length hands.items) }
     ensures taken { IfOk result (λ ran. (S.tally ran.pooled.taken.source).arrivals ≡ (S.tally source).arrivals + ran.pooled.taken.came) }
     ensures served { IfOk result (λ ran. (came : List T) × Gave S.arrived source came ran.pooled.taken.source × (ran.pooled.taken.came ≡ length came)
-        × AreServed B.group T.counts T.given T.accepted (arrivals max_inflight came) pass.new (map (λ hand. hand.ports) ran.pooled.hands.items) ran.pooled.served.items (map Q.closed ran.pooled.pollers.items)) }
+        × AreServed B.group B.Seen.Witness T.counts T.given T.accepted (arrivals max_inflight came) pass.new (map (λ hand. hand.ports) ran.pooled.hands.items) ran.pooled.served.items (map Q.closed ran.pooled.pollers.items)) }
     ensures told { IsPrefix pass.old pass.new }
     ensures watched { IfOk result (λ _. D.has_watched watch.old watch.new input.old input.new) }
     ensures shares { IfOk result (λ ran. All (IsBoundIn ran.shares.items) shares.now) }
@@ -350,7 +357,9 @@ fn end<'g, B: Broker, N: HistoryName, R: Wait>(
     hall: Hall<'g, B, N>,
     ports: Vec<Ports<B>>,
     pass: &mut DeskPass<BrokerPlace<B>, N>,
-) -> Result<Ended<'g>, NoMemory>
+) -> Result<Ended<'g, B::Seen>, NoMemory>
+where
+    B::Seen: LawfulWitness,
     requires { drained.now ≡ B.gate }
     ensures before { IsPrefix pass.old pass.new }
     ensures kept { IfOk result (λ ended. KeptItsPromisesBehind B.group pass.new ports.items ended.answers.items ended.strangers.items) }

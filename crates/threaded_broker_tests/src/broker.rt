@@ -4,12 +4,13 @@ ghost use Rattle.gate_word.specs.Seats.{AreSeatsOf};
 ghost use Rattle.broker_groups.specs.Naming.{AreUnsent, IsOfBroker};
 
 use crate::in_memory::{AlwaysReady, Meeting, NothingToWatch, Silent};
-use broker_groups::{Broker, BrokerPlace, Ended, Key, Named, Opened, Ports};
+use broker_groups::{Broker, BrokerName, BrokerPlace, Ended, Key, Named, Opened, Ports, Witnessed};
 use broker_worker::Gear;
 use call_history::HistoryName;
 use conn_rules::MaxInflight;
 use gate_word::{Gate, GateSeat};
 use group_jobs::Envelope;
+use group_queue::Nobody;
 use shared_desk::{DeskPass, OpenedDesk};
 use shared_routes::SharedRoutes;
 use shared_supply::Hall;
@@ -64,7 +65,7 @@ fn count_reports(ended: Ended<'_>) -> usize {
 }
 
 /// What came of a broker that was served to its end.
-fn told_of<S: Drop>(outcome: Outcome<'_, S, AlwaysReady>) -> Told {
+fn told_of<S: Drop>(outcome: Outcome<'_, Nobody, S, AlwaysReady>) -> Told {
     let Outcome {
         ended,
         shares: _,
@@ -165,7 +166,7 @@ fn closers<'a, B: Broker>(
 
 /// Serves what comes from a source with all workers of a broker, who meet before each write.
 fn attend<
-    B: Broker + Send + Sync,
+    B: Broker<Seen = Nobody> + Send + Sync,
     N: HistoryName + Send + Sync,
     S: Source<Scripted> + Drop + Send,
     R: Threads + Wait + Clock + Sync,
@@ -217,7 +218,7 @@ fn attend<
 
 /// Opens the desk, names what was opened, and serves.
 fn live<
-    B: Broker + Send + Sync,
+    M: BrokerName + Send + Sync,
     S: Source<Scripted> + Drop + Send,
     R: Threads + Wait + Clock + Sync,
 >(
@@ -229,12 +230,12 @@ fn live<
     workers: u8,
     source: S,
 ) -> Option<Told>
-    requires gate { gate.now ≡ B.gate }
+    requires gate { gate.now ≡ M.gate }
     requires seats { AreSeatsOf gate.now seats.old.items }
-    requires opened { IsOfBroker B.gate B.group workers opened }
+    requires opened { IsOfBroker M.gate M.group workers opened }
 {
     match OpenedDesk::open(alloc) {
-        Ok(desk) => live_with::<B, Brand, S, R>(
+        Ok(desk) => live_with::<Witnessed<M, Nobody>, Brand, S, R>(
             rt, alloc, gate, seats, opened, desk, workers, source,
         ),
         Err(_) => {
@@ -246,7 +247,7 @@ fn live<
 
 /// The same, with a desk that is named by what it is.
 fn live_with<
-    B: Broker + Send + Sync,
+    B: Broker<Seen = Nobody> + Send + Sync,
     N: HistoryName + Send + Sync,
     S: Source<Scripted> + Drop + Send,
     R: Threads + Wait + Clock + Sync,

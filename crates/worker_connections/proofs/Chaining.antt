@@ -3,6 +3,7 @@ use Rattle.std.proofs.Common.{◌≡◌, ℕ, List, [], ◌∷◌, ◌++◌, Opt
 use Rattle.std.specs.List.{slice_get, slice_set}
 use Rattle.transport.specs.declared.counts.Counts.{Counts}
 use Rattle.group_queue.specs.Ports.{GroupId}
+use Rattle.broker_groups.specs.Answers.{Sights}
 use Rattle.broker_groups.specs.Naming.{AreUnsent}
 use Rattle.group_queue.specs.Places.{PlaceState}
 use Rattle.conn_service.specs.Services.{ServiceState}
@@ -19,22 +20,22 @@ use Rattle.worker_connections.specs.Counting.{counted_behind, none_served}
 use Rattle.worker_connections.specs.Serving.{TakesIn}
 use Rattle.worker_connections.specs.Chains.{Deed, Opened, Closed, Allowed, Went, Passed, Called, Told, ToldAll, RunState, Makes, MakesAll, HasRunTo, came_in, came_by}
 
-module _ {T : Type 0} (group : ℕ → GroupId) (counts : T → Counts) (given accepted : T → Option (List ℕ)) where
+module _ {T : Type 0} (group : ℕ → GroupId) (seen : Sights) (counts : T → Counts) (given accepted : T → Option (List ℕ)) where
   abbrev Table : Type 0
   Table = List (Option (ServiceState PlaceState T))
 
-  makes_on : (deeds : List (Deed T)) (deed : Deed T) (old mid new : RunState T) → MakesAll group counts given accepted deeds old mid → Makes group counts given accepted deed mid new
-      → MakesAll group counts given accepted (deeds ++ deed ∷ []) old new
-  makes_on [] deed old mid new first then = (new, subst (λ (state : RunState T). Makes group counts given accepted deed state new) first then, refl)
+  makes_on : (deeds : List (Deed T)) (deed : Deed T) (old mid new : RunState T) → MakesAll group seen counts given accepted deeds old mid → Makes group seen counts given accepted deed mid new
+      → MakesAll group seen counts given accepted (deeds ++ deed ∷ []) old new
+  makes_on [] deed old mid new first then = (new, subst (λ (state : RunState T). Makes group seen counts given accepted deed state new) first then, refl)
   makes_on (one ∷ deeds) deed old mid new first then = (first.0, first.1, makes_on deeds deed first.0 mid new first.2 then)
 
   -- one deed more
-  pub runs_on : (deed : Deed T) (old new : RunState T) → HasRunTo group counts given accepted old → Makes group counts given accepted deed old new → HasRunTo group counts given accepted new
+  pub runs_on : (deed : Deed T) (old new : RunState T) → HasRunTo group seen counts given accepted old → Makes group seen counts given accepted deed old new → HasRunTo group seen counts given accepted new
   runs_on deed old new ran makes = record {
     run = record { first = ran.run.first; deeds = ran.run.deeds ++ deed ∷ []; last = new };
     is = record {
       begun = ran.is.begun;
-      made = makes_on ran.run.deeds deed ran.run.first old new (subst (λ (state : RunState T). MakesAll group counts given accepted ran.run.deeds ran.run.first state) ran.here ran.is.made) makes;
+      made = makes_on ran.run.deeds deed ran.run.first old new (subst (λ (state : RunState T). MakesAll group seen counts given accepted ran.run.deeds ran.run.first state) ran.here ran.is.made) makes;
     };
     here = refl;
   }
@@ -42,7 +43,7 @@ module _ {T : Type 0} (group : ℕ → GroupId) (counts : T → Counts) (given a
   -- none yet
   pub runs_from : (count : ℕ) (supply : Worker) (cells : Table) (received : List (ArrivedState T)) (closed : Option (List T)) → cells ≡ replicate count None → received ≡ []
       → supply.wakes ≡ no_wakes → AreUnsent supply.ports → HasClosedNone closed
-      → HasRunTo group counts given accepted (record { supply = supply; cells = cells; received = received; served = none_served; closed = closed })
+      → HasRunTo group seen counts given accepted (record { supply = supply; cells = cells; received = received; served = none_served; closed = closed })
   runs_from count supply cells received closed free none quiet unsent nothing =
       let first : RunState T = record { supply = supply; cells = cells; received = received; served = none_served; closed = closed } in
       record {
@@ -54,9 +55,9 @@ module _ {T : Type 0} (group : ℕ → GroupId) (counts : T → Counts) (given a
   -- one came
   pub comes : (arrived : ArrivedState T) (supply : Worker) (cells cells' : Table) (received received' : List (ArrivedState T)) (served served' : ServedCounts) (closed closed' : Option (List T))
       (now : ℕ) → received' ≡ received ++ arrived ∷ []
-      → HasRunTo group counts given accepted (record { supply = supply; cells = cells; received = received; served = served; closed = closed })
+      → HasRunTo group seen counts given accepted (record { supply = supply; cells = cells; received = received; served = served; closed = closed })
       → TakesIn counts given accepted now arrived cells served closed cells' served' closed'
-      → HasRunTo group counts given accepted (record { supply = supply; cells = cells'; received = received'; served = served'; closed = closed' })
+      → HasRunTo group seen counts given accepted (record { supply = supply; cells = cells'; received = received'; served = served'; closed = closed' })
   comes arrived supply cells cells' received received' served served' closed closed' now more ran (inl opened) =
       runs_on (Opened arrived opened.0 now) _ _ ran
       (opened.1.0, opened.1.1, opened.1.2, λ i. record { supply = supply; cells = cells'; received = more i; served = opened.2 i; closed = opened.1.4 i })
@@ -67,9 +68,9 @@ module _ {T : Type 0} (group : ℕ → GroupId) (counts : T → Counts) (given a
   -- the connection in a cell went on by a round
   goes : (supply supply' : Worker) (cells cells' : Table) (received : List (ArrivedState T)) (served served' : ServedCounts) (closed closed' : Option (List T)) (now cell : ℕ)
       (before after : Option (ServiceState PlaceState T)) (turned : Turned T) → slice_get cells cell ≡ Some before → cells' ≡ slice_set cells cell after
-      → Turns (Calls group) Begins Leaves is_visiting (λ (p : PlaceState). p.group) counts given accepted now before supply turned after supply'
+      → Turns (Calls group seen) Begins Leaves is_visiting (λ (p : PlaceState). p.group) counts given accepted now before supply turned after supply'
       → served' ≡ counted_behind turned served → closed' ≡ closed_after turned closed
-      → (deed : Deed T) × Makes group counts given accepted deed (record { supply = supply; cells = cells; received = received; served = served; closed = closed })
+      → (deed : Deed T) × Makes group seen counts given accepted deed (record { supply = supply; cells = cells; received = received; served = served; closed = closed })
       (record { supply = supply'; cells = cells'; received = received; served = served'; closed = closed' })
   goes supply supply' cells cells' received served served' closed closed' now cell None after turned has is made counted_is closed_is =
       let same : served' ≡ served = subst (λ (t : Turned T). served' ≡ counted_behind t served) made.0 counted_is in
@@ -118,11 +119,11 @@ module _ {T : Type 0} (group : ℕ → GroupId) (counts : T → Counts) (given a
 
   -- so many messages were allowed, and then it went on by a round
   pub went : (supply allowed supply' : Worker) (most : ℕ) (cells cells' : Table) (received : List (ArrivedState T)) (served served' : ServedCounts) (closed closed' : Option (List T)) (now cell : ℕ)
-      (turned : Turned T) → HasRunTo group counts given accepted (record { supply = supply; cells = cells; received = received; served = served; closed = closed })
+      (turned : Turned T) → HasRunTo group seen counts given accepted (record { supply = supply; cells = cells; received = received; served = served; closed = closed })
       → allowed ≡ record supply { allowance = most }
-      → InCell cells cell (λ before after. Turns (Calls group) Begins Leaves is_visiting (λ (p : PlaceState). p.group) counts given accepted now before allowed turned after supply') cells'
+      → InCell cells cell (λ before after. Turns (Calls group seen) Begins Leaves is_visiting (λ (p : PlaceState). p.group) counts given accepted now before allowed turned after supply') cells'
       → served' ≡ counted_behind turned served → closed' ≡ closed_after turned closed
-      → HasRunTo group counts given accepted (record { supply = supply'; cells = cells'; received = received; served = served'; closed = closed' })
+      → HasRunTo group seen counts given accepted (record { supply = supply'; cells = cells'; received = received; served = served'; closed = closed' })
   went supply allowed supply' most cells cells' received served served' closed closed' now cell turned ran allows made counted_is closed_is =
       let deed = goes allowed supply' cells cells' received served served' closed closed' now cell made.before made.after turned made.has made.is made.becomes counted_is closed_is in
       runs_on deed.0 _ _
@@ -132,36 +133,36 @@ module _ {T : Type 0} (group : ℕ → GroupId) (counts : T → Counts) (given a
   -- it was called for a message of this group
   pub called_on : (slot : ℕ) (supply supply' : Worker) (cells : Table) (received : List (ArrivedState T)) (served : ServedCounts) (closed : Option (List T))
       → supply' ≡ record supply { wakes = one_called slot supply.wakes }
-      → HasRunTo group counts given accepted (record { supply = supply; cells = cells; received = received; served = served; closed = closed })
-      → HasRunTo group counts given accepted (record { supply = supply'; cells = cells; received = received; served = served; closed = closed })
+      → HasRunTo group seen counts given accepted (record { supply = supply; cells = cells; received = received; served = served; closed = closed })
+      → HasRunTo group seen counts given accepted (record { supply = supply'; cells = cells; received = received; served = served; closed = closed })
   called_on slot supply supply' cells received served closed is ran =
       runs_on (Called slot) _ _ ran (λ i. record { supply = is i; cells = cells; received = received; served = served; closed = closed })
 
   -- it told others of the messages that are more than these
   pub told_on : (most others : List ℕ) (supply supply' : Worker) (cells : Table) (received : List (ArrivedState T)) (served : ServedCounts) (closed : Option (List T))
       → KeepsAtMost most others supply.wakes supply'.wakes → supply' ≡ record supply { wakes = supply'.wakes }
-      → HasRunTo group counts given accepted (record { supply = supply; cells = cells; received = received; served = served; closed = closed })
-      → HasRunTo group counts given accepted (record { supply = supply'; cells = cells; received = received; served = served; closed = closed })
+      → HasRunTo group seen counts given accepted (record { supply = supply; cells = cells; received = received; served = served; closed = closed })
+      → HasRunTo group seen counts given accepted (record { supply = supply'; cells = cells; received = received; served = served; closed = closed })
   told_on most others supply supply' cells received served closed keeps is ran =
       runs_on (Told most others) _ _ ran (keeps, λ i. record { supply = is i; cells = cells; received = received; served = served; closed = closed })
 
   -- it told others all that they wait for
   pub told_all_on : (supply supply' : Worker) (cells : Table) (received : List (ArrivedState T)) (served : ServedCounts) (closed : Option (List T))
       → supply' ≡ record supply { wakes = no_wakes }
-      → HasRunTo group counts given accepted (record { supply = supply; cells = cells; received = received; served = served; closed = closed })
-      → HasRunTo group counts given accepted (record { supply = supply'; cells = cells; received = received; served = served; closed = closed })
+      → HasRunTo group seen counts given accepted (record { supply = supply; cells = cells; received = received; served = served; closed = closed })
+      → HasRunTo group seen counts given accepted (record { supply = supply'; cells = cells; received = received; served = served; closed = closed })
   told_all_on supply supply' cells received served closed is ran =
       runs_on ToldAll _ _ ran (λ i. record { supply = is i; cells = cells; received = received; served = served; closed = closed })
 
   -- it waited at its poller, which closed nothing
   pub waits_on : (supply : Worker) (cells : Table) (received : List (ArrivedState T)) (served : ServedCounts) (closed closed' : Option (List T)) → closed' ≡ closed
-      → HasRunTo group counts given accepted (record { supply = supply; cells = cells; received = received; served = served; closed = closed })
-      → HasRunTo group counts given accepted (record { supply = supply; cells = cells; received = received; served = served; closed = closed' })
+      → HasRunTo group seen counts given accepted (record { supply = supply; cells = cells; received = received; served = served; closed = closed })
+      → HasRunTo group seen counts given accepted (record { supply = supply; cells = cells; received = received; served = served; closed = closed' })
   waits_on supply cells received served closed closed' same ran =
-      subst (λ (those : Option (List T)). HasRunTo group counts given accepted (record { supply = supply; cells = cells; received = received; served = served; closed = those })) (sym same) ran
+      subst (λ (those : Option (List T)). HasRunTo group seen counts given accepted (record { supply = supply; cells = cells; received = received; served = served; closed = those })) (sym same) ran
 
   -- each connection that came stands in the list of deeds, once, and nothing else does
-  came_one : (deed : Deed T) (old new : RunState T) → Makes group counts given accepted deed old new → new.received ≡ old.received ++ came_in deed
+  came_one : (deed : Deed T) (old new : RunState T) → Makes group seen counts given accepted deed old new → new.received ≡ old.received ++ came_in deed
   came_one (Opened arrived cell now) old new does = ap (λ (s : RunState T). s.received) does.3
   came_one (Closed arrived) old new does = ap (λ (s : RunState T). s.received) does.2
   came_one (Allowed most) old new does = ap (λ (s : RunState T). s.received) does ∙ sym (append-nil old.received)
@@ -171,7 +172,7 @@ module _ {T : Type 0} (group : ℕ → GroupId) (counts : T → Counts) (given a
   came_one (Told most others) old new does = ap (λ (s : RunState T). s.received) does.1 ∙ sym (append-nil old.received)
   came_one ToldAll old new does = ap (λ (s : RunState T). s.received) does ∙ sym (append-nil old.received)
 
-  pub came_all : (deeds : List (Deed T)) (old new : RunState T) → MakesAll group counts given accepted deeds old new → new.received ≡ old.received ++ came_by deeds
+  pub came_all : (deeds : List (Deed T)) (old new : RunState T) → MakesAll group seen counts given accepted deeds old new → new.received ≡ old.received ++ came_by deeds
   came_all [] old new does = ap (λ (s : RunState T). s.received) does ∙ sym (append-nil old.received)
   came_all (deed ∷ deeds) old new does =
       came_all deeds does.0 new does.2 ∙ ap (λ (l : List (ArrivedState T)). l ++ came_by deeds) (came_one deed old does.0 does.1) ∙ append_assoc old.received (came_in deed) (came_by deeds)

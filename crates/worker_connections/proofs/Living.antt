@@ -11,6 +11,7 @@ use Rattle.conn_service.specs.Services.{ServiceState, opened}
 use Rattle.conn_service.specs.Acts.{Act, Others}
 use Rattle.conn_service.specs.Lives.{DoesAll, LivesBy, Rounds}
 use Rattle.group_queue.specs.Ports.{GroupId}
+use Rattle.broker_groups.specs.Answers.{Sights}
 use Rattle.group_queue.specs.Places.{PlaceState}
 use Rattle.service_table.specs.Cells.{Opens}
 use Rattle.shared_supply.specs.Calls.{Calls}
@@ -87,9 +88,9 @@ module _ {S P T : Type 0} (call : S → Fact P → S → Type 0) (begins ends : 
     led = record { acts = []; does = (opened_so.1, refl); moments = []; lived = (refl, opened_so.1, refl) };
   }
 
-module _ {T : Type 0} (group : ℕ → GroupId) (counts : T → Counts) (given accepted : T → Option (List ℕ)) where
+module _ {T : Type 0} (group : ℕ → GroupId) (seen : Sights) (counts : T → Counts) (given accepted : T → Option (List ℕ)) where
   abbrev Lived : Option (ServiceState PlaceState T) → Type 0
-  Lived cell = IfLived (Calls group) Begins Leaves is_visiting (λ (p : PlaceState). p.group) counts given accepted cell
+  Lived cell = IfLived (Calls group seen) Begins Leaves is_visiting (λ (p : PlaceState). p.group) counts given accepted cell
 
   abbrev AllLived : List (Option (ServiceState PlaceState T)) → Type 0
   AllLived cells = All Lived cells
@@ -100,12 +101,12 @@ module _ {T : Type 0} (group : ℕ → GroupId) (counts : T → Counts) (given a
   left (Some how) behind after leaves lived = subst Lived (sym leaves.2) tt
 
   lives : (deed : Deed T) (old new : RunState T) → AllByRecursion (λ (arrived : ArrivedState T). counts arrived.transport ≡ no_counts) (came_in deed)
-      → Makes group counts given accepted deed old new → AllLived old.cells → AllLived new.cells
+      → Makes group seen counts given accepted deed old new → AllLived old.cells → AllLived new.cells
   lives (Opened arrived cell now) old new fresh does all =
       let made = does.2 in
       subst AllLived (sym made.is)
       (All-set Lived old.cells cell made.after
-      (opens (Calls group) Begins Leaves is_visiting (λ (p : PlaceState). p.group) counts given accepted (opening_at now arrived) does.0 made.before made.after old.supply
+      (opens (Calls group seen) Begins Leaves is_visiting (λ (p : PlaceState). p.group) counts given accepted (opening_at now arrived) does.0 made.before made.after old.supply
       (does.1.counts_are ∙ fresh.0) made.becomes) all)
   lives (Closed arrived) old new fresh does all = subst (λ (s : RunState T). AllLived s.cells) (sym does.2) all
   lives (Allowed most) old new fresh does all = subst (λ (s : RunState T). AllLived s.cells) (sym does) all
@@ -116,7 +117,7 @@ module _ {T : Type 0} (group : ℕ → GroupId) (counts : T → Counts) (given a
       subst AllLived (sym made.is)
       (All-set Lived old.cells cell made.after
       (left how goes.behind made.after goes.leaves
-      (lives_on (Calls group) Begins Leaves is_visiting (λ (p : PlaceState). p.group) counts given accepted now goes.service goes.behind old.supply new.supply first goes.round)) all)
+      (lives_on (Calls group seen) Begins Leaves is_visiting (λ (p : PlaceState). p.group) counts given accepted now goes.service goes.behind old.supply new.supply first goes.round)) all)
   lives (Passed cell) old new fresh does all =
       let made = does.0 in
       subst AllLived (sym made.is) (All-set Lived old.cells cell made.after (subst Lived (sym made.becomes.1) tt) all)
@@ -126,7 +127,7 @@ module _ {T : Type 0} (group : ℕ → GroupId) (counts : T → Counts) (given a
 
   -- **Each connection has its life in the run**: at each state of it, the connection in a cell was led there by rounds from its opening, with others between them
   pub lives_all : (deeds : List (Deed T)) (old new : RunState T) → AllByRecursion (λ (arrived : ArrivedState T). counts arrived.transport ≡ no_counts) (came_by deeds)
-      → MakesAll group counts given accepted deeds old new → AllLived old.cells → AllLived new.cells
+      → MakesAll group seen counts given accepted deeds old new → AllLived old.cells → AllLived new.cells
   lives_all [] old new fresh does all = subst (λ (s : RunState T). AllLived s.cells) (sym does) all
   lives_all (deed ∷ deeds) old new fresh does all =
       let parts = both_parts (λ (arrived : ArrivedState T). counts arrived.transport ≡ no_counts) (came_in deed) (came_by deeds) fresh in

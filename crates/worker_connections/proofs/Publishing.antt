@@ -11,6 +11,7 @@ use Rattle.transport.specs.declared.counts.Counts.{Counts}
 use Rattle.group_jobs.specs.declared.message.Message.{Message}
 use Rattle.group_jobs.specs.declared.stamp.Stamp.{Stamp}
 use Rattle.group_queue.specs.Ports.{GroupId, PortState}
+use Rattle.broker_groups.specs.Answers.{Sights}
 use Rattle.group_queue.specs.Places.{PlaceState}
 use Rattle.broker_groups.specs.Offering.{OffersTo}
 use Rattle.conn_rules.specs.declared.connecting.FirstAnswer.{FirstAnswer}
@@ -75,7 +76,7 @@ abbrev code_of : Packet → ℕ
 code_of (packets.Puback puback) = puback.reason_code
 code_of _ = 0
 
-module _ (group : ℕ → GroupId) where
+module _ (group : ℕ → GroupId) (seen : Sights) where
   missed_ports : (is_missed : Bool) (worker : Worker) → (missing is_missed worker).ports ≡ worker.ports
   missed_ports true worker = refl
   missed_ports false worker = refl
@@ -87,7 +88,7 @@ module _ (group : ℕ → GroupId) where
     pub message : Message
     pub answer : Result Stamp OfferRefusal
     pub is : offer_of fact ≡ Some (slot, connection, message)
-    pub offers : OffersTo group old slot message answer new
+    pub offers : OffersTo group seen.saw_main old slot message answer new
 
   abbrev OffersOrStays : Fact PlaceState → List PortState → List PortState → Type 0
   OffersOrStays fact old new = ((offer_of fact ≡ None) × (new ≡ old)) ⊎ IsOfferOf fact old new
@@ -121,22 +122,22 @@ module _ (group : ℕ → GroupId) where
   stays fact old new (inr offer) none = let never : Some (offer.slot, offer.connection, offer.message) ≡ None = sym offer.is ∙ none in absurd (cc never)
 
   -- calls that offer nothing
-  all_stay : (facts : List (Fact PlaceState)) (old new : Worker) → offered facts ≡ [] → MakesCalls (Calls group) old facts new → new.ports ≡ old.ports
+  all_stay : (facts : List (Fact PlaceState)) (old new : Worker) → offered facts ≡ [] → MakesCalls (Calls group seen) old facts new → new.ports ≡ old.ports
   all_stay [] old new none made = ap (λ (w : Worker). w.ports) made
   all_stay (fact ∷ facts) old new none made =
       let parts = none_found (offer_of fact) (offered facts) none in
       all_stay facts made.0 new parts.1 made.2 ∙ stays fact old.ports made.0.ports (called fact old made.0 made.1) parts.0
 
-  plain : {given : List Message} (old new : Worker) → Plain (Calls group) given old new → new.ports ≡ old.ports
+  plain : {given : List Message} (old new : Worker) → Plain (Calls group seen) given old new → new.ports ≡ old.ports
   plain old new calls = all_stay calls.facts old new calls.offers calls.made
 
   -- the first of some calls, of which the others put a message into what is left of these slots
   put_first : (fact : Fact PlaceState) (facts : List (Fact PlaceState)) (slots : List ℕ) (number : ℕ) (message : Message) (ports mid ports' : List PortState)
       → OffersOrStays fact ports mid → cons_option (offer_of fact) (offered facts) ≡ map (λ (slot : ℕ). (slot, number, message)) slots
-      → ((rest : List ℕ) → offered facts ≡ map (λ (slot : ℕ). (slot, number, message)) rest → PutsSome group mid message rest ports') → PutsSome group ports message slots ports'
+      → ((rest : List ℕ) → offered facts ≡ map (λ (slot : ℕ). (slot, number, message)) rest → PutsSome group seen mid message rest ports') → PutsSome group seen ports message slots ports'
   put_first fact facts slots number message ports mid ports' (inl same) offers others =
       let Found : Option (ℕ × ℕ × Message) → Type 0 = λ found. cons_option found (offered facts) ≡ map (λ (slot : ℕ). (slot, number, message)) slots in
-      subst (λ (those : List PortState). PutsSome group those message slots ports') same.1 (others slots (subst Found same.0 offers))
+      subst (λ (those : List PortState). PutsSome group seen those message slots ports') same.1 (others slots (subst Found same.0 offers))
   put_first fact facts [] number message ports mid ports' (inr offer) offers others =
       let Found : Option (ℕ × ℕ × Message) → Type 0 = λ found. cons_option found (offered facts) ≡ [] in
       let never = subst Found offer.is offers in
@@ -148,14 +149,14 @@ module _ (group : ℕ → GroupId) where
       let tails : offered facts ≡ map (λ (slot : ℕ). (slot, number, message)) slots = cc is in (
         offer.answer,
         mid,
-        subst (λ (n : ℕ). OffersTo group ports n message offer.answer mid) (ap (λ (o : ℕ × ℕ × Message). o.0) heads)
-            (subst (λ (m : Message). OffersTo group ports offer.slot m offer.answer mid) (ap (λ (o : ℕ × ℕ × Message). o.2) heads) offer.offers),
+        subst (λ (n : ℕ). OffersTo group seen.saw_main ports n message offer.answer mid) (ap (λ (o : ℕ × ℕ × Message). o.0) heads)
+            (subst (λ (m : Message). OffersTo group seen.saw_main ports offer.slot m offer.answer mid) (ap (λ (o : ℕ × ℕ × Message). o.2) heads) offer.offers),
         others slots tails,
       )
 
   -- calls that offer a message to these slots
   some_put : (facts : List (Fact PlaceState)) (slots : List ℕ) (number : ℕ) (message : Message) (old new : Worker)
-      → offered facts ≡ map (λ (slot : ℕ). (slot, number, message)) slots → MakesCalls (Calls group) old facts new → PutsSome group old.ports message slots new.ports
+      → offered facts ≡ map (λ (slot : ℕ). (slot, number, message)) slots → MakesCalls (Calls group seen) old facts new → PutsSome group seen old.ports message slots new.ports
   some_put [] [] number message old new offers made = ap (λ (w : Worker). w.ports) made
   some_put [] (slot ∷ slots) number message old new offers made = absurd (cc offers)
   some_put (fact ∷ facts) slots number message old new offers made =
@@ -163,8 +164,8 @@ module _ (group : ℕ → GroupId) where
       (λ rest found. some_put facts rest number message made.0 new found made.2)
 
   -- a message is offered to each of these slots
-  all_put : (slots : List ℕ) (number : ℕ) (message : Message) (taken : ℕ) (old new : Worker) → Offers (Calls group) old number message slots taken new
-      → PutsInto group old.ports message slots taken new.ports
+  all_put : (slots : List ℕ) (number : ℕ) (message : Message) (taken : ℕ) (old new : Worker) → Offers (Calls group seen) old number message slots taken new
+      → PutsInto group seen old.ports message slots taken new.ports
   all_put [] number message taken old new offers = (offers.0, ap (λ (w : Worker). w.ports) offers.1)
   all_put (slot ∷ slots) number message taken old new offers =
       (offers.0, offers.1.ports, offers.2, offers.3, offers.4.0, offers.5, all_put slots number message offers.3 offers.1 new offers.6, offers.7)
@@ -177,7 +178,7 @@ module _ (group : ℕ → GroupId) where
   -- what a PUBLISH made of the ports, and its reply
   abbrev Reply_to : Publish → List PortState → Standing PlaceState → Reply → List PortState → Type 0
   Reply_to publish ports between reply ports' =
-      ((identifier : ℕ) × (publish_answer publish ≡ answers.Offer identifier) × (slots : List ℕ) × (taken : ℕ) × PutsInto group ports (message_of publish) slots taken ports'
+      ((identifier : ℕ) × (publish_answer publish ≡ answers.Offer identifier) × (slots : List ℕ) × (taken : ℕ) × PutsInto group seen ports (message_of publish) slots taken ports'
       × (reply ≡ acknowledging identifier (puback_code (length slots) taken)))
       ⊎ ((ports' ≡ ports) × IsNoPromise reply.packet between)
 
@@ -189,21 +190,21 @@ module _ (group : ℕ → GroupId) where
   over reply between is ended = subst (λ (it : Option Packet). IsNoPromise it between) (sym is) ended
 
   first_answered : (answer : FirstAnswer) (old new : Worker) (number max_inflight now : ℕ) (publish : Publish) (between : Standing PlaceState) (reply : Reply)
-      → AnswersFirst (Calls group) slot_of answer old number max_inflight now (packets.Publish publish) between reply new → Reply_to publish old.ports between reply new.ports
+      → AnswersFirst (Calls group seen) slot_of answer old number max_inflight now (packets.Publish publish) between reply new → Reply_to publish old.ports between reply new.ports
   first_answered first.Close old new number max_inflight now publish between reply is =
       inr (ap (λ (w : Worker). w.ports) is.1, over reply between (ap (λ (r : Reply). r.packet) is.0.told) is.0.over)
   first_answered (first.Refuse refusal) old new number max_inflight now publish between reply is =
       inr (ap (λ (w : Worker). w.ports) is.1, silent reply _ between (ap (λ (r : Reply). r.packet) is.0.told) (λ identifier same. cc same))
   first_answered first.Attach old new number max_inflight now publish between reply is = let never = is.1 in absurd (cc never)
 
-  concluded : (next : Then) (old new : Worker) (link : Link PlaceState) (now : ℕ) (standing : Standing PlaceState) → Concludes (Calls group) slot_of old link now next standing new
+  concluded : (next : Then) (old new : Worker) (link : Link PlaceState) (now : ℕ) (standing : Standing PlaceState) → Concludes (Calls group seen) slot_of old link now next standing new
       → new.ports ≡ old.ports
   concluded Go old new link now standing concludes = ap (λ (w : Worker). w.ports) concludes.1
-  concluded Close old new link now standing concludes = plain old new (parted (Calls group) old new link.session now concludes.0)
-  concluded TakenOver old new link now standing concludes = plain old new (parted (Calls group) old new link.session now concludes.0)
+  concluded Close old new link now standing concludes = plain old new (parted (Calls group seen) old new link.session now concludes.0)
+  concluded TakenOver old new link now standing concludes = plain old new (parted (Calls group seen) old new link.session now concludes.0)
 
   published : (answer : PublishAnswer) (old mid new : Worker) (number : ℕ) (publish : Publish) (between : Standing PlaceState) (reply : Reply) → publish_answer publish ≡ answer
-      → AnswersPublish (Calls group) old number publish answer reply mid → new.ports ≡ mid.ports → Reply_to publish old.ports between reply new.ports
+      → AnswersPublish (Calls group seen) old number publish answer reply mid → new.ports ≡ mid.ports → Reply_to publish old.ports between reply new.ports
   published (answers.Close code) old mid new number publish between reply answered is kept =
       inr (kept ∙ ap (λ (w : Worker). w.ports) is.1, silent reply _ between (ap (λ (r : Reply). r.packet) is.0) (λ identifier same. cc same))
   published (answers.Refuse other code) old mid new number publish between reply answered is kept =
@@ -217,23 +218,23 @@ module _ (group : ℕ → GroupId) where
         answered,
         is.slots,
         is.taken,
-        subst (λ (ports : List PortState). PutsInto group old.ports (message_of publish) is.slots is.taken ports) (sym kept)
-            (subst (λ (ports : List PortState). PutsInto group ports (message_of publish) is.slots is.taken mid.ports)
+        subst (λ (ports : List PortState). PutsInto group seen old.ports (message_of publish) is.slots is.taken ports) (sym kept)
+            (subst (λ (ports : List PortState). PutsInto group seen ports (message_of publish) is.slots is.taken mid.ports)
             (stays (Match publish.topic is.slots) old.ports is.mid.ports (called (Match publish.topic is.slots) old is.mid is.matched) refl)
             (all_put is.slots number (message_of publish) is.taken is.mid mid is.offered)),
         is.replied,
       )
 
   packet_answered : (was_kicked : Bool) (old new : Worker) (number now : ℕ) (link : Link PlaceState) (publish : Publish) (between : Standing PlaceState) (reply : Reply)
-      → AnswersUnlessKicked (Calls group) slot_of was_kicked old link now (AnswersPacket (Calls group) slot_of old number link now (packets.Publish publish)) between reply new
+      → AnswersUnlessKicked (Calls group seen) slot_of was_kicked old link now (AnswersPacket (Calls group seen) slot_of old number link now (packets.Publish publish)) between reply new
       → Reply_to publish old.ports between reply new.ports
   packet_answered true old new number now link publish between reply is =
-      inr (plain old new (parted (Calls group) old new link.session now is.1.0), silent reply _ between (ap (λ (r : Reply). r.packet) is.0) (λ identifier same. cc same))
+      inr (plain old new (parted (Calls group seen) old new link.session now is.1.0), silent reply _ between (ap (λ (r : Reply). r.packet) is.0) (λ identifier same. cc same))
   packet_answered false old new number now link publish between reply is =
       published (publish_answer publish) old is.1 new number publish between reply refl is.2.0 (concluded reply.next is.1 new is.0 now between is.3)
 
   reacted : (standing : Standing PlaceState) (publish : Publish) (old new : Worker) (number now : ℕ) (between : Standing PlaceState) (reply : Reply)
-      → Reacts (Calls group) slot_of old number standing now (inputs.Packet (packets.Publish publish)) between reply new → Reply_to publish old.ports between reply new.ports
+      → Reacts (Calls group seen) slot_of old number standing now (inputs.Packet (packets.Publish publish)) between reply new → Reply_to publish old.ports between reply new.ports
   reacted (Unconnected opened) publish old new number now between reply is =
       first_answered (first_answer (packets.Publish publish)) old new number opened.max_inflight now publish between reply is
   reacted (Waiting request ticks) publish old new number now between reply is = absurd is
@@ -245,9 +246,9 @@ module _ (group : ℕ → GroupId) where
 
   -- no promise stands in front of what is sent
   unpromised : (packet : Option Packet) (between standing : Standing PlaceState) (old new : Worker) (these sent : List Packet) → IsNoPromise packet between
-      → Hands (Calls group) slot_of old between sent standing new → these ≡ option_to_list packet ++ sent → ¬ IsPromised these
+      → Hands (Calls group seen) slot_of old between sent standing new → these ≡ option_to_list packet ++ sent → ¬ IsPromised these
   unpromised None between standing old new these sent never hands is promised =
-      let none = (subst (λ (s : Standing PlaceState). Hands (Calls group) slot_of old s sent standing new) never hands).0 in
+      let none = (subst (λ (s : Standing PlaceState). Hands (Calls group seen) slot_of old s sent standing new) never hands).0 in
       let some = sym promised.2 ∙ is ∙ none in
       cc some
   unpromised (Some packet) between standing old new these sent never hands is promised =
@@ -256,12 +257,12 @@ module _ (group : ℕ → GroupId) where
 
   -- a step of a PUBLISH
   of_publish : (old new : Worker) (number now : ℕ) (standing standing' : Standing PlaceState) (publish : Publish) (these : List Packet) (next : Then)
-      → StepsTo (Calls group) slot_of old number standing now (inputs.Packet (packets.Publish publish)) these next standing' new
-      → PublishesAt group (inputs.Packet (packets.Publish publish)) these old.ports new.ports
+      → StepsTo (Calls group seen) slot_of old number standing now (inputs.Packet (packets.Publish publish)) these next standing' new
+      → PublishesAt group seen (inputs.Packet (packets.Publish publish)) these old.ports new.ports
   of_publish old new number now standing standing' publish these next steps =
-      let handed = plain steps.mid new (handed_behind (Calls group) slot_of steps.between steps.mid new steps.sent standing' steps.hands) in
+      let handed = plain steps.mid new (handed_behind (Calls group seen) slot_of steps.between steps.mid new steps.sent standing' steps.hands) in
       ⊎_elim
-      (λ (it : (identifier : ℕ) × (publish_answer publish ≡ answers.Offer identifier) × (slots : List ℕ) × (taken : ℕ) × PutsInto group old.ports (message_of publish) slots taken steps.mid.ports
+      (λ (it : (identifier : ℕ) × (publish_answer publish ≡ answers.Offer identifier) × (slots : List ℕ) × (taken : ℕ) × PutsInto group seen old.ports (message_of publish) slots taken steps.mid.ports
       × (steps.reply ≡ acknowledging identifier (puback_code (length slots) taken))).
       inl (
         publish,
@@ -271,7 +272,7 @@ module _ (group : ℕ → GroupId) where
           brought = it.1;
           slots = it.2;
           taken = it.3;
-          puts = subst (λ (ports : List PortState). PutsInto group old.ports (message_of publish) it.2 it.3 ports) (sym handed) it.4;
+          puts = subst (λ (ports : List PortState). PutsInto group seen old.ports (message_of publish) it.2 it.3 ports) (sym handed) it.4;
           others = steps.sent;
           answered = steps.written ∙ ap (λ (r : Reply). option_to_list r.packet ++ steps.sent) it.5;
         },
@@ -282,17 +283,17 @@ module _ (group : ℕ → GroupId) where
 
   -- a step of any other input
   of_other : (input : Input) (old new : Worker) (number now : ℕ) (standing standing' : Standing PlaceState) (these : List Packet) (next : Then)
-      → ((publish : Publish) → input ≡ inputs.Packet (packets.Publish publish) → ⊥) → StepsTo (Calls group) slot_of old number standing now input these next standing' new
-      → PublishesAt group input these old.ports new.ports
+      → ((publish : Publish) → input ≡ inputs.Packet (packets.Publish publish) → ⊥) → StepsTo (Calls group seen) slot_of old number standing now input these next standing' new
+      → PublishesAt group seen input these old.ports new.ports
   of_other input old new number now standing standing' these next never steps =
-      let calls = stepped (Calls group) slot_of old new number now standing standing' input these next steps in
+      let calls = stepped (Calls group seen) slot_of old new number now standing standing' input these next steps in
       ⊎_elim
       (λ (each : OffersToEach number input calls.facts). absurd (never each.publish each.came))
       (λ (nothing : OffersNone standing input calls.facts next). inr (all_stay calls.facts old new nothing.offers calls.made, λ publish is. absurd (never publish is)))
       calls.offers
 
   at_packet : (packet : Packet) (old new : Worker) (number now : ℕ) (standing standing' : Standing PlaceState) (these : List Packet) (next : Then)
-      → StepsTo (Calls group) slot_of old number standing now (inputs.Packet packet) these next standing' new → PublishesAt group (inputs.Packet packet) these old.ports new.ports
+      → StepsTo (Calls group seen) slot_of old number standing now (inputs.Packet packet) these next standing' new → PublishesAt group seen (inputs.Packet packet) these old.ports new.ports
   at_packet (packets.Publish publish) old new number now standing standing' these next steps = of_publish old new number now standing standing' publish these next steps
   at_packet (packets.Puback puback) old new number now standing standing' these next steps = of_other _ old new number now standing standing' these next (λ publish is. cc is) steps
   at_packet (packets.Subscribe subscribe) old new number now standing standing' these next steps = of_other _ old new number now standing standing' these next (λ publish is. cc is) steps
@@ -309,7 +310,7 @@ module _ (group : ℕ → GroupId) where
   at_packet packets.WithWill old new number now standing standing' these next steps = of_other _ old new number now standing standing' these next (λ publish is. cc is) steps
 
   at_input : (input : Input) (old new : Worker) (number now : ℕ) (standing standing' : Standing PlaceState) (these : List Packet) (next : Then)
-      → StepsTo (Calls group) slot_of old number standing now input these next standing' new → PublishesAt group input these old.ports new.ports
+      → StepsTo (Calls group seen) slot_of old number standing now input these next standing' new → PublishesAt group seen input these old.ports new.ports
   at_input (inputs.Packet packet) old new number now standing standing' these next steps = at_packet packet old new number now standing standing' these next steps
   at_input (inputs.Fault fault) old new number now standing standing' these next steps = of_other _ old new number now standing standing' these next (λ publish is. cc is) steps
   at_input inputs.Tick old new number now standing standing' these next steps = of_other _ old new number now standing standing' these next (λ publish is. cc is) steps
@@ -317,10 +318,10 @@ module _ (group : ℕ → GroupId) where
   at_input inputs.Closing old new number now standing standing' these next steps = of_other _ old new number now standing standing' these next (λ publish is. cc is) steps
 
   -- a step in which an allocation failed
-  at_failed : (input : Input) (old new : Worker) (number now : ℕ) (standing : Standing PlaceState) → FailsToStep (Calls group) slot_of old number standing now input new
-      → PublishesSome group input old.ports new.ports
+  at_failed : (input : Input) (old new : Worker) (number now : ℕ) (standing : Standing PlaceState) → FailsToStep (Calls group seen) slot_of old number standing now input new
+      → PublishesSome group seen input old.ports new.ports
   at_failed input old new number now standing fails =
-      let calls = failed (Calls group) slot_of old new number now standing input fails in
+      let calls = failed (Calls group seen) slot_of old new number now standing input fails in
       ⊎_elim
       (λ (some : OffersToSome number input calls.facts).
       inl (some.publish, some.came, (some.slots, some_put calls.facts some.slots number (message_of some.publish) old new some.offers calls.made)))
@@ -328,15 +329,15 @@ module _ (group : ℕ → GroupId) where
       calls.offers
 
   -- a connection that is given up
-  given_up : (old new : Worker) (client client' : ClientState PlaceState) (now : ℕ) → IsGivenUp (Calls group) slot_of old client now inputs.EndOfInput client' new → new.ports ≡ old.ports
+  given_up : (old new : Worker) (client client' : ClientState PlaceState) (now : ℕ) → IsGivenUp (Calls group seen) slot_of old client now inputs.EndOfInput client' new → new.ports ≡ old.ports
   given_up old new client client' now (inl moved) =
       ⊎_elim
-      (λ (it : (publish : Publish) × (inputs.EndOfInput ≡ inputs.Packet (packets.Publish publish)) × IsPublished group publish moved.0.packets old.ports new.ports). let never = it.1 in absurd (cc never))
+      (λ (it : (publish : Publish) × (inputs.EndOfInput ≡ inputs.Packet (packets.Publish publish)) × IsPublished group seen publish moved.0.packets old.ports new.ports). let never = it.1 in absurd (cc never))
       (λ (it : (new.ports ≡ old.ports) × ((publish : Publish) → inputs.EndOfInput ≡ inputs.Packet (packets.Publish publish) → ¬ IsPromised moved.0.packets)). it.0)
       (at_input inputs.EndOfInput old new client.conn.number (moment_of client now) client.conn.standing client'.conn.standing moved.0.packets moved.0.next moved.1.stepped)
   given_up old new client client' now (inr fails) =
       ⊎_elim
-      (λ (it : (publish : Publish) × (inputs.EndOfInput ≡ inputs.Packet (packets.Publish publish)) × ((slots : List ℕ) × PutsSome group old.ports (message_of publish) slots new.ports)).
+      (λ (it : (publish : Publish) × (inputs.EndOfInput ≡ inputs.Packet (packets.Publish publish)) × ((slots : List ℕ) × PutsSome group seen old.ports (message_of publish) slots new.ports)).
       let never = it.1 in absurd (cc never))
       (λ (same : new.ports ≡ old.ports). same)
       (at_failed inputs.EndOfInput old new client.conn.number (moment_of client now) client.conn.standing fails.failed)
@@ -349,13 +350,13 @@ module _ (group : ℕ → GroupId) where
   no_others now Parting to treads = treads
   no_others now Parted to treads = treads
 
-  both : (these those : List Act) (ports mid ports' : List PortState) → PublishesAll group these ports mid → PublishesAll group those mid ports' → PublishesAll group (these ++ those) ports ports'
-  both [] those ports mid ports' first later = subst (λ (from : List PortState). PublishesAll group those from ports') first later
+  both : (these those : List Act) (ports mid ports' : List PortState) → PublishesAll group seen these ports mid → PublishesAll group seen those mid ports' → PublishesAll group seen (these ++ those) ports ports'
+  both [] those ports mid ports' first later = subst (λ (from : List PortState). PublishesAll group seen those from ports') first later
   both (act ∷ these) those ports mid ports' first later = (first.0, first.1, both these those first.0 mid ports' first.2 later)
 
   module _ {T : Type 0} (counts : T → Counts) (given accepted : T → Option (List ℕ)) where
     acted : (act : Act) (old new : ServiceState PlaceState T) (supply supply' : Worker) (now : ℕ) (from to : Stand)
-        → Does (Calls group) Begins Leaves is_visiting slot_of counts given accepted act old supply new supply' → Treads now from act to → Publishes group act supply.ports supply'.ports
+        → Does (Calls group seen) Begins Leaves is_visiting slot_of counts given accepted act old supply new supply' → Treads now from act to → Publishes group seen act supply.ports supply'.ports
     acted (Enters is_open reads) old new supply supply' now from to does treads = does.begun.ports
     acted Left old new supply supply' now from to does treads = ap (λ (w : Worker). w.ports) does.ended.becomes
     acted (Asks is_kicked) old new supply supply' now from to does treads =
@@ -377,30 +378,30 @@ module _ (group : ℕ → GroupId) where
     acted Others old new supply supply' now from to does treads = absurd (no_others now from to treads)
 
     walked : (acts : List Act) (old new : ServiceState PlaceState T) (supply supply' : Worker) (now : ℕ) (from to : Stand)
-        → DoesAll (Calls group) Begins Leaves is_visiting slot_of counts given accepted acts old supply new supply' → Walks now from acts to → PublishesAll group acts supply.ports supply'.ports
+        → DoesAll (Calls group seen) Begins Leaves is_visiting slot_of counts given accepted acts old supply new supply' → Walks now from acts to → PublishesAll group seen acts supply.ports supply'.ports
     walked [] old new supply supply' now from to does walks = ap (λ (w : Worker). w.ports) does.1
     walked (act ∷ acts) old new supply supply' now from to does walks =
         (does.1.ports, acted act old does.0 supply does.1 now from walks.0 does.2 walks.1, walked acts does.0 new does.1 supply' now walks.0 to does.3 walks.2)
 
-    done : (deed : Deed T) (old new : RunState T) → Makes group counts given accepted deed old new → PublishesAll group (acts_in deed) old.supply.ports new.supply.ports
+    done : (deed : Deed T) (old new : RunState T) → Makes group seen counts given accepted deed old new → PublishesAll group seen (acts_in deed) old.supply.ports new.supply.ports
     done (Opened arrived cell now) old new does = ap (λ (s : RunState T). s.supply.ports) does.3
     done (Closed arrived) old new does = ap (λ (s : RunState T). s.supply.ports) does.2
     done (Allowed most) old new does = ap (λ (s : RunState T). s.supply.ports) does
     done (Went cell now acts how) old new does =
         let goes = does.0.becomes in
-        subst (λ (those : List Act). PublishesAll group those old.supply.ports new.supply.ports) (sym goes.acts_are)
+        subst (λ (those : List Act). PublishesAll group seen those old.supply.ports new.supply.ports) (sym goes.acts_are)
         (walked goes.round.led.acts goes.service goes.behind old.supply new.supply now Outside Behind goes.round.led.does goes.round.led.walks)
     done (Passed cell) old new does = ap (λ (s : RunState T). s.supply.ports) does.1
     done (Called slot) old new does = ap (λ (s : RunState T). s.supply.ports) does
     done (Told most others) old new does = ap (λ (s : RunState T). s.supply.ports) does.1
     done ToldAll old new does = ap (λ (s : RunState T). s.supply.ports) does
 
-    done_all : (deeds : List (Deed T)) (old new : RunState T) → MakesAll group counts given accepted deeds old new
-        → PublishesAll group (flat_map acts_in deeds) old.supply.ports new.supply.ports
+    done_all : (deeds : List (Deed T)) (old new : RunState T) → MakesAll group seen counts given accepted deeds old new
+        → PublishesAll group seen (flat_map acts_in deeds) old.supply.ports new.supply.ports
     done_all [] old new does = ap (λ (s : RunState T). s.supply.ports) does
     done_all (deed ∷ deeds) old new does =
         both (acts_in deed) (flat_map acts_in deeds) old.supply.ports does.0.supply.ports new.supply.ports (done deed old does.0 does.1) (done_all deeds does.0 new does.2)
 
     -- all that came into the ports was published by the acts of the run
-    pub all_published : (run : Run T) → IsRun group counts given accepted run → IsPublishedBy group run
+    pub all_published : (run : Run T) → IsRun group seen counts given accepted run → IsPublishedBy group seen run
     all_published run is = record { published = done_all run.deeds run.first run.last is.made }

@@ -5,6 +5,7 @@ use Rattle.std.specs.List.{AllByRecursion}
 use Rattle.std.proofs.lemmas.List.Elements.{All-set, All-replicate}
 use Rattle.transport.specs.declared.counts.Counts.{Counts}
 use Rattle.group_queue.specs.Ports.{GroupId}
+use Rattle.broker_groups.specs.Answers.{Sights}
 use Rattle.group_queue.specs.Places.{PlaceState}
 use Rattle.conn_engine.specs.declared.standing.Opening.{Opening}
 use Rattle.conn_engine.specs.declared.standing.Standing.{Standing}
@@ -47,20 +48,20 @@ left_within : {T : Type 0} (limit : ℕ) (how : Option Served) (behind : Service
 left_within {T = T} limit None behind after leaves within = subst (λ (cell : Option (ServiceState PlaceState T)). IfWithin limit cell) (sym leaves) within
 left_within {T = T} limit (Some how) behind after leaves within = subst (λ (cell : Option (ServiceState PlaceState T)). IfWithin limit cell) (sym leaves.2) tt
 
-module _ {T : Type 0} (group : ℕ → GroupId) (counts : T → Counts) (given accepted : T → Option (List ℕ)) where
+module _ {T : Type 0} (group : ℕ → GroupId) (seen : Sights) (counts : T → Counts) (given accepted : T → Option (List ℕ)) where
   within_all : (limit : ℕ) (acts : List Act) (old new : ServiceState PlaceState T) (supply supply' : Worker) → Within limit old.client.conn.standing
-      → DoesAll (Calls group) Begins Leaves is_visiting (λ (p : PlaceState). p.group) counts given accepted acts old supply new supply' → Within limit new.client.conn.standing
+      → DoesAll (Calls group seen) Begins Leaves is_visiting (λ (p : PlaceState). p.group) counts given accepted acts old supply new supply' → Within limit new.client.conn.standing
   within_all limit [] old new supply supply' within does = subst (λ (s : ServiceState PlaceState T). Within limit s.client.conn.standing) (sym does.0) within
   within_all limit (act ∷ acts) old new supply supply' within does =
       within_all limit acts does.0 new does.1 supply'
-      (kept_on (Calls group) Begins Leaves is_visiting (λ (p : PlaceState). p.group) counts given accepted (Within limit) (tt, tt)
+      (kept_on (Calls group seen) Begins Leaves is_visiting (λ (p : PlaceState). p.group) counts given accepted (Within limit) (tt, tt)
       (λ number now standing standing' input sent next from to stepped kept. (
-        quotas.within (Calls group) (λ (p : PlaceState). p.group) number now standing standing' input sent next from to stepped kept.0,
-        limits.within (Calls group) (λ (p : PlaceState). p.group) limit number now standing standing' input sent next from to stepped kept.1,
+        quotas.within (Calls group seen) (λ (p : PlaceState). p.group) number now standing standing' input sent next from to stepped kept.0,
+        limits.within (Calls group seen) (λ (p : PlaceState). p.group) limit number now standing standing' input sent next from to stepped kept.1,
       ))
       act old does.0 supply does.1 within does.2) does.3
 
-  keeps : (limit : ℕ) (deed : Deed T) (old new : RunState T) → AllByRecursion (IsLimited limit) (came_in deed) → Makes group counts given accepted deed old new
+  keeps : (limit : ℕ) (deed : Deed T) (old new : RunState T) → AllByRecursion (IsLimited limit) (came_in deed) → Makes group seen counts given accepted deed old new
       → All (IfWithin limit) old.cells → All (IfWithin limit) new.cells
   keeps limit (Opened arrived cell now) old new few does all =
       let made = does.2 in
@@ -84,7 +85,7 @@ module _ {T : Type 0} (group : ℕ → GroupId) (counts : T → Counts) (given a
   keeps limit (Told most others) old new few does all = subst (λ (s : RunState T). All (IfWithin limit) s.cells) (sym does.1) all
   keeps limit ToldAll old new few does all = subst (λ (s : RunState T). All (IfWithin limit) s.cells) (sym does) all
 
-  keeps_all : (limit : ℕ) (deeds : List (Deed T)) (old new : RunState T) → AllByRecursion (IsLimited limit) (came_by deeds) → MakesAll group counts given accepted deeds old new
+  keeps_all : (limit : ℕ) (deeds : List (Deed T)) (old new : RunState T) → AllByRecursion (IsLimited limit) (came_by deeds) → MakesAll group seen counts given accepted deeds old new
       → All (IfWithin limit) old.cells → All (IfWithin limit) new.cells
   keeps_all limit [] old new few does all = subst (λ (s : RunState T). All (IfWithin limit) s.cells) (sym does) all
   keeps_all limit (deed ∷ deeds) old new few does all =
@@ -96,11 +97,11 @@ module _ {T : Type 0} (group : ℕ → GroupId) (counts : T → Counts) (given a
   came_both (deed ∷ these) those = ap (λ (l : List (ArrivedState T)). came_in deed ++ l) (came_both these those) ∙ sym (append_assoc (came_in deed) (came_by these) (came_by those))
 
   -- where those that came may have no more than so many unacknowledged
-  pub within_quota : (limit : ℕ) (run : Run T) → IsRun group counts given accepted run → AllByRecursion (λ (arrived : ArrivedState T). arrived.max_inflight ≤ limit) run.last.received
-      → KeepsReceiveMaximum group counts given accepted limit run
+  pub within_quota : (limit : ℕ) (run : Run T) → IsRun group seen counts given accepted run → AllByRecursion (λ (arrived : ArrivedState T). arrived.max_inflight ≤ limit) run.last.received
+      → KeepsReceiveMaximum group seen counts given accepted limit run
   within_quota limit run is few = record {
     kept = (λ these those mid split made cell service here acts later supply supply' does.
-        let came = came_all group counts given accepted run.deeds run.first run.last is.made ∙ ap (λ (l : List (ArrivedState T)). l ++ came_by run.deeds) is.begun.none_came in
+        let came = came_all group seen counts given accepted run.deeds run.first run.last is.made ∙ ap (λ (l : List (ArrivedState T)). l ++ came_by run.deeds) is.begun.none_came in
         let all = subst (λ (deeds : List (Deed T)). AllByRecursion (IsLimited limit) (came_by deeds)) split (subst (AllByRecursion (IsLimited limit)) came few) in
         let first = (both_parts (IsLimited limit) (came_by these) (came_by those) (subst (AllByRecursion (IsLimited limit)) (came_both these those) all)).0 in
         let none = subst (λ (cells : List (Option (ServiceState PlaceState T))). All (IfWithin limit) cells) (sym is.begun.free) (All-replicate (IfWithin limit) is.begun.count None tt) in

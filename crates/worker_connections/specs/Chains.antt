@@ -3,6 +3,7 @@ use Rattle.std.specs.Prelude.{◌≡◌, ℕ, List, [], ◌∷◌, ◌++◌, Opt
 use Rattle.std.specs.List.{flat_map}
 use Rattle.transport.specs.declared.counts.Counts.{Counts}
 use Rattle.group_queue.specs.Ports.{GroupId}
+use Rattle.broker_groups.specs.Answers.{Sights}
 use Rattle.broker_groups.specs.Naming.{AreUnsent}
 use Rattle.group_queue.specs.Places.{PlaceState}
 use Rattle.conn_laws.specs.Quotas.{IsWithinLimit, IsWithinQuota}
@@ -70,11 +71,11 @@ abbrev pub LeavesCell : {T : Type 0} → Option Served → ServiceState PlaceSta
 LeavesCell None behind after = after ≡ Some behind
 LeavesCell (Some how) behind after = (behind.ending ≡ Some how) × (behind.client.conn.standing ≡ Ended) × (after ≡ None)
 
-module _ {T : Type 0} (group : ℕ → GroupId) (counts : T → Counts) (given accepted : T → Option (List ℕ)) where
+module _ {T : Type 0} (group : ℕ → GroupId) (seen : Sights) (counts : T → Counts) (given accepted : T → Option (List ℕ)) where
   -- a round of a connection of a broker with these groups, in which nobody else uses its worker's supply
   abbrev pub RoundsOf : ℕ → ServiceState PlaceState T → Worker → ServiceState PlaceState T → Worker → Type 0
   RoundsOf now service supply behind supply' =
-      Rounds (Calls group) Begins Leaves is_visiting (λ (p : PlaceState). p.group) counts given accepted now service supply behind supply'
+      Rounds (Calls group seen) Begins Leaves is_visiting (λ (p : PlaceState). p.group) counts given accepted now service supply behind supply'
 
   -- the connection in a cell goes on by a round of these acts; where that ends it, its transport is closed as the round left it
   pub record GoesOn (now : ℕ) (acts : List Act) (how : Option Served) (before : Option (ServiceState PlaceState T)) (supply : Worker) (closed : Option (List T))
@@ -133,7 +134,7 @@ module _ {T : Type 0} (group : ℕ → GroupId) (counts : T → Counts) (given a
     pub kept : (these those : List (Deed T)) (mid : RunState T) → run.deeds ≡ these ++ those → MakesAll these run.first mid
         → (cell : ℕ) (service : ServiceState PlaceState T) → slice_get mid.cells cell ≡ Some (Some service)
         → (acts : List Act) (later : ServiceState PlaceState T) (supply supply' : Worker)
-        → DoesAll (Calls group) Begins Leaves is_visiting (λ (p : PlaceState). p.group) counts given accepted acts service supply later supply'
+        → DoesAll (Calls group seen) Begins Leaves is_visiting (λ (p : PlaceState). p.group) counts given accepted acts service supply later supply'
         → IsWithinQuota later.client.conn.standing × IsWithinLimit limit later.client.conn.standing
 
 -- the connections that came by a deed, and by these

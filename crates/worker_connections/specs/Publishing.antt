@@ -7,6 +7,7 @@ use Rattle.mqtt_packet.specs.declared.packet.Publish.{Publish}
 use Rattle.group_jobs.specs.declared.message.Message.{Message}
 use Rattle.group_jobs.specs.declared.stamp.Stamp.{Stamp}
 use Rattle.group_queue.specs.Ports.{GroupId, PortState}
+use Rattle.broker_groups.specs.Answers.{Sights}
 use Rattle.broker_groups.specs.Offering.{OffersTo}
 use Rattle.conn_rules.specs.declared.publishing.PublishAnswer.TheVariants.{Offer}
 use Rattle.conn_rules.specs.Packets.{puback}
@@ -27,19 +28,19 @@ abbrev pub acts_in : {T : Type 0} → Deed T → List Act
 acts_in (Went cell now acts how) = acts
 acts_in _ = []
 
-module _ (group : ℕ → GroupId) where
+module _ (group : ℕ → GroupId) (seen : Sights) where
   -- a message is offered through the ports of these slots, in their order, and so many of their groups take it
   abbrev pub PutsInto : List PortState → Message → List ℕ → ℕ → List PortState → Type 0
   PutsInto ports message [] taken ports' = (taken ≡ 0) × (ports' ≡ ports)
   PutsInto ports message (slot ∷ slots) taken ports' =
       (answer : Result Stamp OfferRefusal) × (mid : List PortState) × (first rest : ℕ)
-      × OffersTo group ports slot message answer mid × Took answer first × PutsInto mid message slots rest ports' × (taken ≡ first + rest)
+      × OffersTo group seen.saw_main ports slot message answer mid × Took answer first × PutsInto mid message slots rest ports' × (taken ≡ first + rest)
 
   -- the same, whatever is answered
   abbrev pub PutsSome : List PortState → Message → List ℕ → List PortState → Type 0
   PutsSome ports message [] ports' = ports' ≡ ports
   PutsSome ports message (slot ∷ slots) ports' =
-      (answer : Result Stamp OfferRefusal) × (mid : List PortState) × OffersTo group ports slot message answer mid × PutsSome mid message slots ports'
+      (answer : Result Stamp OfferRefusal) × (mid : List PortState) × OffersTo group seen.saw_main ports slot message answer mid × PutsSome mid message slots ports'
 
   -- a PUBLISH whose message was offered to each group that matches, and how many of them took it: its PUBACK, in front of all that the step sent, says that, and nothing
   -- else came into the ports

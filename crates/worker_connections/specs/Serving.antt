@@ -2,6 +2,7 @@
 use Rattle.std.specs.Prelude.{◌≡◌, ◌⊎◌, ℕ, ◌+◌, List, length, Option, Some, None}
 use Rattle.transport.specs.declared.counts.Counts.{Counts}
 use Rattle.group_queue.specs.Ports.{GroupId, PortState}
+use Rattle.broker_groups.specs.Answers.{Sights}
 use Rattle.group_queue.specs.Places.{PlaceState}
 use Rattle.conn_channel.specs.Ends.{ReceiverState}
 use Rattle.conn_service.specs.declared.served.Served.{Served}
@@ -126,10 +127,10 @@ pub record AreCounted (received : ℕ) (served : ServedCounts) : Type 0 where
   pub counted : served ≡ counts_of endings
   pub all : received ≡ length endings
 
-module _ {T : Type 0} (group : ℕ → GroupId) (counts : T → Counts) (given accepted : T → Option (List ℕ)) where
+module _ {T : Type 0} (group : ℕ → GroupId) (seen : Sights) (counts : T → Counts) (given accepted : T → Option (List ℕ)) where
   -- the connection in a cell, where there is one, went by a round this way at the worker's moment, and so many messages at most were handed to its client
   pub record GoesBy (cell : ℕ) (direction : Direction) (most : ℕ) (turned : Turned T) (old new : ConnectionsState T) : Type 0 where
     pub turns : InCell old.cells cell
-        (λ one other. TurnsIn (Calls group) Begins Leaves is_visiting (λ (p : PlaceState). p.group) counts given accepted old.sweeps.latest one
+        (λ one other. TurnsIn (Calls group seen) Begins Leaves is_visiting (λ (p : PlaceState). p.group) counts given accepted old.sweeps.latest one
         (record old.supply { allowance = most }) turned other new.supply) new.cells
     pub way : InCell old.cells cell (λ one other. FollowsIn given accepted direction old.sweeps.latest one turned other) new.cells

@@ -70,7 +70,7 @@ impl<'a, 'g, B: Broker, N: HistoryName, T: Transport + Drop, Q: Poller<T>, R: Wa
 
     ghost invariant = { λ c. IsAccounted (length c.receiver.received) c.table c.served × AreSwept c.sweeps c.table
         × (length c.members ≡ length c.table) × AreWished c.table c.members
-        × HasRunTo B.group T.counts T.given T.accepted (record { supply = c.supply; cells = c.table; received = c.receiver.received; served = c.served; closed = Q.closed c.poller }) };
+        × HasRunTo B.group B.Seen.Witness T.counts T.given T.accepted (record { supply = c.supply; cells = c.table; received = c.receiver.received; served = c.served; closed = Q.closed c.poller }) };
 }
 
 /// What the connections of a worker give back.
@@ -325,7 +325,7 @@ impl<'a, 'g, B: Broker, N: HistoryName, T: Transport + Drop, Q: Poller<T>, R: Wa
         requires room { 0 < length buffer.old }
         ensures goes { Rounds self.old self.new }
         ensures notes { cell < length self.old.cells → Notes cell (length self.old.cells) self.old.sweeps self.new.sweeps }
-        ensures made { cell < length self.old.cells → (turned : AnyTurned T) × Tells turned result × GoesBy B.group T.counts T.given T.accepted cell direction most turned self.old self.new }
+        ensures made { cell < length self.old.cells → (turned : AnyTurned T) × Tells turned result × GoesBy B.group B.Seen.Witness T.counts T.given T.accepted cell direction most turned self.old self.new }
     {
         if cell >= self.table.len() {
             return Went::Nowhere;
@@ -347,7 +347,7 @@ impl<'a, 'g, B: Broker, N: HistoryName, T: Transport + Drop, Q: Poller<T>, R: Wa
         requires room { 0 < length buffer.old }
         ensures goes { Rounds self.old self.new }
         ensures notes { Notes cell (length self.old.cells) self.old.sweeps self.new.sweeps }
-        ensures made { (turned : AnyTurned T) × Tells turned result × GoesBy B.group T.counts T.given T.accepted cell direction most turned self.old self.new }
+        ensures made { (turned : AnyTurned T) × Tells turned result × GoesBy B.group B.Seen.Witness T.counts T.given T.accepted cell direction most turned self.old self.new }
     {
         let now = self.sweeps.latest;
         self.supply.allow(most);
@@ -375,7 +375,7 @@ impl<'a, 'g, B: Broker, N: HistoryName, T: Transport + Drop, Q: Poller<T>, R: Wa
         ensures served { result.served ≡ self.entry.served }
         ensures counted { live self.entry ≡ 0 → AreCounted (length self.entry.receiver.received) result.served }
         ensures closed { Q.closed result.poller ≡ self.entry.closed }
-        ensures ran { HasRunTo B.group T.counts T.given T.accepted (run_of self.entry) }
+        ensures ran { HasRunTo B.group B.Seen.Witness T.counts T.given T.accepted (run_of self.entry) }
         ensures ports { live self.entry ≡ 0 → result.hand.ports ≡ self.entry.supply.ports }
         ensures desk { live self.entry ≡ 0 → result.pass ≡ self.entry.supply.desk }
     {
@@ -414,7 +414,7 @@ fn turn<'a, 'g, B: Broker, N: HistoryName, T: Transport, R: Wait, X: Crossing>(
 ) -> Turned<T>
     requires cell { cell < length table.old }
     requires room { 0 < length buffer.old }
-    ensures turns { InCell table.old cell (λ before after. Turns (Calls B.group) BeginsVisit LeavesVisit is_visiting (λ (p : PlaceState). p.group) T.counts T.given T.accepted now before supply.old result after supply.new) table.new }
+    ensures turns { InCell table.old cell (λ before after. Turns (Calls B.group B.Seen.Witness) BeginsVisit LeavesVisit is_visiting (λ (p : PlaceState). p.group) T.counts T.given T.accepted now before supply.old result after supply.new) table.new }
     ensures way { InCell table.old cell (λ before after. FollowsIn T.given T.accepted direction now before result after) table.new }
     ensures len { length table.new ≡ length table.old }
     ensures count { occupied table.old ≡ occupied table.new + ended_by result }

@@ -7,6 +7,7 @@ use Rattle.transport.specs.declared.counts.Counts.{Counts}
 use Rattle.group_jobs.specs.Stamps.{Held}
 use Rattle.session_desk.specs.Calls.{Call}
 use Rattle.group_queue.specs.Ports.{GroupId, PortState}
+use Rattle.broker_groups.specs.Answers.{Sights}
 use Rattle.group_queue.specs.Places.{PlaceState}
 use Rattle.conn_channel.specs.Ends.{IsSettled, ReceiverState, SenderState, end_marks_received_by, lists_of, received_by}
 use Rattle.conn_channel.specs.Interleavings.{IsInterleaving}
@@ -73,26 +74,26 @@ module _ {T : Type 0} where
 pub counts_all : (came : ℕ) (served : List ServedCounts) → CountsAll came served → came < 18446744073709551616 → came ≡ total_in served
 counts_all came served counts few = counts.all ∙ (sym (of_all counts.endings (omega (arith, few, counts.all))) ∙ sym (ap total_in counts.counted))
 
-module _ {T : Type 0} (group : ℕ → GroupId) (counts : T → Counts) (given accepted : T → Option (List ℕ)) where
+module _ {T : Type 0} (group : ℕ → GroupId) (seen : Sights) (counts : T → Counts) (given accepted : T → Option (List ℕ)) where
   -- no worker gave anything back yet
-  pub nobody : (calls : List (Call Held PlaceState)) → HaveEnded group counts given accepted [] [] [] [] calls
+  pub nobody : (calls : List (Call Held PlaceState)) → HaveEnded group seen counts given accepted [] [] [] [] calls
   nobody calls = record { runs = []; whole = tt; ports_are = refl; received_are = refl; served_are = refl; closed_are = refl; told = tt }
 
   -- one worker more did
   pub ends : (ports ports' : List (List PortState)) (receivers receivers' : List (ReceiverState (ArrivedState T))) (served served' : List ServedCounts)
       (closed closed' : List (Option (List T))) (calls calls' known : List (Call Held PlaceState)) (its : List PortState) (receiver : ReceiverState (ArrivedState T)) (counted : ServedCounts)
       (shut : Option (List T)) (connections : ConnectionsState T)
-      → HaveEnded group counts given accepted ports receivers served closed calls → ports' ≡ ports ++ its ∷ [] → receivers' ≡ receivers ++ receiver ∷ [] → served' ≡ served ++ counted ∷ []
+      → HaveEnded group seen counts given accepted ports receivers served closed calls → ports' ≡ ports ++ its ∷ [] → receivers' ≡ receivers ++ receiver ∷ [] → served' ≡ served ++ counted ∷ []
       → closed' ≡ closed ++ shut ∷ []
-      → HasRunTo group counts given accepted (run_of connections) → live connections ≡ 0 → its ≡ connections.supply.ports → receiver ≡ connections.receiver → counted ≡ connections.served
-      → shut ≡ connections.closed → known ≡ connections.supply.desk → IsPrefix calls calls' → IsPrefix known calls' → HaveEnded group counts given accepted ports' receivers' served' closed' calls'
+      → HasRunTo group seen counts given accepted (run_of connections) → live connections ≡ 0 → its ≡ connections.supply.ports → receiver ≡ connections.receiver → counted ≡ connections.served
+      → shut ≡ connections.closed → known ≡ connections.supply.desk → IsPrefix calls calls' → IsPrefix known calls' → HaveEnded group seen counts given accepted ports' receivers' served' closed' calls'
   ends ports ports' receivers receivers' served served' closed closed' calls calls' known its receiver counted shut connections all ports_are receivers_are served_are closed_are ran none its_are
       receiver_is counted_is shut_is known_is before knows =
       let run : Run T = ran.run in
       let Begins : List (Call Held PlaceState) → Run T → Type 0 = λ those one. IsPrefix one.last.supply.desk those in
       record {
         runs = all.runs ++ run ∷ [];
-        whole = all_push (IsWholeRun group counts given accepted) all.runs run all.whole
+        whole = all_push (IsWholeRun group seen counts given accepted) all.runs run all.whole
             (record { is = ran.is; none_live = ap (λ (state : RunState T). occupied state.cells) ran.here ∙ none });
         ports_are = ports_are ∙ ap (λ (l : List (List PortState)). l ++ its ∷ []) all.ports_are
             ∙ ap (λ (p : List PortState). map (λ (one : Run T). one.last.supply.ports) all.runs ++ p ∷ []) (its_are ∙ sym (ap (λ (state : RunState T). state.supply.ports) ran.here))
@@ -115,8 +116,8 @@ module _ {T : Type 0} (group : ℕ → GroupId) (counts : T → Counts) (given a
 
   -- what was sent came to them, as nothing is left where an end mark was received
   pub serve : (sender : SenderState (ArrivedState T)) (sent : List (ArrivedState T)) (ports : List (List PortState)) (receivers : List (ReceiverState (ArrivedState T))) (served : List ServedCounts)
-      (closed : List (Option (List T))) (calls : List (Call Held PlaceState)) → sent ≡ sender.sent → HaveEnded group counts given accepted ports receivers served closed calls
-      → IsSettled sender receivers → 0 < end_marks_received_by receivers → AreServed group counts given accepted sent calls ports served closed
+      (closed : List (Option (List T))) (calls : List (Call Held PlaceState)) → sent ≡ sender.sent → HaveEnded group seen counts given accepted ports receivers served closed calls
+      → IsSettled sender receivers → 0 < end_marks_received_by receivers → AreServed group seen counts given accepted sent calls ports served closed
   serve sender sent ports receivers served closed calls same all settled some =
       let whole : sent ≡ settled.past = same ∙ settled.sent ∙ ap (λ (l : List (ArrivedState T)). settled.past ++ l) (settled.last some) ∙ append-nil settled.past in
       let Came : List (List (ArrivedState T)) → Type 0 = λ lists. IsInterleaving settled.past lists in

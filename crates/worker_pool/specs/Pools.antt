@@ -6,6 +6,7 @@ use Rattle.transport.specs.declared.counts.Counts.{Counts}
 use Rattle.group_jobs.specs.Stamps.{Held}
 use Rattle.session_desk.specs.Calls.{Call}
 use Rattle.group_queue.specs.Ports.{GroupId, PortState}
+use Rattle.broker_groups.specs.Answers.{Sights}
 use Rattle.group_queue.specs.Places.{PlaceState}
 use Rattle.conn_channel.specs.Ends.{ReceiverState, lists_of}
 use Rattle.conn_channel.specs.Interleavings.{IsInterleaving}
@@ -30,12 +31,12 @@ pub record CountsAll (came : ℕ) (served : List ServedCounts) : Type 0 where
 abbrev pub AreAllCounted : {T : Type 0} → List (ReceiverState T) → List ServedCounts → Type 0
 AreAllCounted receivers served = AllZip (λ receiver counted. AreCounted (length receiver.received) counted) receivers served
 
-module _ {T : Type 0} (group : ℕ → GroupId) (counts : T → Counts) (given accepted : T → Option (List ℕ)) where
+module _ {T : Type 0} (group : ℕ → GroupId) (seen : Sights) (counts : T → Counts) (given accepted : T → Option (List ℕ)) where
   -- workers ran to their ends, and gave this back, all in one order; and what each knew of the desk is a beginning of these calls
   pub record HaveEnded (ports : List (List PortState)) (receivers : List (ReceiverState (ArrivedState T))) (served : List ServedCounts) (closed : List (Option (List T)))
       (calls : List (Call Held PlaceState)) : Type 0 where
     pub runs : List (Run T)
-    pub whole : AllByRecursion (IsWholeRun group counts given accepted) runs
+    pub whole : AllByRecursion (IsWholeRun group seen counts given accepted) runs
     pub ports_are : ports ≡ map (λ run. run.last.supply.ports) runs
     pub received_are : lists_of receivers ≡ map (λ run. run.last.received) runs
     pub served_are : served ≡ map (λ run. run.last.served) runs
@@ -47,7 +48,7 @@ module _ {T : Type 0} (group : ℕ → GroupId) (counts : T → Counts) (given a
   -- one order; and what each worker knew of the desk is a beginning of these calls
   pub record AreServed (came : List (ArrivedState T)) (calls : List (Call Held PlaceState)) (ports : List (List PortState)) (served : List ServedCounts) (closed : List (Option (List T))) : Type 0 where
     pub runs : List (Run T)
-    pub whole : AllByRecursion (IsWholeRun group counts given accepted) runs
+    pub whole : AllByRecursion (IsWholeRun group seen counts given accepted) runs
     pub came_to : IsInterleaving came (map (λ run. run.last.received) runs)
     pub ports_are : ports ≡ map (λ run. run.last.supply.ports) runs
     pub served_are : served ≡ map (λ run. run.last.served) runs

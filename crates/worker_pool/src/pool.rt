@@ -83,13 +83,15 @@ pub fn run<
     input: &mut I,
     me: &mut DeskPass<BrokerPlace<B>, N>,
 ) -> Result<Pooled<B, S, Q>, Unbegun<B, S>>
+where
+    B::Seen: Send + Sync,
     requires workers { (1 ≤ length hands.items) × (length hands.items ≤ 64) }
     requires gear { length gear.items ≡ length hands.items }
     requires unsent { All (λ hand. AreUnsent hand.ports) hands.items }
     ensures hands { MatchResult result (λ pooled. length pooled.hands.items ≡ length hands.items) (λ unbegun. length unbegun.hands.items ≡ length hands.items) }
     ensures taken { IfOk result (λ pooled. (S.tally pooled.taken.source).arrivals ≡ (S.tally source).arrivals + pooled.taken.came) }
     ensures served { IfOk result (λ pooled. (came : List T) × Gave S.arrived source came pooled.taken.source × (pooled.taken.came ≡ length came)
-        × AreServed B.group T.counts T.given T.accepted (arrivals max_inflight came) me.new (map (λ hand. hand.ports) pooled.hands.items) pooled.served.items (map Q.closed pooled.pollers.items)) }
+        × AreServed B.group B.Seen.Witness T.counts T.given T.accepted (arrivals max_inflight came) me.new (map (λ hand. hand.ports) pooled.hands.items) pooled.served.items (map Q.closed pooled.pollers.items)) }
     ensures counted { IfOk result (λ pooled. pooled.taken.came < 2 ^ 64 → pooled.taken.came ≡ total_in pooled.served.items) }
     ensures watched { IfOk result (λ _. D.has_watched watch.old watch.new input.old input.new) }
     ensures untouched { IfErr result (λ unbegun. unbegun.source ≡ source) }
@@ -234,7 +236,7 @@ fn retire<
     ensures hands { length result.hands.items ≡ length workers.entry.items }
     ensures source { result.taken.source ≡ acceptor.entry.source }
     ensures came { result.taken.came ≡ length acceptor.entry.sender.sent }
-    ensures served { AreServed B.group T.counts T.given T.accepted acceptor.entry.sender.sent me.new (map (λ hand. hand.ports) result.hands.items) result.served.items (map Q.closed result.pollers.items) }
+    ensures served { AreServed B.group B.Seen.Witness T.counts T.given T.accepted acceptor.entry.sender.sent me.new (map (λ hand. hand.ports) result.hands.items) result.served.items (map Q.closed result.pollers.items) }
     ensures counted { CountsAll result.taken.came result.served.items }
     ensures told { IsPrefix me.old me.new }
 {
@@ -291,13 +293,13 @@ fn gather<
     requires pollers { length pollers.old.items + length workers.items ≤ vec_capacity pollers.old }
     requires of { AreOf sender.now.channel receivers.old.items }
     requires all { AreAllCounted receivers.old.items served.old.items }
-    requires ended { HaveEnded B.group T.counts T.given T.accepted (map (λ hand. hand.ports) hands.old.items) receivers.old.items served.old.items (map Q.closed pollers.old.items) me.old }
+    requires ended { HaveEnded B.group B.Seen.Witness T.counts T.given T.accepted (map (λ hand. hand.ports) hands.old.items) receivers.old.items served.old.items (map Q.closed pollers.old.items) me.old }
     ensures hands { length hands.new.items ≡ length hands.old.items + length workers.entry.items }
     ensures receivers { length receivers.new.items ≡ length receivers.old.items + length workers.entry.items }
     ensures of { AreOf sender.now.channel receivers.new.items }
     ensures marks { end_marks_received_by receivers.new.items ≡ end_marks_received_by receivers.old.items + length workers.entry.items }
     ensures all { AreAllCounted receivers.new.items served.new.items }
-    ensures ended { HaveEnded B.group T.counts T.given T.accepted (map (λ hand. hand.ports) hands.new.items) receivers.new.items served.new.items (map Q.closed pollers.new.items) me.new }
+    ensures ended { HaveEnded B.group B.Seen.Witness T.counts T.given T.accepted (map (λ hand. hand.ports) hands.new.items) receivers.new.items served.new.items (map Q.closed pollers.new.items) me.new }
     ensures told { IsPrefix me.old me.new }
 {
     let mut workers = workers;

@@ -84,6 +84,8 @@ pub(crate) fn run_all<
     input: &mut I,
     workers: &mut Vec<Worker<'a, 'g, B, N, T, Q, W, X, C, R>>,
 )
+where
+    B::Seen: Send + Sync,
     ensures accepted { HasAccepted S.tally S.arrived acceptor.old acceptor.new }
     ensures watched { D.has_watched watch.old watch.new input.old input.new }
     ensures run { HaveRun workers.old.items workers.new.items }

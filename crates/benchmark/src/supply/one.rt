@@ -6,6 +6,7 @@ use broker_groups::{Broker, BrokerPlace, Key};
 use call_history::HistoryName;
 use conn_supply::Supply;
 use gate_word::Gate;
+use group_queue::Nobody;
 use std::alloc::Global;
 use std::sync::Wait;
 use test_broker::broker::{self, Built, Day, shut};
@@ -42,7 +43,7 @@ impl Shift for Jobs {
 impl Day for Jobs {
     type Told = Vec<Counts>;
 
-    fn pass<B: Broker, N: HistoryName, R: Wait>(
+    fn pass<B: Broker<Seen = Nobody>, N: HistoryName, R: Wait>(
         &mut self,
         rt: &R,
         alloc: Global,

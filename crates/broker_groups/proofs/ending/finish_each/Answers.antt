@@ -5,7 +5,6 @@ use Rattle.std.specs.Vec.Iter.{into_iter_items}
 use Rattle.group_jobs.specs.Stamps.{Held}
 use Rattle.group_jobs.specs.declared.report.Report.{Report}
 use Rattle.group_queue.specs.declared.finish.Unfinished.{Unfinished}
-use Rattle.group_queue.specs.declared.witness.Nobody.{Nobody}
 use Rattle.group_queue.specs.Ports.{GroupId, PortState, IsPortOf}
 use Rattle.group_queue.specs.Places.{PlaceState, IsPlaceOf}
 use Rattle.group_queue.specs.Finishing.{Finishes}
@@ -42,7 +41,7 @@ slots-preserved g c =
     let at_ports = next_is c.args.ports.items (into_iter_items c.slots.next_ports) n c.in-Some-next.its_ports (into_iter_items c.next-in-Some.new.self) before.ports c.in-Some-next.ensures.items in
     let at_places = next_is c.args.places.items (into_iter_items c.slots.next_places) n c.in-Some-next-2.its_places (into_iter_items c.next-in-Some-2.new.self) before.places c.in-Some-next-2.ensures.items in
     let at_held = next_is c.args.held.items (into_iter_items c.slots.next_held) n c.in-Some-next-3.its_held (into_iter_items c.next-in-Some-3.new.self) before.held c.in-Some-next-3.ensures.items in
-    let P : ℕ → Result Report (Unfinished Nobody) → Type 0 = λ slot answer. (its_ports : Vec PortState) (its_places : Vec PlaceState) (its_held : Vec Held)
+    let P : ℕ → Result Report (Unfinished _) → Type 0 = λ slot answer. (its_ports : Vec PortState) (its_places : Vec PlaceState) (its_held : Vec Held)
     → slice_get c.args.ports.items slot ≡ Some its_ports → slice_get c.args.places.items slot ≡ Some its_places → slice_get c.args.held.items slot ≡ Some its_held
     → Finishes (g.B.Broker.group slot) its_ports.items its_places.items its_held.items answer in
     let here : P n c.finish.result = λ its_ports its_places its_held is_ports is_places is_held.
@@ -56,5 +55,5 @@ slots-preserved g c =
       places = others_are c.args.places.items (into_iter_items c.slots.next_places) n m c.in-Some-next-2.its_places (into_iter_items c.next-in-Some-2.new.self) one before.places c.in-Some-next-2.ensures.items;
       held = others_are c.args.held.items (into_iter_items c.slots.next_held) n m c.in-Some-next-3.its_held (into_iter_items c.next-in-Some-3.new.self) one before.held c.in-Some-next-3.ensures.items;
       room = omega (arith, before.room, c.push_reserved.ensures.capacity);
-      each = λ slot answer there. each_more P c.slots.answers.items c.finish.result n refl here before.each slot answer (ap (λ l. slice_get l slot) (sym {A = List (Result Report (Unfinished Nobody))} c.push_reserved.ensures.items) ∙ there);
+      each = λ slot answer there. each_more P c.slots.answers.items c.finish.result n refl here before.each slot answer (ap (λ l. slice_get l slot) (sym {A = List (Result Report (Unfinished _))} c.push_reserved.ensures.items) ∙ there);
     }

@@ -3,4 +3,4 @@ use Rattle.std.proofs.Common.{◌≡◌, ◌+◌, vec_len}
 use Rattle.broker_groups.proofs.opening.abandon_all.Given as goal
 
 abbrev pub invariant-loop : goal.invariant-loop
-invariant-loop l = vec_len l.groups + l.counter ≡ l.end
+invariant-loop g l = vec_len l.groups + l.counter ≡ l.end

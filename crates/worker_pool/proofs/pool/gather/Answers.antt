@@ -46,7 +46,7 @@ workers-preserved g c =
           c.workers.invariant.all c.push_reserved-in-Some.ensures.items c.push_reserved-in-Some-2.ensures.items
           (subst (λ (r : ReceiverState (ArrivedState g.row.T.Denot)). AreCounted (length r.received) returned.served) (sym is) (c.into_parts-hand.ensures.counted none));
       ended =
-          ends g.B.Broker.group g.T.Transport.counts g.T.Transport.given g.T.Transport.accepted _ _ c.workers.receivers.items c.push_reserved-in-Some.new.self.items
+          ends g.B.Broker.group (record { saw_ledger = g.B.Seen.LedgerWitness.saw_ledger; saw_main = g.B.Seen.Witness.saw_main; saw_returns = g.B.Seen.Witness.saw_returns }) g.T.Transport.counts g.T.Transport.given g.T.Transport.accepted _ _ c.workers.receivers.items c.push_reserved-in-Some.new.self.items
           c.workers.served.items c.push_reserved-in-Some-2.new.self.items _ _ c.workers.me c.meet.new.me returned.pass returned.hand.ports receiver returned.served
           (g.Q.Poller.closed returned.poller) c.in-Some.worker.connections
           c.workers.invariant.ended ports c.push_reserved-in-Some.ensures.items c.push_reserved-in-Some-2.ensures.items shut

@@ -19,12 +19,12 @@ gather-requires-clause-workers g c =
 pub gather-requires-clause-ended : goal.gather-requires-clause-ended
 gather-requires-clause-ended g c =
     let Ended : List (List PortState) → List (ReceiverState (ArrivedState g.row.T.Denot)) → List ServedCounts → List g.row.Q.Denot → Type 0 = λ ports receivers served pollers.
-    HaveEnded g.B.Broker.group g.T.Transport.counts g.T.Transport.given g.T.Transport.accepted ports receivers served (map g.Q.Poller.closed pollers) c.args.me.now in
+    HaveEnded g.B.Broker.group (record { saw_ledger = g.B.Seen.LedgerWitness.saw_ledger; saw_main = g.B.Seen.Witness.saw_main; saw_returns = g.B.Seen.Witness.saw_returns }) g.T.Transport.counts g.T.Transport.given g.T.Transport.accepted ports receivers served (map g.Q.Poller.closed pollers) c.args.me.now in
     subst (λ hands. Ended (map (λ (hand : Hand g.row.B.Denot). hand.ports) hands) c.args.receivers.items c.args.served.items c.args.pollers.items) (sym c.requires.hands.0)
     (subst (λ receivers. Ended [] receivers c.args.served.items c.args.pollers.items) (sym c.requires.receivers.0)
     (subst (λ served. Ended [] [] served c.args.pollers.items) (sym c.requires.served.0)
     (subst (λ pollers. Ended [] [] [] pollers) (sym c.requires.pollers.0)
-    (nobody g.B.Broker.group g.T.Transport.counts g.T.Transport.given g.T.Transport.accepted c.args.me.now))))
+    (nobody g.B.Broker.group (record { saw_ledger = g.B.Seen.LedgerWitness.saw_ledger; saw_main = g.B.Seen.Witness.saw_main; saw_returns = g.B.Seen.Witness.saw_returns }) g.T.Transport.counts g.T.Transport.given g.T.Transport.accepted c.args.me.now))))
 
 pub settle-requires-clause-of : goal.settle-requires-clause-of
 settle-requires-clause-of g c =
@@ -35,7 +35,7 @@ settle-requires-clause-of g c =
 pub returns-clause-served : goal.returns-clause-served
 returns-clause-served g c =
     let some : 0 < end_marks_received_by c.gather.new.receivers.items = omega (arith, c.gather.ensures.marks, c.requires.count.0) in
-    serve g.B.Broker.group g.T.Transport.counts g.T.Transport.given g.T.Transport.accepted c.into_parts-sender.result.0 _ _ c.gather.new.receivers.items c.gather.new.served.items
+    serve g.B.Broker.group (record { saw_ledger = g.B.Seen.LedgerWitness.saw_ledger; saw_main = g.B.Seen.Witness.saw_main; saw_returns = g.B.Seen.Witness.saw_returns }) g.T.Transport.counts g.T.Transport.given g.T.Transport.accepted c.into_parts-sender.result.0 _ _ c.gather.new.receivers.items c.gather.new.served.items
     (map g.Q.Poller.closed c.gather.new.pollers.items) c.gather.new.me
     (sym (ap (λ s. s.sent) c.into_parts-sender.ensures.sender)) c.gather.ensures.ended c.settle.ensures.settled some
 

@@ -6,7 +6,7 @@ use Rattle.broker_groups.proofs.Unsent.{opened_unsent}
 use Rattle.broker_groups.proofs.opening.Opened.open.Goals as goal
 
 pub slots-preserved : goal.slots-preserved
-slots-preserved c =
+slots-preserved g c =
     let before = c.slots.invariant in
     let made = c.in-Ok.ensures in
     record {
@@ -21,7 +21,7 @@ slots-preserved c =
     }
 
 pub returns-clause-named : goal.returns-clause-named
-returns-clause-named c =
+returns-clause-named g c =
     let end = c.slots.auto.slot-end in
     let test = c.slots-test.false in
     let gate = c.args.gate.now in

@@ -4,7 +4,7 @@ use Rattle.broker_groups.specs.Openings.{AreOpened}
 use Rattle.broker_groups.proofs.opening.Opened.open.Given as goal
 
 abbrev pub invariant-slots : goal.invariant-slots
-invariant-slots l = record {
+invariant-slots g l = record {
   opened : AreOpened l.gate l.capacity l.workers l.slot l.groups.items l.ports.items l.places.items;
   groups : 8 ≤ vec_capacity l.groups;
   ports : 8 ≤ vec_capacity l.ports;

@@ -9,4 +9,4 @@ use Rattle.broker_groups.proofs.place.BrokerPlace.gather.Goals as goal
 pub returns-clause-out : goal.returns-clause-out
 returns-clause-out g c =
     subst (λ (p : PlaceState). KeepsOut HasOut p c.gather.new.place) c.self.view_is
-    (gathered c.self.inside.place c.gather.new.place c.gather.result c.gather.ensures.answer)
+    (gathered g.B.Seen.LedgerWitness.saw_ledger c.self.inside.place c.gather.new.place c.gather.result c.gather.ensures.answer)

@@ -5,10 +5,19 @@ use Rattle.std.proofs.lemmas.List.{length-set}
 use Rattle.std.proofs.lemmas.Option.{slice_get_read}
 use Rattle.group_queue.specs.Ports.{GroupId, IsPortOf}
 use Rattle.group_queue.specs.Offers.{OfferAnswers}
-use Rattle.broker_groups.specs.Answers.{seen_main}
 use Rattle.broker_groups.specs.Brokers.{IsBrokerPort}
 use Rattle.broker_groups.proofs.Rows.{each_set}
 use Rattle.broker_groups.proofs.ports.Ports.offer_through.Goals as goal
+
+pub offer-requires-clause-port : goal.offer-requires-clause-port
+offer-requires-clause-port g c =
+    let ports = c.self.inside.ports.items in
+    let port = c.index_mut.result.now in
+    let at = c.from.ensures in
+    let all = c.self.invariant.all in
+    let less = c.requires.slot in
+    let there = slice_get_read ports _ c.from.result port refl (omega (arith, at, all, less)) c.index_mut.ensures.value in
+    subst (λ (it : GroupId). IsPortOf it port) (ap g.B.Broker.group at ∙ sym c.group-group.ensures.group) (c.self.invariant.each c.from.result port there).1
 
 pub invariant_of-self : goal.invariant_of-self
 invariant_of-self g c =
@@ -36,6 +45,6 @@ returns g c =
       before = before;
       there = ap (λ l. slice_get l c.args.slot) (sym c.self.view_is) ∙ ap (slice_get ports) (sym at) ∙ slice_get_read ports _ c.from.result before refl (omega (arith, at, all, less)) c.index_mut.ensures.value;
       after = c.offer.new.port;
-      answers = subst (λ (it : GroupId). OfferAnswers seen_main it before c.args.message c.offer.result c.offer.new.port) c.group-group.ensures.group c.offer.ensures.answer;
+      answers = subst (λ (it : GroupId). OfferAnswers g.B.Seen.Witness.saw_main it before c.args.message c.offer.result c.offer.new.port) c.group-group.ensures.group c.offer.ensures.answer;
       becomes = ap (λ n. slice_set ports n c.offer.new.port) at ∙ ap (λ l. slice_set l c.args.slot c.offer.new.port) c.self.view_is;
     }

@@ -14,7 +14,7 @@ returns-clause-counted g c =
 pub returns-clause-ran : goal.returns-clause-ran
 returns-clause-ran g c =
     let Ran : WorkerState g.row.T.Denot → Type 0 = λ state.
-    HasRunTo g.B.Broker.group g.T.Transport.counts g.T.Transport.given g.T.Transport.accepted (run_of state.connections) in
+    HasRunTo g.B.Broker.group (record { saw_ledger = g.B.Seen.LedgerWitness.saw_ledger; saw_main = g.B.Seen.Witness.saw_main; saw_returns = g.B.Seen.Witness.saw_returns }) g.T.Transport.counts g.T.Transport.given g.T.Transport.accepted (run_of state.connections) in
     subst Ran c.self.view_is c.into_parts.ensures.ran
 
 pub returns-clause-ports : goal.returns-clause-ports

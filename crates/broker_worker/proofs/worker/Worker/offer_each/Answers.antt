@@ -15,6 +15,6 @@ slots-preserved g c =
       goes = more _ _ _ was.goes goes;
       offered =
           below_more _ _
-          (λ slot below. wider (Offers g.B.Broker.group g.T.Transport.counts g.T.Transport.given g.T.Transport.accepted slot) _ _ _ _ (still _) (was.offered slot below) goes)
-          (here (Offers g.B.Broker.group g.T.Transport.counts g.T.Transport.given g.T.Transport.accepted c.slots.slot) _ _ _ _ was.goes c.offer.ensures.offered (still _));
+          (λ slot below. wider (Offers g.B.Broker.group (record { saw_ledger = g.B.Seen.LedgerWitness.saw_ledger; saw_main = g.B.Seen.Witness.saw_main; saw_returns = g.B.Seen.Witness.saw_returns }) g.T.Transport.counts g.T.Transport.given g.T.Transport.accepted slot) _ _ _ _ (still _) (was.offered slot below) goes)
+          (here (Offers g.B.Broker.group (record { saw_ledger = g.B.Seen.LedgerWitness.saw_ledger; saw_main = g.B.Seen.Witness.saw_main; saw_returns = g.B.Seen.Witness.saw_returns }) g.T.Transport.counts g.T.Transport.given g.T.Transport.accepted c.slots.slot) _ _ _ _ was.goes c.offer.ensures.offered (still _));
     }

@@ -16,9 +16,9 @@ cells-preserved g c =
       goes = more _ _ _ was.goes goes;
       asked =
           below_more _ _
-          (λ cell below. wider (IsAsked g.B.Broker.group g.T.Transport.counts g.T.Transport.given g.T.Transport.accepted c.args.slot cell) _ _ _ _ (still _) (was.asked cell below) goes)
-          (here (IsAsked g.B.Broker.group g.T.Transport.counts g.T.Transport.given g.T.Transport.accepted c.args.slot c.cells.cell) _ _ _ _ was.goes (c.offer_to.ensures.no (grind arith) (omega (arith, was.goes.count, c.len-cell-end.ensures, ap (λ (w : WorkerState g.row.T.Denot). length w.connections.cells) c.self.view_is))) (still _));
+          (λ cell below. wider (IsAsked g.B.Broker.group (record { saw_ledger = g.B.Seen.LedgerWitness.saw_ledger; saw_main = g.B.Seen.Witness.saw_main; saw_returns = g.B.Seen.Witness.saw_returns }) g.T.Transport.counts g.T.Transport.given g.T.Transport.accepted c.args.slot cell) _ _ _ _ (still _) (was.asked cell below) goes)
+          (here (IsAsked g.B.Broker.group (record { saw_ledger = g.B.Seen.LedgerWitness.saw_ledger; saw_main = g.B.Seen.Witness.saw_main; saw_returns = g.B.Seen.Witness.saw_returns }) g.T.Transport.counts g.T.Transport.given g.T.Transport.accepted c.args.slot c.cells.cell) _ _ _ _ was.goes (c.offer_to.ensures.no (grind arith) (omega (arith, was.goes.count, c.len-cell-end.ensures, ap (λ (w : WorkerState g.row.T.Denot). length w.connections.cells) c.self.view_is))) (still _));
     }
 
 pub returns-then-offer_to-clause-offered : goal.returns-then-offer_to-clause-offered
-returns-then-offer_to-clause-offered g c = inl (here (IsOffered g.B.Broker.group g.T.Transport.counts g.T.Transport.given g.T.Transport.accepted c.args.slot) _ _ _ _ c.cells.invariant.goes (c.offer_to.ensures.yes (grind arith)) (still _))
+returns-then-offer_to-clause-offered g c = inl (here (IsOffered g.B.Broker.group (record { saw_ledger = g.B.Seen.LedgerWitness.saw_ledger; saw_main = g.B.Seen.Witness.saw_main; saw_returns = g.B.Seen.Witness.saw_returns }) g.T.Transport.counts g.T.Transport.given g.T.Transport.accepted c.args.slot) _ _ _ _ c.cells.invariant.goes (c.offer_to.ensures.yes (grind arith)) (still _))

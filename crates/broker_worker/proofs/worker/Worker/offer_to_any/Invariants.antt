@@ -8,5 +8,5 @@ abbrev pub invariant-cells : goal.invariant-cells
 invariant-cells g l = record {
   goes : Rounds l.fn.self.connections l.self.connections;
   asked : (cell : ℕ) → cell < l.cell → Amid
-      (IsAsked g.B.Broker.group g.T.Transport.counts g.T.Transport.given g.T.Transport.accepted l.fn.slot cell) l.fn.self.connections l.self.connections;
+      (IsAsked g.B.Broker.group (record { saw_ledger = g.B.Seen.LedgerWitness.saw_ledger; saw_main = g.B.Seen.Witness.saw_main; saw_returns = g.B.Seen.Witness.saw_returns }) g.T.Transport.counts g.T.Transport.given g.T.Transport.accepted l.fn.slot cell) l.fn.self.connections l.self.connections;
 }

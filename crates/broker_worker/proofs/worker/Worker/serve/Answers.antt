@@ -9,7 +9,7 @@ use Rattle.broker_worker.proofs.worker.Worker.serve.Goals as goal
 pub returns-clause-offered : goal.returns-clause-offered
 returns-clause-offered g c = by c.begin_sweep-all.result refl
   where
-    by : (b : Bool) → c.begin_sweep-all.result ≡ b → OffersInSweep g.B.Broker.group g.T.Transport.counts g.T.Transport.given g.T.Transport.accepted c.args.self.now.connections c.share_out.new.self.connections
+    by : (b : Bool) → c.begin_sweep-all.result ≡ b → OffersInSweep g.B.Broker.group (record { saw_ledger = g.B.Seen.LedgerWitness.saw_ledger; saw_main = g.B.Seen.Witness.saw_main; saw_returns = g.B.Seen.Witness.saw_returns }) g.T.Transport.counts g.T.Transport.given g.T.Transport.accepted c.args.self.now.connections c.share_out.new.self.connections
     by true is = inr (
       c.serve_due.new.self.connections,
       c.serve_due.ensures.goes.stays ∙ ap (λ (s : ConnectionsState g.row.T.Denot). s.receiver.channel) c.begin_sweep-all.ensures.same
