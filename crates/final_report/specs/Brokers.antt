@@ -30,7 +30,7 @@ LacksNoMessage Memory = ⊤
 
 -- so it is of each group that has none
 abbrev pub NoneLacksAMessage : {W : Type 0} → List (Result Report (Unfinished W)) → Type 0
-NoneLacksAMessage answers = (slot : ℕ) (left : Unfinished W) → slice_get answers slot ≡ Some (Err left) → LacksNoMessage left.error
+NoneLacksAMessage {W = W} answers = (slot : ℕ) (left : Unfinished W) → slice_get answers slot ≡ Some (Err left) → LacksNoMessage left.error
 
 -- a broker kept its promises: with these places, and these messages that sessions held, which were all that the desk had of which just these calls were made
 pub record KeptItsPromises {W : Type 0} (group : ℕ → GroupId) (calls : List (Call Held PlaceState)) (ports : List (List PortState)) (places : List PlaceState) (held : List Held)
