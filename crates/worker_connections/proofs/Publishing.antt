@@ -93,7 +93,7 @@ module _ (group : ℕ → GroupId) (seen : Sights) where
   abbrev OffersOrStays : Fact PlaceState → List PortState → List PortState → Type 0
   OffersOrStays fact old new = ((offer_of fact ≡ None) × (new ≡ old)) ⊎ IsOfferOf fact old new
 
-  called : (fact : Fact PlaceState) (old new : Worker) → Calls group old fact new → OffersOrStays fact old.ports new.ports
+  called : (fact : Fact PlaceState) (old new : Worker) → Calls group seen old fact new → OffersOrStays fact old.ports new.ports
   called (Attach request answer) old new is = inl (refl, ap (λ (w : Worker). w.ports) is.1)
   called (Withdraw connection) old new is = inl (refl, ap (λ (w : Worker). w.ports) is.1)
   called (Kicked connection answer) old new (inl same) = inl (refl, ap (λ (w : Worker). w.ports) same.1)

@@ -70,7 +70,7 @@ impl<'a, 'g, B: Broker, N: HistoryName, T: Transport + Drop, Q: Poller<T>, R: Wa
 
     ghost invariant = { λ c. IsAccounted (length c.receiver.received) c.table c.served × AreSwept c.sweeps c.table
         × (length c.members ≡ length c.table) × AreWished c.table c.members
-        × HasRunTo B.group B.Seen.Witness T.counts T.given T.accepted (record { supply = c.supply; cells = c.table; received = c.receiver.received; served = c.served; closed = Q.closed c.poller }) };
+        × HasRunTo B.group (record { saw_ledger = B.Seen.saw_ledger; saw_main = B.Seen.saw_main; saw_returns = B.Seen.saw_returns }) T.counts T.given T.accepted (record { supply = c.supply; cells = c.table; received = c.receiver.received; served = c.served; closed = Q.closed c.poller }) };
 }
 
 /// What the connections of a worker give back.
