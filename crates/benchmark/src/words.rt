@@ -69,11 +69,11 @@ pub(crate) fn asked_in_words(rt: &(impl Env + Alloc)) -> io::Result<Option<Asked
     let Some(run) = run else {
         return Ok(None);
     };
-    Ok(asked(run.as_str(), numbers))
+    Ok(named(run.as_str(), numbers))
 }
 
 /// What this word asks for, with these numbers behind it.
-fn asked(name: &str, numbers: [Option<u32>; 3]) -> Option<Asked> {
+fn named(name: &str, numbers: [Option<u32>; 3]) -> Option<Asked> {
     if name == "all" {
         return Some(Asked::All);
     }
@@ -190,7 +190,7 @@ pub(crate) fn small_runs(alloc: Global) -> Option<Vec<Run>> {
     ];
     let mut runs = Vec::with_capacity(alloc, lines.len()).ok()?;
     for (name, numbers) in lines {
-        if let Some(Asked::One(run)) = asked(name, numbers) {
+        if let Some(Asked::One(run)) = named(name, numbers) {
             runs.push(run).ok()?;
         }
     }
