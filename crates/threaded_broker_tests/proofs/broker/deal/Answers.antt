@@ -8,7 +8,7 @@ use Rattle.threaded_broker_tests.proofs.broker.deal.Goals as goal
 
 pub hands-preserved : goal.hands-preserved
 hands-preserved g c =
-    let Unsent : Hand g.row.B.Denot → Type 0 = λ hand. AreUnsent hand.ports in
+    let Unsent : Hand g.row.B.Denot g.row.B-Seen.Denot → Type 0 = λ hand. AreUnsent hand.ports in
     let split = All-pop AreUnsent c.hands.left.items c.pop.new.self.items (Some c.in-Some.ports) c.in-Some.ensures.items c.hands.invariant.left in
     let left = simp length-append at (ap length c.in-Some.ensures.items) in
     let pushed = simp length-append at (ap length c.push_reserved.ensures.items) in

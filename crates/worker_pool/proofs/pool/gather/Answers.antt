@@ -27,7 +27,7 @@ workers-preserved g c =
     let mark = ap (λ (r : ReceiverState (ArrivedState g.row.T.Denot)). r.end_marks_received) is in
     let marks = ap (λ (rs : List (ReceiverState (ArrivedState g.row.T.Denot))). end_marks_received_by rs) c.push_reserved-in-Some.ensures.items ∙ sum_by_push (λ (r : ReceiverState (ArrivedState g.row.T.Denot)). r.end_marks_received) c.workers.receivers.items receiver in
     let none = done.1.none_live in
-    let ports = ap (λ (l : List (Hand g.row.B.Denot)). map (λ (hand : Hand g.row.B.Denot). hand.ports) l) c.push_reserved.ensures.items ∙ map_push (λ (hand : Hand g.row.B.Denot). hand.ports) c.workers.hands.items returned.hand in
+    let ports = ap (λ (l : List (Hand g.row.B.Denot g.row.B-Seen.Denot)). map (λ (hand : Hand g.row.B.Denot g.row.B-Seen.Denot). hand.ports) l) c.push_reserved.ensures.items ∙ map_push (λ (hand : Hand g.row.B.Denot g.row.B-Seen.Denot). hand.ports) c.workers.hands.items returned.hand in
     let shut = ap (λ (l : List g.row.Q.Denot). map g.Q.Poller.closed l) c.push_reserved-in-Some-3.ensures.items ∙ map_push g.Q.Poller.closed c.workers.pollers.items returned.poller in
     record {
       workers = split.0;

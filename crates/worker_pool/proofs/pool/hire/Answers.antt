@@ -11,7 +11,7 @@ use Rattle.worker_pool.specs.Workers.{IsHired}
 use Rattle.worker_pool.proofs.pool.hire.Goals as goal
 
 -- nothing was sent through the ports of a hand
-abbrev Unsent : {B : Type 0} → Hand B → Type 0
+abbrev Unsent : {B W : Type 0} → Hand B W → Type 0
 Unsent hand = AreUnsent hand.ports
 
 pub begin-requires-clause-unsent : goal.begin-requires-clause-unsent

@@ -20,7 +20,7 @@ pub gather-requires-clause-ended : goal.gather-requires-clause-ended
 gather-requires-clause-ended g c =
     let Ended : List (List PortState) → List (ReceiverState (ArrivedState g.row.T.Denot)) → List ServedCounts → List g.row.Q.Denot → Type 0 = λ ports receivers served pollers.
     HaveEnded g.B.Broker.group (record { saw_ledger = g.B.Seen.LedgerWitness.saw_ledger; saw_main = g.B.Seen.Witness.saw_main; saw_returns = g.B.Seen.Witness.saw_returns }) g.T.Transport.counts g.T.Transport.given g.T.Transport.accepted ports receivers served (map g.Q.Poller.closed pollers) c.args.me.now in
-    subst (λ hands. Ended (map (λ (hand : Hand g.row.B.Denot). hand.ports) hands) c.args.receivers.items c.args.served.items c.args.pollers.items) (sym c.requires.hands.0)
+    subst (λ hands. Ended (map (λ (hand : Hand g.row.B.Denot g.row.B-Seen.Denot). hand.ports) hands) c.args.receivers.items c.args.served.items c.args.pollers.items) (sym c.requires.hands.0)
     (subst (λ receivers. Ended [] receivers c.args.served.items c.args.pollers.items) (sym c.requires.receivers.0)
     (subst (λ served. Ended [] [] served c.args.pollers.items) (sym c.requires.served.0)
     (subst (λ pollers. Ended [] [] [] pollers) (sym c.requires.pollers.0)

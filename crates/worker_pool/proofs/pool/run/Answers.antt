@@ -42,7 +42,7 @@ returns-clause-served g c =
     let sent = sent_is accepted.came _ _ _ _ none limit accepted.sent in
     let Source : g.row.S.Denot → g.row.S.Denot → Type 0 = λ old new. Gave g.S.Source.arrived old accepted.came new in
     let Served : List (ArrivedState g.row.T.Denot) → Type 0 = λ arrived.
-    AreServed g.B.Broker.group (record { saw_ledger = g.B.Seen.LedgerWitness.saw_ledger; saw_main = g.B.Seen.Witness.saw_main; saw_returns = g.B.Seen.Witness.saw_returns }) g.T.Transport.counts g.T.Transport.given g.T.Transport.accepted arrived c.retire.new.me (map (λ (hand : Hand g.row.B.Denot). hand.ports) c.retire.result.hands.items) c.retire.result.served.items
+    AreServed g.B.Broker.group (record { saw_ledger = g.B.Seen.LedgerWitness.saw_ledger; saw_main = g.B.Seen.Witness.saw_main; saw_returns = g.B.Seen.Witness.saw_returns }) g.T.Transport.counts g.T.Transport.given g.T.Transport.accepted arrived c.retire.new.me (map (λ (hand : Hand g.row.B.Denot g.row.B-Seen.Denot). hand.ports) c.retire.result.hands.items) c.retire.result.served.items
     (map g.Q.Poller.closed c.retire.result.pollers.items) in (
       accepted.came,
       subst (λ new. Source c.args.source new) (sym c.retire.ensures.source)
