@@ -19,7 +19,7 @@ use Rattle.conn_engine.specs.declared.input.Input.TheVariants as inputs
 use Rattle.conn_service.specs.Acts.{Act, Steps, Loses, Fails}
 use Rattle.worker_connections.specs.Chains.{Deed, Went, Run}
 
--- these packets begin with a PUBACK of success: the message that was published is in each group that matches
+-- these packets begin with a PUBACK of success
 abbrev pub IsPromised : List Packet → Type 0
 IsPromised sent = (identifier : ℕ) × (others : List Packet) × (sent ≡ puback identifier 0 ∷ others)
 
@@ -42,8 +42,8 @@ module _ (group : ℕ → GroupId) (seen : Sights) where
   PutsSome ports message (slot ∷ slots) ports' =
       (answer : Result Stamp OfferRefusal) × (mid : List PortState) × OffersTo group seen.saw_main ports slot message answer mid × PutsSome mid message slots ports'
 
-  -- a PUBLISH whose message was offered to each group that matches, and how many of them took it: its PUBACK, in front of all that the step sent, says that, and nothing
-  -- else came into the ports
+  -- a PUBLISH whose message was offered through the ports of these slots, once each, and how many of their groups took it: its PUBACK, in front of all that the step sent,
+  -- says that, and nothing else came into the ports. That these are the slots of the groups that match is in the step (`IsOffered` of `conn_supply`)
   pub record IsPublished (publish : Publish) (sent : List Packet) (ports ports' : List PortState) : Type 0 where
     pub identifier : ℕ
     pub brought : publish_answer publish ≡ Offer identifier
