@@ -10,7 +10,7 @@ use Rattle.arguments.specs.declared.groups.Refusal.TheVariants.{NoShare, Twice, 
 abbrev texts : List (Bor (List ℕ)) → List (List ℕ)
 texts = map (λ pair. pair.now)
 
--- the pair behind those that are added is added too
+-- the pair after those that are added is added too
 pub added_at : (pairs : List (Bor (List ℕ))) (i : ℕ) (d : Bor (List ℕ)) (old mid new : List Share) → i < length pairs
     → AddsEach old (take i (texts pairs)) mid → Adds mid (share_named (slice_index_or pairs i d).now) (Ok tt) new
     → AddsEach old (take (suc i) (texts pairs)) new
@@ -25,7 +25,7 @@ refused_alike old new (Some share) NoShare h = h
 refused_alike old new (Some share) Twice h = (h.0, refl)
 refused_alike old new (Some share) Ninth h = (h.0, h.1, refl)
 
--- the pair behind those that are added is refused
+-- the pair after those that are added is refused
 pub refused_at : (pairs : List (Bor (List ℕ))) (i : ℕ) (d : Bor (List ℕ)) (old mid new : List Share) (refusal : Refusal) → i < length pairs
     → AddsEach old (take i (texts pairs)) mid → Adds mid (share_named (slice_index_or pairs i d).now) (Err refusal) new
     → RefusesOne old (texts pairs) refusal

@@ -56,7 +56,7 @@ command_line =
 
 -- ---- what the words ask for
 
--- a text spells a number in decimal digits, behind a plus or none
+-- a text spells a number in decimal digits, after a plus or none
 abbrev pub Spells : Text → ℕ → Type 0
 Spells text number = IsNumeral 10 (without_leading_plus text) × (number ≡ digits_value 10 (without_leading_plus text))
 

@@ -1,4 +1,4 @@
--- The words behind `share_broker` that ask to serve: the options, what words ask for, and why they ask for nothing (profile).
+-- The words after `share_broker` that ask to serve: the options, what words ask for, and why they ask for nothing (profile).
 use Rattle.std.specs.Prelude.{◌≡◌, ◌⊎◌, ℕ, ◌≤◌, codes, true, List, ◌∷◌, [], Some, pos}
 use Rattle.std.specs.Net.Grammar.{IsIpv4Text}
 use Rattle.clap.specs.Words.{App, IsAmong, Row, Rule, Text, fault_of, matches_of, new_app, new_rule, one_of, with_rule}

@@ -27,7 +27,7 @@ pub enum Request {
 ///
 /// # Errors
 ///
-/// The text of a fault, of the help, or of the version, as clap has them; [`ErrorKind::OutOfMemory`] for want of memory.
+/// The text of a fault, of the help, or of the version, as clap has them; [`ErrorKind::OutOfMemory`] for lack of memory.
 pub fn arguments(alloc: Global, words: &[String]) -> Result<Request, Error>
     ensures ok { IfOk result (AskFor (map string_bytes words.now)) }
     ensures err { IfErr result (λ error. (kind_of error ≡ ErrorKind.OutOfMemory)

@@ -15,12 +15,12 @@ use local_server::Setup;
 use std::alloc::{AllocError, Global};
 use std::net::Ipv4Addr;
 
-/// What the words behind `share_broker` ask for, of which the first is `serve`: `serve --port P [--address IP] [--workers W] [--capacity N]
+/// What the words after `share_broker` ask for, of which the first is `serve`: `serve --port P [--address IP] [--workers W] [--capacity N]
 /// [--max-inflight N] [--group NAME:FILTER]..`.
 ///
 /// # Errors
 ///
-/// The text of a fault, or of the help, as clap has them; [`ErrorKind::OutOfMemory`] for want of memory.
+/// The text of a fault, or of the help, as clap has them; [`ErrorKind::OutOfMemory`] for lack of memory.
 pub fn serve_arguments(alloc: Global, words: &[String]) -> Result<Service, Error>
     ensures ok { IfOk result (AskForService (map string_bytes words.now)) }
     ensures err { IfErr result (λ error. (kind_of error ≡ ErrorKind.OutOfMemory)

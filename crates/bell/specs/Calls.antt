@@ -7,20 +7,20 @@ use Rattle.bell.specs.declared.wake.Call.{Call}
 use Rattle.bell.specs.declared.step.Step.{Step}
 use Rattle.bell.specs.declared.step.Step.TheVariants.{Listened, Settled, Rang, Called}
 use Rattle.bell.specs.History.{rings, is_idle, was_called, wakes}
-use Rattle.bell.specs.Handles.{Ear, Hand, turn}
+use Rattle.bell.specs.Handles.{ListenerState, RingerState, turn}
 
--- this step was made, behind what others did since the last one
+-- this step was made, after what others did since the last one
 abbrev pub Makes : Step → List Step → List Step → Type 0
 Makes step old new = (since : List Step) × (new ≡ step ∷ (since ++ old))
 
 -- the worker isn't idle any more, has heard all rings so far, and knows whether the bell didn't ring since its last step, or rang a multiple of 2 ^ 32 times
-abbrev pub Listens : Ear → Bool → Ear → Type 0
+abbrev pub Listens : ListenerState → Bool → ListenerState → Type 0
 Listens old quiet new =
     (new.bell ≡ old.bell) × (new.worker ≡ old.worker)
     × ((since : List Step) × (new.history ≡ Listened old.worker ∷ (since ++ old.history)) × (quiet ≡ (rings since % turn == 0)))
 
 -- the worker is idle, and may wait exactly where the bell didn't ring since its last step, or rang a multiple of 2 ^ 32 times
-abbrev pub Settles : Ear → Bool → Ear → Type 0
+abbrev pub Settles : ListenerState → Bool → ListenerState → Type 0
 Settles old may_wait new =
     (new.bell ≡ old.bell) × (new.worker ≡ old.worker)
     × ((since : List Step) × (new.history ≡ Settled old.worker ∷ (since ++ old.history)) × (may_wait ≡ (rings since % turn == 0)))
@@ -70,17 +70,17 @@ pub record Rings (workers wanted woken : ℕ) (old new : List Step) : Type 0 whe
   pub idle : woken + wakes (others ++ old) ≤ wakes new
 
 -- the listeners of a bell that was just made, numbered from 0 on, in that order; and those who ring it
-pub record AreListeners (bell : TableId) (count : ℕ) (listeners : List Ear) : Type 0 where
+pub record AreListeners (bell : TableId) (count : ℕ) (listeners : List ListenerState) : Type 0 where
   pub all : length listeners ≡ count
   pub each : (worker : ℕ) → worker < count → slice_get listeners worker ≡ Some (record { bell = bell; worker = worker; history = [] })
 
-pub record AreRingers (bell : TableId) (count : ℕ) (ringers : List Hand) : Type 0 where
+pub record AreRingers (bell : TableId) (count : ℕ) (ringers : List RingerState) : Type 0 where
   pub all : length ringers ≡ count
   pub each : (number : ℕ) → number < count → slice_get ringers number ≡ Some (record { bell = bell; history = [] })
 
 -- they are of this bell
-abbrev pub AreListenersOf : TableId → List Ear → Type 0
+abbrev pub AreListenersOf : TableId → List ListenerState → Type 0
 AreListenersOf bell listeners = All (λ listener. listener.bell ≡ bell) listeners
 
-abbrev pub AreRingersOf : TableId → List Hand → Type 0
+abbrev pub AreRingersOf : TableId → List RingerState → Type 0
 AreRingersOf bell ringers = All (λ ringer. ringer.bell ≡ bell) ringers

@@ -9,13 +9,13 @@ pub record BellId : Type 0 where
   pub workers : ℕ
 
 -- a worker that listens: its bell, its number, and the history up to its own last step
-pub record Ear : Type 0 where
+pub record ListenerState : Type 0 where
   pub bell : TableId
   pub worker : ℕ
   pub history : List Step
 
 -- who rings
-pub record Hand : Type 0 where
+pub record RingerState : Type 0 where
   pub bell : TableId
   pub history : List Step
 

@@ -20,7 +20,7 @@ HasPast s = (history : List Step) × (word : ℕ) × (s.words ≡ word ∷ []) �
 abbrev pub IsPassOf : TableId → TableId → Type 0
 IsPassOf word pass = (word.words ≡ 1) × (pass ≡ word)
 
--- the step was made behind what was known and what others did since, where the word was this number
+-- the step was made after what was known and what others did since, where the word was this number
 abbrev pub Tells : Step → Me (Unit {0}) View → ℕ → Me (Unit {0}) View → Type 0
 Tells step before found now =
     (since : List Step) × Shows found (since ++ before.0.history) × (now ≡ (record { history = step ∷ (since ++ before.0.history) }, before.1))

@@ -94,13 +94,13 @@ impl Bell {
         ensures bell { IfOk result (λ opened. AreListenersOf opened.0.word opened.1.items × AreRingersOf opened.0.word opened.2.items) }
     {
         let mut row = Vec::with_capacity(alloc, workers).map_err(|_| BellError::Memory)?;
-        let mut hands = Vec::with_capacity(alloc, ringers).map_err(|_| BellError::Memory)?;
+        let mut seated = Vec::with_capacity(alloc, ringers).map_err(|_| BellError::Memory)?;
         let (word, mut pass) = Word::of_words(alloc, &[0], &workers).map_err(
             |_| BellError::Memory,
         )?;
         seat_listeners(&word, &mut pass, &mut row, workers);
-        seat_ringers(&word, &mut pass, &mut hands, ringers);
-        Ok((Bell { word }, row, hands))
+        seat_ringers(&word, &mut pass, &mut seated, ringers);
+        Ok((Bell { word }, row, seated))
     }
 
     /// The worker listens: it isn't idle any more, and has heard each ring that was rung so far. Whether none was rung since its last step: where one was and the

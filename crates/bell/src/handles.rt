@@ -4,7 +4,7 @@ use std::marker::Model;
 
 /// One of the workers that listen to a bell. It may go to another thread: it is `Send`, and not `Sync`.
 ///
-/// Contracts see it as an `Ear`: the bell that it is of, its number, and the history up to its own last step.
+/// Contracts see it as an `ListenerState`: the bell that it is of, its number, and the history up to its own last step.
 #[derive(Drop)]
 pub struct Listener {
     pub(crate) pass: Pass,
@@ -15,10 +15,10 @@ pub struct Listener {
 
 impl Model for Listener {
     ghost use Rattle.std.specs.Prelude.{◌≡◌, ◌<◌, ◌%◌, []};
-    ghost use Rattle.bell.specs.Handles.{Ear, turn};
+    ghost use Rattle.bell.specs.Handles.{ListenerState, turn};
     ghost use Rattle.bell.specs.History.{rings};
 
-    ghost Value = { Ear };
+    ghost Value = { ListenerState };
 
     ghost view = { λ l. record { bell = l.pass.table_id; worker = l.worker; history = l.pass.me.0.history } };
 
@@ -27,7 +27,7 @@ impl Model for Listener {
 
 /// Who rings a bell. It may go to another thread: it is `Send`, and not `Sync`.
 ///
-/// Contracts see it as a `Hand`: the bell that it is of, and the history up to its own last step.
+/// Contracts see it as a `RingerState`: the bell that it is of, and the history up to its own last step.
 #[derive(Drop)]
 pub struct Ringer {
     pub(crate) pass: Pass,
@@ -35,9 +35,9 @@ pub struct Ringer {
 
 impl Model for Ringer {
     ghost use Rattle.std.specs.Prelude.{◌≡◌, []};
-    ghost use Rattle.bell.specs.Handles.{Hand};
+    ghost use Rattle.bell.specs.Handles.{RingerState};
 
-    ghost Value = { Hand };
+    ghost Value = { RingerState };
 
     ghost view = { λ r. record { bell = r.pass.table_id; history = r.pass.me.0.history } };
 

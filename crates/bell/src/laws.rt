@@ -6,7 +6,7 @@ ghost use Rattle.bell.specs.declared.step.Step.TheVariants.{Rang, Settled};
 ghost use Rattle.bell.specs.Handles.{turn};
 ghost use Rattle.bell.specs.History.{is_idle, rings, was_roused};
 
-/// **No bell is slept through.** Let a worker have settled behind `since`, which was done after it had listened; let it
+/// **No bell is slept through.** Let a worker have settled after `since`, which was done after it had listened; let it
 /// be allowed to wait, and let fewer than 2^32 rings stand in `since`. Then each ring that was rung after it had
 /// listened found it idle, until it listens again or is called (`heard`). Who is idle stays idle until it listens or is
 /// called (`stays`), so that one who isn't idle any more listened or was called (`roused`).

@@ -23,7 +23,7 @@ pub(crate) fn written(alloc: Global, jobs: u32) -> Option<u64> {
     Some(written)
 }
 
-/// Reads the packet that a piece of the stream spells, and writes it behind what the buffer holds.
+/// Reads the packet that a piece of the stream spells, and writes it after what the buffer holds.
 fn write_again(splitter: &mut Splitter, piece: &[u8], out: &mut Vec<u8>) -> Option<()> {
     splitter.feed(piece).ok()?;
     let packet = splitter.next().ok()??;

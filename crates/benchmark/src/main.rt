@@ -100,7 +100,7 @@ fn main(rt: HostRuntime) -> ExitCode {
     ExitCode::SUCCESS
 }
 
-/// The run that the words behind the program's name ask for; `None` where they ask for none.
+/// The run that the words after the program's name ask for; `None` where they ask for none.
 fn run_in_words(rt: &(impl Env + Alloc)) -> io::Result<Option<Run>> {
     let mut words = env::args(rt)?;
     let _name = words.next();

@@ -1,7 +1,7 @@
 //! Jobs through a server on one thread, from bytes to bytes: a client publishes them, and a member with a Receive Maximum acknowledges them.
 
 use bytes::Bytes;
-use client_table::Said;
+use client_table::StepOutput;
 use conn_rules::MaxInflight;
 use local_server::{ConnectionNumber, Event, Server, Setup};
 use mqtt_topic::Routes;
@@ -42,7 +42,7 @@ pub(crate) fn served(alloc: Global, jobs: u32, window: u16) -> Option<u64> {
 /// What a server said in an event, and how many bytes were written in all.
 #[derive(Drop)]
 struct Words {
-    said: Vec<Said>,
+    said: Vec<StepOutput>,
     out: Vec<u8>,
     written: u64,
 }

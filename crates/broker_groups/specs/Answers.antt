@@ -10,7 +10,7 @@ use Rattle.group_queue.specs.declared.view.Bag.{Bag}
 use Rattle.group_queue.specs.declared.view.View.{View}
 use Rattle.conn_supply.specs.declared.supply.NoMemory.{NoMemory}
 
--- what a group hands out, which is refused for want of memory alone
+-- what a group hands out, which is refused for lack of memory alone
 abbrev pub in_group : Result (Option Held) NoMemory → Result (Option Held) JobError
 in_group (Ok found) = Ok found
 in_group (Err refusal) = Err Memory

@@ -27,7 +27,7 @@ pub struct Ended<'a, W: Witness = Nobody> {
     pub strangers: Vec<Envelope>,
 }
 
-/// A broker whose groups were not ended, for want of memory, with all that was given to end them.
+/// A broker whose groups were not ended, for lack of memory, with all that was given to end them.
 pub struct Unended<'a, B: Broker> {
     pub groups: BrokerGroups<'a, B>,
     pub ports: Vec<Ports<B>>,

@@ -10,7 +10,7 @@ use std::marker::{Model, PhantomData};
 /// How many groups a broker has.
 pub const SLOTS: u8 = 8;
 
-/// The groups of a broker, one for each slot, behind the broker's gate.
+/// The groups of a broker, one for each slot, after the broker's gate.
 ///
 /// Contracts see them as a list of `GroupId`, in the order of slots.
 pub struct BrokerGroups<'a, B: Broker> {

@@ -79,14 +79,14 @@ fn name_members<B: Broker>(
     ensures ports { IfOk result (λ named. (worth : PortState → ℕ) → worth_of_all worth named.0.items ≡ worth_of_rows worth ports.items) }
     ensures places { IfOk result (λ named. named.1.items ≡ in_a_row places.items) }
 {
-    let hands = deal_ports::<B>(alloc, workers, ports)?;
+    let hands = take_ports::<B>(alloc, workers, ports)?;
     let ports = name_hands(alloc, hands)?;
     let places = name_places(alloc, places)?;
     Ok((ports, places))
 }
 
 /// Gives each worker a port of each group.
-fn deal_ports<B: Broker>(
+fn take_ports<B: Broker>(
     alloc: Global,
     workers: u8,
     rows: Vec<Vec<Port<B::Seen>>>,
@@ -100,7 +100,7 @@ fn deal_ports<B: Broker>(
     let mut hands = empty_hands::<B>(alloc, workers)?;
     let mut slot = 0u8;
     for row in rows {
-        hands = deal_row::<B>(alloc, slot, hands, row)?;
+        hands = take_row::<B>(alloc, slot, hands, row)?;
         slot += 1;
     }
     Ok(hands)
@@ -120,7 +120,7 @@ fn empty_hands<B: Broker>(alloc: Global, workers: u8) -> Result<Vec<Vec<Port<B::
 }
 
 /// Gives each worker a port of the group of a slot.
-fn deal_row<B: Broker>(
+fn take_row<B: Broker>(
     alloc: Global,
     slot: u8,
     hands: Vec<Vec<Port<B::Seen>>>,
@@ -182,7 +182,7 @@ fn name_places<B: Broker>(
     Ok(named)
 }
 
-/// Names the places of one group, behind those of others.
+/// Names the places of one group, after those of others.
 fn name_row<B: Broker>(
     named: &mut Vec<BrokerPlace<B>>,
     row: Vec<Place<B::Seen>>,

@@ -12,8 +12,8 @@ use Rattle.broker_worker.specs.Offering.{Amid, IsAsked, IsOffered, MightTake, Of
 use Rattle.conn_service.specs.declared.served.Direction.TheVariants.{Outbound}
 use Rattle.conn_service.specs.declared.served.Round.{Round}
 use Rattle.conn_service.specs.declared.served.Round.TheVariants.{Writing}
-use Rattle.service_table.specs.declared.turned.Turned.{Turned}
-use Rattle.service_table.specs.declared.turned.Turned.TheVariants.{Vacant, Goes, Ended}
+use Rattle.worker_connections.specs.declared.cell_outcome.CellOutcome.{CellOutcome}
+use Rattle.worker_connections.specs.declared.cell_outcome.CellOutcome.TheVariants.{Vacant, Goes, Ended}
 
 module _ {T : Type 0} where
   -- no round was made
@@ -28,7 +28,7 @@ module _ {T : Type 0} where
   pub nothing : (old new : ConnectionsState T) → new ≡ old → Rounds old new
   nothing old new is = subst (λ (c : ConnectionsState T). Rounds old c) (sym is) (still old)
 
-  -- rounds behind rounds
+  -- rounds after rounds
   pub more : (old mid new : ConnectionsState T) → Rounds old mid → Rounds mid new → Rounds old new
   more old mid new one two = record {
     stays = two.stays ∙ one.stays;
@@ -56,15 +56,15 @@ module _ {T : Type 0} where
 
 module _ {T : Type 0} (group : ℕ → GroupId) (seen : Sights) (counts : T → Counts) (given accepted : T → Option (List ℕ)) where
   -- a member that goes on and reads was offered one
-  pub offered : (slot cell : ℕ) (old new : ConnectionsState T) (turned : Turned T) (told : Round) → TakesIn slot cell old.cells
-      → GoesBy group seen counts given accepted cell Outbound 1 turned old new → round_of turned ≡ Some told → told ≢ Writing → IsOffered group seen counts given accepted slot old new
+  pub offered : (slot cell : ℕ) (old new : ConnectionsState T) (cell_outcome : CellOutcome T) (told : Round) → TakesIn slot cell old.cells
+      → GoesBy group seen counts given accepted cell Outbound 1 cell_outcome old new → round_of cell_outcome ≡ Some told → told ≢ Writing → IsOffered group seen counts given accepted slot old new
   offered slot cell old new Vacant told takes goes is reads = absurd (cc is)
   offered slot cell old new (Goes round) told takes goes is reads =
       let same : round ≡ told = cc is in
       record { cell = cell; round = round; takes = takes; might = record { most = 1; some = omega arith; goes = goes }; reads = λ writes. reads (sym same ∙ writes) }
   offered slot cell old new (Ended how transport) told takes goes is reads = absurd (cc is)
 
-  -- something was offered behind further rounds
+  -- something was offered after further rounds
   pub offers_later : (slot : ℕ) (old mid new : ConnectionsState T) → Rounds old mid → Offers group seen counts given accepted slot mid new → Offers group seen counts given accepted slot old new
   offers_later slot old mid new rounds offers =
       ⊎_elim
@@ -81,7 +81,7 @@ module _ {T : Type 0} (group : ℕ → GroupId) (seen : Sights) (counts : T → 
       → OffersEach group seen counts given accepted older newer
   offers_each older old new newer one each two slot few = wider (Offers group seen counts given accepted slot) older old new newer one (each slot few) two
 
-  -- and so in a turn, in which others were heard before, and nothing changes behind
+  -- and so in a turn, in which others were heard before, and nothing changes after
   pub in_turn : (old mid mid' new : ConnectionsState T) → mid.sweeps.begun ≡ old.sweeps.begun → StaysOf old mid → OffersInSweep group seen counts given accepted mid mid' → new ≡ mid'
       → OffersInSweep group seen counts given accepted old new
   in_turn old mid mid' new begun stays (inl same) is = inl (ap (λ (c : ConnectionsState T). c.sweeps.begun) is ∙ same ∙ begun)

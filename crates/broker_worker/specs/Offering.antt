@@ -6,8 +6,8 @@ use Rattle.broker_groups.specs.Answers.{Sights}
 use Rattle.conn_service.specs.declared.served.Direction.TheVariants.{Outbound}
 use Rattle.conn_service.specs.declared.served.Round.{Round}
 use Rattle.conn_service.specs.declared.served.Round.TheVariants.{Writing}
-use Rattle.service_table.specs.declared.turned.Turned.{Turned}
-use Rattle.service_table.specs.declared.turned.Turned.TheVariants.{Goes}
+use Rattle.worker_connections.specs.declared.cell_outcome.CellOutcome.{CellOutcome}
+use Rattle.worker_connections.specs.declared.cell_outcome.CellOutcome.TheVariants.{Goes}
 use Rattle.worker_connections.specs.Members.{TakesIn}
 use Rattle.worker_connections.specs.Serving.{ConnectionsState, GoesBy, Rounds, StaysOf}
 
@@ -17,14 +17,14 @@ Amid {T} Does old new = (before after : ConnectionsState T) × Rounds old before
 
 module _ {T : Type 0} (group : ℕ → GroupId) (seen : Sights) (counts : T → Counts) (given accepted : T → Option (List ℕ)) where
   -- the client in a cell had an outbound round, in which it might be handed a message
-  pub record MightTake (cell : ℕ) (turned : Turned T) (old new : ConnectionsState T) : Type 0 where
+  pub record MightTake (cell : ℕ) (cell_outcome : CellOutcome T) (old new : ConnectionsState T) : Type 0 where
     pub most : ℕ
     pub some : 1 ≤ most
-    pub goes : GoesBy group seen counts given accepted cell Outbound most turned old new
+    pub goes : GoesBy group seen counts given accepted cell Outbound most cell_outcome old new
 
   -- the client in a cell is no member of the group of this slot that has room; or it had such a round
   abbrev pub IsAsked : (slot cell : ℕ) → ConnectionsState T → ConnectionsState T → Type 0
-  IsAsked slot cell old new = (¬ TakesIn slot cell old.cells × (new ≡ old)) ⊎ ((turned : Turned T) × MightTake cell turned old new)
+  IsAsked slot cell old new = (¬ TakesIn slot cell old.cells × (new ≡ old)) ⊎ ((cell_outcome : CellOutcome T) × MightTake cell cell_outcome old new)
 
   -- a member that has room had such a round, and neither ended nor has to wait until it reads
   pub record IsOffered (slot : ℕ) (old new : ConnectionsState T) : Type 0 where

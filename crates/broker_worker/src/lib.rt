@@ -2,17 +2,17 @@
 //!
 //! A [`Worker`] waits at one place, its [`Poller`](worker_connections::Poller), for what may be read or written and for a call of the others. It receives its
 //! connections and goes on with them (`worker_connections`), and rings for whoever waits for what they did: a bell for each group tells members of other workers
-//! of jobs that came or came back, and a call tells of a session that was asked for or is free. Its [`Roster`] has all workers.
+//! of jobs that came or came back, and a call tells of a session that was asked for or is free. Its [`Mailboxes`] has all workers.
 #![tactic(auto)]
 
-mod kit;
 mod marks;
 mod offering;
 mod rounds;
 mod sharing;
 mod telling;
 mod worker;
+mod worker_parts;
 
-pub use kit::{Gear, Kit, kits};
 pub use worker::Worker;
-pub use worker_bells::Roster;
+pub use worker_bells::Mailboxes;
+pub use worker_parts::{WorkerIo, WorkerParts, all_worker_parts};

@@ -1,7 +1,7 @@
 //! The rounds of a worker's connections: which are to go on in its turn.
 ghost use Rattle.std.specs.Prelude.{◌≡◌, ◌<◌, ◌+◌, true, false, length};
 ghost use Rattle.worker_connections.specs.Serving.{GoesBy, Rounds, round_of, round_told};
-ghost use Rattle.service_table.specs.declared.turned.Turned.{Turned as AnyTurned};
+ghost use Rattle.worker_connections.specs.declared.cell_outcome.CellOutcome.{CellOutcome as AnyOutcome};
 ghost use Rattle.worker_connections.specs.Sweeping.{HasGone, IsInTime, Notes};
 
 use crate::marks::Marks;
@@ -12,8 +12,8 @@ use call_history::HistoryName;
 use conn_service::{Direction, Round};
 use std::sync::Wait;
 use transport::{Clock, Crossing, Transport};
-use worker_bells::Roster;
-use worker_connections::{Poller, Went};
+use worker_bells::Mailboxes;
+use worker_connections::{Poller, RoundOutcome};
 
 impl<
     'a,
@@ -94,19 +94,19 @@ impl<
     ) -> Option<Round>
         ensures goes { Rounds self.old.connections self.new.connections }
         ensures notes { cell < length self.old.connections.cells → Notes cell (length self.old.connections.cells) self.old.connections.sweeps self.new.connections.sweeps }
-        ensures made { cell < length self.old.connections.cells → (turned : AnyTurned T) × (result ≡ round_of turned) × GoesBy B.group B.Seen.Witness T.counts T.given T.accepted cell direction most turned self.old.connections self.new.connections }
+        ensures made { cell < length self.old.connections.cells → (cell_outcome : AnyOutcome T) × (result ≡ round_of cell_outcome) × GoesBy B.group B.Seen.Witness T.counts T.given T.accepted cell direction most cell_outcome self.old.connections self.new.connections }
     {
         let worker = u32::try_from(self.number).unwrap_or(u32::MAX);
-        let went = self
+        let outcome = self
             .connections
             .round(cell, self.crossing, worker, buffer, direction, most);
         note_went(
             &mut self.due,
-            self.roster,
+            self.mailboxes,
             self.number,
             cell,
             direction,
-            went,
+            outcome,
         )
     }
 }
@@ -115,30 +115,30 @@ impl<
 /// ended has left the worker. What it waits for; `None` where there is none, or it has ended.
 fn note_went<W: Wake>(
     due: &mut Marks,
-    roster: &Roster<W>,
+    mailboxes: &Mailboxes<W>,
     number: usize,
     cell: usize,
     direction: Direction,
-    went: Went,
+    outcome: RoundOutcome,
 ) -> Option<Round>
-    ensures { result ≡ round_told went }
+    ensures { result ≡ round_told outcome }
 {
-    match went {
-        Went::Nowhere => None,
-        Went::On(round) => {
+    match outcome {
+        RoundOutcome::Nowhere => None,
+        RoundOutcome::On(round) => {
             if is_due_again(round, direction) {
                 due.mark(cell);
             }
             Some(round)
         }
-        Went::ToItsEnd => {
-            roster.leave(number);
+        RoundOutcome::ToItsEnd => {
+            mailboxes.leave(number);
             None
         }
     }
 }
 
-/// Whether a connection that waits for this behind a round this way can go on at once.
+/// Whether a connection that waits for this after a round this way can go on at once.
 fn is_due_again(round: Round, direction: Direction) -> bool {
     match round {
         Round::More => true,

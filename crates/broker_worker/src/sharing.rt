@@ -209,7 +209,7 @@ impl<
         ensures same { self.new.connections ≡ self.old.connections }
         ensures bells { self.new.bells ≡ self.old.bells }
     {
-        self.outfit.note_each(&self.connections.messages());
+        self.own_bells.note_each(&self.connections.messages());
         'slots: for slot in 0..SLOTS {
             self.plan_for(slot);
         }
@@ -220,7 +220,7 @@ impl<
         ensures same { self.new.connections ≡ self.old.connections }
         ensures bells { self.new.bells ≡ self.old.bells }
     {
-        let (is_rung, is_called) = self.outfit.take(slot);
+        let (is_rung, is_called) = self.own_bells.take(slot);
         let has_changed = self.connections.take_changed(slot);
         let plan = self.plan_of(slot, is_rung || has_changed, is_called);
         if let Some(place) = self.sharing.plans.get_mut(slot) {
@@ -238,8 +238,8 @@ impl<
         }
         let load = self.connections.members().load(slot);
         self.tell_load(slot, load, 0);
-        let workers = self.roster.len();
-        let waiting = self.roster.hints().waiting(workers, slot);
+        let workers = self.mailboxes.len();
+        let waiting = self.mailboxes.hints().waiting(workers, slot);
         if waiting == 0 {
             return Plan::NONE;
         }
@@ -271,10 +271,10 @@ impl<
         ensures same { self.new.connections ≡ self.old.connections }
         ensures bells { self.new.bells ≡ self.old.bells }
     {
-        let workers = self.roster.len();
+        let workers = self.mailboxes.len();
         for worker in 0..workers.min(MOST_WORKERS) {
             if worker != self.number {
-                let (load, average) = self.roster.hints().load(worker, slot);
+                let (load, average) = self.mailboxes.hints().load(worker, slot);
                 self.sharing.others[worker] = load;
                 self.sharing.theirs[worker] = average;
             }
@@ -288,7 +288,7 @@ impl<
     /// Tells the others of a group: of its members, and what it brought and handed out, with so many that it is about to hand out.
     fn tell_load(&self, slot: usize, load: Load, share: u32) {
         let tally = self.connections.tally(slot);
-        self.roster.hints().tell(
+        self.mailboxes.hints().tell(
             self.number,
             slot,
             Hint {
@@ -303,11 +303,11 @@ impl<
     /// Tells the others of the messages of each group that are more than its share: it rings for as many workers, for those first whose members have the fewest. The
     /// others it keeps, since it goes on to hand them out.
     pub(crate) fn tell_beyond(&mut self)
-        ensures rung { (most others : List ℕ) × KeepsAtMost most others (wakes_of self.old.connections) (wakes_of self.new.connections) × AreRung 0 others self.old.bells.hands self.new.bells.hands }
+        ensures rung { (most others : List ℕ) × KeepsAtMost most others (wakes_of self.old.connections) (wakes_of self.new.connections) × AreRung 0 others self.old.bells.ringings self.new.bells.ringings }
         ensures same { self.new.connections ≡ with_wakes self.old.connections (wakes_of self.new.connections) }
     {
         let others = self.connections.keep(&self.sharing.shares());
-        self.outfit.ring_each(&others, &self.sharing.fewest());
+        self.own_bells.ring_each(&others, &self.sharing.fewest());
     }
 
     /// Hands its share of each group to its own members. Where this worker was called, and handed out none, it rings for another one.
@@ -318,7 +318,7 @@ impl<
             let plan = self.sharing.plans[slot];
             let handed = self.hand_out_of(slot, plan, buffer);
             if plan.is_called && handed == 0 {
-                self.outfit.ring(slot, 1, plan.fewest);
+                self.own_bells.ring(slot, 1, plan.fewest);
             }
         }
     }

@@ -13,7 +13,7 @@ use call_history::HistoryName;
 use shared_supply::AskedBack;
 use std::sync::Wait;
 use transport::{Clock, Crossing, Transport};
-use worker_bells::{Roster, SLOTS};
+use worker_bells::{Mailboxes, SLOTS};
 use worker_connections::Poller;
 
 impl<
@@ -32,14 +32,14 @@ impl<
     /// session concerns.
     pub(crate) fn tell(&mut self)
         ensures told { self.new.connections ≡ with_wakes self.old.connections no_wakes }
-        ensures rung { AreRung 0 (wakes_of self.old.connections).messages self.old.bells.hands self.new.bells.hands }
+        ensures rung { AreRung 0 (wakes_of self.old.connections).messages self.old.bells.ringings self.new.bells.ringings }
     {
         let waits = self.connections.members().has_waiting();
-        tell_whether_waiting(&mut self.waits, waits, self.roster, self.number);
+        tell_whether_waiting(&mut self.waits, waits, self.mailboxes, self.number);
         let wakes = self.connections.take_wakes();
-        self.outfit.note_each(&wakes.messages);
-        self.outfit.ring_each(&wakes.messages, &[0; SLOTS]);
-        call(self.roster, wakes.asked_back, wakes.has_freed_session);
+        self.own_bells.note_each(&wakes.messages);
+        self.own_bells.ring_each(&wakes.messages, &[0; SLOTS]);
+        call(self.mailboxes, wakes.asked_back, wakes.has_freed_session);
     }
 
     /// Hears where others called it while it was idle, and counts each call.
@@ -47,20 +47,20 @@ impl<
         ensures { HearsCalls self.old self.new }
     {
         'slots: for slot in 0..SLOTS {
-            let heard = self.outfit.hear(slot);
+            let heard = self.own_bells.hear(slot);
             self.connections.count_call_if(slot, heard);
         }
     }
 
     /// For how many milliseconds the next turn may wait. The worker is idle at the bells of the groups of which it has members that would be handed a job.
-    pub(crate) fn outlook(&mut self) -> u64
+    pub(crate) fn next_wait(&mut self) -> u64
         requires in_time { IsInTime self.old.connections.sweeps }
         requires told { wakes_of self.old.connections ≡ no_wakes }
         ensures same { self.new.connections ≡ self.old.connections }
         ensures rests { MayWait result self.new }
         ensures ticked { AreTicked self.new.connections.sweeps.latest self.new.connections.cells }
     {
-        let settled = self.outfit.settle(self.connections.members());
+        let settled = self.own_bells.settle(self.connections.members());
         let left = self.left();
         if !settled || self.due.any() {
             return 0;
@@ -83,21 +83,26 @@ impl<
 }
 
 /// Calls whom it concerns that sessions were asked back, and that one is free.
-fn call<W: Wake>(roster: &Roster<W>, asked_back: AskedBack, has_freed_session: bool) {
+fn call<W: Wake>(mailboxes: &Mailboxes<W>, asked_back: AskedBack, has_freed_session: bool) {
     match asked_back {
         AskedBack::Nobody => {}
-        AskedBack::One(connection) => roster.call_all_due(roster.worker_of(connection)),
-        AskedBack::Several => roster.call_everybody(),
+        AskedBack::One(connection) => mailboxes.call_all_due(mailboxes.worker_of(connection)),
+        AskedBack::Several => mailboxes.call_everybody(),
     }
     if has_freed_session {
-        roster.call_waiting();
+        mailboxes.call_waiting();
     }
 }
 
 /// Tells the others whether a connection of this worker waits for a session, where that has changed since it told so.
-fn tell_whether_waiting<W: Wake>(told: &mut bool, waits: bool, roster: &Roster<W>, number: usize) {
+fn tell_whether_waiting<W: Wake>(
+    told: &mut bool,
+    waits: bool,
+    mailboxes: &Mailboxes<W>,
+    number: usize,
+) {
     if waits != *told {
         *told = waits;
-        roster.note_waiting(number, waits);
+        mailboxes.note_waiting(number, waits);
     }
 }

@@ -8,21 +8,20 @@ ghost use Rattle.shared_supply.specs.Waking.{no_wakes};
 ghost use Rattle.broker_worker.specs.Resting.{MayWait};
 ghost use Rattle.worker_connections.specs.Sweeping.{AreTicked, IsInTime};
 
-use crate::kit::Kit;
 use crate::marks::Marks;
 use crate::sharing::Sharing;
+use crate::worker_parts::WorkerParts;
 use bell::Wake;
 use broker_groups::{Broker, BrokerPlace};
 use call_history::HistoryName;
 use conn_supply::NoMemory;
-use service_table::ServiceTable;
-use shared_supply::{Hall, SharedSupply};
+use shared_supply::{SharedBroker, SharedSupply};
 use std::alloc::Global;
 use std::marker::Model;
 use std::sync::Wait;
 use transport::{Clock, Crossing, Transport};
-use worker_bells::{MOST_CONNECTIONS, Outfit, Roster};
-use worker_connections::{Came, Connections, Hand, Poller, Returned};
+use worker_bells::{MOST_CONNECTIONS, Mailboxes, WorkerBells};
+use worker_connections::{Admission, Connections, Poller, Returned, WorkerHandle};
 
 /// How many bytes a round reads at most.
 pub(crate) const READ_SIZE: usize = 4_096;
@@ -47,8 +46,8 @@ pub struct Worker<
 > {
     pub(crate) number: usize,
     pub(crate) connections: Connections<'a, 'g, B, N, T, Q, R>,
-    pub(crate) outfit: Outfit<W>,
-    pub(crate) roster: &'a Roster<W>,
+    pub(crate) own_bells: WorkerBells<W>,
+    pub(crate) mailboxes: &'a Mailboxes<W>,
     pub(crate) crossing: &'a X,
     pub(crate) clock: C,
     pub(crate) due: Marks,
@@ -65,7 +64,7 @@ impl<'a, 'g, B: Broker, N: HistoryName, T: Transport + Drop, Q: Poller<T>, W, X,
 
     ghost Value = { WorkerState T };
 
-    ghost view = { λ w. record { connections = w.connections; bells = w.outfit } };
+    ghost view = { λ w. record { connections = w.connections; bells = w.own_bells } };
 }
 
 impl<
@@ -80,48 +79,56 @@ impl<
     C: Clock + Drop,
     R: Wait,
 > Worker<'a, 'g, B, N, T, Q, W, X, C, R> {
-    /// A worker that has no connection yet. It receives through the channel of its kit, and publishes through the ports of its hand, through which nothing was published.
+    /// A worker that has no connection yet. It receives through the channel of its parts, and publishes through the ports of its handle, through which nothing was published.
     ///
     /// # Errors
     ///
-    /// What it was to have of the broker, where memory is wanted.
+    /// What it was to have of the broker, where an allocation fails.
     pub fn begin(
         rt: &'a R,
         alloc: Global,
-        hall: &'a Hall<'g, B, N>,
-        hand: Hand<B>,
-        kit: Kit<T, Q, W, C>,
-        roster: &'a Roster<W>,
+        shared_broker: &'a SharedBroker<'g, B, N>,
+        handle: WorkerHandle<B>,
+        worker_parts: WorkerParts<T, Q, W, C>,
+        mailboxes: &'a Mailboxes<W>,
         crossing: &'a X,
-    ) -> Result<Worker<'a, 'g, B, N, T, Q, W, X, C, R>, Hand<B>>
-        requires received { kit.received ≡ [] }
-        requires unsent { AreUnsent hand.ports }
-        ensures fresh { IfOk result (λ worker. AreFresh kit hand.ports worker.connections) }
-        ensures back { IfErr result (λ back. back ≡ hand) }
+    ) -> Result<Worker<'a, 'g, B, N, T, Q, W, X, C, R>, WorkerHandle<B>>
+        requires received { worker_parts.received ≡ [] }
+        requires unsent { AreUnsent handle.ports }
+        ensures fresh { IfOk result (λ worker. AreFresh worker_parts handle.ports worker.connections) }
+        ensures back { IfErr result (λ back. back ≡ handle) }
     {
-        let Ok(known) = hall.know_routes(alloc) else {
-            drop(kit);
-            return Err(hand);
+        let Ok(known) = shared_broker.observe_routes(alloc) else {
+            drop(worker_parts);
+            return Err(handle);
         };
-        let Ok(table) = table_of::<B, T>(alloc, kit.number, kit.share) else {
-            drop(kit);
+        let Ok(table) = table_of::<B, T>(alloc, worker_parts.number, worker_parts.share) else {
+            drop(worker_parts);
             drop(known);
-            return Err(hand);
+            return Err(handle);
         };
-        let Kit {
+        let WorkerParts {
             number,
             share: _,
-            gear,
+            worker_io,
             receiver,
-            outfit,
+            own_bells,
             due,
             members,
-        } = kit;
-        let Hand { key, ports } = hand;
-        let supply = SharedSupply::new(rt, alloc, hall, key, ports, known);
-        let (poller, clock) = gear.into_parts();
+        } = worker_parts;
+        let WorkerHandle { key, ports } = handle;
+        let supply = SharedSupply::new(rt, alloc, shared_broker, key, ports, known);
+        let (poller, clock) = worker_io.into_parts();
         let connections = Connections::new(receiver, table, supply, members, poller);
-        Ok(Worker::of(number, connections, clock, outfit, due, roster, crossing))
+        Ok(Worker::of(
+            number,
+            connections,
+            clock,
+            own_bells,
+            due,
+            mailboxes,
+            crossing,
+        ))
     }
 
     /// A worker of a number, which has these connections.
@@ -129,9 +136,9 @@ impl<
         number: usize,
         connections: Connections<'a, 'g, B, N, T, Q, R>,
         clock: C,
-        outfit: Outfit<W>,
+        own_bells: WorkerBells<W>,
         due: Marks,
-        roster: &'a Roster<W>,
+        mailboxes: &'a Mailboxes<W>,
         crossing: &'a X,
     ) -> Worker<'a, 'g, B, N, T, Q, W, X, C, R>
         ensures { result.connections ≡ connections.entry }
@@ -139,8 +146,8 @@ impl<
         Worker {
             number,
             connections,
-            outfit,
-            roster,
+            own_bells,
+            mailboxes,
             crossing,
             clock,
             due,
@@ -155,7 +162,7 @@ impl<
         ensures same { StaysOf self.old.connections self.new.connections }
         ensures done { IsDone self.new.connections }
     {
-        self.roster.note_begun();
+        self.mailboxes.note_begun();
         let mut buffer = [0; READ_SIZE];
         let mut pause = 0;
         'turns: for _ in rt.forever() {
@@ -181,7 +188,7 @@ impl<
         self.mark_ready();
         self.hear();
         self.serve(buffer);
-        self.outlook()
+        self.next_wait()
     }
 
     /// Goes on with the connections that are due, or with all of them where a sweep begins.
@@ -230,7 +237,7 @@ impl<
         ensures same { StaysOf self.old.connections self.new.connections }
         ensures begun { self.new.connections.sweeps.begun ≡ self.old.connections.sweeps.begun }
     {
-        if self.closing && self.roster.is_all_received() {
+        if self.closing && self.mailboxes.is_all_received() {
             self.receive(rt);
         }
     }
@@ -240,7 +247,7 @@ impl<
         ensures same { StaysOf self.old.connections self.new.connections }
         ensures begun { self.new.connections.sweeps.begun ≡ self.old.connections.sweeps.begun }
     {
-        let calls = self.roster.take_calls(self.number);
+        let calls = self.mailboxes.take_calls(self.number);
         'invited: for _ in 0..calls.invited {
             self.receive(rt);
         }
@@ -258,7 +265,7 @@ impl<
         ensures begun { self.new.connections.sweeps.begun ≡ self.old.connections.sweeps.begun }
     {
         let came = self.connections.receive(rt);
-        note_came(&mut self.due, self.roster, self.number, came);
+        note_came(&mut self.due, self.mailboxes, self.number, came);
     }
 
     /// What it had of the broker and knows of its desk, its end of the channel, how its connections ended, and where it waited: these are what its run has come to. Any
@@ -269,14 +276,14 @@ impl<
         ensures counted { live self.entry.connections ≡ 0 → AreCounted (length self.entry.connections.receiver.received) result.served }
         ensures closed { Q.closed result.poller ≡ self.entry.connections.closed }
         ensures ran { HasRunTo B.group B.Seen.Witness T.counts T.given T.accepted (run_of self.entry.connections) }
-        ensures ports { live self.entry.connections ≡ 0 → result.hand.ports ≡ self.entry.connections.supply.ports }
+        ensures ports { live self.entry.connections ≡ 0 → result.handle.ports ≡ self.entry.connections.supply.ports }
         ensures desk { live self.entry.connections ≡ 0 → result.pass ≡ self.entry.connections.supply.desk }
     {
         let Worker {
             number: _,
             connections,
-            outfit,
-            roster: _,
+            own_bells,
+            mailboxes: _,
             crossing: _,
             clock,
             due,
@@ -284,7 +291,7 @@ impl<
             waits: _,
             sharing: _,
         } = self;
-        drop(outfit);
+        drop(own_bells);
         drop(clock);
         drop(due);
         connections.into_parts()
@@ -292,17 +299,17 @@ impl<
 }
 
 /// Notes what came through the channel: a connection that is open is due, and one that was not opened has left the worker.
-fn note_came<W: Wake>(due: &mut Marks, roster: &Roster<W>, number: usize, came: Came) {
+fn note_came<W: Wake>(due: &mut Marks, mailboxes: &Mailboxes<W>, number: usize, came: Admission) {
     match came {
-        Came::Opened(cell) => {
-            roster.note_received();
+        Admission::Opened(cell) => {
+            mailboxes.note_received();
             due.mark(cell);
         }
-        Came::Refused => {
-            roster.note_received();
-            roster.leave(number);
+        Admission::Refused => {
+            mailboxes.note_received();
+            mailboxes.leave(number);
         }
-        Came::EndMark | Came::Nothing => {}
+        Admission::EndMark | Admission::Nothing => {}
     }
 }
 

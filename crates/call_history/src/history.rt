@@ -160,12 +160,12 @@ impl<E, N: HistoryName> Known<E, N> {
     }
 
     /// Takes in another: the longer of two beginnings, which the other begins.
-    pub fn meet(&mut self, history: &CallHistory<E, N>, other: Known<E, N>)
+    pub fn agree(&mut self, history: &CallHistory<E, N>, other: Known<E, N>)
         ensures one { (self.new ≡ self.old) ⊎ (self.new ≡ other) }
         ensures mine { IsPrefix self.old self.new }
         ensures others { IsPrefix other self.new }
     {
         let Known { pass, of: _ } = other;
-        word::meet(&history.word, &mut self.pass, pass);
+        word::agree(&history.word, &mut self.pass, pass);
     }
 }

@@ -124,7 +124,7 @@ pub fn tell<E>(word: &Word<E>, pass: &mut Pass<E>) -> Pass<E>
 }
 
 /// A pass takes in another: it knows the longer of what both knew, which the other begins.
-pub fn meet<E>(word: &Word<E>, pass: &mut Pass<E>, other: Pass<E>)
+pub fn agree<E>(word: &Word<E>, pass: &mut Pass<E>, other: Pass<E>)
     requires word { IsPassOf word.now.shared.table_id pass.old.table_id }
     requires other { (other.table_id ≡ word.now.shared.table_id) × (other.me.1 ≡ []) }
     ensures same { pass.new.table_id ≡ pass.old.table_id }

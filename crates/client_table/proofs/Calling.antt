@@ -5,7 +5,7 @@ use Rattle.std.proofs.lemmas.List.Elements.{filter_map-append}
 use Rattle.group_jobs.specs.declared.message.Message.{Message}
 use Rattle.group_jobs.specs.Stamps.{Held}
 use Rattle.conn_supply.specs.declared.supply.NoMemory.{NoMemory}
-use Rattle.conn_supply.specs.Facts.{Fact}
+use Rattle.conn_supply.specs.SupplyCalls.{SupplyCall}
 use Rattle.conn_engine.specs.declared.input.Input.{Input}
 use Rattle.conn_engine.specs.declared.input.Input.TheVariants as inputs
 use Rattle.conn_laws.specs.Calls.{hand_out_of, handed, messages_of, fresh_messages, CallsLead}
@@ -13,16 +13,16 @@ use Rattle.conn_laws.proofs.Calling.{joins}
 use Rattle.conn_laws.proofs.Stepping.{stepped}
 use Rattle.conn_laws.proofs.Failing.{failed}
 use Rattle.client_table.specs.Cells.{Receives, TicksFor, EndsFor, Abandons, AbandonsAll, AbandonsEach}
-use Rattle.client_table.specs.Clients.{ClientState, moment_of, Said, Moves, FailsToMove, IsGivenUp}
-use Rattle.client_table.specs.Deliveries.{fresh_said, Delivers}
+use Rattle.client_table.specs.Clients.{ClientState, moment_of, StepOutput, ClientSteps, ClientFailsToStep, IsGivenUp}
+use Rattle.client_table.specs.Deliveries.{fresh_sent, Delivers}
 use Rattle.client_table.specs.Streams.{fed, Reads, FailsToReadOne, FailsToRead, Ticks, FailsToTick}
 
-pub fresh_said-append : (said more : List Said) → fresh_said (said ++ more) ≡ fresh_said said ++ fresh_said more
-fresh_said-append [] more = refl
-fresh_said-append (first ∷ others) more =
-    ap (λ (later : List Message). fresh_messages first.packets ++ later) (fresh_said-append others more) ∙ sym (append_assoc (fresh_messages first.packets) (fresh_said others) (fresh_said more))
+pub fresh_sent-append : (said more : List StepOutput) → fresh_sent (said ++ more) ≡ fresh_sent said ++ fresh_sent more
+fresh_sent-append [] more = refl
+fresh_sent-append (first ∷ others) more =
+    ap (λ (later : List Message). fresh_messages first.packets ++ later) (fresh_sent-append others more) ∙ sym (append_assoc (fresh_messages first.packets) (fresh_sent others) (fresh_sent more))
 
-module _ {S P : Type 0} (call : S → Fact P → S → Type 0) (slot_of : P → ℕ) where
+module _ {S P : Type 0} (call : S → SupplyCall P → S → Type 0) (slot_of : P → ℕ) where
   none : (old new : S) → new ≡ old → CallsLead call old new
   none old new same = ([], same)
 
@@ -31,37 +31,37 @@ module _ {S P : Type 0} (call : S → Fact P → S → Type 0) (slot_of : P → 
 
   -- nothing was done, and nothing said
   none_told : (old new : S) → new ≡ old → Delivers call old [] new
-  none_told old new same = record { facts = []; made = same; told = refl }
+  none_told old new same = record { supply_calls = []; made = same; told = refl }
 
-  behind_told : (old mid new : S) (said more : List Said) → Delivers call old said mid → Delivers call mid more new → Delivers call old (said ++ more) new
+  behind_told : (old mid new : S) (said more : List StepOutput) → Delivers call old said mid → Delivers call mid more new → Delivers call old (said ++ more) new
   behind_told old mid new said more these those =
       record {
-        facts = these.facts ++ those.facts;
-        made = joins call these.facts those.facts old mid new these.made those.made;
+        supply_calls = these.supply_calls ++ those.supply_calls;
+        made = joins call these.supply_calls those.supply_calls old mid new these.made those.made;
         told =
-            fresh_said-append said more ∙ (λ i. these.told i ++ those.told i)
-            ∙ sym (ap messages_of (filter_map-append hand_out_of these.facts those.facts) ∙ map-append (λ (h : P × Held). h.1.message) (handed these.facts) (handed those.facts));
+            fresh_sent-append said more ∙ (λ i. these.told i ++ those.told i)
+            ∙ sym (ap messages_of (filter_map-append hand_out_of these.supply_calls those.supply_calls) ∙ map-append (λ (h : P × Held). h.1.message) (handed these.supply_calls) (handed those.supply_calls));
       }
 
-  leads : (old new : S) (said : List Said) → Delivers call old said new → CallsLead call old new
-  leads old new said calls = (calls.facts, calls.made)
+  leads : (old new : S) (said : List StepOutput) → Delivers call old said new → CallsLead call old new
+  leads old new said calls = (calls.supply_calls, calls.made)
 
-  pub moves : (old new : S) (client after : ClientState P) (now : ℕ) (input : Input) (said : Said) → Moves call slot_of old client now input said after new
+  pub moves : (old new : S) (client after : ClientState P) (now : ℕ) (input : Input) (said : StepOutput) → ClientSteps call slot_of old client now input said after new
       → Delivers call old (said ∷ []) new
   moves old new client after now input said moved =
-      let calls = stepped call slot_of old new client.conn.number (moment_of client now) client.conn.standing after.conn.standing input said.packets said.next moved.stepped in
-      record { facts = calls.facts; made = calls.made; told = append-nil (fresh_messages said.packets) ∙ calls.hands }
+      let calls = stepped call slot_of old new client.conn.number (moment_of client now) client.conn.phase after.conn.phase input said.packets said.next moved.stepped in
+      record { supply_calls = calls.supply_calls; made = calls.made; told = append-nil (fresh_messages said.packets) ∙ calls.hands }
 
-  fails_to_move : (old new : S) (client after : ClientState P) (now : ℕ) (input : Input) → FailsToMove call slot_of old client now input after new → CallsLead call old new
+  fails_to_move : (old new : S) (client after : ClientState P) (now : ℕ) (input : Input) → ClientFailsToStep call slot_of old client now input after new → CallsLead call old new
   fails_to_move old new client after now input fails =
-      let calls = failed call slot_of old new client.conn.number (moment_of client now) client.conn.standing input fails.failed in
-      (calls.facts, calls.made)
+      let calls = failed call slot_of old new client.conn.number (moment_of client now) client.conn.phase input fails.failed in
+      (calls.supply_calls, calls.made)
 
   pub given_up : (old new : S) (client after : ClientState P) (now : ℕ) (input : Input) → IsGivenUp call slot_of old client now input after new → CallsLead call old new
   given_up old new client after now input (inl moved) = leads old new _ (moves old new client after now input moved.0 moved.1)
   given_up old new client after now input (inr fails) = fails_to_move old new client after now input fails
 
-  pub reads : (said : List Said) (old new : S) (client after : ClientState P) (now : ℕ) → Reads call slot_of old client now said after new → Delivers call old said new
+  pub reads : (said : List StepOutput) (old new : S) (client after : ClientState P) (now : ℕ) → Reads call slot_of old client now said after new → Delivers call old said new
   reads [] old new client after now read = none_told old new read.2
   reads (said ∷ rest) old new client after now (inl last) =
       subst (λ more. Delivers call old (said ∷ more) new) (sym last.1) (moves old new client after now last.0.input said last.0.moved)
@@ -72,12 +72,12 @@ module _ {S P : Type 0} (call : S → Fact P → S → Type 0) (slot_of : P → 
   fails_to_read_one old new client after now (inl given) = given_up old new client after now inputs.EndOfInput given
   fails_to_read_one old new client after now (inr fails) = fails_to_move old new client after now fails.0 fails.2
 
-  pub fails_to_read : (said : List Said) (old new : S) (client after : ClientState P) (now : ℕ) → FailsToRead call slot_of old client now said after new → CallsLead call old new
+  pub fails_to_read : (said : List StepOutput) (old new : S) (client after : ClientState P) (now : ℕ) → FailsToRead call slot_of old client now said after new → CallsLead call old new
   fails_to_read [] old new client after now fails = fails_to_read_one old new client after now fails
   fails_to_read (said ∷ rest) old new client after now fails =
       behind old fails.1 new (leads old fails.1 _ (moves old fails.1 client fails.0 now _ said fails.2.moved)) (fails_to_read rest fails.1 new fails.0 after now fails.3)
 
-  pub ticks : (said : List Said) (old new : S) (client after : ClientState P) (now : ℕ) → Ticks call slot_of old client now said after new → Delivers call old said new
+  pub ticks : (said : List StepOutput) (old new : S) (client after : ClientState P) (now : ℕ) → Ticks call slot_of old client now said after new → Delivers call old said new
   ticks [] old new client after now ticked = absurd ticked
   ticks (said ∷ rest) old new client after now (inl last) =
       subst (λ more. Delivers call old (said ∷ more) new) (sym last.2) (moves old new client after now inputs.Tick said last.0)
@@ -88,29 +88,29 @@ module _ {S P : Type 0} (call : S → Fact P → S → Type 0) (slot_of : P → 
   fails_at_tick old new client after now (inl given) = given_up old new client after now inputs.EndOfInput given
   fails_at_tick old new client after now (inr fails) = fails_to_move old new client after now inputs.Tick fails
 
-  pub fails_to_tick : (said : List Said) (old new : S) (client after : ClientState P) (now : ℕ) → FailsToTick call slot_of old client now said after new → CallsLead call old new
+  pub fails_to_tick : (said : List StepOutput) (old new : S) (client after : ClientState P) (now : ℕ) → FailsToTick call slot_of old client now said after new → CallsLead call old new
   fails_to_tick [] old new client after now fails = fails_at_tick old new client after now fails
   fails_to_tick (said ∷ rest) old new client after now fails =
       behind old fails.1 new (leads old fails.1 _ (moves old fails.1 client fails.0 now inputs.Tick said fails.2)) (fails_to_read rest fails.1 new fails.0 after now fails.4)
 
   -- what happens to the client in a cell
-  pub receives_told : (before : Option (ClientState P)) (old new : S) (now : ℕ) (piece : List ℕ) (more : List Said) (after : Option (ClientState P))
+  pub receives_told : (before : Option (ClientState P)) (old new : S) (now : ℕ) (piece : List ℕ) (more : List StepOutput) (after : Option (ClientState P))
       → Receives call slot_of old before now piece more (Ok tt) after new → Delivers call old more new
   receives_told None old new now piece more after does = subst (λ said. Delivers call old said new) (sym does.0) (none_told old new does.2)
   receives_told (Some client) old new now piece more after does = reads more old new (fed client piece) does.0 now does.1
 
-  pub ticks_told : (before : Option (ClientState P)) (old new : S) (now : ℕ) (more : List Said) (after : Option (ClientState P))
+  pub ticks_told : (before : Option (ClientState P)) (old new : S) (now : ℕ) (more : List StepOutput) (after : Option (ClientState P))
       → TicksFor call slot_of old before now more (Ok tt) after new → Delivers call old more new
   ticks_told None old new now more after does = subst (λ said. Delivers call old said new) (sym does.0) (none_told old new does.2)
   ticks_told (Some client) old new now more after does = ticks more old new client does.0 now does.1
 
-  pub ends_told : (before : Option (ClientState P)) (old new : S) (now : ℕ) (input : Input) (more : List Said) (after : Option (ClientState P))
+  pub ends_told : (before : Option (ClientState P)) (old new : S) (now : ℕ) (input : Input) (more : List StepOutput) (after : Option (ClientState P))
       → EndsFor call slot_of old before now input more (Ok tt) after new → Delivers call old more new
   ends_told None old new now input more after does = subst (λ said. Delivers call old said new) (sym does.0) (none_told old new does.2)
   ends_told (Some client) old new now input more after does =
       subst (λ said. Delivers call old said new) (sym does.1.1) (moves old new client does.0 now input does.1.0 does.1.2)
 
-  pub receives : (result : Result (Unit {0}) NoMemory) (before : Option (ClientState P)) (old new : S) (now : ℕ) (piece : List ℕ) (more : List Said) (after : Option (ClientState P))
+  pub receives : (result : Result (Unit {0}) NoMemory) (before : Option (ClientState P)) (old new : S) (now : ℕ) (piece : List ℕ) (more : List StepOutput) (after : Option (ClientState P))
       → Receives call slot_of old before now piece more result after new → CallsLead call old new
   receives (Ok done) before old new now piece more after does = leads old new more (receives_told before old new now piece more after does)
   receives (Err error) None old new now piece more after does = absurd does
@@ -120,13 +120,13 @@ module _ {S P : Type 0} (call : S → Fact P → S → Type 0) (slot_of : P → 
       (λ (fails : FailsToRead call slot_of old (fed client piece) now more does.0 new). fails_to_read more old new (fed client piece) does.0 now fails)
       does.1
 
-  pub ticks_for : (result : Result (Unit {0}) NoMemory) (before : Option (ClientState P)) (old new : S) (now : ℕ) (more : List Said) (after : Option (ClientState P))
+  pub ticks_for : (result : Result (Unit {0}) NoMemory) (before : Option (ClientState P)) (old new : S) (now : ℕ) (more : List StepOutput) (after : Option (ClientState P))
       → TicksFor call slot_of old before now more result after new → CallsLead call old new
   ticks_for (Ok done) before old new now more after does = leads old new more (ticks_told before old new now more after does)
   ticks_for (Err error) None old new now more after does = absurd does
   ticks_for (Err error) (Some client) old new now more after does = fails_to_tick more old new client does.0 now does.1
 
-  pub ends_for : (result : Result (Unit {0}) NoMemory) (before : Option (ClientState P)) (old new : S) (now : ℕ) (input : Input) (more : List Said) (after : Option (ClientState P))
+  pub ends_for : (result : Result (Unit {0}) NoMemory) (before : Option (ClientState P)) (old new : S) (now : ℕ) (input : Input) (more : List StepOutput) (after : Option (ClientState P))
       → EndsFor call slot_of old before now input more result after new → CallsLead call old new
   ends_for (Ok done) before old new now input more after does = leads old new more (ends_told before old new now input more after does)
   ends_for (Err error) None old new now input more after does = absurd does

@@ -1,11 +1,11 @@
 -- Whether a connection waits.
-use Rattle.conn_engine.specs.declared.standing.Standing.{Standing}
-use Rattle.conn_engine.specs.declared.standing.Standing.TheVariants.{Unconnected, Waiting, Connected, Ended}
-use Rattle.conn_engine.specs.Standings.{IsWaiting}
+use Rattle.conn_engine.specs.declared.phase.ConnPhase.{ConnPhase}
+use Rattle.conn_engine.specs.declared.phase.ConnPhase.TheVariants.{Unconnected, Waiting, Connected, Ended}
+use Rattle.conn_engine.specs.Phases.{IsWaiting}
 
 -- a connection of which it is not so that it does not wait, waits
-pub waits : {P : Type 0} (standing : Standing P) → ((IsWaiting standing → ⊥) → ⊥) → IsWaiting standing
+pub waits : {P : Type 0} (phase : ConnPhase P) → ((IsWaiting phase → ⊥) → ⊥) → IsWaiting phase
 waits (Unconnected opened) h = h (λ never. never)
 waits (Waiting request ticks) h = tt
-waits (Connected link) h = h (λ never. never)
+waits (Connected connected) h = h (λ never. never)
 waits Ended h = h (λ never. never)

@@ -1,17 +1,17 @@
 -- What is said to clients, and what was handed out for it.
 use Rattle.std.specs.Prelude.{◌≡◌, List, [], ◌∷◌, ◌++◌}
 use Rattle.group_jobs.specs.declared.message.Message.{Message}
-use Rattle.conn_supply.specs.Facts.{Fact}
+use Rattle.conn_supply.specs.SupplyCalls.{SupplyCall}
 use Rattle.conn_laws.specs.Calls.{handed, messages_of, fresh_messages, MakesAll}
-use Rattle.client_table.specs.Clients.{Said}
+use Rattle.client_table.specs.Clients.{StepOutput}
 
 -- the messages that come to clients for the first time, in the order in which they are said
-abbrev pub fresh_said : List Said → List Message
-fresh_said [] = []
-fresh_said (said ∷ others) = fresh_messages said.packets ++ fresh_said others
+abbrev pub fresh_sent : List StepOutput → List Message
+fresh_sent [] = []
+fresh_sent (said ∷ others) = fresh_messages said.packets ++ fresh_sent others
 
 -- calls led from the one to the other, and what they handed out is what was said for the first time
-pub record Delivers {S P : Type 0} (call : S → Fact P → S → Type 0) (old : S) (said : List Said) (new : S) : Type 0 where
-  pub facts : List (Fact P)
-  pub made : MakesAll call old facts new
-  pub told : fresh_said said ≡ messages_of (handed facts)
+pub record Delivers {S P : Type 0} (call : S → SupplyCall P → S → Type 0) (old : S) (said : List StepOutput) (new : S) : Type 0 where
+  pub supply_calls : List (SupplyCall P)
+  pub made : MakesAll call old supply_calls new
+  pub told : fresh_sent said ≡ messages_of (handed supply_calls)

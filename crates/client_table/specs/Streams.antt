@@ -5,21 +5,21 @@ use Rattle.mqtt_fields.specs.declared.fault.StreamFault.{StreamFault}
 use Rattle.mqtt_wire.specs.Stream.{Unread, Takes, Stops, IsOpen}
 use Rattle.conn_supply.specs.declared.reply.Then.{Then}
 use Rattle.conn_supply.specs.declared.reply.Then.TheVariants.{Go, Close, Kicked}
-use Rattle.conn_supply.specs.Facts.{Fact}
+use Rattle.conn_supply.specs.SupplyCalls.{SupplyCall}
 use Rattle.conn_supply.specs.declared.supply.NoMemory.{NoMemory}
 use Rattle.conn_engine.specs.declared.input.Input.{Input}
 use Rattle.conn_engine.specs.declared.input.Input.TheVariants as inputs
-use Rattle.conn_engine.specs.Standings.{IsWaiting}
+use Rattle.conn_engine.specs.Phases.{IsWaiting}
 use Rattle.client_table.specs.declared.client.reading.Reading.{Reading}
 use Rattle.client_table.specs.declared.client.reading.Reading.TheVariants as readings
-use Rattle.client_table.specs.Clients.{ClientState, Said, Moves, FailsToMove, IsGivenUp}
+use Rattle.client_table.specs.Clients.{ClientState, StepOutput, ClientSteps, ClientFailsToStep, IsGivenUp}
 
--- a further piece of a stream: behind a fault nothing is read
+-- a further piece of a stream: after a fault nothing is read
 abbrev pub longer : Option StreamFault → List ℕ → List ℕ → Unread
 longer None bytes piece = record { bytes = bytes ++ piece; fault = None }
 longer (Some fault) bytes piece = record { bytes = bytes; fault = Some fault }
 
--- the same client, behind a further piece of its stream
+-- the same client, after a further piece of its stream
 abbrev pub fed : {P : Type 0} → ClientState P → List ℕ → ClientState P
 fed client piece = record { conn = client.conn; unread = longer client.unread.fault client.unread.bytes piece }
 
@@ -29,7 +29,7 @@ HasNothingWhole unread = (unread.fault ≡ None) × IsOpen unread.bytes
 
 -- nothing is to be read: the connection waits for a session, or no whole packet and no fault stands in front
 abbrev pub IsRead : {P : Type 0} → ClientState P → Type 0
-IsRead client = IsWaiting client.conn.standing ⊎ HasNothingWhole client.unread
+IsRead client = IsWaiting client.conn.phase ⊎ HasNothingWhole client.unread
 
 -- the packet, or the fault, that stands in front of a stream
 abbrev pub IsInFront : Unread → Input → Unread → Type 0
@@ -39,7 +39,7 @@ IsInFront unread inputs.Tick unread' = ⊥
 IsInFront unread inputs.EndOfInput unread' = ⊥
 IsInFront unread inputs.Closing unread' = ⊥
 
--- a fault closes the connection (4.13), and so does a packet behind which it does not go on
+-- a fault closes the connection (4.13), and so does a packet after which it does not go on
 abbrev pub Closes : Input → Then → Type 0
 Closes (inputs.Packet packet) next = next ≢ Go
 Closes (inputs.Fault fault) next = ⊤
@@ -47,68 +47,68 @@ Closes inputs.Tick next = ⊥
 Closes inputs.EndOfInput next = ⊥
 Closes inputs.Closing next = ⊥
 
--- a client goes on behind a packet where its connection does
+-- a client goes on after a packet where its connection does
 abbrev pub reading_behind : Then → Reading
 reading_behind Go = readings.GoesOn
 reading_behind Close = readings.Closed
 reading_behind Kicked = readings.Closed
 
-module _ {S P : Type 0} (call : S → Fact P → S → Type 0) (slot_of : P → ℕ) where
+module _ {S P : Type 0} (call : S → SupplyCall P → S → Type 0) (slot_of : P → ℕ) where
   -- the packet in front is taken and stepped, and the connection goes on
-  pub record ReadsOne (old : S) (client : ClientState P) (now : ℕ) (said : Said) (client' : ClientState P) (new : S) : Type 0 where
+  pub record ReadsOne (old : S) (client : ClientState P) (now : ℕ) (said : StepOutput) (client' : ClientState P) (new : S) : Type 0 where
     pub packet : Packet
     pub taken : Takes client.unread packet client'.unread
-    pub moved : Moves call slot_of old client now (inputs.Packet packet) said client' new
+    pub moved : ClientSteps call slot_of old client now (inputs.Packet packet) said client' new
     pub goes : said.next ≡ Go
 
   -- what is in front is taken and stepped, and the connection is closed by it
-  pub record ReadsLast (old : S) (client : ClientState P) (now : ℕ) (said : Said) (client' : ClientState P) (new : S) : Type 0 where
+  pub record ReadsLast (old : S) (client : ClientState P) (now : ℕ) (said : StepOutput) (client' : ClientState P) (new : S) : Type 0 where
     pub input : Input
     pub front : IsInFront client.unread input client'.unread
-    pub moved : Moves call slot_of old client now input said client' new
+    pub moved : ClientSteps call slot_of old client now input said client' new
     pub closes : Closes input said.next
 
   -- all that is whole is read at one moment, each packet stepped before the next one is read: until the connection closes or waits, or
   -- nothing whole stands in front. What each step wrote, in their order
-  abbrev pub Reads : S → ClientState P → ℕ → List Said → ClientState P → S → Type 0
+  abbrev pub Reads : S → ClientState P → ℕ → List StepOutput → ClientState P → S → Type 0
   Reads old client now [] client' new = IsRead client × (client' ≡ client) × (new ≡ old)
   Reads old client now (said ∷ rest) client' new =
       (ReadsLast old client now said client' new × (rest ≡ []))
       ⊎ ((between : ClientState P) × (mid : S) × ReadsOne old client now said between mid × Reads mid between now rest client' new)
 
-  -- memory was wanted for the next step: the connection has ended
+  -- an allocation failed for the next step: the connection has ended
   abbrev pub FailsToReadOne : S → ClientState P → ℕ → ClientState P → S → Type 0
   FailsToReadOne old client now client' new =
       IsGivenUp call slot_of old client now inputs.EndOfInput client' new
-      ⊎ ((input : Input) × IsInFront client.unread input client'.unread × FailsToMove call slot_of old client now input client' new)
+      ⊎ ((input : Input) × IsInFront client.unread input client'.unread × ClientFailsToStep call slot_of old client now input client' new)
 
-  -- memory was wanted behind so many steps, which are as ever
-  abbrev pub FailsToRead : S → ClientState P → ℕ → List Said → ClientState P → S → Type 0
+  -- an allocation failed after so many steps, which are as ever
+  abbrev pub FailsToRead : S → ClientState P → ℕ → List StepOutput → ClientState P → S → Type 0
   FailsToRead old client now [] client' new = FailsToReadOne old client now client' new
   FailsToRead old client now (said ∷ rest) client' new =
       (between : ClientState P) × (mid : S) × ReadsOne old client now said between mid × FailsToRead mid between now rest client' new
 
-  -- time goes on: behind that is read what came while the connection waited
-  abbrev pub Ticks : S → ClientState P → ℕ → List Said → ClientState P → S → Type 0
+  -- time goes on: after that is read what came while the connection waited
+  abbrev pub Ticks : S → ClientState P → ℕ → List StepOutput → ClientState P → S → Type 0
   Ticks old client now [] client' new = ⊥
   Ticks old client now (said ∷ rest) client' new =
-      (Moves call slot_of old client now inputs.Tick said client' new × (said.next ≢ Go) × (rest ≡ []))
-      ⊎ ((between : ClientState P) × (mid : S) × Moves call slot_of old client now inputs.Tick said between mid × (said.next ≡ Go) × Reads mid between now rest client' new
+      (ClientSteps call slot_of old client now inputs.Tick said client' new × (said.next ≢ Go) × (rest ≡ []))
+      ⊎ ((between : ClientState P) × (mid : S) × ClientSteps call slot_of old client now inputs.Tick said between mid × (said.next ≡ Go) × Reads mid between now rest client' new
       × (between.unread ≡ client.unread))
 
-  abbrev pub FailsToTick : S → ClientState P → ℕ → List Said → ClientState P → S → Type 0
-  FailsToTick old client now [] client' new = IsGivenUp call slot_of old client now inputs.EndOfInput client' new ⊎ FailsToMove call slot_of old client now inputs.Tick client' new
+  abbrev pub FailsToTick : S → ClientState P → ℕ → List StepOutput → ClientState P → S → Type 0
+  FailsToTick old client now [] client' new = IsGivenUp call slot_of old client now inputs.EndOfInput client' new ⊎ ClientFailsToStep call slot_of old client now inputs.Tick client' new
   FailsToTick old client now (said ∷ rest) client' new =
-      (between : ClientState P) × (mid : S) × Moves call slot_of old client now inputs.Tick said between mid × (said.next ≡ Go) × FailsToRead mid between now rest client' new
+      (between : ClientState P) × (mid : S) × ClientSteps call slot_of old client now inputs.Tick said between mid × (said.next ≡ Go) × FailsToRead mid between now rest client' new
       × (between.unread ≡ client.unread)
 
   -- one last step, and what was said before and after; memory may be wanted in it or for it
-  abbrev pub Leaves : S → ClientState P → ℕ → Input → List Said → Result (Unit {0}) NoMemory → List Said → ClientState P → S → Type 0
-  Leaves old client now input before (Ok done) after client' new = (said : Said) × (after ≡ before ++ said ∷ []) × Moves call slot_of old client now input said client' new
+  abbrev pub Leaves : S → ClientState P → ℕ → Input → List StepOutput → Result (Unit {0}) NoMemory → List StepOutput → ClientState P → S → Type 0
+  Leaves old client now input before (Ok done) after client' new = (said : StepOutput) × (after ≡ before ++ said ∷ []) × ClientSteps call slot_of old client now input said client' new
   Leaves old client now input before (Err error) after client' new = (after ≡ before) × IsGivenUp call slot_of old client now input client' new
 
   -- what came of reading once, and what was said before and after
-  abbrev pub ReadsAs : Reading → S → ClientState P → ℕ → List Said → List Said → ClientState P → S → Type 0
+  abbrev pub ReadsAs : Reading → S → ClientState P → ℕ → List StepOutput → List StepOutput → ClientState P → S → Type 0
   ReadsAs readings.Nothing old client now before after client' new = IsRead client × (client' ≡ client) × (new ≡ old) × (after ≡ before)
-  ReadsAs readings.GoesOn old client now before after client' new = (said : Said) × (after ≡ before ++ said ∷ []) × ReadsOne old client now said client' new
-  ReadsAs readings.Closed old client now before after client' new = (said : Said) × (after ≡ before ++ said ∷ []) × ReadsLast old client now said client' new
+  ReadsAs readings.GoesOn old client now before after client' new = (said : StepOutput) × (after ≡ before ++ said ∷ []) × ReadsOne old client now said client' new
+  ReadsAs readings.Closed old client now before after client' new = (said : StepOutput) × (after ≡ before ++ said ∷ []) × ReadsLast old client now said client' new

@@ -1,11 +1,11 @@
 //! The cell of a number, in which a client may be.
 ghost use Rattle.std.specs.Prelude.{◌≡◌, ◌<◌, ◌++◌, List, Some, true};
 ghost use Rattle.conn_engine.specs.declared.input.Input.TheVariants as inputs;
-ghost use Rattle.client_table.specs.Clients.{ClientState, Said as Words};
+ghost use Rattle.client_table.specs.Clients.{ClientState, StepOutput as Output};
 ghost use Rattle.client_table.specs.Cells.{kept, Opens, Receives, TicksFor, EndsFor};
 
 use crate::client::Client;
-use crate::said::Said;
+use crate::step_output::StepOutput;
 use conn_engine::Opening;
 use conn_supply::{HoldingPlace, NoMemory, Supply};
 use std::alloc::Global;
@@ -47,10 +47,10 @@ pub(crate) fn receive<P: HoldingPlace, S: Supply<P>>(
     supply: &mut S,
     now: u64,
     piece: &[u8],
-    said: &mut Vec<Said>,
+    said: &mut Vec<StepOutput>,
 ) -> Result<(), NoMemory>
     requires visiting { S.visiting supply.old ≡ true }
-    ensures received { (more : List Words) × (said.new.items ≡ said.old.items ++ more)
+    ensures received { (more : List Output) × (said.new.items ≡ said.old.items ++ more)
         × Receives S.call P.slot_of supply.old cell.old now piece.now more result cell.new supply.new }
     ensures visiting { S.visiting supply.new ≡ S.visiting supply.old }
 {
@@ -67,10 +67,10 @@ pub(crate) fn tick<P: HoldingPlace, S: Supply<P>>(
     cell: &mut Option<Client<P>>,
     supply: &mut S,
     now: u64,
-    said: &mut Vec<Said>,
+    said: &mut Vec<StepOutput>,
 ) -> Result<(), NoMemory>
     requires visiting { S.visiting supply.old ≡ true }
-    ensures ticked { (more : List Words) × (said.new.items ≡ said.old.items ++ more)
+    ensures ticked { (more : List Output) × (said.new.items ≡ said.old.items ++ more)
         × TicksFor S.call P.slot_of supply.old cell.old now more result cell.new supply.new }
     ensures visiting { S.visiting supply.new ≡ S.visiting supply.old }
 {
@@ -87,9 +87,9 @@ pub(crate) fn end_of_input<P: HoldingPlace, S: Supply<P>>(
     cell: &mut Option<Client<P>>,
     supply: &mut S,
     now: u64,
-    said: &mut Vec<Said>,
+    said: &mut Vec<StepOutput>,
 ) -> Result<(), NoMemory>
-    ensures ended { (more : List Words) × (said.new.items ≡ said.old.items ++ more)
+    ensures ended { (more : List Output) × (said.new.items ≡ said.old.items ++ more)
         × EndsFor S.call P.slot_of supply.old cell.old now inputs.EndOfInput more result cell.new supply.new }
     ensures visiting { S.visiting supply.new ≡ S.visiting supply.old }
 {
@@ -106,9 +106,9 @@ pub(crate) fn closing<P: HoldingPlace, S: Supply<P>>(
     cell: &mut Option<Client<P>>,
     supply: &mut S,
     now: u64,
-    said: &mut Vec<Said>,
+    said: &mut Vec<StepOutput>,
 ) -> Result<(), NoMemory>
-    ensures closed { (more : List Words) × (said.new.items ≡ said.old.items ++ more)
+    ensures closed { (more : List Output) × (said.new.items ≡ said.old.items ++ more)
         × EndsFor S.call P.slot_of supply.old cell.old now inputs.Closing more result cell.new supply.new }
     ensures visiting { S.visiting supply.new ≡ S.visiting supply.old }
 {

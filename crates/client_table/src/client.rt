@@ -1,13 +1,13 @@
 //! A client: its connection, and the stream of its bytes.
 ghost use Rattle.std.specs.Prelude.{◌≡◌, ◌<◌, ◌≤◌, ◌^◌, ◌↔◌, [], ℕ, IsTrue, OnOk, OnErr, MatchOption, MatchResult, true};
 ghost use Rattle.mqtt_wire.specs.Stream.{ReadAnswers};
-ghost use Rattle.conn_supply.specs.Facts.Fact.{Kicked};
+ghost use Rattle.conn_supply.specs.SupplyCalls.SupplyCall.{Kicked};
 ghost use Rattle.conn_engine.specs.Step.{IsNoPacket, IsWanted, NeedsVisit};
 ghost use Rattle.conn_engine.specs.declared.input.Input.{Input as Asked};
 ghost use Rattle.conn_engine.specs.Looking.{IsSilentTooLong, TakesAt, held_by};
-ghost use Rattle.conn_engine.specs.Standings.{IsWaiting};
-ghost use Rattle.conn_engine.specs.declared.standing.Standing.TheVariants as standings;
-ghost use Rattle.client_table.specs.Clients.{ClientState, words, arrived, Moves, FailsToMove, IsGivenUp};
+ghost use Rattle.conn_engine.specs.Phases.{IsWaiting};
+ghost use Rattle.conn_engine.specs.declared.phase.ConnPhase.TheVariants as phases;
+ghost use Rattle.client_table.specs.Clients.{ClientState, step_output, arrived, ClientSteps, ClientFailsToStep, IsGivenUp};
 ghost use Rattle.client_table.specs.Streams.{fed, IsRead, IsInFront, FailsToReadOne};
 
 mod reading;
@@ -52,7 +52,7 @@ impl<P: HoldingPlace> Client<P> {
     /// A client whose connection, of this number, below 1,024, is opened so.
     pub fn open(alloc: Global, number: u16, opening: Opening) -> Client<P>
         requires { number < 1024 }
-        ensures { result ≡ arrived (record { number = number; latest = opening.at; standing = standings.Unconnected opening }) }
+        ensures { result ≡ arrived (record { number = number; latest = opening.at; phase = phases.Unconnected opening }) }
     {
         Client {
             number,
@@ -66,14 +66,14 @@ impl<P: HoldingPlace> Client<P> {
 
     /// Whether its connection has ended.
     pub fn has_ended(&self) -> bool
-        ensures { IsTrue result ↔ (self.now.conn.standing ≡ standings.Ended) }
+        ensures { IsTrue result ↔ (self.now.conn.phase ≡ phases.Ended) }
     {
         self.conn.has_ended()
     }
 
     /// Lets go of a client whose connection has ended.
     pub fn end(self)
-        requires { self.conn.standing ≡ standings.Ended }
+        requires { self.conn.phase ≡ phases.Ended }
     {
         let Client {
             number: _,
@@ -110,7 +110,7 @@ impl<P: HoldingPlace> Client<P> {
     ///
     /// # Errors
     ///
-    /// As there: the reader failed; memory was wanted, and the reader was not asked; or a fault stands in the stream, which is read no more.
+    /// As there: the reader failed; an allocation failed, and the reader was not asked; or a fault stands in the stream, which is read no more.
     /// Nothing has changed then.
     pub fn read_from<R: Read>(&mut self, reader: &mut R) -> Result<usize, ReadFault>
         ensures read { ReadAnswers self.old.unread (R.remaining reader.old) result self.new.unread (R.remaining reader.new) }
@@ -141,7 +141,7 @@ impl<P: HoldingPlace> Client<P> {
             (λ stepped. MatchOption stepped
             ((packets.new.items ≡ []) × IsRead self.old × (self.new ≡ self.old) × (supply.new ≡ supply.old))
             (λ next. (input : Asked) × IsInFront self.old.unread input self.new.unread
-            × Moves S.call P.slot_of supply.old self.old now input (words self.old.conn.number packets.new.items next) self.new supply.new))
+            × ClientSteps S.call P.slot_of supply.old self.old now input (step_output self.old.conn.number packets.new.items next) self.new supply.new))
             (λ _. (packets.new.items ≡ []) × FailsToReadOne S.call P.slot_of supply.old self.old now self.new supply.new) }
         ensures visiting { S.visiting supply.new ≡ S.visiting supply.old }
     {
@@ -187,8 +187,8 @@ impl<P: HoldingPlace> Client<P> {
         requires wanted { IsNoPacket input }
         requires visiting { NeedsVisit input → S.visiting supply.old ≡ true }
         ensures stepped { MatchResult result
-            (λ next. Moves S.call P.slot_of supply.old self.old now input (words self.old.conn.number packets.new.items next) self.new supply.new)
-            (λ _. (packets.new.items ≡ []) × FailsToMove S.call P.slot_of supply.old self.old now input self.new supply.new) }
+            (λ next. ClientSteps S.call P.slot_of supply.old self.old now input (step_output self.old.conn.number packets.new.items next) self.new supply.new)
+            (λ _. (packets.new.items ≡ []) × ClientFailsToStep S.call P.slot_of supply.old self.old now input self.new supply.new) }
         ensures unread { self.new.unread ≡ self.old.unread }
         ensures visiting { S.visiting supply.new ≡ S.visiting supply.old }
     {
@@ -197,7 +197,7 @@ impl<P: HoldingPlace> Client<P> {
 
     /// Whether its connection takes what stands in front of its stream: not while it waits for a session.
     pub fn wants_input(&self) -> bool
-        ensures { IsTrue result ↔ ¬ IsWaiting self.now.conn.standing }
+        ensures { IsTrue result ↔ ¬ IsWaiting self.now.conn.phase }
     {
         self.conn.wants_input()
     }
@@ -205,15 +205,15 @@ impl<P: HoldingPlace> Client<P> {
     /// The moment, in milliseconds, from which a Tick ends the connection for silence: see [`Conn::deadline`].
     pub fn deadline(&self) -> Option<u64>
         ensures { MatchOption result
-            ((now : ℕ) → now < 2 ^ 64 → ¬ IsSilentTooLong self.now.conn.standing now)
-            (λ deadline. (now : ℕ) → IsSilentTooLong self.now.conn.standing now ↔ deadline ≤ now) }
+            ((now : ℕ) → now < 2 ^ 64 → ¬ IsSilentTooLong self.now.conn.phase now)
+            (λ deadline. (now : ℕ) → IsSilentTooLong self.now.conn.phase now ↔ deadline ≤ now) }
     {
         self.conn.deadline()
     }
 
     /// How many messages it has not acknowledged.
     pub fn held(&self) -> usize
-        ensures { result ≡ held_by self.now.conn.standing }
+        ensures { result ≡ held_by self.now.conn.phase }
     {
         self.conn.held()
     }
@@ -221,8 +221,8 @@ impl<P: HoldingPlace> Client<P> {
     /// The slot of the group that it would be handed a message of now: see [`Conn::takes_from`].
     pub fn takes_from(&self) -> Option<u8>
         ensures { MatchOption result
-            ((place : P) → ¬ TakesAt self.now.conn.standing place)
-            (λ slot. (place : P) × TakesAt self.now.conn.standing place × (P.slot_of place ≡ slot)) }
+            ((place : P) → ¬ TakesAt self.now.conn.phase place)
+            (λ slot. (place : P) × TakesAt self.now.conn.phase place × (P.slot_of place ≡ slot)) }
     {
         self.conn.takes_from()
     }
@@ -243,18 +243,18 @@ impl<P: HoldingPlace> Client<P> {
         input: Input,
         packets: &mut Vec<Packet>,
     ) -> Result<Then, NoMemory>
-        requires wanted { IsWanted self.old.conn.standing input }
+        requires wanted { IsWanted self.old.conn.phase input }
         requires visiting { NeedsVisit input → S.visiting supply.old ≡ true }
         ensures stepped { MatchResult result
-            (λ next. Moves S.call P.slot_of supply.old self.old now input (words self.old.conn.number packets.new.items next) self.new supply.new)
-            (λ _. (packets.new.items ≡ []) × FailsToMove S.call P.slot_of supply.old self.old now input self.new supply.new) }
+            (λ next. ClientSteps S.call P.slot_of supply.old self.old now input (step_output self.old.conn.number packets.new.items next) self.new supply.new)
+            (λ _. (packets.new.items ≡ []) × ClientFailsToStep S.call P.slot_of supply.old self.old now input self.new supply.new) }
         ensures unread { self.new.unread ≡ self.old.unread }
         ensures visiting { S.visiting supply.new ≡ S.visiting supply.old }
     {
         self.conn.step(supply, now, input, packets)
     }
 
-    /// This input ends its connection, since memory was wanted.
+    /// This input ends its connection, since an allocation failed.
     #[inline(never)]
     #[tactic(auto, using(crate::proofs::Given::unsaid))]
     fn give_up<S: Supply<P>>(&mut self, supply: &mut S, now: u64, input: Input) -> NoMemory

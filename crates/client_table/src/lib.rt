@@ -1,7 +1,7 @@
 //! The clients of a broker: their connections, the streams of their bytes, and a table of them.
 //!
 //! A [`Client`] reads what its client sent and steps its connection, packet by packet. A [`ClientTable`] has one for each number,
-//! and lets go of those whose connections have ended. What each step wrote is [`Said`].
+//! and lets go of those whose connections have ended. What each step wrote is [`StepOutput`].
 //!
 //! ```
 //! let mut clients = ClientTable::new(alloc)?;
@@ -15,7 +15,7 @@
 mod cell;
 mod client;
 mod laws;
-mod said;
+mod step_output;
 mod table;
 
 pub use client::Client;
@@ -23,5 +23,5 @@ pub use laws::{
     calls_law, hand_out_law, one_outcome_law, publisher_law, quota_law, returned_first_law,
     table_calls_law,
 };
-pub use said::Said;
+pub use step_output::StepOutput;
 pub use table::{CLIENTS, ClientTable};

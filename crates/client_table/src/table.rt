@@ -1,12 +1,12 @@
 //! The clients of a broker, by the numbers of their connections.
 ghost use Rattle.std.specs.Prelude.{◌≡◌, ◌<◌, ◌++◌, List, IfOk, None, replicate, true};
 ghost use Rattle.conn_engine.specs.declared.input.Input.TheVariants as inputs;
-ghost use Rattle.client_table.specs.Clients.{Said as Words};
+ghost use Rattle.client_table.specs.Clients.{StepOutput as Output};
 ghost use Rattle.client_table.specs.Cells.{Abandons, AbandonsEach, InCell, Opens, Receives, TicksFor, EndsFor};
 
 use crate::cell;
 use crate::client::Client;
-use crate::said::Said;
+use crate::step_output::StepOutput;
 use conn_engine::Opening;
 use conn_supply::{HoldingPlace, NoMemory, Supply};
 use std::alloc::Global;
@@ -62,7 +62,7 @@ impl<P: HoldingPlace> ClientTable<P> {
 
 impl<P: HoldingPlace> ClientTable<P> {
     /// A piece of a client's stream has come, at this moment in milliseconds: its connection is stepped by each packet that is
-    /// whole. What each step wrote goes behind what was said before.
+    /// whole. What each step wrote goes after what was said before.
     ///
     /// # Errors
     ///
@@ -74,11 +74,11 @@ impl<P: HoldingPlace> ClientTable<P> {
         number: u8,
         now: u64,
         piece: &[u8],
-        said: &mut Vec<Said>,
+        said: &mut Vec<StepOutput>,
     ) -> Result<(), NoMemory>
         requires known { number < 64 }
         requires visiting { S.visiting supply.old ≡ true }
-        ensures received { (more : List Words) × (said.new.items ≡ said.old.items ++ more)
+        ensures received { (more : List Output) × (said.new.items ≡ said.old.items ++ more)
             × InCell self.old number
             (λ before after. Receives S.call P.slot_of supply.old before now piece.now more result after supply.new) self.new }
         ensures visiting { S.visiting supply.new ≡ S.visiting supply.old }
@@ -102,11 +102,11 @@ impl<P: HoldingPlace> ClientTable<P> {
         supply: &mut S,
         number: u8,
         now: u64,
-        said: &mut Vec<Said>,
+        said: &mut Vec<StepOutput>,
     ) -> Result<(), NoMemory>
         requires known { number < 64 }
         requires visiting { S.visiting supply.old ≡ true }
-        ensures ticked { (more : List Words) × (said.new.items ≡ said.old.items ++ more)
+        ensures ticked { (more : List Output) × (said.new.items ≡ said.old.items ++ more)
             × InCell self.old number (λ before after. TicksFor S.call P.slot_of supply.old before now more result after supply.new) self.new }
         ensures visiting { S.visiting supply.new ≡ S.visiting supply.old }
     {
@@ -123,10 +123,10 @@ impl<P: HoldingPlace> ClientTable<P> {
         supply: &mut S,
         number: u8,
         now: u64,
-        said: &mut Vec<Said>,
+        said: &mut Vec<StepOutput>,
     ) -> Result<(), NoMemory>
         requires { number < 64 }
-        ensures ended { (more : List Words) × (said.new.items ≡ said.old.items ++ more)
+        ensures ended { (more : List Output) × (said.new.items ≡ said.old.items ++ more)
             × InCell self.old number
             (λ before after. EndsFor S.call P.slot_of supply.old before now inputs.EndOfInput more result after supply.new) self.new }
         ensures visiting { S.visiting supply.new ≡ S.visiting supply.old }
@@ -144,10 +144,10 @@ impl<P: HoldingPlace> ClientTable<P> {
         supply: &mut S,
         number: u8,
         now: u64,
-        said: &mut Vec<Said>,
+        said: &mut Vec<StepOutput>,
     ) -> Result<(), NoMemory>
         requires { number < 64 }
-        ensures closed { (more : List Words) × (said.new.items ≡ said.old.items ++ more)
+        ensures closed { (more : List Output) × (said.new.items ≡ said.old.items ++ more)
             × InCell self.old number
             (λ before after. EndsFor S.call P.slot_of supply.old before now inputs.Closing more result after supply.new) self.new }
         ensures visiting { S.visiting supply.new ≡ S.visiting supply.old }

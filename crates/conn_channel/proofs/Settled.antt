@@ -3,21 +3,21 @@ use Rattle.std.proofs.Common.{◌≡◌, ℕ, List, [], ◌∷◌, ◌++◌, len
 use Rattle.std.specs.Prelude.{sum_by}
 use Rattle.std.proofs.lemmas.List.Sums.{sum_by-cons}
 use Rattle.conn_channel.specs.declared.sent.Sent.{Sent}
-use Rattle.conn_channel.specs.declared.view.Hand.{Hand}
+use Rattle.conn_channel.specs.declared.view.PassView.{PassView}
 use Rattle.conn_channel.specs.Interleavings.{IsInterleaving}
-use Rattle.conn_channel.specs.Rule.{hand, joined, connections_in, end_marks_in, KnowsAll}
+use Rattle.conn_channel.specs.Rule.{pass_view, joined, connections_in, end_marks_in, KnowsAll}
 use Rattle.conn_channel.specs.Ends.{ReceiverState, SenderState, IsBalanced, IsSettled, lists_of, received_by, end_marks_received_by}
 use Rattle.conn_channel.proofs.Interleavings.{as_many}
 
 module _ {T : Type 0} where
   -- the sender with every part knows what became of what it sent
-  pub settles : (sender : SenderState T) (n : ℕ) (first v : Hand T) (receivers : List (ReceiverState T)) (items : List (Sent T)) → sender.sent ≡ first.sent → sender.end_marks_sent ≡ first.end_marks_sent
-      → first.received ≡ [] → first.end_marks_received ≡ 0 → v ≡ joined first (hand n 0 [] 0 (lists_of receivers) (end_marks_received_by receivers)) → KnowsAll v items → IsSettled sender receivers
+  pub settles : (sender : SenderState T) (n : ℕ) (first v : PassView T) (receivers : List (ReceiverState T)) (items : List (Sent T)) → sender.sent ≡ first.sent → sender.end_marks_sent ≡ first.end_marks_sent
+      → first.received ≡ [] → first.end_marks_received ≡ 0 → v ≡ joined first (pass_view n 0 [] 0 (lists_of receivers) (end_marks_received_by receivers)) → KnowsAll v items → IsSettled sender receivers
   settles sender n first v receivers items sent_is marks_are no_lists no_ended all knows =
-      let lists : v.received ≡ lists_of receivers = ap (λ (u : Hand T). u.received) all ∙ ap (λ l. lists_of receivers ++ l) no_lists ∙ append-nil (lists_of receivers) in
-      let sent = ap (λ (u : Hand T). u.sent) all in
-      let marks = ap (λ (u : Hand T). u.end_marks_sent) all in
-      let ended = ap (λ (u : Hand T). u.end_marks_received) all in
+      let lists : v.received ≡ lists_of receivers = ap (λ (u : PassView T). u.received) all ∙ ap (λ l. lists_of receivers ++ l) no_lists ∙ append-nil (lists_of receivers) in
+      let sent = ap (λ (u : PassView T). u.sent) all in
+      let marks = ap (λ (u : PassView T). u.end_marks_sent) all in
+      let ended = ap (λ (u : PassView T). u.end_marks_received) all in
       record {
         past = knows.past;
         left = connections_in items;

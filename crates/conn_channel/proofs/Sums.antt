@@ -1,4 +1,4 @@
--- Sums over the views of all passes, where some change; and what is in the channel, where more comes behind it.
+-- Sums over the views of all passes, where some change; and what is in the channel, where more comes after it.
 use Rattle.std.proofs.Common.{◌≡◌, ℕ, zero, suc, ◌+◌, ◌<◌, ◌≤◌, List, [], ◌∷◌, ◌++◌, get_or, set, length, refl, sym, ap, subst, ◌∙◌, arith}
 use Rattle.std.specs.Prelude.{sum_by}
 use Rattle.std.proofs.lemmas.List.Sums.{sum_by-set, sum_by-cons}
@@ -61,7 +61,7 @@ only f g (x ∷ xs) (suc i) v at all none =
 pub no_other : {A : Type 0} (g : A → ℕ) (xs : List A) (i : ℕ) (v none : A) → get_elem? xs i ≡ some v → sum_by g xs ≡ g v → g none ≡ 0 → (j : ℕ) (u : A) → get_elem? (set xs i none) j ≡ some u → g u ≡ 0
 no_other g xs i v none at all zero_of j u there = none_each g (set xs i none) (omega (arith, sum_at g xs i v none at, all, zero_of)) j u there
 
--- more behind what is in the channel
+-- more after what is in the channel
 pub connections_push : {T : Type 0} (items : List (Sent T)) (x : T) → connections_in (items ++ Connection x ∷ []) ≡ connections_in items ++ x ∷ []
 connections_push [] x = refl
 connections_push (Connection y ∷ rest) x = ap (λ l. y ∷ l) (connections_push rest x)
@@ -72,7 +72,7 @@ connections_mark [] = refl
 connections_mark (Connection y ∷ rest) = ap (λ l. y ∷ l) (connections_mark rest)
 connections_mark (EndMark ∷ rest) = connections_mark rest
 
--- a connection goes behind no end mark, and an end mark goes behind anything
+-- a connection goes after no end mark, and an end mark goes after anything
 pub ordered_connection : {T : Type 0} (items : List (Sent T)) (x : T) → AreOrdered items → end_marks_in items ≡ 0 → AreOrdered (items ++ Connection x ∷ [])
 ordered_connection [] x ordered none = tt
 ordered_connection (Connection y ∷ rest) x ordered none = ordered_connection rest x ordered (omega (arith, none, sum_by-cons end_marks_in_one (Connection y) rest))

@@ -4,9 +4,9 @@ use Rattle.std.proofs.Common.{◌≡◌, ℕ, zero, suc, List, [], ◌∷◌, �
 use mathlib.Core.Option.{some, some-injective, some-ne-none}
 use lib.ListN.{get_elem?}
 use Rattle.conn_channel.specs.declared.sent.Sent.{Sent}
-use Rattle.conn_channel.specs.declared.view.Hand.{Hand}
+use Rattle.conn_channel.specs.declared.view.PassView.{PassView}
 use Rattle.conn_channel.specs.Interleavings.{IsInterleaving}
-use Rattle.conn_channel.specs.Rule.{hand, receiving_hand, IsWithinRights}
+use Rattle.conn_channel.specs.Rule.{pass_view, receiving_pass_view, IsWithinRights}
 use Rattle.conn_channel.specs.Witnesses.{Saw}
 
 module _ {T : Type 0} where
@@ -19,27 +19,27 @@ module _ {T : Type 0} where
   own (x ∷ rest) = (0, rest, refl, own rest)
 
   -- this end received all that was sent
-  abbrev pub all_received : List T → ℕ → List (Hand T)
-  all_received list n = receiving_hand list n ∷ hand 127 1 list n [] 0 ∷ []
+  abbrev pub all_received : List T → ℕ → List (PassView T)
+  all_received list n = receiving_pass_view list n ∷ pass_view 127 1 list n [] 0 ∷ []
 
-  rights : (list : List T) (n : ℕ) (pass : ℕ) (v : Hand T) → get_elem? (all_received list n) pass ≡ some v → IsWithinRights v
+  rights : (list : List T) (n : ℕ) (pass : ℕ) (v : PassView T) → get_elem? (all_received list n) pass ≡ some v → IsWithinRights v
   rights list n zero v at =
-      let is : receiving_hand list n ≡ v = some-injective (receiving_hand list n) v at in
-      let parts : 1 ≡ v.parts = ap (λ (u : Hand T). u.parts) is in
-      record { no_part = λ none. absurd (omega (arith, parts, none)); no_right = λ none. sym (ap (λ (u : Hand T). u.end_marks_sent) is) }
+      let is : receiving_pass_view list n ≡ v = some-injective (receiving_pass_view list n) v at in
+      let parts : 1 ≡ v.parts = ap (λ (u : PassView T). u.parts) is in
+      record { no_part = λ none. absurd (omega (arith, parts, none)); no_right = λ none. sym (ap (λ (u : PassView T). u.end_marks_sent) is) }
   rights list n (suc zero) v at =
-      let is : hand 127 1 list n [] 0 ≡ v = some-injective (hand 127 1 list n [] 0) v at in
-      let parts : 127 ≡ v.parts = ap (λ (u : Hand T). u.parts) is in
-      let sends : 1 ≡ v.sends = ap (λ (u : Hand T). u.sends) is in
+      let is : pass_view 127 1 list n [] 0 ≡ v = some-injective (pass_view 127 1 list n [] 0) v at in
+      let parts : 127 ≡ v.parts = ap (λ (u : PassView T). u.parts) is in
+      let sends : 1 ≡ v.sends = ap (λ (u : PassView T). u.sends) is in
       record { no_part = λ none. absurd (omega (arith, parts, none)); no_right = λ none. absurd (omega (arith, sends, none)) }
   rights list n (suc (suc pass)) v at = absurd (some-ne-none v (sym at))
 
-  sent : (list : List T) (n : ℕ) (pass : ℕ) (v : Hand T) → get_elem? (all_received list n) pass ≡ some v → v.sends ≡ 1 → v.sent ≡ list ++ []
-  sent list n zero v at right = let none : 0 ≡ v.sends = ap (λ (u : Hand T). u.sends) (some-injective (receiving_hand list n) v at) in absurd (omega (arith, none, right))
-  sent list n (suc zero) v at right = sym (ap (λ (u : Hand T). u.sent) (some-injective (hand 127 1 list n [] 0) v at)) ∙ sym (append-nil list)
+  sent : (list : List T) (n : ℕ) (pass : ℕ) (v : PassView T) → get_elem? (all_received list n) pass ≡ some v → v.sends ≡ 1 → v.sent ≡ list ++ []
+  sent list n zero v at right = let none : 0 ≡ v.sends = ap (λ (u : PassView T). u.sends) (some-injective (receiving_pass_view list n) v at) in absurd (omega (arith, none, right))
+  sent list n (suc zero) v at right = sym (ap (λ (u : PassView T). u.sent) (some-injective (pass_view 127 1 list n [] 0) v at)) ∙ sym (append-nil list)
   sent list n (suc (suc pass)) v at right = absurd (some-ne-none v (sym at))
 
-  pub empty_again : (saw : List (Sent T) → List (Hand T) → Type 0) (list : List T) (n : ℕ) → saw [] (all_received list n) → Saw saw (receiving_hand list n) []
+  pub empty_again : (saw : List (Sent T) → List (PassView T) → Type 0) (list : List T) (n : ℕ) → saw [] (all_received list n) → Saw saw (receiving_pass_view list n) []
   empty_again saw list n seen = record {
     views = all_received list n;
     pass = 0;

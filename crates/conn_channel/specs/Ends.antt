@@ -8,9 +8,9 @@ use Rattle.crossbeam_channel.specs.declared.flavors.array.Doing.{Doing}
 use Rattle.conn_channel.specs.declared.sent.Sent.{Sent}
 use Rattle.conn_channel.specs.declared.sent.Received.{Received}
 use Rattle.conn_channel.specs.declared.sent.Received.TheVariants.{Connection, EndMark, Nothing}
-use Rattle.conn_channel.specs.declared.view.Hand.{Hand}
+use Rattle.conn_channel.specs.declared.view.PassView.{PassView}
 use Rattle.conn_channel.specs.Interleavings.{IsInterleaving}
-use Rattle.conn_channel.specs.Rule.{receiving_hand}
+use Rattle.conn_channel.specs.Rule.{receiving_pass_view}
 use Rattle.conn_channel.specs.Witnesses.{Saw}
 
 -- which channel it is
@@ -31,7 +31,7 @@ pub record ReceiverState (T : Type 0) : Type 0 where
   pub received : List T
   pub end_marks_received : ℕ
 
-abbrev pub channel_of : {T : Type 0} → Seat (Badge (Key (Sent T))) (Doing (Sent T) (Hand T)) → ChannelId T
+abbrev pub channel_of : {T : Type 0} → Seat (Badge (Key (Sent T))) (Doing (Sent T) (PassView T)) → ChannelId T
 channel_of pass = record { table = pass.table_id; keys = pass.me.0.of }
 
 -- the one list of these
@@ -63,7 +63,7 @@ received_by receivers = sum_by (λ receiver. length receiver.received) receivers
 abbrev pub end_marks_received_by : {T : Type 0} → List (ReceiverState T) → ℕ
 end_marks_received_by receivers = sum_by (λ receiver. receiver.end_marks_received) receivers
 
--- the sender with all ends that received. What was sent, in order, is what was received, and behind it what is left; what was received is an interleaving of
+-- the sender with all ends that received. What was sent, in order, is what was received, and after it what is left; what was received is an interleaving of
 -- what each end received; and nothing is left where an end mark was received
 pub record IsSettled {T : Type 0} (sender : SenderState T) (receivers : List (ReceiverState T)) : Type 0 where
   pub past : List T
@@ -81,7 +81,7 @@ pub record IsBalanced {T : Type 0} (sent : ℕ) (receivers : List (ReceiverState
   pub last : 0 < end_marks_received_by receivers → left ≡ 0
 
 -- what was received is known; and where it was nothing, the witness saw the channel empty, when an end knew what this one knows
-abbrev pub Receives : {T : Type 0} → (List (Sent T) → List (Hand T) → Type 0) → ReceiverState T → Received T → ReceiverState T → Type 0
+abbrev pub Receives : {T : Type 0} → (List (Sent T) → List (PassView T) → Type 0) → ReceiverState T → Received T → ReceiverState T → Type 0
 Receives saw old (Connection connection) new = new ≡ record old { received = old.received ++ connection ∷ [] }
 Receives saw old EndMark new = new ≡ record old { end_marks_received = old.end_marks_received + 1 }
-Receives saw old Nothing new = (new ≡ old) × Saw saw (receiving_hand old.received old.end_marks_received) []
+Receives saw old Nothing new = (new ≡ old) × Saw saw (receiving_pass_view old.received old.end_marks_received) []

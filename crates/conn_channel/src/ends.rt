@@ -2,7 +2,7 @@
 ghost use Rattle.std.specs.Prelude.{◌≡◌, ◌≤◌, ◌+◌, ◌-◌, ◌++◌, [], ◌∷◌, if◌then◌else◌, length, vec_capacity, IfOk, MatchResult};
 ghost use Rattle.crossbeam_channel.specs.Claims.{view, IsSeatAt};
 ghost use Rattle.crossbeam_channel.specs.Ends.{sends_on, receives_on};
-ghost use Rattle.conn_channel.specs.Rule.{first_hand, hand, joined};
+ghost use Rattle.conn_channel.specs.Rule.{first_pass_view, pass_view, joined};
 ghost use Rattle.conn_channel.specs.Ends.{AreOf, AreReceivers, IsBalanced, IsSettled, Receives, channel_of, end_marks_received_by, lists_of, new_receiver};
 
 use crate::queue;
@@ -27,7 +27,7 @@ impl<T: Drop, W: LawfulWitness<T>> Model for Sender<T, W> {
     ghost use Rattle.std.specs.Prelude.{◌≡◌, ◌≤◌, ◌-◌, []};
     ghost use Rattle.crossbeam_channel.specs.Claims.{view as known, IsSeatAt};
     ghost use Rattle.crossbeam_channel.specs.Ends.{sends_on};
-    ghost use Rattle.conn_channel.specs.Rule.{hand};
+    ghost use Rattle.conn_channel.specs.Rule.{pass_view};
     ghost use Rattle.conn_channel.specs.Ends.{SenderState, channel_of};
 
     ghost Value = { SenderState T };
@@ -35,7 +35,7 @@ impl<T: Drop, W: LawfulWitness<T>> Model for Sender<T, W> {
     ghost view = { λ s. record { channel = channel_of s.pass; receivers = s.receivers; sent = (known s.pass).sent; end_marks_sent = (known s.pass).end_marks_sent } };
 
     ghost invariant = { λ s. IsSeatAt (sends_on s.ends) s.pass × (s.receivers ≤ 64)
-        × (known s.pass ≡ hand (128 - s.receivers) 1 (known s.pass).sent (known s.pass).end_marks_sent [] 0) };
+        × (known s.pass ≡ pass_view (128 - s.receivers) 1 (known s.pass).sent (known s.pass).end_marks_sent [] 0) };
 }
 
 /// An end that receives. It may go to another thread.
@@ -52,7 +52,7 @@ impl<T: Drop, W: Witness<T>> Model for Receiver<T, W> {
     ghost use Rattle.std.specs.Prelude.{◌≡◌, if◌then◌else◌};
     ghost use Rattle.crossbeam_channel.specs.Claims.{view as known, IsSeatAt};
     ghost use Rattle.crossbeam_channel.specs.Ends.{receives_on};
-    ghost use Rattle.conn_channel.specs.Rule.{receiving_hand};
+    ghost use Rattle.conn_channel.specs.Rule.{receiving_pass_view};
     ghost use Rattle.conn_channel.specs.Ends.{ReceiverState, channel_of, one_list};
     ghost use Rattle.conn_channel.specs.Witnesses.{FollowsReceiver};
 
@@ -61,7 +61,7 @@ impl<T: Drop, W: Witness<T>> Model for Receiver<T, W> {
     ghost view = { λ r. record { channel = channel_of r.pass; received = one_list (known r.pass).received; end_marks_received = (known r.pass).end_marks_received } };
 
     ghost invariant = { λ r. IsSeatAt (receives_on r.ends) r.pass
-        × (known r.pass ≡ receiving_hand (one_list (known r.pass).received) (known r.pass).end_marks_received)
+        × (known r.pass ≡ receiving_pass_view (one_list (known r.pass).received) (known r.pass).end_marks_received)
         × ((known r.pass).end_marks_received ≡ (if r.is_ended then 1 else 0)) × FollowsReceiver W.saw r.pass.id };
 }
 
@@ -70,7 +70,7 @@ impl<T: Drop, W: Witness<T>> Model for Receiver<T, W> {
 ///
 /// # Errors
 ///
-/// Want of memory.
+/// Out of memory.
 pub fn open<T: Drop>(
     alloc: Global,
     receivers: usize,
@@ -86,7 +86,7 @@ pub fn open<T: Drop>(
 ///
 /// # Errors
 ///
-/// Want of memory.
+/// Out of memory.
 pub fn open_with_witness<T: Drop, W: LawfulWitness<T>>(
     alloc: Global,
     receivers: usize,
@@ -115,9 +115,9 @@ fn seat_receivers<T: Drop, W: LawfulWitness<T>>(
     count: usize,
 ) -> Result<Vec<Receiver<T, W>>, AllocError>
     requires one { receives_on receiving.now ≡ sends_on sending.now }
-    requires pass { IsSeatAt (sends_on sending.now) pass.old × (view pass.old ≡ first_hand) }
+    requires pass { IsSeatAt (sends_on sending.now) pass.old × (view pass.old ≡ first_pass_view) }
     requires row { (row.items ≡ []) × (count ≤ vec_capacity row) × (count ≤ 64) }
-    ensures pass { IfOk result (λ _. IsSeatAt (sends_on sending.now) pass.new × (view pass.new ≡ hand (128 - count) 1 [] 0 [] 0)) }
+    ensures pass { IfOk result (λ _. IsSeatAt (sends_on sending.now) pass.new × (view pass.new ≡ pass_view (128 - count) 1 [] 0 [] 0)) }
     ensures channel { IfOk result (λ _. channel_of pass.new ≡ channel_of pass.old) }
     ensures receivers { IfOk result (λ seated. AreReceivers (channel_of pass.old) count seated.items) }
 {
@@ -166,7 +166,7 @@ impl<T: Drop, W: LawfulWitness<T>> Sender<T, W> {
         }
     }
 
-    /// Sends an end mark, behind which no connection is sent. Waits while the channel is full. Whether it was sent: it was not where no end that receives
+    /// Sends an end mark, after which no connection is sent. Waits while the channel is full. Whether it was sent: it was not where no end that receives
     /// is left.
     pub fn end<R: Wait>(&mut self, rt: &R) -> bool
         ensures { self.new ≡ (if result then record self.old { end_marks_sent = self.old.end_marks_sent + 1 } else self.old) }
@@ -174,7 +174,7 @@ impl<T: Drop, W: LawfulWitness<T>> Sender<T, W> {
         queue::send(rt, &self.ends, &mut self.pass, Sent::EndMark).is_ok()
     }
 
-    /// Takes back all ends that receive. What was sent, in order, is what was received, and behind it what is left; what was received is an interleaving of
+    /// Takes back all ends that receive. What was sent, in order, is what was received, and after it what is left; what was received is an interleaving of
     /// what each of them received; and nothing is left where one received an end mark.
     pub fn settle(self, receivers: Vec<Receiver<T, W>>)
         requires of { AreOf self.channel receivers.items }
@@ -201,7 +201,7 @@ fn join_all<T: Drop, W: LawfulWitness<T>>(
     requires pass { IsSeatAt (sends_on ends.now) pass.old × (1 ≤ (view pass.old).parts) }
     requires of { AreOf (channel_of pass.old) receivers.items }
     ensures pass { IsSeatAt (sends_on ends.now) pass.new }
-    ensures all { view pass.new ≡ joined (view pass.old) (hand (length receivers.items) 0 [] 0 (lists_of receivers.items) (end_marks_received_by receivers.items)) }
+    ensures all { view pass.new ≡ joined (view pass.old) (pass_view (length receivers.items) 0 [] 0 (lists_of receivers.items) (end_marks_received_by receivers.items)) }
 {
     let mut receivers = receivers;
     if let Some(receiver) = receivers.pop() {
@@ -216,7 +216,7 @@ fn join_all<T: Drop, W: LawfulWitness<T>>(
 }
 
 impl<T: Drop, W: Witness<T>> Receiver<T, W> {
-    /// Whether it received its end mark, behind which it receives nothing more.
+    /// Whether it received its end mark, after which it receives nothing more.
     pub fn is_ended(&self) -> bool
         ensures { self.now.end_marks_received ≡ (if result then 1 else 0) }
     {

@@ -1,8 +1,8 @@
 //! The channel by which connections come to workers: one sends, many receive.
 //!
-//! Who takes connections from a source has the [`Sender`]; each worker has a [`Receiver`]. Behind the last connection the sender sends an end mark
+//! Who takes connections from a source has the [`Sender`]; each worker has a [`Receiver`]. After the last connection the sender sends an end mark
 //! for each worker, and a worker that received one receives nothing more. Whatever the threads do, what was sent, in order, is an interleaving of what the workers
-//! received, and behind it what is still in the channel: so each connection is received by one worker, once, or still there. Where a worker received an
+//! received, and after it what is still in the channel: so each connection is received by one worker, once, or still there. Where a worker received an
 //! end mark, no connection is left in the channel ([`Sender::settle`]).
 //!
 //! ```
@@ -26,5 +26,5 @@ mod witness;
 pub use ends::{Receiver, Sender, open, open_with_witness};
 pub use queue::CAPACITY;
 pub use sent::{Received, Sent};
-pub use view::Hand;
+pub use view::PassView;
 pub use witness::{LawfulWitness, Nobody, Witness};

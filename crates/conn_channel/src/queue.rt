@@ -1,15 +1,15 @@
-//! The channel: one of `crossbeam_channel`, under the rule that what was sent, in order, is what was received and behind it what is in the channel, and that
-//! no connection is behind an end mark.
+//! The channel: one of `crossbeam_channel`, under the rule that what was sent, in order, is what was received and after it what is in the channel, and that
+//! no connection is after an end mark.
 ghost use Rattle.std.specs.Prelude.{◌≡◌, ◌≤◌, ◌-◌, List, [], IfOk, MatchOption, MatchResult};
 ghost use Rattle.crossbeam_channel.specs.Claims.{view, IsSeatAt};
 ghost use Rattle.crossbeam_channel.specs.Ends.{sends_on, receives_on};
 ghost use Rattle.crossbeam_channel.specs.Err.{send_message};
-ghost use Rattle.conn_channel.specs.Rule.{first_hand, receiving_hand, joined, sending, receiving, KnowsAll, MaySend, MayReceive};
+ghost use Rattle.conn_channel.specs.Rule.{first_pass_view, receiving_pass_view, joined, sending, receiving, KnowsAll, MaySend, MayReceive};
 ghost use Rattle.conn_channel.specs.Witnesses.{FollowsReceiver, Saw};
 ghost use Rattle.conn_channel.specs.declared.sent.Sent.{Sent as Item};
 
 use crate::sent::Sent;
-use crate::view::Hand;
+use crate::view::PassView;
 use crate::witness::{LawfulWitness, Witness};
 use crossbeam_channel::protocol::{Join, Lesson, Outcome, Protocol, Split};
 use crossbeam_channel::{Pass, RuledReceiver, RuledSender, SendError, TryRecvError, bounded_with};
@@ -20,36 +20,36 @@ use std::sync::Wait;
 /// How many connections may wait in the channel.
 pub const CAPACITY: usize = 64;
 
-/// What was sent, in order, is what was received and behind it what is in the channel, and no connection is behind an end mark; and the witness sees it.
+/// What was sent, in order, is what was received and after it what is in the channel, and no connection is after an end mark; and the witness sees it.
 pub struct Conserving<W> {
     of: PhantomData<W>,
 }
 
-impl<T, W: Witness<T>> Protocol<Sent<T>, Hand<T>> for Conserving<W> {
-    ghost use Rattle.conn_channel.specs.Rule.{Conserves, first_hand};
+impl<T, W: Witness<T>> Protocol<Sent<T>, PassView<T>> for Conserving<W> {
+    ghost use Rattle.conn_channel.specs.Rule.{Conserves, first_pass_view};
 
     ghost holds = { λ items views. Conserves items views × W.saw items views };
 
-    ghost first = { first_hand };
+    ghost first = { first_pass_view };
 }
 
-pub(crate) type Sending<T, W> = RuledSender<Sent<T>, Hand<T>, Conserving<W>>;
+pub(crate) type Sending<T, W> = RuledSender<Sent<T>, PassView<T>, Conserving<W>>;
 
-pub(crate) type Receiving<T, W> = RuledReceiver<Sent<T>, Hand<T>, Conserving<W>>;
+pub(crate) type Receiving<T, W> = RuledReceiver<Sent<T>, PassView<T>, Conserving<W>>;
 
-pub(crate) type ChannelPass<T> = Pass<Sent<T>, Hand<T>>;
+pub(crate) type ChannelPass<T> = Pass<Sent<T>, PassView<T>>;
 
 /// Something is sent.
 pub(crate) struct Putting;
 
-impl<T> Outcome<Sent<T>, Hand<T>> for Putting {
+impl<T> Outcome<Sent<T>, PassView<T>> for Putting {
     ghost use Rattle.std.specs.Prelude.{◌≡◌};
     ghost use Rattle.conn_channel.specs.Rule.{sending};
 
     ghost then = { λ v x w. w ≡ sending v x };
 }
 
-impl<T> Lesson<Sent<T>, Hand<T>> for Putting {
+impl<T> Lesson<Sent<T>, PassView<T>> for Putting {
     ghost use Rattle.std.specs.Prelude.{⊤};
 
     ghost fact = { λ _ _. ⊤ };
@@ -60,14 +60,14 @@ pub(crate) struct Getting<W> {
     of: PhantomData<W>,
 }
 
-impl<T, W: Witness<T>> Outcome<Sent<T>, Hand<T>> for Getting<W> {
+impl<T, W: Witness<T>> Outcome<Sent<T>, PassView<T>> for Getting<W> {
     ghost use Rattle.std.specs.Prelude.{◌≡◌};
     ghost use Rattle.conn_channel.specs.Rule.{receiving};
 
     ghost then = { λ v x w. w ≡ receiving v x };
 }
 
-impl<T, W: Witness<T>> Lesson<Sent<T>, Hand<T>> for Getting<W> {
+impl<T, W: Witness<T>> Lesson<Sent<T>, PassView<T>> for Getting<W> {
     ghost use Rattle.conn_channel.specs.Witnesses.{Saw};
 
     ghost fact = { Saw W.saw };
@@ -76,7 +76,7 @@ impl<T, W: Witness<T>> Lesson<Sent<T>, Hand<T>> for Getting<W> {
 /// Who has every part knows of all.
 pub(crate) struct Totals;
 
-impl<T> Lesson<Sent<T>, Hand<T>> for Totals {
+impl<T> Lesson<Sent<T>, PassView<T>> for Totals {
     ghost use Rattle.conn_channel.specs.Rule.{KnowsAll};
 
     ghost fact = { KnowsAll };
@@ -85,31 +85,31 @@ impl<T> Lesson<Sent<T>, Hand<T>> for Totals {
 /// Gives one part away, to an end that receives.
 pub(crate) struct CutPart;
 
-impl<T> Split<Hand<T>> for CutPart {
+impl<T> Split<PassView<T>> for CutPart {
     ghost use Rattle.std.specs.Prelude.{◌-◌, []};
-    ghost use Rattle.conn_channel.specs.Rule.{receiving_hand};
+    ghost use Rattle.conn_channel.specs.Rule.{receiving_pass_view};
 
     ghost left = { λ v. record v { parts = v.parts - 1 } };
 
-    ghost right = { λ v. receiving_hand [] 0 };
+    ghost right = { λ v. receiving_pass_view [] 0 };
 }
 
 /// Takes in another pass.
 pub(crate) struct TakeParts;
 
-impl<T> Join<Hand<T>> for TakeParts {
-    ghost use Rattle.conn_channel.specs.Rule.{joined, no_hand};
+impl<T> Join<PassView<T>> for TakeParts {
+    ghost use Rattle.conn_channel.specs.Rule.{joined, no_pass_view};
 
     ghost both = { joined };
 
-    ghost spent = { no_hand };
+    ghost spent = { no_pass_view };
 }
 
 /// The two ends of an empty channel, with the pass of who opened it.
 pub(crate) fn open<T: Drop, W: LawfulWitness<T>>(
     alloc: Global,
 ) -> Result<(Sending<T, W>, Receiving<T, W>, ChannelPass<T>), AllocError>
-    ensures { IfOk result (λ made. (receives_on made.1 ≡ sends_on made.0) × IsSeatAt (sends_on made.0) made.2 × (view made.2 ≡ first_hand)) }
+    ensures { IfOk result (λ made. (receives_on made.1 ≡ sends_on made.0) × IsSeatAt (sends_on made.0) made.2 × (view made.2 ≡ first_pass_view)) }
 {
     bounded_with(alloc, CAPACITY)
 }
@@ -123,7 +123,7 @@ pub(crate) fn cut<T: Drop, W: LawfulWitness<T>>(
     requires parts { 2 ≤ (view pass.old).parts }
     ensures channel { IsSeatAt (sends_on ends.now) pass.new × IsSeatAt (sends_on ends.now) result }
     ensures left { view pass.new ≡ record (view pass.old) { parts = (view pass.old).parts - 1 } }
-    ensures right { view result ≡ receiving_hand [] 0 }
+    ensures right { view result ≡ receiving_pass_view [] 0 }
 {
     ends.another::<CutPart>(pass)
 }

@@ -5,7 +5,7 @@
 pub enum Sent<T> {
     /// A connection.
     Connection(T),
-    /// No more comes behind it for the worker that receives it.
+    /// No more comes after it for the worker that receives it.
     EndMark,
 }
 

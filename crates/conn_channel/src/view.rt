@@ -3,7 +3,7 @@ use std::collections::LinkedList;
 
 /// The connections that were sent with a pass, in order, and those that each end received whose pass it is or was joined to it, in order; how many end
 /// marks were sent and received; its parts of the right to know of all, and to send.
-pub struct Hand<T> {
+pub struct PassView<T> {
     pub parts: u64,
     pub sends: u64,
     pub sent: LinkedList<T>,

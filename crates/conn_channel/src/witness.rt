@@ -8,10 +8,10 @@
 pub trait Witness<T> {
     ghost use Rattle.std.specs.Prelude.{List};
     ghost use Rattle.conn_channel.specs.declared.sent.Sent.{Sent};
-    ghost use Rattle.conn_channel.specs.declared.view.Hand.{Hand};
+    ghost use Rattle.conn_channel.specs.declared.view.PassView.{PassView};
 
     /// It saw this in the channel, when the passes knew this.
-    ghost saw: { List (Sent T) → List (Hand T) → Type 0 };
+    ghost saw: { List (Sent T) → List (PassView T) → Type 0 };
 }
 
 /// A witness that follows each step of each pass, from the opening on. What opens a channel, sends and settles knows that of it, and what receives

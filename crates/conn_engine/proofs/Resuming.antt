@@ -6,22 +6,22 @@ use Rattle.session_desk.specs.declared.attached.Attached.TheVariants.{Resumed}
 use Rattle.session_desk.specs.declared.session.Session.{Session}
 use Rattle.conn_supply.specs.declared.reply.Reply.{Reply}
 use Rattle.conn_supply.specs.declared.supply.NoMemory.{NoMemory}
-use Rattle.conn_supply.specs.Facts.{Fact}
-use Rattle.conn_supply.specs.Facts.Fact.{Attach}
-use Rattle.conn_engine.specs.declared.standing.ConnectRequest.{ConnectRequest}
-use Rattle.conn_engine.specs.declared.standing.Standing.{Standing}
-use Rattle.conn_engine.specs.declared.standing.Standing.TheVariants.{Ended}
+use Rattle.conn_supply.specs.SupplyCalls.{SupplyCall}
+use Rattle.conn_supply.specs.SupplyCalls.SupplyCall.{Attach}
+use Rattle.conn_engine.specs.declared.phase.ConnectRequest.{ConnectRequest}
+use Rattle.conn_engine.specs.declared.phase.ConnPhase.{ConnPhase}
+use Rattle.conn_engine.specs.declared.phase.ConnPhase.TheVariants.{Ended}
 use Rattle.conn_engine.specs.Connecting.{opened, has_place, ResumesAs, Attaches, FailsToAttach}
 use Rattle.conn_engine.specs.Ending.{Parts}
 
-module _ {S P : Type 0} (call : S → Fact P → S → Type 0) where
-  pub resumed : (old mid new : S) (number now : ℕ) (request : ConnectRequest) (ticks : ℕ) (session : Session Held P) (standing : Standing P) (result : Result Reply NoMemory)
+module _ {S P : Type 0} (call : S → SupplyCall P → S → Type 0) where
+  pub resumed : (old mid new : S) (number now : ℕ) (request : ConnectRequest) (ticks : ℕ) (session : Session Held P) (phase : ConnPhase P) (result : Result Reply NoMemory)
       → call old (Attach (asked number request.client request.clean_start now) (Ok (Resumed session))) mid
       → MatchResult result
-      (λ reply. ResumesAs call (has_place session.membership && not request.terms.takes_all_packets) mid request session standing reply new)
-      (λ _. (standing ≡ Ended) × Parts call mid (opened session request.terms) now new)
-      → MatchResult result (λ reply. Attaches call old number now request ticks standing reply new) (λ _. (standing ≡ Ended) × FailsToAttach call old number now request new)
-  resumed old mid new number now request ticks session standing (Ok reply) called resumes =
+      (λ reply. ResumesAs call (has_place session.membership && not request.terms.takes_all_packets) mid request session phase reply new)
+      (λ _. (phase ≡ Ended) × Parts call mid (opened session request.terms) now new)
+      → MatchResult result (λ reply. Attaches call old number now request ticks phase reply new) (λ _. (phase ≡ Ended) × FailsToAttach call old number now request new)
+  resumed old mid new number now request ticks session phase (Ok reply) called resumes =
       record { answer = Ok (Resumed session); mid = mid; asked_for = called; answered = resumes }
-  resumed old mid new number now request ticks session standing (Err refusal) called failed =
+  resumed old mid new number now request ticks session phase (Err refusal) called failed =
       (failed.0, record { answer = Ok (Resumed session); mid = mid; asked_for = called; failed = failed.1 })

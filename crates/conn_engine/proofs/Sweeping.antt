@@ -2,11 +2,11 @@
 use Rattle.std.proofs.Common.{◌≡◌, ℕ, zero, suc, ◌-◌, ◌<◌, Bool, true, false, Some, inl, inr, subst, arith}
 use Rattle.group_jobs.specs.Stamps.{Held}
 use Rattle.session_desk.specs.declared.session.Session.{Session}
-use Rattle.conn_supply.specs.Facts.{Fact}
-use Rattle.conn_supply.specs.Facts.Fact.{Sweep}
+use Rattle.conn_supply.specs.SupplyCalls.{SupplyCall}
+use Rattle.conn_supply.specs.SupplyCalls.SupplyCall.{Sweep}
 use Rattle.conn_engine.specs.Ending.{Retires, Sweeps}
 
-module _ {S P : Type 0} (call : S → Fact P → S → Type 0) where
+module _ {S P : Type 0} (call : S → SupplyCall P → S → Type 0) where
   pub one_and_more : (old mid after new : S) (session : Session Held P) (now most : ℕ) (gone : Bool) → 0 < most
       → call old (Sweep now (Some session)) mid → Retires call mid session gone after → gone ≡ true
       → Sweeps call after now (most - 1) new → Sweeps call old now most new

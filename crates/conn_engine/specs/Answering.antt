@@ -7,62 +7,62 @@ use Rattle.session_desk.specs.declared.session.Session.{Session}
 use Rattle.session_desk.specs.declared.session.Membership.{Membership}
 use Rattle.conn_rules.specs.Connecting.{is_given_expiry}
 use Rattle.conn_supply.specs.declared.reply.Reply.{Reply}
-use Rattle.conn_supply.specs.Facts.{Fact}
+use Rattle.conn_supply.specs.SupplyCalls.{SupplyCall}
 use Rattle.conn_supply.specs.Memberships.{with_membership}
 use Rattle.conn_supply.specs.Replies.{going_on, closed, closing_with}
 use Rattle.conn_supply.specs.Publishing.{Publishes, IsCutShort}
 use Rattle.conn_supply.specs.Acknowledging.{Acknowledges}
 use Rattle.conn_supply.specs.Subscribing.{Subscribes, Unsubscribes, AnswersSome}
-use Rattle.conn_engine.specs.declared.standing.Link.{Link}
+use Rattle.conn_engine.specs.declared.phase.ConnectedClient.{ConnectedClient}
 
 -- the same connection, with this session
-abbrev pub with_session : {P : Type 0} → Link P → Session Held P → Link P
-with_session link session = record { session = session; terms = link.terms; heard = link.heard }
+abbrev pub with_session : {P : Type 0} → ConnectedClient P → Session Held P → ConnectedClient P
+with_session connected session = record { session = session; terms = connected.terms; heard = connected.heard }
 
 -- its session has this membership, or this expiry in seconds
-abbrev pub joining : {P : Type 0} → Link P → Membership P → Link P
-joining link membership = with_session link (with_membership link.session membership)
+abbrev pub joining : {P : Type 0} → ConnectedClient P → Membership P → ConnectedClient P
+joining connected membership = with_session connected (with_membership connected.session membership)
 
-abbrev pub expiring : {P : Type 0} → Link P → ℕ → Link P
-expiring link seconds = with_session link (record {
-  identity = link.session.identity;
-  expiry = record { seconds = seconds; parked = link.session.expiry.parked };
-  window = link.session.window;
-  membership = link.session.membership;
+abbrev pub expiring : {P : Type 0} → ConnectedClient P → ℕ → ConnectedClient P
+expiring connected seconds = with_session connected (record {
+  identity = connected.session.identity;
+  expiry = record { seconds = seconds; parked = connected.session.expiry.parked };
+  window = connected.session.window;
+  membership = connected.session.membership;
 })
 
 -- 3.14.2.2.2: an expiry at the end takes the place of the session's, but a session that ends with its connection may not be given one
-abbrev pub DisconnectsIf : {P : Type 0} → Bool → Link P → ℕ → Link P → Reply → Type 0
-DisconnectsIf true link seconds link' reply = (link' ≡ link) × (reply ≡ closing_with 0x82)
-DisconnectsIf false link seconds link' reply = (link' ≡ expiring link seconds) × (reply ≡ closed None)
+abbrev pub DisconnectsIf : {P : Type 0} → Bool → ConnectedClient P → ℕ → ConnectedClient P → Reply → Type 0
+DisconnectsIf true connected seconds connected' reply = (connected' ≡ connected) × (reply ≡ closing_with 0x82)
+DisconnectsIf false connected seconds connected' reply = (connected' ≡ expiring connected seconds) × (reply ≡ closed None)
 
-abbrev pub Disconnects : {P : Type 0} → Link P → Option ℕ → Link P → Reply → Type 0
-Disconnects link None link' reply = (link' ≡ link) × (reply ≡ closed None)
-Disconnects link (Some seconds) link' reply = DisconnectsIf (is_given_expiry seconds link.terms) link seconds link' reply
+abbrev pub Disconnects : {P : Type 0} → ConnectedClient P → Option ℕ → ConnectedClient P → Reply → Type 0
+Disconnects connected None connected' reply = (connected' ≡ connected) × (reply ≡ closed None)
+Disconnects connected (Some seconds) connected' reply = DisconnectsIf (is_given_expiry seconds connected.terms) connected seconds connected' reply
 
-module _ {S P : Type 0} (call : S → Fact P → S → Type 0) (slot_of : P → ℕ) where
+module _ {S P : Type 0} (call : S → SupplyCall P → S → Type 0) (slot_of : P → ℕ) where
   -- a packet of the connection with this number. What a client has no business to send, a second CONNECT among it, is a Protocol Error (4.13)
-  abbrev pub Answers : S → ℕ → Link P → Packet → Link P → Reply → S → Type 0
-  Answers old number link (packets.Publish publish) link' reply new = Publishes call old number publish reply new × (link' ≡ link)
-  Answers old number link (packets.Puback puback) link' reply new =
-      (session : Session Held P) × Acknowledges call old link.session puback.packet_identifier puback.reason_code session new
-      × (link' ≡ with_session link session) × (reply ≡ going_on None)
-  Answers old number link (packets.Subscribe subscribe) link' reply new =
-      (membership : Membership P) × Subscribes call slot_of link.terms old link.session.membership subscribe reply membership new
-      × (link' ≡ joining link membership)
-  Answers old number link (packets.Unsubscribe unsubscribe) link' reply new =
-      (membership : Membership P) × Unsubscribes call slot_of old link.session.membership unsubscribe reply membership new
-      × (link' ≡ joining link membership)
-  Answers old number link packets.Pingreq link' reply new = (link' ≡ link) × (reply ≡ going_on (Some packets.Pingresp)) × (new ≡ old)
-  Answers old number link (packets.Disconnect disconnect) link' reply new = Disconnects link disconnect.properties.session_expiry_interval link' reply × (new ≡ old)
-  Answers old number link other link' reply new = (link' ≡ link) × (reply ≡ closing_with 0x82) × (new ≡ old)
+  abbrev pub Answers : S → ℕ → ConnectedClient P → Packet → ConnectedClient P → Reply → S → Type 0
+  Answers old number connected (packets.Publish publish) connected' reply new = Publishes call old number publish reply new × (connected' ≡ connected)
+  Answers old number connected (packets.Puback puback) connected' reply new =
+      (session : Session Held P) × Acknowledges call old connected.session puback.packet_identifier puback.reason_code session new
+      × (connected' ≡ with_session connected session) × (reply ≡ going_on None)
+  Answers old number connected (packets.Subscribe subscribe) connected' reply new =
+      (membership : Membership P) × Subscribes call slot_of connected.terms old connected.session.membership subscribe reply membership new
+      × (connected' ≡ joining connected membership)
+  Answers old number connected (packets.Unsubscribe unsubscribe) connected' reply new =
+      (membership : Membership P) × Unsubscribes call slot_of old connected.session.membership unsubscribe reply membership new
+      × (connected' ≡ joining connected membership)
+  Answers old number connected packets.Pingreq connected' reply new = (connected' ≡ connected) × (reply ≡ going_on (Some packets.Pingresp)) × (new ≡ old)
+  Answers old number connected (packets.Disconnect disconnect) connected' reply new = Disconnects connected disconnect.properties.session_expiry_interval connected' reply × (new ≡ old)
+  Answers old number connected other connected' reply new = (connected' ≡ connected) × (reply ≡ closing_with 0x82) × (new ≡ old)
 
-  -- where memory was wanted: a PUBLISH was offered to some groups, some entries of a SUBSCRIBE were answered, and nothing else was done
-  abbrev pub FailsToAnswer : S → ℕ → Link P → Packet → Link P → S → Type 0
-  FailsToAnswer old number link (packets.Publish publish) link' new = IsCutShort call old number publish new × (link' ≡ link)
-  FailsToAnswer old number link (packets.Subscribe subscribe) link' new =
-      (membership : Membership P) × AnswersSome call slot_of (is_some subscribe.properties.subscription_identifier) link.terms old link.session.membership
+  -- where an allocation failed: a PUBLISH was offered to some groups, some entries of a SUBSCRIBE were answered, and nothing else was done
+  abbrev pub FailsToAnswer : S → ℕ → ConnectedClient P → Packet → ConnectedClient P → S → Type 0
+  FailsToAnswer old number connected (packets.Publish publish) connected' new = IsCutShort call old number publish new × (connected' ≡ connected)
+  FailsToAnswer old number connected (packets.Subscribe subscribe) connected' new =
+      (membership : Membership P) × AnswersSome call slot_of (is_some subscribe.properties.subscription_identifier) connected.terms old connected.session.membership
       subscribe.subscriptions membership new
-      × (link' ≡ joining link membership)
-  FailsToAnswer old number link (packets.Unsubscribe unsubscribe) link' new = (link' ≡ link) × (new ≡ old)
-  FailsToAnswer old number link other link' new = ⊥
+      × (connected' ≡ joining connected membership)
+  FailsToAnswer old number connected (packets.Unsubscribe unsubscribe) connected' new = (connected' ≡ connected) × (new ≡ old)
+  FailsToAnswer old number connected other connected' new = ⊥

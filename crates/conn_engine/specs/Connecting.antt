@@ -17,12 +17,12 @@ use Rattle.session_desk.specs.declared.session.Membership.TheVariants.{NotMember
 use Rattle.conn_rules.specs.Packets.{accepting, refusing}
 use Rattle.conn_rules.specs.declared.terms.Terms.{Terms}
 use Rattle.conn_supply.specs.declared.reply.Reply.{Reply}
-use Rattle.conn_supply.specs.Facts.{Fact}
-use Rattle.conn_supply.specs.Facts.Fact.{Attach, ParkAsIs, Withdraw}
+use Rattle.conn_supply.specs.SupplyCalls.{SupplyCall}
+use Rattle.conn_supply.specs.SupplyCalls.SupplyCall.{Attach, ParkAsIs, Withdraw}
 use Rattle.conn_supply.specs.Replies.{going_on, closed}
-use Rattle.conn_engine.specs.declared.standing.ConnectRequest.{ConnectRequest}
-use Rattle.conn_engine.specs.declared.standing.Standing.{Standing}
-use Rattle.conn_engine.specs.declared.standing.Standing.TheVariants.{Unconnected, Waiting, Connected, Ended}
+use Rattle.conn_engine.specs.declared.phase.ConnectRequest.{ConnectRequest}
+use Rattle.conn_engine.specs.declared.phase.ConnPhase.{ConnPhase}
+use Rattle.conn_engine.specs.declared.phase.ConnPhase.TheVariants.{Unconnected, Waiting, Connected, Ended}
 use Rattle.conn_engine.specs.Ending.{down, Retires, Parts}
 
 -- how many Ticks a connection waits for a session (profile)
@@ -55,51 +55,51 @@ has_place (Member place) = true
 has_place (Leaving place) = true
 
 -- the connection is refused, and closed (3.2.2.2)
-pub record IsRefused {P : Type 0} (refusal : ConnectRefusal) (standing : Standing P) (reply : Reply) : Type 0 where
-  pub over : standing ≡ Ended
+pub record IsRefused {P : Type 0} (refusal : ConnectRefusal) (phase : ConnPhase P) (reply : Reply) : Type 0 where
+  pub over : phase ≡ Ended
   pub told : reply ≡ closed (Some (refusing refusal))
 
 -- the connection begins, with this session
-pub record Accepts {P : Type 0} (request : ConnectRequest) (present : Bool) (session : Session Held P) (standing : Standing P) (reply : Reply) : Type 0 where
-  pub begun : standing ≡ Connected (record { session = opened session request.terms; terms = request.terms; heard = request.came })
+pub record Accepts {P : Type 0} (request : ConnectRequest) (present : Bool) (session : Session Held P) (phase : ConnPhase P) (reply : Reply) : Type 0 where
+  pub begun : phase ≡ Connected (record { session = opened session request.terms; terms = request.terms; heard = request.came })
   pub told : reply ≡ going_on (Some (accepting present (assigned request.client session.identity)))
 
 -- the connection waits while it has found its session lent at fewer Ticks than that, and is refused then
-abbrev pub WaitsAs : {P : Type 0} → Bool → ConnectRequest → ℕ → Standing P → Reply → Type 0
-WaitsAs true request ticks standing reply = (standing ≡ Waiting request ticks) × (reply ≡ going_on None)
-WaitsAs false request ticks standing reply = IsRefused refusals.ServerBusy standing reply
+abbrev pub WaitsAs : {P : Type 0} → Bool → ConnectRequest → ℕ → ConnPhase P → Reply → Type 0
+WaitsAs true request ticks phase reply = (phase ≡ Waiting request ticks) × (reply ≡ going_on None)
+WaitsAs false request ticks phase reply = IsRefused refusals.ServerBusy phase reply
 
-module _ {S P : Type 0} (call : S → Fact P → S → Type 0) where
+module _ {S P : Type 0} (call : S → SupplyCall P → S → Type 0) where
   -- the session that a client had, where it had one, is retired
   abbrev pub RetiresEarlier : S → Option (Session Held P) → S → Type 0
   RetiresEarlier old None new = new ≡ old
   RetiresEarlier old (Some ended) new = (gone : Bool) × Retires call old ended gone new
 
   -- the session of a member is not for a client that does not take every packet (profile, for now)
-  abbrev pub ResumesAs : Bool → S → ConnectRequest → Session Held P → Standing P → Reply → S → Type 0
-  ResumesAs true old request session standing reply new = call old (ParkAsIs (down session)) new × IsRefused refusals.ImplementationSpecificError standing reply
-  ResumesAs false old request session standing reply new = (new ≡ old) × Accepts request true session standing reply
+  abbrev pub ResumesAs : Bool → S → ConnectRequest → Session Held P → ConnPhase P → Reply → S → Type 0
+  ResumesAs true old request session phase reply new = call old (ParkAsIs (down session)) new × IsRefused refusals.ImplementationSpecificError phase reply
+  ResumesAs false old request session phase reply new = (new ≡ old) × Accepts request true session phase reply
 
   -- what becomes of a connection that was given this answer; at so many Ticks before, its session was still lent
-  abbrev pub AttachedAs : S → ConnectRequest → ℕ → Result (Attached Held P) DeskError → Standing P → Reply → S → Type 0
-  AttachedAs old request ticks (Ok (New session ended)) standing reply new = RetiresEarlier old ended new × Accepts request false session standing reply
-  AttachedAs old request ticks (Ok (Resumed session)) standing reply new =
-      ResumesAs (has_place session.membership && not request.terms.takes_all_packets) old request session standing reply new
-  AttachedAs old request ticks (Ok (Replace holder)) standing reply new = WaitsAs (nat_lt ticks most_ticks) request ticks standing reply × (new ≡ old)
-  AttachedAs old request ticks (Ok Busy) standing reply new = IsRefused refusals.ServerBusy standing reply × (new ≡ old)
-  AttachedAs old request ticks (Err errors.Full) standing reply new = IsRefused refusals.ServerBusy standing reply × (new ≡ old)
-  AttachedAs old request ticks (Err errors.NoPlace) standing reply new = IsRefused refusals.ServerBusy standing reply × (new ≡ old)
-  AttachedAs old request ticks (Err errors.NoName) standing reply new = IsRefused refusals.ClientIdentifierNotValid standing reply × (new ≡ old)
-  AttachedAs old request ticks (Err errors.Memory) standing reply new = ⊥
+  abbrev pub AttachedAs : S → ConnectRequest → ℕ → Result (Attached Held P) DeskError → ConnPhase P → Reply → S → Type 0
+  AttachedAs old request ticks (Ok (New session ended)) phase reply new = RetiresEarlier old ended new × Accepts request false session phase reply
+  AttachedAs old request ticks (Ok (Resumed session)) phase reply new =
+      ResumesAs (has_place session.membership && not request.terms.takes_all_packets) old request session phase reply new
+  AttachedAs old request ticks (Ok (Replace holder)) phase reply new = WaitsAs (nat_lt ticks most_ticks) request ticks phase reply × (new ≡ old)
+  AttachedAs old request ticks (Ok Busy) phase reply new = IsRefused refusals.ServerBusy phase reply × (new ≡ old)
+  AttachedAs old request ticks (Err errors.Full) phase reply new = IsRefused refusals.ServerBusy phase reply × (new ≡ old)
+  AttachedAs old request ticks (Err errors.NoPlace) phase reply new = IsRefused refusals.ServerBusy phase reply × (new ≡ old)
+  AttachedAs old request ticks (Err errors.NoName) phase reply new = IsRefused refusals.ClientIdentifierNotValid phase reply × (new ≡ old)
+  AttachedAs old request ticks (Err errors.Memory) phase reply new = ⊥
 
   -- a session is asked for
-  pub record Attaches (old : S) (number now : ℕ) (request : ConnectRequest) (ticks : ℕ) (standing : Standing P) (reply : Reply) (new : S) : Type 0 where
+  pub record Attaches (old : S) (number now : ℕ) (request : ConnectRequest) (ticks : ℕ) (phase : ConnPhase P) (reply : Reply) (new : S) : Type 0 where
     pub answer : Result (Attached Held P) DeskError
     pub mid : S
     pub asked_for : call old (Attach (asked number request.client request.clean_start now) answer) mid
-    pub answered : AttachedAs mid request ticks answer standing reply new
+    pub answered : AttachedAs mid request ticks answer phase reply new
 
-  -- where memory was wanted, a session that was lent is parked, or ending
+  -- where an allocation failed, a session that was lent is parked, or ending
   abbrev pub FailsWith : S → ℕ → ConnectRequest → Result (Attached Held P) DeskError → S → Type 0
   FailsWith old now request (Ok (New session ended)) new = (mid : S) × RetiresEarlier old ended mid × Parts call mid (opened session request.terms) now new
   FailsWith old now request (Ok (Resumed session)) new = Parts call old (opened session request.terms) now new
@@ -117,19 +117,19 @@ module _ {S P : Type 0} (call : S → Fact P → S → Type 0) where
     pub failed : FailsWith mid now request answer new
 
   -- a connection that does not wait any more waits for no session
-  abbrev pub Withdraws : S → ℕ → Standing P → S → Type 0
+  abbrev pub Withdraws : S → ℕ → ConnPhase P → S → Type 0
   Withdraws old number (Waiting request ticks) new = new ≡ old
   Withdraws old number (Unconnected opened) new = call old (Withdraw number) new
-  Withdraws old number (Connected link) new = call old (Withdraw number) new
+  Withdraws old number (Connected connected) new = call old (Withdraw number) new
   Withdraws old number Ended new = call old (Withdraw number) new
 
   -- a connection that waits asks for its session again
-  pub record TriesAgain (old : S) (number now : ℕ) (request : ConnectRequest) (ticks : ℕ) (standing : Standing P) (reply : Reply) (new : S) : Type 0 where
+  pub record TriesAgain (old : S) (number now : ℕ) (request : ConnectRequest) (ticks : ℕ) (phase : ConnPhase P) (reply : Reply) (new : S) : Type 0 where
     pub mid : S
-    pub attaches : Attaches old number now request (ticks + 1) standing reply mid
-    pub withdraws : Withdraws mid number standing new
+    pub attaches : Attaches old number now request (ticks + 1) phase reply mid
+    pub withdraws : Withdraws mid number phase new
 
-  -- where memory was wanted
+  -- where an allocation failed
   pub record FailsAgain (old : S) (number now : ℕ) (request : ConnectRequest) (new : S) : Type 0 where
     pub mid : S
     pub failed : FailsToAttach old number now request mid

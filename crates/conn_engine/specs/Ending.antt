@@ -5,8 +5,8 @@ use Rattle.member_window.specs.Contents.{Contents, held_of, after_down}
 use Rattle.session_desk.specs.declared.session.Session.{Session}
 use Rattle.session_desk.specs.declared.session.Membership.{Membership}
 use Rattle.session_desk.specs.declared.session.Membership.TheVariants.{NotMember, Member, Leaving}
-use Rattle.conn_supply.specs.Facts.{Fact}
-use Rattle.conn_supply.specs.Facts.Fact.{GiveBack, Keep, Bury, Park, Sweep}
+use Rattle.conn_supply.specs.SupplyCalls.{SupplyCall}
+use Rattle.conn_supply.specs.SupplyCalls.SupplyCall.{GiveBack, Keep, Bury, Park, Sweep}
 use Rattle.conn_supply.specs.Memberships.{with_window, with_membership}
 
 -- the window of a session that is ending, with what it holds still
@@ -21,8 +21,8 @@ ending_session session membership left = with_membership (with_window session (e
 abbrev pub down : {P : Type 0} → Session Held P → Session Held P
 down session = with_window session (after_down session.window)
 
-module _ {S P : Type 0} (call : S → Fact P → S → Type 0) where
-  -- a place gives its messages back, the oldest first, until there is no memory for one: what is left is that one and those behind it
+module _ {S P : Type 0} (call : S → SupplyCall P → S → Type 0) where
+  -- a place gives its messages back, the oldest first, until there is no memory for one: what is left is that one and those after it
   abbrev pub GivesBack : S → P → List (ℕ × Held) → P → List (ℕ × Held) → S → Type 0
   GivesBack old place [] place' left new = (place' ≡ place) × (left ≡ []) × (new ≡ old)
   GivesBack old place (entry ∷ entries) place' left new =
@@ -49,7 +49,7 @@ module _ {S P : Type 0} (call : S → Fact P → S → Type 0) where
   RetiresAs old session (Member place) gone new = RetiresFrom old session place Member gone new
   RetiresAs old session (Leaving place) gone new = RetiresFrom old session place Leaving gone new
 
-  -- a session is retired: it gives back what it holds, and is gone; where memory was wanted, it is kept with the rest
+  -- a session is retired: it gives back what it holds, and is gone; where an allocation failed, it is kept with the rest
   abbrev pub Retires : S → Session Held P → Bool → S → Type 0
   Retires old session gone new = RetiresAs old session session.membership gone new
 
@@ -62,7 +62,7 @@ module _ {S P : Type 0} (call : S → Fact P → S → Type 0) where
   Parts old session now new =
       (answer : Option (Session Held P)) × (mid : S) × call old (Park (down session) now answer) mid × PartsAs mid answer new
 
-  -- sessions that are due are retired, so many at most, until none is due or memory was wanted
+  -- sessions that are due are retired, so many at most, until none is due or an allocation failed
   abbrev pub Sweeps : S → ℕ → ℕ → S → Type 0
   Sweeps old now zero new = new ≡ old
   Sweeps old now (suc most) new =

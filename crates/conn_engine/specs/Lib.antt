@@ -1,5 +1,5 @@
 pub mod Ending
-pub mod Standings
+pub mod Phases
 pub mod Connecting
 pub mod Answering
 pub mod Step

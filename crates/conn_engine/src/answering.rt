@@ -4,7 +4,7 @@ ghost use Rattle.mqtt_packet.specs.declared.packet.Packet.TheVariants as packets
 ghost use Rattle.conn_supply.specs.Ready.{IsSoundSession};
 ghost use Rattle.conn_engine.specs.Answering.{Disconnects, Answers, FailsToAnswer};
 
-use crate::standing::Link;
+use crate::phase::ConnectedClient;
 use conn_supply::{
     HoldingPlace, NoMemory, Reply, Supply, acknowledge, publish, subscribe, unsubscribe,
 };
@@ -15,20 +15,20 @@ use std::alloc::Global;
 ///
 /// # Errors
 ///
-/// Want of memory. Nothing that the session holds is lost.
+/// Lack of memory. Nothing that the session holds is lost.
 pub(crate) fn answer<P: HoldingPlace, S: Supply<P>>(
     supply: &mut S,
     alloc: Global,
     number: u16,
-    link: &mut Link<P>,
+    connected: &mut ConnectedClient<P>,
     packet: Packet,
 ) -> Result<Reply, NoMemory>
-    requires sound { IsSoundSession P.has_out link.old.session }
+    requires sound { IsSoundSession P.has_out connected.old.session }
     requires visiting { S.visiting supply.old ≡ true }
     ensures answered { MatchResult result
-        (λ reply. Answers S.call P.slot_of supply.old number link.old packet link.new reply supply.new)
-        (λ _. FailsToAnswer S.call P.slot_of supply.old number link.old packet link.new supply.new) }
-    ensures sound { IsSoundSession P.has_out link.new.session }
+        (λ reply. Answers S.call P.slot_of supply.old number connected.old packet connected.new reply supply.new)
+        (λ _. FailsToAnswer S.call P.slot_of supply.old number connected.old packet connected.new supply.new) }
+    ensures sound { IsSoundSession P.has_out connected.new.session }
     ensures visiting { S.visiting supply.new ≡ S.visiting supply.old }
 {
     match packet {
@@ -36,16 +36,16 @@ pub(crate) fn answer<P: HoldingPlace, S: Supply<P>>(
         Packet::Puback(packet) => {
             let (identifier, code) = (packet.packet_identifier, packet.reason_code);
             drop(packet);
-            acknowledge(supply, &mut link.session, identifier, code);
+            acknowledge(supply, &mut connected.session, identifier, code);
             Ok(Reply::going_on(None))
         }
-        Packet::Subscribe(packet) => join(supply, alloc, link, packet),
-        Packet::Unsubscribe(packet) => leave(supply, alloc, link, packet),
+        Packet::Subscribe(packet) => join(supply, alloc, connected, packet),
+        Packet::Unsubscribe(packet) => leave(supply, alloc, connected, packet),
         Packet::Pingreq => Ok(Reply::going_on(Some(Packet::Pingresp))),
         Packet::Disconnect(packet) => {
             let expiry = packet.properties.session_expiry_interval;
             drop(packet);
-            Ok(disconnect(alloc, link, expiry))
+            Ok(disconnect(alloc, connected, expiry))
         }
         other => {
             drop(other);
@@ -58,19 +58,19 @@ pub(crate) fn answer<P: HoldingPlace, S: Supply<P>>(
 fn join<P: HoldingPlace, S: Supply<P>>(
     supply: &mut S,
     alloc: Global,
-    link: &mut Link<P>,
+    connected: &mut ConnectedClient<P>,
     packet: Subscribe,
 ) -> Result<Reply, NoMemory>
-    requires { IsSoundSession P.has_out link.old.session }
+    requires { IsSoundSession P.has_out connected.old.session }
     ensures answered { MatchResult result
-        (λ reply. Answers S.call P.slot_of supply.old 0 link.old (packets.Subscribe packet) link.new reply supply.new)
-        (λ _. FailsToAnswer S.call P.slot_of supply.old 0 link.old (packets.Subscribe packet) link.new supply.new) }
-    ensures sound { IsSoundSession P.has_out link.new.session }
+        (λ reply. Answers S.call P.slot_of supply.old 0 connected.old (packets.Subscribe packet) connected.new reply supply.new)
+        (λ _. FailsToAnswer S.call P.slot_of supply.old 0 connected.old (packets.Subscribe packet) connected.new supply.new) }
+    ensures sound { IsSoundSession P.has_out connected.new.session }
     ensures visiting { S.visiting supply.new ≡ S.visiting supply.old }
 {
-    let membership = link.take_membership();
-    let (membership, replied) = subscribe(supply, alloc, membership, &link.terms, packet);
-    link.put_membership(membership);
+    let membership = connected.take_membership();
+    let (membership, replied) = subscribe(supply, alloc, membership, &connected.terms, packet);
+    connected.put_membership(membership);
     replied
 }
 
@@ -78,34 +78,38 @@ fn join<P: HoldingPlace, S: Supply<P>>(
 fn leave<P: HoldingPlace, S: Supply<P>>(
     supply: &mut S,
     alloc: Global,
-    link: &mut Link<P>,
+    connected: &mut ConnectedClient<P>,
     packet: Unsubscribe,
 ) -> Result<Reply, NoMemory>
-    requires { IsSoundSession P.has_out link.old.session }
+    requires { IsSoundSession P.has_out connected.old.session }
     ensures answered { MatchResult result
-        (λ reply. Answers S.call P.slot_of supply.old 0 link.old (packets.Unsubscribe packet) link.new reply supply.new)
-        (λ _. FailsToAnswer S.call P.slot_of supply.old 0 link.old (packets.Unsubscribe packet) link.new supply.new) }
-    ensures sound { IsSoundSession P.has_out link.new.session }
+        (λ reply. Answers S.call P.slot_of supply.old 0 connected.old (packets.Unsubscribe packet) connected.new reply supply.new)
+        (λ _. FailsToAnswer S.call P.slot_of supply.old 0 connected.old (packets.Unsubscribe packet) connected.new supply.new) }
+    ensures sound { IsSoundSession P.has_out connected.new.session }
     ensures visiting { S.visiting supply.new ≡ S.visiting supply.old }
 {
-    let membership = link.take_membership();
+    let membership = connected.take_membership();
     let (membership, replied) = unsubscribe(supply, alloc, membership, packet);
-    link.put_membership(membership);
+    connected.put_membership(membership);
     replied
 }
 
 /// Answers a DISCONNECT with this Session Expiry Interval (section 3.14).
-fn disconnect<P: HoldingPlace>(alloc: Global, link: &mut Link<P>, expiry: Option<u32>) -> Reply
-    requires { IsSoundSession P.has_out link.old.session }
-    ensures answered { Disconnects link.old expiry link.new result }
-    ensures sound { IsSoundSession P.has_out link.new.session }
+fn disconnect<P: HoldingPlace>(
+    alloc: Global,
+    connected: &mut ConnectedClient<P>,
+    expiry: Option<u32>,
+) -> Reply
+    requires { IsSoundSession P.has_out connected.old.session }
+    ensures answered { Disconnects connected.old expiry connected.new result }
+    ensures sound { IsSoundSession P.has_out connected.new.session }
 {
     let Some(seconds) = expiry else {
         return Reply::closed(None);
     };
-    if link.terms.is_given_expiry(seconds) {
+    if connected.terms.is_given_expiry(seconds) {
         return Reply::closing_with(alloc, ReasonCode::PROTOCOL_ERROR);
     }
-    link.session.expiry.seconds = seconds;
+    connected.session.expiry.seconds = seconds;
     Reply::closed(None)
 }

@@ -4,11 +4,11 @@ ghost use Rattle.conn_supply.specs.Holding.{IsOutAtPlace};
 ghost use Rattle.conn_supply.specs.Ready.{IsSoundSession};
 ghost use Rattle.conn_engine.specs.Connecting.{opened, assigned, has_place, IsRefused, Accepts, RetiresEarlier, ResumesAs, Attaches, FailsToAttach, most_ticks, WaitsAs, TriesAgain, FailsAgain};
 ghost use Rattle.conn_engine.specs.Ending.{Parts};
-ghost use Rattle.conn_engine.specs.Standings.{IsSoundStanding, IsWaiting};
-ghost use Rattle.conn_engine.specs.declared.standing.Standing.TheVariants.{Ended};
+ghost use Rattle.conn_engine.specs.Phases.{IsSoundPhase, IsWaiting};
+ghost use Rattle.conn_engine.specs.declared.phase.ConnPhase.TheVariants.{Ended};
 
 use crate::ending::{part, part_as_is, retire};
-use crate::standing::{ConnectRequest, Link, Standing};
+use crate::phase::{ConnPhase, ConnectRequest, ConnectedClient};
 use conn_rules::{accepting, refusing};
 use conn_supply::{HoldingPlace, NoMemory, Reply, Supply};
 use group_jobs::Envelope;
@@ -22,20 +22,20 @@ const MOST_TICKS: u8 = 100;
 ///
 /// # Errors
 ///
-/// Want of memory. The connection has ended then, and a session that was lent is parked or ending.
+/// Lack of memory. The connection has ended then, and a session that was lent is parked or ending.
 pub(crate) fn attach<P: HoldingPlace, S: Supply<P>>(
     supply: &mut S,
     number: u16,
     now: u64,
     request: ConnectRequest,
     ticks: u8,
-) -> (Standing<P>, Result<Reply, NoMemory>)
+) -> (ConnPhase<P>, Result<Reply, NoMemory>)
     requires known { number < 1024 }
     requires short { length request.client ≤ 128 }
     ensures answered { MatchResult result.1
         (λ reply. Attaches S.call supply.old number now request ticks result.0 reply supply.new)
         (λ _. (result.0 ≡ Ended) × FailsToAttach S.call supply.old number now request supply.new) }
-    ensures sound { IsSoundStanding P.has_out result.0 }
+    ensures sound { IsSoundPhase P.has_out result.0 }
     ensures visiting { S.visiting supply.new ≡ S.visiting supply.old }
 {
     match supply.attach(number, &request.client, request.clean_start, now) {
@@ -48,7 +48,7 @@ pub(crate) fn attach<P: HoldingPlace, S: Supply<P>>(
         Ok(Attached::Busy) => refuse(ConnectRefusal::ServerBusy),
         Err(DeskError::Full | DeskError::NoPlace) => refuse(ConnectRefusal::ServerBusy),
         Err(DeskError::NoName) => refuse(ConnectRefusal::ClientIdentifierNotValid),
-        Err(DeskError::Memory) => (Standing::Ended, Err(NoMemory)),
+        Err(DeskError::Memory) => (ConnPhase::Ended, Err(NoMemory)),
     }
 }
 
@@ -56,50 +56,50 @@ pub(crate) fn attach<P: HoldingPlace, S: Supply<P>>(
 ///
 /// # Errors
 ///
-/// Want of memory. The connection has ended then, and a session that was lent is parked or ending.
+/// Lack of memory. The connection has ended then, and a session that was lent is parked or ending.
 pub(crate) fn try_again<P: HoldingPlace, S: Supply<P>>(
     supply: &mut S,
     number: u16,
     now: u64,
     request: ConnectRequest,
     ticks: u8,
-) -> (Standing<P>, Result<Reply, NoMemory>)
+) -> (ConnPhase<P>, Result<Reply, NoMemory>)
     requires known { number < 1024 }
     requires short { length request.client ≤ 128 }
     requires few { ticks < 100 }
     ensures answered { MatchResult result.1
         (λ reply. TriesAgain S.call supply.old number now request ticks result.0 reply supply.new)
         (λ _. (result.0 ≡ Ended) × FailsAgain S.call supply.old number now request supply.new) }
-    ensures sound { IsSoundStanding P.has_out result.0 }
+    ensures sound { IsSoundPhase P.has_out result.0 }
     ensures visiting { S.visiting supply.new ≡ S.visiting supply.old }
 {
-    let (standing, replied) = attach(supply, number, now, request, ticks + 1);
-    if !is_waiting(&standing) {
+    let (phase, replied) = attach(supply, number, now, request, ticks + 1);
+    if !is_waiting(&phase) {
         supply.withdraw(number);
     }
-    (standing, replied)
+    (phase, replied)
 }
 
 /// Whether a connection waits for a session.
-pub(crate) fn is_waiting<P>(standing: &Standing<P>) -> bool
-    ensures { IsTrue result ↔ IsWaiting standing.now }
+pub(crate) fn is_waiting<P>(phase: &ConnPhase<P>) -> bool
+    ensures { IsTrue result ↔ IsWaiting phase.now }
 {
-    matches!(standing, Standing::Waiting { .. })
+    matches!(phase, ConnPhase::Waiting { .. })
 }
 
 /// Another connection has the session: this one waits for it, unless it has waited long enough.
 fn wait<P: HoldingPlace>(
     request: ConnectRequest,
     ticks: u8,
-) -> (Standing<P>, Result<Reply, NoMemory>)
+) -> (ConnPhase<P>, Result<Reply, NoMemory>)
     requires { length request.client ≤ 128 }
     ensures answered { IfOk result.1 (WaitsAs (nat_lt ticks most_ticks) request ticks result.0) }
     ensures fine { IsOk result.1 }
-    ensures sound { IsSoundStanding P.has_out result.0 }
+    ensures sound { IsSoundPhase P.has_out result.0 }
 {
     if ticks < MOST_TICKS {
         (
-            Standing::Waiting { request, ticks },
+            ConnPhase::Waiting { request, ticks },
             Ok(Reply::going_on(None)),
         )
     } else {
@@ -108,12 +108,12 @@ fn wait<P: HoldingPlace>(
 }
 
 /// The connection is refused, and closed.
-pub(crate) fn refuse<P>(refusal: ConnectRefusal) -> (Standing<P>, Result<Reply, NoMemory>)
+pub(crate) fn refuse<P>(refusal: ConnectRefusal) -> (ConnPhase<P>, Result<Reply, NoMemory>)
     ensures over { result.0 ≡ Ended }
     ensures told { IfOk result.1 (IsRefused refusal result.0) }
     ensures fine { IsOk result.1 }
 {
-    (Standing::Ended, Ok(Reply::closed(Some(refusing(refusal)))))
+    (ConnPhase::Ended, Ok(Reply::closed(Some(refusing(refusal)))))
 }
 
 /// Retires the session that a client had, where it had one.
@@ -136,12 +136,12 @@ fn resume<P: HoldingPlace, S: Supply<P>>(
     now: u64,
     request: ConnectRequest,
     session: Session<Envelope, P>,
-) -> (Standing<P>, Result<Reply, NoMemory>)
+) -> (ConnPhase<P>, Result<Reply, NoMemory>)
     requires { IsSoundSession P.has_out session }
     ensures answered { MatchResult result.1
         (λ reply. ResumesAs S.call (has_place session.membership && not request.terms.takes_all_packets) supply.old request session result.0 reply supply.new)
         (λ _. (result.0 ≡ Ended) × Parts S.call supply.old (opened session request.terms) now supply.new) }
-    ensures sound { IsSoundStanding P.has_out result.0 }
+    ensures sound { IsSoundPhase P.has_out result.0 }
     ensures visiting { S.visiting supply.new ≡ S.visiting supply.old }
 {
     if has_place(&session.membership) && !request.terms.takes_all_packets {
@@ -170,31 +170,31 @@ fn accept<P: HoldingPlace, S: Supply<P>>(
     request: ConnectRequest,
     mut session: Session<Envelope, P>,
     present: bool,
-) -> (Standing<P>, Result<Reply, NoMemory>)
+) -> (ConnPhase<P>, Result<Reply, NoMemory>)
     requires { IsSoundSession P.has_out session }
     ensures answered { MatchResult result.1
         (λ reply. Accepts request present session result.0 reply × (supply.new ≡ supply.old))
         (λ _. (result.0 ≡ Ended) × Parts S.call supply.old (opened session request.terms) now supply.new) }
-    ensures sound { IsSoundStanding P.has_out result.0 }
+    ensures sound { IsSoundPhase P.has_out result.0 }
     ensures visiting { S.visiting supply.new ≡ S.visiting supply.old }
 {
     session.window.up(request.terms.receive_maximum);
     session.expiry.seconds = request.terms.session_expiry_interval;
     match assigned(&request.client, &session.identity) {
         Ok(name) => {
-            let link = Link {
+            let connected = ConnectedClient {
                 session,
                 terms: request.terms,
                 heard: request.came,
             };
             (
-                Standing::Connected(link),
+                ConnPhase::Connected(connected),
                 Ok(Reply::going_on(Some(accepting(present, name)))),
             )
         }
         Err(NoMemory) => {
             part(supply, session, now);
-            (Standing::Ended, Err(NoMemory))
+            (ConnPhase::Ended, Err(NoMemory))
         }
     }
 }

@@ -1,17 +1,17 @@
 //! What becomes of a session whose connection has ended, or whose time is over.
 ghost use Rattle.std.specs.Prelude.{◌≡◌, ℕ, List};
-ghost use Rattle.conn_engine.specs.declared.standing.Standing.TheVariants as standings;
+ghost use Rattle.conn_engine.specs.declared.phase.ConnPhase.TheVariants as phases;
 ghost use Rattle.group_jobs.specs.Stamps.{Held};
 ghost use Rattle.member_window.specs.Contents.{held_of, IsDown};
-ghost use Rattle.conn_supply.specs.Facts.Fact.{ParkAsIs};
+ghost use Rattle.conn_supply.specs.SupplyCalls.SupplyCall.{ParkAsIs};
 ghost use Rattle.conn_supply.specs.Holding.{messages, IsOutAtPlace};
 ghost use Rattle.conn_supply.specs.Ready.{IsSoundSession};
 ghost use Rattle.conn_engine.specs.Ending.{down, ending, GivesBack, Ends, Retires, Parts, Sweeps};
-ghost use Rattle.conn_engine.specs.Standings.{IsSoundStanding};
+ghost use Rattle.conn_engine.specs.Phases.{IsSoundPhase};
 ghost use Rattle.conn_engine.specs.Step.{GivesUp, ShutsDown, CutsOff};
 
 use crate::input::Input;
-use crate::standing::Standing;
+use crate::phase::ConnPhase;
 use conn_supply::{HoldingPlace, Supply};
 use group_jobs::Envelope;
 use member_window::Window;
@@ -22,22 +22,22 @@ use std::mem;
 pub(crate) fn give_up<P: HoldingPlace, S: Supply<P>>(
     supply: &mut S,
     number: u16,
-    standing: &mut Standing<P>,
+    phase: &mut ConnPhase<P>,
     now: u64,
 )
-    requires { IsSoundStanding P.has_out standing.old }
-    ensures given { GivesUp S.call P.slot_of supply.old number standing.old now supply.new }
-    ensures over { standing.new ≡ standings.Ended }
+    requires { IsSoundPhase P.has_out phase.old }
+    ensures given { GivesUp S.call P.slot_of supply.old number phase.old now supply.new }
+    ensures over { phase.new ≡ phases.Ended }
     ensures visiting { S.visiting supply.new ≡ S.visiting supply.old }
 {
-    match mem::replace(standing, Standing::Ended) {
-        Standing::Unconnected { opened: _opened } => {}
-        Standing::Waiting {
+    match mem::replace(phase, ConnPhase::Ended) {
+        ConnPhase::Unconnected { opened: _opened } => {}
+        ConnPhase::Waiting {
             request: _request,
             ticks: _ticks,
         } => supply.withdraw(number),
-        Standing::Connected(link) => part(supply, link.into_session(), now),
-        Standing::Ended => {}
+        ConnPhase::Connected(connected) => part(supply, connected.into_session(), now),
+        ConnPhase::Ended => {}
     }
 }
 
@@ -45,42 +45,42 @@ pub(crate) fn give_up<P: HoldingPlace, S: Supply<P>>(
 pub(crate) fn cut_off<P: HoldingPlace, S: Supply<P>>(
     supply: &mut S,
     number: u16,
-    standing: &mut Standing<P>,
+    phase: &mut ConnPhase<P>,
     now: u64,
     input: Input,
 )
-    requires { IsSoundStanding P.has_out standing.old }
-    ensures cut { CutsOff S.call P.slot_of supply.old number standing.old now input supply.new }
-    ensures over { standing.new ≡ standings.Ended }
+    requires { IsSoundPhase P.has_out phase.old }
+    ensures cut { CutsOff S.call P.slot_of supply.old number phase.old now input supply.new }
+    ensures over { phase.new ≡ phases.Ended }
     ensures visiting { S.visiting supply.new ≡ S.visiting supply.old }
 {
     match input {
         Input::Packet(packet) => {
             drop(packet);
-            give_up(supply, number, standing, now);
+            give_up(supply, number, phase, now);
         }
-        Input::Fault(_) => give_up(supply, number, standing, now),
-        Input::Tick => give_up(supply, number, standing, now),
-        Input::EndOfInput => give_up(supply, number, standing, now),
-        Input::Closing => shut_down(supply, number, standing),
+        Input::Fault(_) => give_up(supply, number, phase, now),
+        Input::Tick => give_up(supply, number, phase, now),
+        Input::EndOfInput => give_up(supply, number, phase, now),
+        Input::Closing => shut_down(supply, number, phase),
     }
 }
 
 /// A connection ends as the broker closes.
-fn shut_down<P: HoldingPlace, S: Supply<P>>(supply: &mut S, number: u16, standing: &mut Standing<P>)
-    requires { IsSoundStanding P.has_out standing.old }
-    ensures shut { ShutsDown S.call P.slot_of supply.old number standing.old supply.new }
-    ensures over { standing.new ≡ standings.Ended }
+fn shut_down<P: HoldingPlace, S: Supply<P>>(supply: &mut S, number: u16, phase: &mut ConnPhase<P>)
+    requires { IsSoundPhase P.has_out phase.old }
+    ensures shut { ShutsDown S.call P.slot_of supply.old number phase.old supply.new }
+    ensures over { phase.new ≡ phases.Ended }
     ensures visiting { S.visiting supply.new ≡ S.visiting supply.old }
 {
-    match mem::replace(standing, Standing::Ended) {
-        Standing::Unconnected { opened: _opened } => {}
-        Standing::Waiting {
+    match mem::replace(phase, ConnPhase::Ended) {
+        ConnPhase::Unconnected { opened: _opened } => {}
+        ConnPhase::Waiting {
             request: _request,
             ticks: _ticks,
         } => supply.withdraw(number),
-        Standing::Connected(link) => part_as_is(supply, link.into_session()),
-        Standing::Ended => {}
+        ConnPhase::Connected(connected) => part_as_is(supply, connected.into_session()),
+        ConnPhase::Ended => {}
     }
 }
 
@@ -113,7 +113,7 @@ pub(crate) fn part_as_is<P: HoldingPlace, S: Supply<P>>(
     supply.park_as_is(session);
 }
 
-/// Retires the sessions that are due at this moment, until none is due or memory was wanted.
+/// Retires the sessions that are due at this moment, until none is due or an allocation failed.
 pub(crate) fn sweep<P: HoldingPlace, S: Supply<P>>(supply: &mut S, now: u64)
     ensures swept { Sweeps S.call supply.old now 256 supply.new }
     ensures visiting { S.visiting supply.new ≡ S.visiting supply.old }
@@ -136,7 +136,7 @@ fn sweep_most<P: HoldingPlace, S: Supply<P>>(supply: &mut S, now: u64, most: usi
     }
 }
 
-/// Retires a session: it gives back what it holds, the oldest first, and is gone. Where memory is wanted, it is kept with the
+/// Retires a session: it gives back what it holds, the oldest first, and is gone. Where an allocation fails, it is kept with the
 /// rest, to be retired later. Says whether it is gone.
 pub fn retire<P: HoldingPlace, S: Supply<P>>(supply: &mut S, session: Session<Envelope, P>) -> bool
     requires { IsOutAtPlace P.has_out session }
@@ -172,7 +172,7 @@ pub fn retire<P: HoldingPlace, S: Supply<P>>(supply: &mut S, session: Session<En
     )
 }
 
-/// A place gives back what the window holds, the oldest first, until memory is wanted: what is left stays in the window.
+/// A place gives back what the window holds, the oldest first, until an allocation fails: what is left stays in the window.
 fn give_back<P: HoldingPlace, S: Supply<P>>(
     supply: &mut S,
     place: &mut P,

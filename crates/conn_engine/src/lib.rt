@@ -22,10 +22,10 @@ mod connecting;
 mod ending;
 mod input;
 mod looking;
+mod phase;
 mod reacting;
-mod standing;
 
 pub use conn::Conn;
 pub use ending::retire;
 pub use input::Input;
-pub use standing::Opening;
+pub use phase::Opening;

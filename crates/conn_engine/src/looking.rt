@@ -2,11 +2,11 @@
 ghost use Rattle.std.specs.Prelude.{◌≡◌, ◌<◌, ◌≤◌, ◌^◌, ◌↔◌, ℕ, MatchOption};
 ghost use Rattle.conn_engine.specs.Looking.{IsSilentTooLong, TakesAt, held_by};
 
-use crate::standing::Standing;
+use crate::phase::ConnPhase;
 use conn_rules::{CONNECT_TIMEOUT, longest_silence};
 use session_desk::{Membership, Place};
 
-impl<P> Standing<P> {
+impl<P> ConnPhase<P> {
     /// The moment from which a Tick ends the connection for silence; `None` where there is none below 2^64.
     pub(crate) fn deadline(&self) -> Option<u64>
         ensures { MatchOption result
@@ -14,27 +14,27 @@ impl<P> Standing<P> {
             (λ deadline. (now : ℕ) → IsSilentTooLong self.now now ↔ deadline ≤ now) }
     {
         match self {
-            Standing::Unconnected { opened } => opened.at.checked_add(CONNECT_TIMEOUT),
-            Standing::Waiting { .. } => None,
-            Standing::Connected(link) => match longest_silence(link.terms.keep_alive) {
-                Some(longest) => link.heard.checked_add(longest),
+            ConnPhase::Unconnected { opened } => opened.at.checked_add(CONNECT_TIMEOUT),
+            ConnPhase::Waiting { .. } => None,
+            ConnPhase::Connected(connected) => match longest_silence(connected.terms.keep_alive) {
+                Some(longest) => connected.heard.checked_add(longest),
                 None => None,
             },
-            Standing::Ended => None,
+            ConnPhase::Ended => None,
         }
     }
 }
 
-impl<P: Place> Standing<P> {
+impl<P: Place> ConnPhase<P> {
     /// How many messages the client has not acknowledged.
     pub(crate) fn held(&self) -> usize
         ensures { result ≡ held_by self.now }
     {
         match self {
-            Standing::Connected(link) => link.session.window.len(),
-            Standing::Unconnected { .. } => 0,
-            Standing::Waiting { .. } => 0,
-            Standing::Ended => 0,
+            ConnPhase::Connected(connected) => connected.session.window.len(),
+            ConnPhase::Unconnected { .. } => 0,
+            ConnPhase::Waiting { .. } => 0,
+            ConnPhase::Ended => 0,
         }
     }
 
@@ -44,13 +44,13 @@ impl<P: Place> Standing<P> {
             ((place : P) → ¬ TakesAt self.now place)
             (λ slot. (place : P) × TakesAt self.now place × (P.slot_of place ≡ slot)) }
     {
-        let Standing::Connected(link) = self else {
+        let ConnPhase::Connected(connected) = self else {
             return None;
         };
-        let Membership::Member(place) = &link.session.membership else {
+        let Membership::Member(place) = &connected.session.membership else {
             return None;
         };
-        if link.session.window.room() {
+        if connected.session.window.room() {
             Some(place.slot())
         } else {
             None

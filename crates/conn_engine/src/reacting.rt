@@ -3,18 +3,18 @@ ghost use Rattle.std.specs.Prelude.{◌≡◌, ◌<◌, ◌≤◌, ◌↔◌, Ok
 ghost use Rattle.conn_rules.specs.Connecting.{first_answer};
 ghost use Rattle.conn_rules.specs.Packets.{disconnect};
 ghost use Rattle.conn_rules.specs.declared.connecting.FirstAnswer.TheVariants as first;
-ghost use Rattle.conn_supply.specs.Facts.Fact.{ParkAsIs};
+ghost use Rattle.conn_supply.specs.SupplyCalls.SupplyCall.{ParkAsIs};
 ghost use Rattle.conn_supply.specs.Replies.{taken_over};
-ghost use Rattle.conn_engine.specs.declared.standing.Standing.TheVariants as standings;
+ghost use Rattle.conn_engine.specs.declared.phase.ConnPhase.TheVariants as phases;
 ghost use Rattle.conn_engine.specs.Ending.{down};
-ghost use Rattle.conn_engine.specs.Standings.{IsSoundStanding, IsConnected};
+ghost use Rattle.conn_engine.specs.Phases.{IsSoundPhase, IsConnected};
 ghost use Rattle.conn_engine.specs.Step.{request_of, IsNoPacket, IsWanted, NeedsVisit, IsClosed, AnswersFirst, AnswersPacket, AnswersTick, GoesOn, Reacts, FailsOnPacket, FailsFirst, FailsToReact};
 
 use crate::answering::answer;
 use crate::connecting::{attach, refuse, try_again};
 use crate::ending::{give_up, part_as_is, sweep};
 use crate::input::Input;
-use crate::standing::{ConnectRequest, Link, Opening, Standing};
+use crate::phase::{ConnPhase, ConnectRequest, ConnectedClient, Opening};
 use conn_rules::{
     FirstAnswer, MaxInflight, answer_to_first, disconnect, fault_code, fault_refusal, is_late,
     is_overdue, terms_of,
@@ -24,36 +24,36 @@ use mqtt_packet::{Connect, Packet, ReasonCode};
 use std::alloc::Global;
 use std::mem;
 
-/// What an input does to the standing of a connection, and its reply.
+/// What an input does to the phase of a connection, and its reply.
 ///
 /// # Errors
 ///
-/// Want of memory. The connection has ended then, and its session is parked or ending.
+/// Lack of memory. The connection has ended then, and its session is parked or ending.
 pub(crate) fn react<P: HoldingPlace, S: Supply<P>>(
     supply: &mut S,
     alloc: Global,
     number: u16,
-    standing: &mut Standing<P>,
+    phase: &mut ConnPhase<P>,
     now: u64,
     input: Input,
 ) -> Result<Reply, NoMemory>
     requires known { number < 1024 }
-    requires sound { IsSoundStanding P.has_out standing.old }
-    requires wanted { IsWanted standing.old input }
+    requires sound { IsSoundPhase P.has_out phase.old }
+    requires wanted { IsWanted phase.old input }
     requires visiting { NeedsVisit input → S.visiting supply.old ≡ true }
     ensures reacted { MatchResult result
-        (λ reply. Reacts S.call P.slot_of supply.old number standing.old now input standing.new reply supply.new)
-        (λ _. (standing.new ≡ standings.Ended) × FailsToReact S.call P.slot_of supply.old number standing.old now input supply.new) }
-    ensures visited { IsConnected standing.new → NeedsVisit input }
-    ensures sound { IsSoundStanding P.has_out standing.new }
+        (λ reply. Reacts S.call P.slot_of supply.old number phase.old now input phase.new reply supply.new)
+        (λ _. (phase.new ≡ phases.Ended) × FailsToReact S.call P.slot_of supply.old number phase.old now input supply.new) }
+    ensures visited { IsConnected phase.new → NeedsVisit input }
+    ensures sound { IsSoundPhase P.has_out phase.new }
     ensures visiting { S.visiting supply.new ≡ S.visiting supply.old }
 {
-    if standing.is_connected() {
-        return react_connected(supply, alloc, number, standing, now, input);
+    if phase.is_connected() {
+        return react_connected(supply, alloc, number, phase, now, input);
     }
-    let before = mem::replace(standing, Standing::Ended);
+    let before = mem::replace(phase, ConnPhase::Ended);
     let (behind, replied) = react_before(supply, number, before, now, input);
-    standing.put(behind);
+    phase.put(behind);
     replied
 }
 
@@ -61,30 +61,30 @@ pub(crate) fn react<P: HoldingPlace, S: Supply<P>>(
 fn react_before<P: HoldingPlace, S: Supply<P>>(
     supply: &mut S,
     number: u16,
-    standing: Standing<P>,
+    phase: ConnPhase<P>,
     now: u64,
     input: Input,
-) -> (Standing<P>, Result<Reply, NoMemory>)
+) -> (ConnPhase<P>, Result<Reply, NoMemory>)
     requires known { number < 1024 }
-    requires sound { IsSoundStanding P.has_out standing }
-    requires wanted { IsWanted standing input }
-    requires before { ¬ IsConnected standing }
+    requires sound { IsSoundPhase P.has_out phase }
+    requires wanted { IsWanted phase input }
+    requires before { ¬ IsConnected phase }
     requires visiting { NeedsVisit input → S.visiting supply.old ≡ true }
     ensures reacted { MatchResult result.1
-        (λ reply. Reacts S.call P.slot_of supply.old number standing now input result.0 reply supply.new)
-        (λ _. (result.0 ≡ standings.Ended) × FailsToReact S.call P.slot_of supply.old number standing now input supply.new) }
+        (λ reply. Reacts S.call P.slot_of supply.old number phase now input result.0 reply supply.new)
+        (λ _. (result.0 ≡ phases.Ended) × FailsToReact S.call P.slot_of supply.old number phase now input supply.new) }
     ensures visited { IsConnected result.0 → NeedsVisit input }
-    ensures sound { IsSoundStanding P.has_out result.0 }
+    ensures sound { IsSoundPhase P.has_out result.0 }
     ensures visiting { S.visiting supply.new ≡ S.visiting supply.old }
 {
-    match standing {
-        Standing::Unconnected { opened } => {
+    match phase {
+        ConnPhase::Unconnected { opened } => {
             react_unconnected(supply, number, opened, now, input)
         }
-        Standing::Waiting { request, ticks } => {
+        ConnPhase::Waiting { request, ticks } => {
             react_waiting(supply, number, request, ticks, now, input)
         }
-        Standing::Ended => {
+        ConnPhase::Ended => {
             drop(input);
             close()
         }
@@ -93,12 +93,12 @@ fn react_before<P: HoldingPlace, S: Supply<P>>(
 }
 
 /// The connection is closed with no answer.
-fn close<P>() -> (Standing<P>, Result<Reply, NoMemory>)
-    ensures over { result.0 ≡ standings.Ended }
+fn close<P>() -> (ConnPhase<P>, Result<Reply, NoMemory>)
+    ensures over { result.0 ≡ phases.Ended }
     ensures told { IfOk result.1 (IsClosed result.0) }
     ensures fine { IsOk result.1 }
 {
-    (Standing::Ended, Ok(Reply::closed(None)))
+    (ConnPhase::Ended, Ok(Reply::closed(None)))
 }
 
 /// Before the first packet.
@@ -108,14 +108,14 @@ fn react_unconnected<P: HoldingPlace, S: Supply<P>>(
     opened: Opening,
     now: u64,
     input: Input,
-) -> (Standing<P>, Result<Reply, NoMemory>)
+) -> (ConnPhase<P>, Result<Reply, NoMemory>)
     requires known { number < 1024 }
     requires visiting { NeedsVisit input → S.visiting supply.old ≡ true }
     ensures reacted { MatchResult result.1
-        (λ reply. Reacts S.call P.slot_of supply.old number (standings.Unconnected opened) now input result.0 reply supply.new)
-        (λ _. (result.0 ≡ standings.Ended) × FailsToReact S.call P.slot_of supply.old number (standings.Unconnected opened) now input supply.new) }
+        (λ reply. Reacts S.call P.slot_of supply.old number (phases.Unconnected opened) now input result.0 reply supply.new)
+        (λ _. (result.0 ≡ phases.Ended) × FailsToReact S.call P.slot_of supply.old number (phases.Unconnected opened) now input supply.new) }
     ensures visited { IsConnected result.0 → NeedsVisit input }
-    ensures sound { IsSoundStanding P.has_out result.0 }
+    ensures sound { IsSoundPhase P.has_out result.0 }
     ensures visiting { S.visiting supply.new ≡ S.visiting supply.old }
 {
     match input {
@@ -129,7 +129,7 @@ fn react_unconnected<P: HoldingPlace, S: Supply<P>>(
             if is_late(now.saturating_sub(opened.at)) {
                 close()
             } else {
-                (Standing::Unconnected { opened }, Ok(Reply::going_on(None)))
+                (ConnPhase::Unconnected { opened }, Ok(Reply::going_on(None)))
             }
         }
         Input::EndOfInput => close(),
@@ -144,12 +144,12 @@ fn answer_first<P: HoldingPlace, S: Supply<P>>(
     max_inflight: MaxInflight,
     now: u64,
     packet: Packet,
-) -> (Standing<P>, Result<Reply, NoMemory>)
+) -> (ConnPhase<P>, Result<Reply, NoMemory>)
     requires known { number < 1024 }
     ensures answered { MatchResult result.1
         (λ reply. AnswersFirst S.call P.slot_of (first_answer packet) supply.old number max_inflight now packet result.0 reply supply.new)
-        (λ _. (result.0 ≡ standings.Ended) × FailsFirst S.call P.slot_of supply.old number max_inflight now packet supply.new) }
-    ensures sound { IsSoundStanding P.has_out result.0 }
+        (λ _. (result.0 ≡ phases.Ended) × FailsFirst S.call P.slot_of supply.old number max_inflight now packet supply.new) }
+    ensures sound { IsSoundPhase P.has_out result.0 }
     ensures visiting { S.visiting supply.new ≡ S.visiting supply.old }
 {
     match answer_to_first(&packet) {
@@ -173,13 +173,13 @@ fn connect<P: HoldingPlace, S: Supply<P>>(
     max_inflight: MaxInflight,
     now: u64,
     packet: Packet,
-) -> (Standing<P>, Result<Reply, NoMemory>)
+) -> (ConnPhase<P>, Result<Reply, NoMemory>)
     requires known { number < 1024 }
     requires opens { first_answer packet ≡ first.Attach }
     ensures answered { MatchResult result.1
         (λ reply. AnswersFirst S.call P.slot_of first.Attach supply.old number max_inflight now packet result.0 reply supply.new)
-        (λ _. (result.0 ≡ standings.Ended) × FailsFirst S.call P.slot_of supply.old number max_inflight now packet supply.new) }
-    ensures sound { IsSoundStanding P.has_out result.0 }
+        (λ _. (result.0 ≡ phases.Ended) × FailsFirst S.call P.slot_of supply.old number max_inflight now packet supply.new) }
+    ensures sound { IsSoundPhase P.has_out result.0 }
     ensures visiting { S.visiting supply.new ≡ S.visiting supply.old }
 {
     match packet {
@@ -217,17 +217,17 @@ fn react_waiting<P: HoldingPlace, S: Supply<P>>(
     ticks: u8,
     now: u64,
     input: Input,
-) -> (Standing<P>, Result<Reply, NoMemory>)
+) -> (ConnPhase<P>, Result<Reply, NoMemory>)
     requires known { number < 1024 }
     requires short { length request.client ≤ 128 }
     requires few { ticks < 100 }
     requires wanted { IsNoPacket input }
     requires visiting { NeedsVisit input → S.visiting supply.old ≡ true }
     ensures reacted { MatchResult result.1
-        (λ reply. Reacts S.call P.slot_of supply.old number (standings.Waiting request ticks) now input result.0 reply supply.new)
-        (λ _. (result.0 ≡ standings.Ended) × FailsToReact S.call P.slot_of supply.old number (standings.Waiting request ticks) now input supply.new) }
+        (λ reply. Reacts S.call P.slot_of supply.old number (phases.Waiting request ticks) now input result.0 reply supply.new)
+        (λ _. (result.0 ≡ phases.Ended) × FailsToReact S.call P.slot_of supply.old number (phases.Waiting request ticks) now input supply.new) }
     ensures visited { IsConnected result.0 → NeedsVisit input }
-    ensures sound { IsSoundStanding P.has_out result.0 }
+    ensures sound { IsSoundPhase P.has_out result.0 }
     ensures visiting { S.visiting supply.new ≡ S.visiting supply.old }
 {
     match input {
@@ -253,46 +253,46 @@ fn react_connected<P: HoldingPlace, S: Supply<P>>(
     supply: &mut S,
     alloc: Global,
     number: u16,
-    standing: &mut Standing<P>,
+    phase: &mut ConnPhase<P>,
     now: u64,
     input: Input,
 ) -> Result<Reply, NoMemory>
-    requires sound { IsSoundStanding P.has_out standing.old }
-    requires connected { IsConnected standing.old }
+    requires sound { IsSoundPhase P.has_out phase.old }
+    requires connected { IsConnected phase.old }
     requires visiting { NeedsVisit input → S.visiting supply.old ≡ true }
     ensures reacted { MatchResult result
-        (λ reply. Reacts S.call P.slot_of supply.old number standing.old now input standing.new reply supply.new)
-        (λ _. (standing.new ≡ standings.Ended) × FailsToReact S.call P.slot_of supply.old number standing.old now input supply.new) }
-    ensures visited { IsConnected standing.new → NeedsVisit input }
-    ensures sound { IsSoundStanding P.has_out standing.new }
+        (λ reply. Reacts S.call P.slot_of supply.old number phase.old now input phase.new reply supply.new)
+        (λ _. (phase.new ≡ phases.Ended) × FailsToReact S.call P.slot_of supply.old number phase.old now input supply.new) }
+    ensures visited { IsConnected phase.new → NeedsVisit input }
+    ensures sound { IsSoundPhase P.has_out phase.new }
     ensures visiting { S.visiting supply.new ≡ S.visiting supply.old }
 {
     match input {
         Input::Packet(packet) => {
             if supply.kicked(number) {
                 drop(packet);
-                give_up(supply, number, standing, now);
+                give_up(supply, number, phase, now);
                 return Ok(taken_over(alloc));
             }
-            answer_packet(supply, alloc, number, standing, now, packet)
+            answer_packet(supply, alloc, number, phase, now, packet)
         }
         Input::Tick => {
             if supply.kicked(number) {
-                give_up(supply, number, standing, now);
+                give_up(supply, number, phase, now);
                 return Ok(taken_over(alloc));
             }
-            Ok(tick(supply, alloc, number, standing, now))
+            Ok(tick(supply, alloc, number, phase, now))
         }
         Input::Fault(fault) => {
-            give_up(supply, number, standing, now);
+            give_up(supply, number, phase, now);
             Ok(Reply::closing_with(alloc, fault_code(fault)))
         }
         Input::EndOfInput => {
-            give_up(supply, number, standing, now);
+            give_up(supply, number, phase, now);
             Ok(Reply::closed(None))
         }
         Input::Closing => {
-            shut_down(supply, standing);
+            shut_down(supply, phase);
             Ok(Reply::closing_with(alloc, ReasonCode::SERVER_SHUTTING_DOWN))
         }
     }
@@ -309,15 +309,15 @@ fn taken_over(alloc: Global) -> Reply
 }
 
 /// The server closes: the session is parked as it is.
-fn shut_down<P: HoldingPlace, S: Supply<P>>(supply: &mut S, standing: &mut Standing<P>)
-    requires sound { IsSoundStanding P.has_out standing.old }
-    requires connected { IsConnected standing.old }
-    ensures parked { (link : Link P) → standing.old ≡ standings.Connected link → S.call supply.old (ParkAsIs (down link.session)) supply.new }
-    ensures over { standing.new ≡ standings.Ended }
+fn shut_down<P: HoldingPlace, S: Supply<P>>(supply: &mut S, phase: &mut ConnPhase<P>)
+    requires sound { IsSoundPhase P.has_out phase.old }
+    requires connected { IsConnected phase.old }
+    ensures parked { (connected : ConnectedClient P) → phase.old ≡ phases.Connected connected → S.call supply.old (ParkAsIs (down connected.session)) supply.new }
+    ensures over { phase.new ≡ phases.Ended }
     ensures visiting { S.visiting supply.new ≡ S.visiting supply.old }
 {
-    match mem::replace(standing, Standing::Ended) {
-        Standing::Connected(link) => part_as_is(supply, link.into_session()),
+    match mem::replace(phase, ConnPhase::Ended) {
+        ConnPhase::Connected(connected) => part_as_is(supply, connected.into_session()),
         _other => unreachable!(),
     }
 }
@@ -327,31 +327,31 @@ fn answer_packet<P: HoldingPlace, S: Supply<P>>(
     supply: &mut S,
     alloc: Global,
     number: u16,
-    standing: &mut Standing<P>,
+    phase: &mut ConnPhase<P>,
     now: u64,
     packet: Packet,
 ) -> Result<Reply, NoMemory>
-    requires sound { IsSoundStanding P.has_out standing.old }
-    requires connected { IsConnected standing.old }
+    requires sound { IsSoundPhase P.has_out phase.old }
+    requires connected { IsConnected phase.old }
     requires visiting { S.visiting supply.old ≡ true }
-    ensures answered { (link : Link P) → standing.old ≡ standings.Connected link → MatchResult result
-        (λ reply. AnswersPacket S.call P.slot_of supply.old number link now packet standing.new reply supply.new)
-        (λ _. (standing.new ≡ standings.Ended) × FailsOnPacket S.call P.slot_of supply.old number link now packet supply.new) }
-    ensures sound { IsSoundStanding P.has_out standing.new }
+    ensures answered { (connected : ConnectedClient P) → phase.old ≡ phases.Connected connected → MatchResult result
+        (λ reply. AnswersPacket S.call P.slot_of supply.old number connected now packet phase.new reply supply.new)
+        (λ _. (phase.new ≡ phases.Ended) × FailsOnPacket S.call P.slot_of supply.old number connected now packet supply.new) }
+    ensures sound { IsSoundPhase P.has_out phase.new }
     ensures visiting { S.visiting supply.new ≡ S.visiting supply.old }
 {
-    let Standing::Connected(link) = standing else {
+    let ConnPhase::Connected(connected) = phase else {
         unreachable!()
     };
-    link.heard = link.heard.max(now);
-    let replied = answer(supply, alloc, number, link, packet);
+    connected.heard = connected.heard.max(now);
+    let replied = answer(supply, alloc, number, connected, packet);
     if !goes_on(&replied) {
-        give_up(supply, number, standing, now);
+        give_up(supply, number, phase, now);
     }
     replied
 }
 
-/// Whether the connection goes on behind a reply.
+/// Whether the connection goes on after a reply.
 fn goes_on(replied: &Result<Reply, NoMemory>) -> bool
     ensures { IsTrue result ↔ GoesOn replied.now }
 {
@@ -366,21 +366,24 @@ fn tick<P: HoldingPlace, S: Supply<P>>(
     supply: &mut S,
     alloc: Global,
     number: u16,
-    standing: &mut Standing<P>,
+    phase: &mut ConnPhase<P>,
     now: u64,
 ) -> Reply
-    requires sound { IsSoundStanding P.has_out standing.old }
-    requires connected { IsConnected standing.old }
-    ensures ticked { (link : Link P) → standing.old ≡ standings.Connected link → AnswersTick S.call P.slot_of supply.old link now standing.new result supply.new }
-    ensures sound { IsSoundStanding P.has_out standing.new }
+    requires sound { IsSoundPhase P.has_out phase.old }
+    requires connected { IsConnected phase.old }
+    ensures ticked { (connected : ConnectedClient P) → phase.old ≡ phases.Connected connected → AnswersTick S.call P.slot_of supply.old connected now phase.new result supply.new }
+    ensures sound { IsSoundPhase P.has_out phase.new }
     ensures visiting { S.visiting supply.new ≡ S.visiting supply.old }
 {
     sweep(supply, now);
-    let Standing::Connected(link) = standing else {
+    let ConnPhase::Connected(connected) = phase else {
         unreachable!()
     };
-    if is_overdue(link.terms.keep_alive, now.saturating_sub(link.heard)) {
-        give_up(supply, number, standing, now);
+    if is_overdue(
+        connected.terms.keep_alive,
+        now.saturating_sub(connected.heard),
+    ) {
+        give_up(supply, number, phase, now);
         return Reply::closing_with(alloc, ReasonCode::KEEP_ALIVE_TIMEOUT);
     }
     Reply::going_on(None)

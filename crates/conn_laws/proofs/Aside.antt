@@ -19,10 +19,10 @@ use Rattle.session_desk.specs.declared.session.Membership.TheVariants.{NotMember
 use Rattle.conn_supply.specs.declared.reply.Reply.{Reply}
 use Rattle.conn_supply.specs.declared.supply.BindRefusal.{BindRefusal}
 use Rattle.conn_supply.specs.declared.supply.BindRefusal.TheVariants as refusal
-use Rattle.conn_supply.specs.Facts.{Fact}
+use Rattle.conn_supply.specs.SupplyCalls.{SupplyCall}
 use Rattle.conn_supply.specs.Subscribing.{IsLent, EntersAs, Joins, AnswersEntry, AnswersEntries, AnswersFirst, AnswersSome, SubscribesAs, LeavesBy, LeavesByAll, UnsubscribesAs}
-use Rattle.conn_engine.specs.declared.standing.Standing.{Standing}
-use Rattle.conn_engine.specs.declared.standing.Standing.TheVariants.{Unconnected, Waiting, Connected, Ended}
+use Rattle.conn_engine.specs.declared.phase.ConnPhase.{ConnPhase}
+use Rattle.conn_engine.specs.declared.phase.ConnPhase.TheVariants.{Unconnected, Waiting, Connected, Ended}
 use Rattle.conn_engine.specs.Connecting.{RetiresEarlier, Withdraws}
 use Rattle.conn_engine.specs.Ending.{down, GivesBack, Ends, RetiresAs, Retires, PartsAs, Sweeps}
 use Rattle.conn_laws.specs.Calls.{offer_of, match_of, settlement_of, hand_out_of, offered, matched, settled, handed, MakesAll}
@@ -34,33 +34,33 @@ all_of_both Q [] those all others = others
 all_of_both Q (this ∷ these) those all others = (all.0, all_of_both Q these those all.1 others)
 
 -- nothing is found in the one, and nothing in the other
-pub none_in_both : {P X : Type 0} (find : Fact P → Option X) (facts others : List (Fact P)) → filter_map find facts ≡ [] → filter_map find others ≡ [] → filter_map find (facts ++ others) ≡ []
-none_in_both find facts others no_one no_other = filter_map-append find facts others ∙ (λ i. no_one i ++ no_other i)
+pub none_in_both : {P X : Type 0} (find : SupplyCall P → Option X) (supply_calls others : List (SupplyCall P)) → filter_map find supply_calls ≡ [] → filter_map find others ≡ [] → filter_map find (supply_calls ++ others) ≡ []
+none_in_both find supply_calls others no_one no_other = filter_map-append find supply_calls others ∙ (λ i. no_one i ++ no_other i)
 
-module _ {S P : Type 0} (call : S → Fact P → S → Type 0) where
-  pub joins : (facts others : List (Fact P)) (old mid new : S) → MakesAll call old facts mid → MakesAll call mid others new → MakesAll call old (facts ++ others) new
+module _ {S P : Type 0} (call : S → SupplyCall P → S → Type 0) where
+  pub joins : (supply_calls others : List (SupplyCall P)) (old mid new : S) → MakesAll call old supply_calls mid → MakesAll call mid others new → MakesAll call old (supply_calls ++ others) new
   joins [] others old mid new these those = subst (λ s. MakesAll call s others new) these those
-  joins (fact ∷ facts) others old mid new these those = (these.0, these.1, joins facts others these.0 mid new these.2 those)
+  joins (supply_call ∷ supply_calls) others old mid new these those = (these.0, these.1, joins supply_calls others these.0 mid new these.2 those)
 
   -- calls that hand these out
   pub record Aside (given : List (P × Held)) (old new : S) : Type 0 where
-    pub facts : List (Fact P)
-    pub made : MakesAll call old facts new
-    pub aside : AllByRecursion IsAside facts
-    pub match : matched facts ≡ []
-    pub offers : offered facts ≡ []
-    pub settles : settled facts ≡ []
-    pub hands : handed facts ≡ given
+    pub supply_calls : List (SupplyCall P)
+    pub made : MakesAll call old supply_calls new
+    pub aside : AllByRecursion IsAside supply_calls
+    pub match : matched supply_calls ≡ []
+    pub offers : offered supply_calls ≡ []
+    pub settles : settled supply_calls ≡ []
+    pub hands : handed supply_calls ≡ given
 
   pub still : (old new : S) → new ≡ old → Aside [] old new
-  still old new same = record { facts = []; made = same; aside = tt; match = refl; offers = refl; settles = refl; hands = refl }
+  still old new same = record { supply_calls = []; made = same; aside = tt; match = refl; offers = refl; settles = refl; hands = refl }
 
   -- one call, by which this is handed out, if anything is
-  pub hand : (hand_out : Option (P × Held)) (old new : S) (fact : Fact P) → call old fact new → IsAside fact → match_of fact ≡ None → offer_of fact ≡ None → settlement_of fact ≡ None
-      → hand_out_of fact ≡ hand_out → Aside (filter_map (λ (o : Option (P × Held)). o) (hand_out ∷ [])) old new
-  hand hand_out old new fact called is_aside no_match no_offer no_settlement hands =
+  pub hand : (hand_out : Option (P × Held)) (old new : S) (supply_call : SupplyCall P) → call old supply_call new → IsAside supply_call → match_of supply_call ≡ None → offer_of supply_call ≡ None → settlement_of supply_call ≡ None
+      → hand_out_of supply_call ≡ hand_out → Aside (filter_map (λ (o : Option (P × Held)). o) (hand_out ∷ [])) old new
+  hand hand_out old new supply_call called is_aside no_match no_offer no_settlement hands =
       record {
-        facts = fact ∷ [];
+        supply_calls = supply_call ∷ [];
         made = (new, called, refl);
         aside = (is_aside, tt);
         match = ap (λ found. filter_map (λ (o : Option (List ℕ × List ℕ)). o) (found ∷ [])) no_match;
@@ -69,19 +69,19 @@ module _ {S P : Type 0} (call : S → Fact P → S → Type 0) where
         hands = ap (λ found. filter_map (λ (o : Option (P × Held)). o) (found ∷ [])) hands;
       }
 
-  pub one : (old new : S) (fact : Fact P) → call old fact new → IsAside fact → match_of fact ≡ None → offer_of fact ≡ None → settlement_of fact ≡ None → hand_out_of fact ≡ None → Aside [] old new
-  one old new fact called is_aside no_match no_offer no_settlement no_hand_out = hand None old new fact called is_aside no_match no_offer no_settlement no_hand_out
+  pub one : (old new : S) (supply_call : SupplyCall P) → call old supply_call new → IsAside supply_call → match_of supply_call ≡ None → offer_of supply_call ≡ None → settlement_of supply_call ≡ None → hand_out_of supply_call ≡ None → Aside [] old new
+  one old new supply_call called is_aside no_match no_offer no_settlement no_hand_out = hand None old new supply_call called is_aside no_match no_offer no_settlement no_hand_out
 
   pub after : (given more : List (P × Held)) (old mid new : S) → Aside given old mid → Aside more mid new → Aside (given ++ more) old new
   after given more old mid new these those =
       record {
-        facts = these.facts ++ those.facts;
-        made = joins these.facts those.facts old mid new these.made those.made;
-        aside = all_of_both IsAside these.facts those.facts these.aside those.aside;
-        match = none_in_both match_of these.facts those.facts these.match those.match;
-        offers = none_in_both offer_of these.facts those.facts these.offers those.offers;
-        settles = none_in_both settlement_of these.facts those.facts these.settles those.settles;
-        hands = filter_map-append hand_out_of these.facts those.facts ∙ (λ i. these.hands i ++ those.hands i);
+        supply_calls = these.supply_calls ++ those.supply_calls;
+        made = joins these.supply_calls those.supply_calls old mid new these.made those.made;
+        aside = all_of_both IsAside these.supply_calls those.supply_calls these.aside those.aside;
+        match = none_in_both match_of these.supply_calls those.supply_calls these.match those.match;
+        offers = none_in_both offer_of these.supply_calls those.supply_calls these.offers those.offers;
+        settles = none_in_both settlement_of these.supply_calls those.supply_calls these.settles those.settles;
+        hands = filter_map-append hand_out_of these.supply_calls those.supply_calls ∙ (λ i. these.hands i ++ those.hands i);
       }
 
   pub behind : (old mid new : S) → Aside [] old mid → Aside [] mid new → Aside [] old new
@@ -127,10 +127,10 @@ module _ {S P : Type 0} (call : S → Fact P → S → Type 0) where
   retired_earlier None old new retires = still old new retires
   retired_earlier (Some session) old new retires = retired old new session retires.0 retires.1
 
-  pub withdrawn : (standing : Standing P) (old new : S) (number : ℕ) → Withdraws call old number standing new → Aside [] old new
+  pub withdrawn : (phase : ConnPhase P) (old new : S) (number : ℕ) → Withdraws call old number phase new → Aside [] old new
   withdrawn (Unconnected opened) old new number withdraws = one old new _ withdraws tt refl refl refl refl
   withdrawn (Waiting request ticks) old new number withdraws = still old new withdraws
-  withdrawn (Connected link) old new number withdraws = one old new _ withdraws tt refl refl refl refl
+  withdrawn (Connected connected) old new number withdraws = one old new _ withdraws tt refl refl refl refl
   withdrawn Ended old new number withdraws = one old new _ withdraws tt refl refl refl refl
 
   -- shares are joined and left

@@ -17,11 +17,11 @@ use Rattle.session_desk.specs.declared.error.DeskError.TheVariants as errors
 use Rattle.session_desk.specs.declared.session.Session.{Session}
 use Rattle.session_desk.specs.declared.session.Membership.{Membership}
 use Rattle.conn_supply.specs.declared.reply.Reply.{Reply}
-use Rattle.conn_supply.specs.Facts.{Fact}
+use Rattle.conn_supply.specs.SupplyCalls.{SupplyCall}
 use Rattle.conn_supply.specs.HandOuts.{IsRefused, HandsOut, TakesSome, HandsSome}
 use Rattle.conn_supply.specs.Subscribing.{AnswersSome, SubscribesAs, UnsubscribesAs}
-use Rattle.conn_engine.specs.declared.standing.ConnectRequest.{ConnectRequest}
-use Rattle.conn_engine.specs.declared.standing.Standing.{Standing}
+use Rattle.conn_engine.specs.declared.phase.ConnectRequest.{ConnectRequest}
+use Rattle.conn_engine.specs.declared.phase.ConnPhase.{ConnPhase}
 use Rattle.conn_engine.specs.Connecting.{opened, has_place, ResumesAs, AttachedAs, Attaches, FailsWith, FailsToAttach, TriesAgain, FailsAgain}
 use Rattle.conn_engine.specs.Ending.{Parts, Sweeps}
 use Rattle.conn_laws.specs.Calls.{offer_of, match_of, settlement_of, hand_out_of, offered, matched, settled, handed, messages_of, fresh_messages, MakesAll}
@@ -29,31 +29,31 @@ use Rattle.conn_laws.proofs.Aside.{Aside, none_in_both}
 use Rattle.conn_laws.proofs.Aside as asides
 use Rattle.conn_laws.proofs.HandingOut as hand_outs
 
-module _ {S P : Type 0} (call : S → Fact P → S → Type 0) where
-  pub joins : (facts others : List (Fact P)) (old mid new : S) → MakesAll call old facts mid → MakesAll call mid others new → MakesAll call old (facts ++ others) new
-  joins facts others old mid new these those = asides.joins call facts others old mid new these those
+module _ {S P : Type 0} (call : S → SupplyCall P → S → Type 0) where
+  pub joins : (supply_calls others : List (SupplyCall P)) (old mid new : S) → MakesAll call old supply_calls mid → MakesAll call mid others new → MakesAll call old (supply_calls ++ others) new
+  joins supply_calls others old mid new these those = asides.joins call supply_calls others old mid new these those
 
   -- calls by which nothing is offered and nothing is settled, no topic is matched, and these messages are handed out
   pub record Plain (given : List Message) (old new : S) : Type 0 where
-    pub facts : List (Fact P)
-    pub made : MakesAll call old facts new
-    pub match : matched facts ≡ []
-    pub offers : offered facts ≡ []
-    pub settles : settled facts ≡ []
-    pub hands : messages_of (handed facts) ≡ given
+    pub supply_calls : List (SupplyCall P)
+    pub made : MakesAll call old supply_calls new
+    pub match : matched supply_calls ≡ []
+    pub offers : offered supply_calls ≡ []
+    pub settles : settled supply_calls ≡ []
+    pub hands : messages_of (handed supply_calls) ≡ given
 
   pub still : (old new : S) → new ≡ old → Plain [] old new
-  still old new same = record { facts = []; made = same; match = refl; offers = refl; settles = refl; hands = refl }
+  still old new same = record { supply_calls = []; made = same; match = refl; offers = refl; settles = refl; hands = refl }
 
   -- among them those by which no session is asked for or handed in
   pub plain : (given : List (P × Held)) (old new : S) → Aside call given old new → Plain (messages_of given) old new
   plain given old new calls =
-      record { facts = calls.facts; made = calls.made; match = calls.match; offers = calls.offers; settles = calls.settles; hands = ap messages_of calls.hands }
+      record { supply_calls = calls.supply_calls; made = calls.made; match = calls.match; offers = calls.offers; settles = calls.settles; hands = ap messages_of calls.hands }
 
-  pub one : (old new : S) (fact : Fact P) → call old fact new → match_of fact ≡ None → offer_of fact ≡ None → settlement_of fact ≡ None → hand_out_of fact ≡ None → Plain [] old new
-  one old new fact called no_match no_offer no_settlement no_hand_out =
+  pub one : (old new : S) (supply_call : SupplyCall P) → call old supply_call new → match_of supply_call ≡ None → offer_of supply_call ≡ None → settlement_of supply_call ≡ None → hand_out_of supply_call ≡ None → Plain [] old new
+  one old new supply_call called no_match no_offer no_settlement no_hand_out =
       record {
-        facts = fact ∷ [];
+        supply_calls = supply_call ∷ [];
         made = (new, called, refl);
         match = ap (λ found. filter_map (λ (o : Option (List ℕ × List ℕ)). o) (found ∷ [])) no_match;
         offers = ap (λ found. filter_map (λ o. o) (found ∷ [])) no_offer;
@@ -62,19 +62,19 @@ module _ {S P : Type 0} (call : S → Fact P → S → Type 0) where
       }
 
   -- what is handed out by the one, and then what is by the other
-  both_hand : (facts others : List (Fact P)) (given more : List Message) → messages_of (handed facts) ≡ given → messages_of (handed others) ≡ more → messages_of (handed (facts ++ others)) ≡ given ++ more
-  both_hand facts others given more these those =
-      ap messages_of (filter_map-append hand_out_of facts others) ∙ map-append (λ (h : P × Held). h.1.message) (handed facts) (handed others) ∙ (λ i. these i ++ those i)
+  both_hand : (supply_calls others : List (SupplyCall P)) (given more : List Message) → messages_of (handed supply_calls) ≡ given → messages_of (handed others) ≡ more → messages_of (handed (supply_calls ++ others)) ≡ given ++ more
+  both_hand supply_calls others given more these those =
+      ap messages_of (filter_map-append hand_out_of supply_calls others) ∙ map-append (λ (h : P × Held). h.1.message) (handed supply_calls) (handed others) ∙ (λ i. these i ++ those i)
 
   pub after : (given more : List Message) (old mid new : S) → Plain given old mid → Plain more mid new → Plain (given ++ more) old new
   after given more old mid new these those =
       record {
-        facts = these.facts ++ those.facts;
-        made = joins these.facts those.facts old mid new these.made those.made;
-        match = none_in_both match_of these.facts those.facts these.match those.match;
-        offers = none_in_both offer_of these.facts those.facts these.offers those.offers;
-        settles = none_in_both settlement_of these.facts those.facts these.settles those.settles;
-        hands = both_hand these.facts those.facts given more these.hands those.hands;
+        supply_calls = these.supply_calls ++ those.supply_calls;
+        made = joins these.supply_calls those.supply_calls old mid new these.made those.made;
+        match = none_in_both match_of these.supply_calls those.supply_calls these.match those.match;
+        offers = none_in_both offer_of these.supply_calls those.supply_calls these.offers those.offers;
+        settles = none_in_both settlement_of these.supply_calls those.supply_calls these.settles those.settles;
+        hands = both_hand these.supply_calls those.supply_calls given more these.hands those.hands;
       }
 
   pub behind : (old mid new : S) → Plain [] old mid → Plain [] mid new → Plain [] old new
@@ -88,27 +88,27 @@ module _ {S P : Type 0} (call : S → Fact P → S → Type 0) where
   swept most old new now sweeps = plain [] old new (asides.swept call most old new now sweeps)
 
   -- a session is asked for
-  resumed_as : (no : Bool) (old new : S) (request : ConnectRequest) (session : Session Held P) (standing : Standing P) (reply : Reply)
-      → ResumesAs call no old request session standing reply new → Plain [] old new
-  resumed_as true old new request session standing reply resumes = one old new _ resumes.0 refl refl refl refl
-  resumed_as false old new request session standing reply resumes = still old new resumes.0
+  resumed_as : (no : Bool) (old new : S) (request : ConnectRequest) (session : Session Held P) (phase : ConnPhase P) (reply : Reply)
+      → ResumesAs call no old request session phase reply new → Plain [] old new
+  resumed_as true old new request session phase reply resumes = one old new _ resumes.0 refl refl refl refl
+  resumed_as false old new request session phase reply resumes = still old new resumes.0
 
-  attached_as : (answer : Result (Attached Held P) DeskError) (old new : S) (request : ConnectRequest) (ticks : ℕ) (standing : Standing P) (reply : Reply)
-      → AttachedAs call old request ticks answer standing reply new → Plain [] old new
-  attached_as (Ok (New session before)) old new request ticks standing reply answered = plain [] old new (asides.retired_earlier call before old new answered.0)
-  attached_as (Ok (Resumed session)) old new request ticks standing reply answered =
-      resumed_as (has_place session.membership && not request.terms.takes_all_packets) old new request session standing reply answered
-  attached_as (Ok (Replace holder)) old new request ticks standing reply answered = still old new answered.1
-  attached_as (Ok Busy) old new request ticks standing reply answered = still old new answered.1
-  attached_as (Err errors.Full) old new request ticks standing reply answered = still old new answered.1
-  attached_as (Err errors.NoPlace) old new request ticks standing reply answered = still old new answered.1
-  attached_as (Err errors.NoName) old new request ticks standing reply answered = still old new answered.1
-  attached_as (Err errors.Memory) old new request ticks standing reply answered = absurd answered
+  attached_as : (answer : Result (Attached Held P) DeskError) (old new : S) (request : ConnectRequest) (ticks : ℕ) (phase : ConnPhase P) (reply : Reply)
+      → AttachedAs call old request ticks answer phase reply new → Plain [] old new
+  attached_as (Ok (New session before)) old new request ticks phase reply answered = plain [] old new (asides.retired_earlier call before old new answered.0)
+  attached_as (Ok (Resumed session)) old new request ticks phase reply answered =
+      resumed_as (has_place session.membership && not request.terms.takes_all_packets) old new request session phase reply answered
+  attached_as (Ok (Replace holder)) old new request ticks phase reply answered = still old new answered.1
+  attached_as (Ok Busy) old new request ticks phase reply answered = still old new answered.1
+  attached_as (Err errors.Full) old new request ticks phase reply answered = still old new answered.1
+  attached_as (Err errors.NoPlace) old new request ticks phase reply answered = still old new answered.1
+  attached_as (Err errors.NoName) old new request ticks phase reply answered = still old new answered.1
+  attached_as (Err errors.Memory) old new request ticks phase reply answered = absurd answered
 
-  pub attached : (old new : S) (number now : ℕ) (request : ConnectRequest) (ticks : ℕ) (standing : Standing P) (reply : Reply)
-      → Attaches call old number now request ticks standing reply new → Plain [] old new
-  attached old new number now request ticks standing reply attaches =
-      behind old attaches.mid new (one old attaches.mid _ attaches.asked_for refl refl refl refl) (attached_as attaches.answer attaches.mid new request ticks standing reply attaches.answered)
+  pub attached : (old new : S) (number now : ℕ) (request : ConnectRequest) (ticks : ℕ) (phase : ConnPhase P) (reply : Reply)
+      → Attaches call old number now request ticks phase reply new → Plain [] old new
+  attached old new number now request ticks phase reply attaches =
+      behind old attaches.mid new (one old attaches.mid _ attaches.asked_for refl refl refl refl) (attached_as attaches.answer attaches.mid new request ticks phase reply attaches.answered)
 
   failed_with : (answer : Result (Attached Held P) DeskError) (old new : S) (now : ℕ) (request : ConnectRequest) → FailsWith call old now request answer new → Plain [] old new
   failed_with (Ok (New session before)) old new now request fails =
@@ -125,10 +125,10 @@ module _ {S P : Type 0} (call : S → Fact P → S → Type 0) where
   failed_to_attach old new number now request fails =
       behind old fails.mid new (one old fails.mid _ fails.asked_for refl refl refl refl) (failed_with fails.answer fails.mid new now request fails.failed)
 
-  pub tried_again : (old new : S) (number now : ℕ) (request : ConnectRequest) (ticks : ℕ) (standing : Standing P) (reply : Reply)
-      → TriesAgain call old number now request ticks standing reply new → Plain [] old new
-  tried_again old new number now request ticks standing reply tries =
-      behind old tries.mid new (attached old tries.mid number now request _ standing reply tries.attaches) (plain [] tries.mid new (asides.withdrawn call standing tries.mid new number tries.withdraws))
+  pub tried_again : (old new : S) (number now : ℕ) (request : ConnectRequest) (ticks : ℕ) (phase : ConnPhase P) (reply : Reply)
+      → TriesAgain call old number now request ticks phase reply new → Plain [] old new
+  tried_again old new number now request ticks phase reply tries =
+      behind old tries.mid new (attached old tries.mid number now request _ phase reply tries.attaches) (plain [] tries.mid new (asides.withdrawn call phase tries.mid new number tries.withdraws))
 
   pub failed_again : (old new : S) (number now : ℕ) (request : ConnectRequest) → FailsAgain call old number now request new → Plain [] old new
   failed_again old new number now request fails =

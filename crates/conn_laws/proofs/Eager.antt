@@ -1,15 +1,15 @@
--- Nothing is left to hand out behind a step.
+-- Nothing is left to hand out after a step.
 use Rattle.std.proofs.Common.{◌≡◌, ℕ, false, List, [], ◌∷◌, Some, None, sym, subst, inl, inr}
 use Rattle.mqtt_packet.specs.declared.packet.Packet.{Packet}
 use Rattle.group_jobs.specs.Stamps.{Held}
 use Rattle.member_window.specs.Contents.{Contents, IsNextResend, HasRoom, after_resend}
 use Rattle.session_desk.specs.declared.session.Membership.{Membership}
 use Rattle.session_desk.specs.declared.session.Membership.TheVariants.{NotMember, Member, Leaving}
-use Rattle.conn_supply.specs.Facts.{Fact}
-use Rattle.conn_supply.specs.Facts.Fact.{MayTake}
+use Rattle.conn_supply.specs.SupplyCalls.{SupplyCall}
+use Rattle.conn_supply.specs.SupplyCalls.SupplyCall.{MayTake}
 use Rattle.conn_supply.specs.HandOuts.{SendsAgain, AsksFor, SendsNone, SendsFresh, LeavesWith, HandsFresh}
-use Rattle.conn_engine.specs.declared.standing.Standing.{Standing}
-use Rattle.conn_engine.specs.declared.standing.Standing.TheVariants.{Unconnected, Waiting, Connected, Ended}
+use Rattle.conn_engine.specs.declared.phase.ConnPhase.{ConnPhase}
+use Rattle.conn_engine.specs.declared.phase.ConnPhase.TheVariants.{Unconnected, Waiting, Connected, Ended}
 use Rattle.conn_laws.specs.Behind.{IsServed, IsAllHandedOut}
 use Rattle.conn_engine.specs.Step.{Hands}
 
@@ -21,7 +21,7 @@ all_again : (sent : List Packet) (old new : Contents Held) → SendsAgain old se
 all_again [] old new sends = subst Waits (sym sends.1) sends.0
 all_again (packet ∷ packets) old new sends = all_again packets (after_resend old (Some sends.0)) new sends.3
 
-module _ {S P : Type 0} (call : S → Fact P → S → Type 0) where
+module _ {S P : Type 0} (call : S → SupplyCall P → S → Type 0) where
   asked_last : (old new : S) (place place' : P) (window : Contents Held) → AsksFor call old place None place' new → IsServed call new (Member place') window
   asked_last old new place place' window (inl found) = cc
   asked_last old new place place' window (inr none) = inr (inl (old, none.1, place, none.0, none.2, none.3))
@@ -55,18 +55,18 @@ module _ {S P : Type 0} (call : S → Fact P → S → Type 0) where
       (subst Waits (sym hands.1) waits, leaves old new place window window' membership' hands.2)
 
   -- nothing is left, where the connection has a session
-  abbrev pub NoneLeft : Standing P → S → Type 0
+  abbrev pub NoneLeft : ConnPhase P → S → Type 0
   NoneLeft (Unconnected opened) new = Unit {0}
   NoneLeft (Waiting request ticks) new = Unit {0}
-  NoneLeft (Connected link) new = IsAllHandedOut call link new
+  NoneLeft (Connected connected) new = IsAllHandedOut call connected new
   NoneLeft Ended new = Unit {0}
 
   module _ (slot_of : P → ℕ) where
-    pub handed : (between : Standing P) (old new : S) (sent : List Packet) (standing : Standing P) → Hands call slot_of old between sent standing new → NoneLeft standing new
-    handed (Unconnected opened) old new sent standing hands = subst (λ s. NoneLeft s new) (sym hands.1) tt
-    handed (Waiting request ticks) old new sent standing hands = subst (λ s. NoneLeft s new) (sym hands.1) tt
-    handed (Connected link) old new sent standing hands =
+    pub handed : (between : ConnPhase P) (old new : S) (sent : List Packet) (phase : ConnPhase P) → Hands call slot_of old between sent phase new → NoneLeft phase new
+    handed (Unconnected opened) old new sent phase hands = subst (λ s. NoneLeft s new) (sym hands.1) tt
+    handed (Waiting request ticks) old new sent phase hands = subst (λ s. NoneLeft s new) (sym hands.1) tt
+    handed (Connected connected) old new sent phase hands =
         let out = hands.2 in
-        let all = fresh link.session.membership old new out.between out.fresh hands.0 hands.1 out.sent_fresh (all_again out.again link.session.window out.between out.sent_again) in
+        let all = fresh connected.session.membership old new out.between out.fresh hands.0 hands.1 out.sent_fresh (all_again out.again connected.session.window out.between out.sent_again) in
         subst (λ s. NoneLeft s new) (sym hands.3) (record { again = all.0; fresh = all.1 })
-    handed Ended old new sent standing hands = subst (λ s. NoneLeft s new) (sym hands.1) tt
+    handed Ended old new sent phase hands = subst (λ s. NoneLeft s new) (sym hands.1) tt

@@ -8,13 +8,13 @@ use Rattle.group_jobs.specs.declared.stamp.Stamp.{Stamp}
 use Rattle.conn_rules.specs.Publishing.{message_of}
 use Rattle.conn_supply.specs.declared.reply.Then.{Then}
 use Rattle.conn_supply.specs.declared.supply.OfferRefusal.{OfferRefusal}
-use Rattle.conn_supply.specs.Facts.{Fact}
-use Rattle.conn_supply.specs.Facts.Fact.{Match, Offer}
+use Rattle.conn_supply.specs.SupplyCalls.{SupplyCall}
+use Rattle.conn_supply.specs.SupplyCalls.SupplyCall.{Match, Offer}
 use Rattle.conn_engine.specs.declared.input.Input.{Input}
 use Rattle.conn_engine.specs.declared.input.Input.TheVariants as inputs
-use Rattle.conn_engine.specs.declared.standing.Link.{Link}
-use Rattle.conn_engine.specs.declared.standing.Standing.{Standing}
-use Rattle.conn_engine.specs.declared.standing.Standing.TheVariants.{Unconnected, Waiting, Connected, Ended}
+use Rattle.conn_engine.specs.declared.phase.ConnectedClient.{ConnectedClient}
+use Rattle.conn_engine.specs.declared.phase.ConnPhase.{ConnPhase}
+use Rattle.conn_engine.specs.declared.phase.ConnPhase.TheVariants.{Unconnected, Waiting, Connected, Ended}
 use Rattle.conn_engine.specs.Answering.{FailsToAnswer}
 use Rattle.conn_laws.specs.Calls.{offer_of, match_of, settlement_of, offered, matched, settled, MakesAll, OffersToEach, OffersNone, SettlesOne, SettlesNone, OffersToSome, FailedCalls}
 use Rattle.conn_supply.specs.Publishing.{OffersFirst, OffersSome, IsCutShort}
@@ -22,12 +22,12 @@ use Rattle.conn_engine.specs.Step.{hearing, after_hand_out, GivesUp, ShutsDown, 
 use Rattle.conn_laws.proofs.Calling.{Plain, HandsSomething, still, one, behind, after, joins, parted, swept, failed_to_attach, failed_again, handed_some, some_answered}
 use Rattle.conn_laws.proofs.Stepping.{Walked, none_behind, none_before, further, reacted}
 
-module _ {S P : Type 0} (call : S → Fact P → S → Type 0) where
-  plain : (given : List Message) (old new : S) (number : ℕ) (standing : Standing P) (input : Input) → Plain call given old new → FailedCalls call old number standing input new
-  plain given old new number standing input calls = record { facts = calls.facts; made = calls.made; offers = inr calls.offers; settles = inr calls.settles }
+module _ {S P : Type 0} (call : S → SupplyCall P → S → Type 0) where
+  plain : (given : List Message) (old new : S) (number : ℕ) (phase : ConnPhase P) (input : Input) → Plain call given old new → FailedCalls call old number phase input new
+  plain given old new number phase input calls = record { supply_calls = calls.supply_calls; made = calls.made; offers = inr calls.offers; settles = inr calls.settles }
 
-  some_of : (number : ℕ) (input : Input) (facts : List (Fact P)) → OffersToEach number input facts → OffersToSome number input facts
-  some_of number input facts each =
+  some_of : (number : ℕ) (input : Input) (supply_calls : List (SupplyCall P)) → OffersToEach number input supply_calls → OffersToSome number input supply_calls
+  some_of number input supply_calls each =
       record {
         publish = each.publish;
         came = each.came;
@@ -38,17 +38,17 @@ module _ {S P : Type 0} (call : S → Fact P → S → Type 0) where
       }
 
   -- what holds of the calls of a step
-  stepped : (given : List Message) (old new : S) (number : ℕ) (standing : Standing P) (input : Input) (next : Then) → Walked call given old number standing input next new → FailedCalls call old number standing input new
-  stepped given old new number standing input next calls =
+  stepped : (given : List Message) (old new : S) (number : ℕ) (phase : ConnPhase P) (input : Input) (next : Then) → Walked call given old number phase input next new → FailedCalls call old number phase input new
+  stepped given old new number phase input next calls =
       record {
-        facts = calls.facts;
+        supply_calls = calls.supply_calls;
         made = calls.made;
         offers =
             ⊎_elim
-            (λ (each : OffersToEach number input calls.facts). inl (some_of number input calls.facts each))
-            (λ (none : OffersNone standing input calls.facts next). inr none.offers)
+            (λ (each : OffersToEach number input calls.supply_calls). inl (some_of number input calls.supply_calls each))
+            (λ (none : OffersNone phase input calls.supply_calls next). inr none.offers)
             calls.offers;
-        settles = ⊎_elim (λ (only : SettlesOne standing input calls.facts). inl only) (λ (none : SettlesNone standing input calls.facts next). inr none.settles) calls.settles;
+        settles = ⊎_elim (λ (only : SettlesOne phase input calls.supply_calls). inl only) (λ (none : SettlesNone phase input calls.supply_calls next). inr none.settles) calls.settles;
       }
 
   -- a message is offered to some of these groups, from the first on
@@ -56,15 +56,15 @@ module _ {S P : Type 0} (call : S → Fact P → S → Type 0) where
     these : List ℕ
     others : List ℕ
     parts : slots ≡ these ++ others
-    facts : List (Fact P)
-    made : MakesAll call old facts new
-    match : matched facts ≡ []
-    offers : offered facts ≡ map (λ slot. (slot, number, message)) these
-    settles : settled facts ≡ []
+    supply_calls : List (SupplyCall P)
+    made : MakesAll call old supply_calls new
+    match : matched supply_calls ≡ []
+    offers : offered supply_calls ≡ map (λ slot. (slot, number, message)) these
+    settles : settled supply_calls ≡ []
 
   none_of : (slots : List ℕ) (old new : S) (number : ℕ) (message : Message) → new ≡ old → OffersPart old number message slots new
   none_of slots old new number message same =
-      record { these = []; others = slots; parts = refl; facts = []; made = same; match = refl; offers = refl; settles = refl }
+      record { these = []; others = slots; parts = refl; supply_calls = []; made = same; match = refl; offers = refl; settles = refl }
 
   -- that has no memory for it
   last_of : (slot : ℕ) (slots : List ℕ) (old new : S) (number : ℕ) (message : Message) (answer : Result Stamp OfferRefusal) → call old (Offer slot number message answer) new
@@ -74,7 +74,7 @@ module _ {S P : Type 0} (call : S → Fact P → S → Type 0) where
         these = slot ∷ [];
         others = slots;
         parts = refl;
-        facts = Offer slot number message answer ∷ [];
+        supply_calls = Offer slot number message answer ∷ [];
         made = (new, offers, refl);
         match = refl;
         offers = refl;
@@ -88,7 +88,7 @@ module _ {S P : Type 0} (call : S → Fact P → S → Type 0) where
         these = slot ∷ rest.these;
         others = rest.others;
         parts = ap (λ l. slot ∷ l) rest.parts;
-        facts = Offer slot number message answer ∷ rest.facts;
+        supply_calls = Offer slot number message answer ∷ rest.supply_calls;
         made = (mid, offers, rest.made);
         match = rest.match;
         offers = ap (λ l. (slot, number, message) ∷ l) rest.offers;
@@ -105,75 +105,75 @@ module _ {S P : Type 0} (call : S → Fact P → S → Type 0) where
   part_of slots old new number message (inl none) = none_of slots old new number message none
   part_of slots old new number message (inr offers) = first_of slots old new number message offers
 
-  -- a PUBLISH that was cut short, with calls by which nothing is offered before and behind it
-  cut_short : (old before after new : S) (number : ℕ) (standing : Standing P) (publish : Publish) → Plain call [] old before → IsCutShort call before number publish after → Plain call [] after new
-      → FailedCalls call old number standing (inputs.Packet (packets.Publish publish)) new
-  cut_short old before after new number standing publish first cut last =
+  -- a PUBLISH that was cut short, with calls by which nothing is offered before and after it
+  cut_short : (old before after new : S) (number : ℕ) (phase : ConnPhase P) (publish : Publish) → Plain call [] old before → IsCutShort call before number publish after → Plain call [] after new
+      → FailedCalls call old number phase (inputs.Packet (packets.Publish publish)) new
+  cut_short old before after new number phase publish first cut last =
       let part = part_of cut.slots cut.mid after number (message_of publish) cut.offered in
-      let these = Match publish.topic cut.slots ∷ part.facts in
-      let made = joins call these last.facts before after new (cut.mid, cut.matched, part.made) last.made in
+      let these = Match publish.topic cut.slots ∷ part.supply_calls in
+      let made = joins call these last.supply_calls before after new (cut.mid, cut.matched, part.made) last.made in
       record {
-        facts = first.facts ++ (these ++ last.facts);
-        made = joins call first.facts (these ++ last.facts) old before new first.made made;
+        supply_calls = first.supply_calls ++ (these ++ last.supply_calls);
+        made = joins call first.supply_calls (these ++ last.supply_calls) old before new first.made made;
         offers = inl (record {
           publish = publish;
           came = refl;
           slots = part.these;
           others = part.others;
           match =
-              none_before match_of first.facts (these ++ last.facts) _ first.match (none_behind match_of these last.facts _ (ap (λ l. (publish.topic, cut.slots) ∷ l) part.match) last.match)
+              none_before match_of first.supply_calls (these ++ last.supply_calls) _ first.match (none_behind match_of these last.supply_calls _ (ap (λ l. (publish.topic, cut.slots) ∷ l) part.match) last.match)
               ∙ ap (λ slots. (publish.topic, slots) ∷ []) part.parts;
-          offers = none_before offer_of first.facts (these ++ last.facts) _ first.offers (none_behind offer_of these last.facts _ part.offers last.offers);
+          offers = none_before offer_of first.supply_calls (these ++ last.supply_calls) _ first.offers (none_behind offer_of these last.supply_calls _ part.offers last.offers);
         });
-        settles = inr (none_before settlement_of first.facts (these ++ last.facts) _ first.settles (none_behind settlement_of these last.facts _ part.settles last.settles));
+        settles = inr (none_before settlement_of first.supply_calls (these ++ last.supply_calls) _ first.settles (none_behind settlement_of these last.supply_calls _ part.settles last.settles));
       }
 
   module _ (slot_of : P → ℕ) where
-    given_up : (standing : Standing P) (old new : S) (number now : ℕ) → GivesUp call slot_of old number standing now new → Plain call [] old new
+    given_up : (phase : ConnPhase P) (old new : S) (number now : ℕ) → GivesUp call slot_of old number phase now new → Plain call [] old new
     given_up (Unconnected opened) old new number now gives = still call old new gives
     given_up (Waiting request ticks) old new number now gives = one call old new _ gives refl refl refl refl
-    given_up (Connected link) old new number now gives = parted call old new link.session now gives
+    given_up (Connected connected) old new number now gives = parted call old new connected.session now gives
     given_up Ended old new number now gives = still call old new gives
 
-    shut_down : (standing : Standing P) (old new : S) (number : ℕ) → ShutsDown call slot_of old number standing new → Plain call [] old new
+    shut_down : (phase : ConnPhase P) (old new : S) (number : ℕ) → ShutsDown call slot_of old number phase new → Plain call [] old new
     shut_down (Unconnected opened) old new number shuts = still call old new shuts
     shut_down (Waiting request ticks) old new number shuts = one call old new _ shuts refl refl refl refl
-    shut_down (Connected link) old new number shuts = one call old new _ shuts refl refl refl refl
+    shut_down (Connected connected) old new number shuts = one call old new _ shuts refl refl refl refl
     shut_down Ended old new number shuts = still call old new shuts
 
-    cut_off : (input : Input) (standing : Standing P) (old new : S) (number now : ℕ) → CutsOff call slot_of old number standing now input new → Plain call [] old new
-    cut_off (inputs.Packet packet) standing old new number now cuts = given_up standing old new number now cuts
-    cut_off (inputs.Fault fault) standing old new number now cuts = given_up standing old new number now cuts
-    cut_off inputs.Tick standing old new number now cuts = given_up standing old new number now cuts
-    cut_off inputs.EndOfInput standing old new number now cuts = given_up standing old new number now cuts
-    cut_off inputs.Closing standing old new number now cuts = shut_down standing old new number cuts
+    cut_off : (input : Input) (phase : ConnPhase P) (old new : S) (number now : ℕ) → CutsOff call slot_of old number phase now input new → Plain call [] old new
+    cut_off (inputs.Packet packet) phase old new number now cuts = given_up phase old new number now cuts
+    cut_off (inputs.Fault fault) phase old new number now cuts = given_up phase old new number now cuts
+    cut_off inputs.Tick phase old new number now cuts = given_up phase old new number now cuts
+    cut_off inputs.EndOfInput phase old new number now cuts = given_up phase old new number now cuts
+    cut_off inputs.Closing phase old new number now cuts = shut_down phase old new number cuts
 
-    -- memory was wanted for the answer to a packet
-    failed_to_answer : (packet : Packet) (old before after new : S) (number now : ℕ) (link link' : Link P) → Plain call [] old before
-        → FailsToAnswer call slot_of before number (hearing link now) packet link' after → Plain call [] after new → FailedCalls call old number (Connected link) (inputs.Packet packet) new
-    failed_to_answer (packets.Publish publish) old before after new number now link link' first fails last = cut_short old before after new number (Connected link) publish first fails.0 last
-    failed_to_answer (packets.Subscribe subscribe) old before after new number now link link' first fails last =
-        plain [] old new number (Connected link) _ (
+    -- an allocation failed for the answer to a packet
+    failed_to_answer : (packet : Packet) (old before after new : S) (number now : ℕ) (connected connected' : ConnectedClient P) → Plain call [] old before
+        → FailsToAnswer call slot_of before number (hearing connected now) packet connected' after → Plain call [] after new → FailedCalls call old number (Connected connected) (inputs.Packet packet) new
+    failed_to_answer (packets.Publish publish) old before after new number now connected connected' first fails last = cut_short old before after new number (Connected connected) publish first fails.0 last
+    failed_to_answer (packets.Subscribe subscribe) old before after new number now connected connected' first fails last =
+        plain [] old new number (Connected connected) _ (
         behind call old before new first (
         behind call before after new
-        (some_answered call slot_of before after subscribe.subscriptions (is_some subscribe.properties.subscription_identifier) link.terms link.session.membership fails.0 fails.1) last))
-    failed_to_answer (packets.Unsubscribe unsubscribe) old before after new number now link link' first fails last =
-        plain [] old new number (Connected link) _ (behind call old before new first (behind call before after new (still call before after fails.1) last))
-    failed_to_answer (packets.Connect connect) old before after new number now link link' first fails last = absurd fails
-    failed_to_answer (packets.Connack connack) old before after new number now link link' first fails last = absurd fails
-    failed_to_answer (packets.Puback puback) old before after new number now link link' first fails last = absurd fails
-    failed_to_answer (packets.Suback suback) old before after new number now link link' first fails last = absurd fails
-    failed_to_answer (packets.Unsuback unsuback) old before after new number now link link' first fails last = absurd fails
-    failed_to_answer packets.Pingreq old before after new number now link link' first fails last = absurd fails
-    failed_to_answer packets.Pingresp old before after new number now link link' first fails last = absurd fails
-    failed_to_answer (packets.Disconnect disconnect) old before after new number now link link' first fails last = absurd fails
-    failed_to_answer (packets.Foreign kind) old before after new number now link link' first fails last = absurd fails
-    failed_to_answer (packets.OtherVersion version) old before after new number now link link' first fails last = absurd fails
-    failed_to_answer packets.WithWill old before after new number now link link' first fails last = absurd fails
+        (some_answered call slot_of before after subscribe.subscriptions (is_some subscribe.properties.subscription_identifier) connected.terms connected.session.membership fails.0 fails.1) last))
+    failed_to_answer (packets.Unsubscribe unsubscribe) old before after new number now connected connected' first fails last =
+        plain [] old new number (Connected connected) _ (behind call old before new first (behind call before after new (still call before after fails.1) last))
+    failed_to_answer (packets.Connect connect) old before after new number now connected connected' first fails last = absurd fails
+    failed_to_answer (packets.Connack connack) old before after new number now connected connected' first fails last = absurd fails
+    failed_to_answer (packets.Puback puback) old before after new number now connected connected' first fails last = absurd fails
+    failed_to_answer (packets.Suback suback) old before after new number now connected connected' first fails last = absurd fails
+    failed_to_answer (packets.Unsuback unsuback) old before after new number now connected connected' first fails last = absurd fails
+    failed_to_answer packets.Pingreq old before after new number now connected connected' first fails last = absurd fails
+    failed_to_answer packets.Pingresp old before after new number now connected connected' first fails last = absurd fails
+    failed_to_answer (packets.Disconnect disconnect) old before after new number now connected connected' first fails last = absurd fails
+    failed_to_answer (packets.Foreign kind) old before after new number now connected connected' first fails last = absurd fails
+    failed_to_answer (packets.OtherVersion version) old before after new number now connected connected' first fails last = absurd fails
+    failed_to_answer packets.WithWill old before after new number now connected connected' first fails last = absurd fails
 
-    -- memory was wanted for the reply
-    failed_to_react : (standing : Standing P) (input : Input) (old new : S) (number now : ℕ) → FailsToReact call slot_of old number standing now input new
-        → FailedCalls call old number standing input new
+    -- an allocation failed for the reply
+    failed_to_react : (phase : ConnPhase P) (input : Input) (old new : S) (number now : ℕ) → FailsToReact call slot_of old number phase now input new
+        → FailedCalls call old number phase input new
     failed_to_react (Unconnected opened) (inputs.Packet packet) old new number now fails = plain [] old new number _ _ (failed_to_attach call old new number now _ fails.2)
     failed_to_react (Unconnected opened) (inputs.Fault fault) old new number now fails = absurd fails
     failed_to_react (Unconnected opened) inputs.Tick old new number now fails = absurd fails
@@ -185,37 +185,37 @@ module _ {S P : Type 0} (call : S → Fact P → S → Type 0) where
     failed_to_react (Waiting request ticks) (inputs.Fault fault) old new number now fails = absurd fails
     failed_to_react (Waiting request ticks) inputs.EndOfInput old new number now fails = absurd fails
     failed_to_react (Waiting request ticks) inputs.Closing old new number now fails = absurd fails
-    failed_to_react (Connected link) (inputs.Packet packet) old new number now fails =
+    failed_to_react (Connected connected) (inputs.Packet packet) old new number now fails =
         let answer = fails.2 in
-        failed_to_answer packet old fails.0 answer.1 new number now link answer.0 (one call old fails.0 _ fails.1 refl refl refl refl) answer.2
+        failed_to_answer packet old fails.0 answer.1 new number now connected answer.0 (one call old fails.0 _ fails.1 refl refl refl refl) answer.2
         (parted call answer.1 new answer.0.session now answer.3)
-    failed_to_react (Connected link) (inputs.Fault fault) old new number now fails = absurd fails
-    failed_to_react (Connected link) inputs.Tick old new number now fails = absurd fails
-    failed_to_react (Connected link) inputs.EndOfInput old new number now fails = absurd fails
-    failed_to_react (Connected link) inputs.Closing old new number now fails = absurd fails
+    failed_to_react (Connected connected) (inputs.Fault fault) old new number now fails = absurd fails
+    failed_to_react (Connected connected) inputs.Tick old new number now fails = absurd fails
+    failed_to_react (Connected connected) inputs.EndOfInput old new number now fails = absurd fails
+    failed_to_react (Connected connected) inputs.Closing old new number now fails = absurd fails
     failed_to_react Ended (inputs.Packet packet) old new number now fails = absurd fails
     failed_to_react Ended (inputs.Fault fault) old new number now fails = absurd fails
     failed_to_react Ended inputs.Tick old new number now fails = absurd fails
     failed_to_react Ended inputs.EndOfInput old new number now fails = absurd fails
     failed_to_react Ended inputs.Closing old new number now fails = absurd fails
 
-    -- memory was wanted for what is handed out
-    handed_less : (between : Standing P) (old new : S) (now : ℕ) → HandsLess call slot_of old between now new → HandsSomething call old new
+    -- an allocation failed for what is handed out
+    handed_less : (between : ConnPhase P) (old new : S) (now : ℕ) → HandsLess call slot_of old between now new → HandsSomething call old new
     handed_less (Unconnected opened) old new now hands = absurd hands
     handed_less (Waiting request ticks) old new now hands = absurd hands
-    handed_less (Connected link) old new now hands =
-        let some = handed_some call old hands.2 link.session.membership link.session.window hands.0 hands.1 hands.3 in
-        (some.0 ++ [], after call some.0 [] old hands.2 new some.1 (parted call hands.2 new (after_hand_out link hands.0 hands.1).session now hands.4))
+    handed_less (Connected connected) old new now hands =
+        let some = handed_some call old hands.2 connected.session.membership connected.session.window hands.0 hands.1 hands.3 in
+        (some.0 ++ [], after call some.0 [] old hands.2 new some.1 (parted call hands.2 new (after_hand_out connected hands.0 hands.1).session now hands.4))
     handed_less Ended old new now hands = absurd hands
 
-    pub failed : (old new : S) (number now : ℕ) (standing : Standing P) (input : Input) → FailsToStep call slot_of old number standing now input new → FailedCalls call old number standing input new
-    failed old new number now standing input (inl cuts) = plain [] old new number standing input (cut_off input standing old new number now cuts)
-    failed old new number now standing input (inr fails) =
+    pub failed : (old new : S) (number now : ℕ) (phase : ConnPhase P) (input : Input) → FailsToStep call slot_of old number phase now input new → FailedCalls call old number phase input new
+    failed old new number now phase input (inl cuts) = plain [] old new number phase input (cut_off input phase old new number now cuts)
+    failed old new number now phase input (inr fails) =
         ⊎_elim
-        (λ (reply : FailsToReact call slot_of old number standing now input new). failed_to_react standing input old new number now reply)
-        (λ (hand : FailsToHand call slot_of old number standing now input new).
+        (λ (reply : FailsToReact call slot_of old number phase now input new). failed_to_react phase input old new number now reply)
+        (λ (hand : FailsToHand call slot_of old number phase now input new).
         let some = handed_less hand.between hand.mid new now hand.hands in
-        stepped some.0 old new number standing input hand.reply.next (
-        further call some.0 old hand.mid new number standing input hand.reply.next
-        (reacted call slot_of standing input old hand.mid number now hand.between hand.reply hand.reacts) some.1))
+        stepped some.0 old new number phase input hand.reply.next (
+        further call some.0 old hand.mid new number phase input hand.reply.next
+        (reacted call slot_of phase input old hand.mid number now hand.between hand.reply hand.reacts) some.1))
         fails

@@ -1,4 +1,4 @@
--- What is handed out behind a reply: the calls of the supply, those of the session's window, and the marks that these make.
+-- What is handed out after a reply: the calls of the supply, those of the session's window, and the marks that these make.
 use Rattle.std.proofs.Common.{◌≡◌, ℕ, true, false, List, [], ◌∷◌, ◌++◌, map, Option, Some, None, Ok, refl, sym, ap, subst, ◌∙◌, inl, inr}
 use Rattle.std.specs.List.{AllByRecursion}
 use Rattle.std.proofs.lemmas.List.Elements.{filter_map-append}
@@ -12,8 +12,8 @@ use Rattle.member_window.specs.Runs as windows
 use Rattle.session_desk.specs.declared.session.Membership.{Membership}
 use Rattle.session_desk.specs.declared.session.Membership.TheVariants.{NotMember, Member, Leaving}
 use Rattle.conn_rules.specs.Packets.{job}
-use Rattle.conn_supply.specs.Facts.{Fact}
-use Rattle.conn_supply.specs.Facts.Fact.{TakeBack, Take}
+use Rattle.conn_supply.specs.SupplyCalls.{SupplyCall}
+use Rattle.conn_supply.specs.SupplyCalls.SupplyCall.{TakeBack, Take}
 use Rattle.conn_supply.specs.HandOuts.{SendsAgain, AsksFor, SendsNone, SendsFresh, LeavesWith, HandsFresh, HandsOut}
 use Rattle.conn_laws.specs.Calls.{messages_of, fresh_message, fresh_messages}
 use Rattle.conn_laws.specs.Marks.{publishes_in, publishes_of, fresh_of, acknowledged_of, IsWithin}
@@ -57,7 +57,7 @@ abbrev pub given_in : {P : Type 0} → P → Option Held → List (P × Held)
 given_in from None = []
 given_in from (Some envelope) = (from, envelope) ∷ []
 
-module _ {S P : Type 0} (call : S → Fact P → S → Type 0) where
+module _ {S P : Type 0} (call : S → SupplyCall P → S → Type 0) where
   -- a place was asked for a message, and was what it is
   pub record Asked (old : S) (place : P) (found : Option Held) (place' : P) (new : S) : Type 0 where
     pub from : P

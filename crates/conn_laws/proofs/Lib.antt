@@ -21,3 +21,7 @@ pub mod OneMessage
 pub mod OneShare
 pub mod OneHandOut
 pub mod OneStep
+pub mod Lengths
+pub mod Forwarding
+pub mod Replies
+pub mod Sending

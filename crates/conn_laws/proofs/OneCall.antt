@@ -14,15 +14,15 @@ use Rattle.conn_supply.specs.declared.supply.BindRefusal.{BindRefusal}
 use Rattle.conn_supply.specs.declared.supply.BindRefusal.TheVariants as bind
 use Rattle.conn_supply.specs.declared.supply.OfferRefusal.{OfferRefusal}
 use Rattle.conn_supply.specs.declared.supply.OfferRefusal.TheVariants as offer
-use Rattle.conn_supply.specs.Facts.{Fact}
-use Rattle.conn_supply.specs.Facts.Fact.{Attach, Withdraw, Kicked, Park, ParkAsIs, Keep, Bury, Sweep, LendPlace, TakePlace, Bind, Find, Match, Offer, MayTake, Take, TakeBack, Settle, GiveBack}
+use Rattle.conn_supply.specs.SupplyCalls.{SupplyCall}
+use Rattle.conn_supply.specs.SupplyCalls.SupplyCall.{Attach, Withdraw, Kicked, Park, ParkAsIs, Keep, Bury, Sweep, LendPlace, TakePlace, Bind, Find, Match, Offer, MayTake, Take, TakeBack, Settle, GiveBack}
 use Rattle.conn_laws.specs.Asking.{OneAnswer}
 
 -- calls with the same arguments that are one have the same answer
 attach_is : {P : Type 0} (request : Request) (x y : Result (Attached Held P) DeskError) → Attach request x ≡ Attach request y → x ≡ y
 attach_is request x y e = cc
 
-kicked_is : {P : Type 0} (connection : ℕ) (x y : Bool) → ◌≡◌ {A = Fact P} (Kicked connection x) (Kicked connection y) → x ≡ y
+kicked_is : {P : Type 0} (connection : ℕ) (x y : Bool) → ◌≡◌ {A = SupplyCall P} (Kicked connection x) (Kicked connection y) → x ≡ y
 kicked_is connection x y e = cc
 
 park_is : {P : Type 0} (session : Session Held P) (now : ℕ) (x y : Option (Session Held P)) → Park session now x ≡ Park session now y → x ≡ y
@@ -34,16 +34,16 @@ sweep_is now x y e = cc
 lend_is : {P : Type 0} (slot : ℕ) (x y : Option P) → LendPlace slot x ≡ LendPlace slot y → x ≡ y
 lend_is slot x y e = cc
 
-bind_is : {P : Type 0} (share : Share) (x y : Result ℕ BindRefusal) → ◌≡◌ {A = Fact P} (Bind share x) (Bind share y) → x ≡ y
+bind_is : {P : Type 0} (share : Share) (x y : Result ℕ BindRefusal) → ◌≡◌ {A = SupplyCall P} (Bind share x) (Bind share y) → x ≡ y
 bind_is share x y e = cc
 
-find_is : {P : Type 0} (share : Share) (x y : Option ℕ) → ◌≡◌ {A = Fact P} (Find share x) (Find share y) → x ≡ y
+find_is : {P : Type 0} (share : Share) (x y : Option ℕ) → ◌≡◌ {A = SupplyCall P} (Find share x) (Find share y) → x ≡ y
 find_is share x y e = cc
 
-match_is : {P : Type 0} (topic x y : List ℕ) → ◌≡◌ {A = Fact P} (Match topic x) (Match topic y) → x ≡ y
+match_is : {P : Type 0} (topic x y : List ℕ) → ◌≡◌ {A = SupplyCall P} (Match topic x) (Match topic y) → x ≡ y
 match_is topic x y e = cc
 
-offer_is : {P : Type 0} (slot connection : ℕ) (message : Message) (x y : Result Stamp OfferRefusal) → ◌≡◌ {A = Fact P} (Offer slot connection message x) (Offer slot connection message y) → x ≡ y
+offer_is : {P : Type 0} (slot connection : ℕ) (message : Message) (x y : Result Stamp OfferRefusal) → ◌≡◌ {A = SupplyCall P} (Offer slot connection message x) (Offer slot connection message y) → x ≡ y
 offer_is slot connection message x y e = cc
 
 may_take_is : {P : Type 0} (place : P) (x y : Bool) → MayTake place x ≡ MayTake place y → x ≡ y
@@ -70,7 +70,7 @@ give_place_is place p q envelope x y e = cc
 give_is : {P : Type 0} (place p q : P) (envelope : Held) (x y : Result (Unit {0}) Held) → GiveBack place p envelope x ≡ GiveBack place q envelope y → x ≡ y
 give_is place p q envelope x y e = cc
 
-module _ {S P : Type 0} (call : S → Fact P → S → Type 0) (AreAlike : S → S → Type 0) (answers : OneAnswer call AreAlike) where
+module _ {S P : Type 0} (call : S → SupplyCall P → S → Type 0) (AreAlike : S → S → Type 0) (answers : OneAnswer call AreAlike) where
   -- nothing changes
   pub still : (a a' b b' : S) → AreAlike a b → a' ≡ a → b' ≡ b → AreAlike a' b'
   still a a' b b' alike is was = subst (λ s. AreAlike s b') (sym is) (subst (AreAlike a) (sym was) alike)

@@ -7,7 +7,7 @@ use Rattle.member_window.specs.Contents.{held_of}
 use Rattle.session_desk.specs.declared.session.Session.{Session}
 use Rattle.session_desk.specs.declared.session.Membership.{Membership}
 use Rattle.session_desk.specs.declared.session.Membership.TheVariants.{NotMember, Member, Leaving}
-use Rattle.conn_supply.specs.Facts.{Fact}
+use Rattle.conn_supply.specs.SupplyCalls.{SupplyCall}
 use Rattle.conn_laws.specs.Asking.{OneAnswer}
 use Rattle.conn_engine.specs.Ending.{down, ending_session, GivesBack, Ends, RetiresFrom, RetiresAs, Retires, PartsAs, Parts, Sweeps}
 use Rattle.conn_laws.proofs.OneCall as calls
@@ -18,7 +18,7 @@ ok_err x y e = cc
 pub none_some : {A : Type 0} (a : A) → None ≡ Some a → ⊥
 none_some a e = cc
 
-module _ {S P : Type 0} (call : S → Fact P → S → Type 0) (AreAlike : S → S → Type 0) (answers : OneAnswer call AreAlike) where
+module _ {S P : Type 0} (call : S → SupplyCall P → S → Type 0) (AreAlike : S → S → Type 0) (answers : OneAnswer call AreAlike) where
   given_back : (entries : List (ℕ × Held)) (a a' b b' : S) (place p q : P) (l m : List (ℕ × Held)) → AreAlike a b
       → GivesBack call a place entries p l a' → GivesBack call b place entries q m b' → (p ≡ q) × (l ≡ m) × AreAlike a' b'
   given_back [] a a' b b' place p q l m alike h k = (h.0 ∙ sym k.0, h.1 ∙ sym k.1, calls.still call AreAlike answers a a' b b' alike h.2 k.2)

@@ -9,8 +9,8 @@ use Rattle.member_window.specs.Contents.{Contents, held_of, IsNextResend, after_
 use Rattle.session_desk.specs.declared.session.Membership.{Membership}
 use Rattle.session_desk.specs.declared.session.Membership.TheVariants.{NotMember, Member, Leaving}
 use Rattle.conn_rules.specs.Packets.{job}
-use Rattle.conn_supply.specs.Facts.{Fact}
-use Rattle.conn_supply.specs.Facts.Fact.{Take}
+use Rattle.conn_supply.specs.SupplyCalls.{SupplyCall}
+use Rattle.conn_supply.specs.SupplyCalls.SupplyCall.{Take}
 use Rattle.conn_laws.specs.Asking.{OneAnswer}
 use Rattle.conn_supply.specs.HandOuts.{SendsAgain, AsksFor, SendsOne, SendsNone, SendsFresh, LeavesWith, HandsFresh, HandsOut}
 use Rattle.conn_laws.proofs.OneCall as calls
@@ -50,7 +50,7 @@ sent_again (p ∷ ps) (q ∷ qs) old new new' h k =
 no_yes : false ≡ true → ⊥
 no_yes e = cc
 
-module _ {S P : Type 0} (call : S → Fact P → S → Type 0) (AreAlike : S → S → Type 0) (answers : OneAnswer call AreAlike) where
+module _ {S P : Type 0} (call : S → SupplyCall P → S → Type 0) (AreAlike : S → S → Type 0) (answers : OneAnswer call AreAlike) where
   -- a place asks for a message
   asked : (a a' b b' : S) (place p q : P) (x y : Option Held) → AreAlike a b → AsksFor call a place x p a' → AsksFor call b place y q b' → (p ≡ q) × (x ≡ y) × AreAlike a' b'
   asked a a' b b' place p q x y alike (inl h) (inl k) =

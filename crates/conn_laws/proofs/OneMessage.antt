@@ -18,7 +18,7 @@ use Rattle.conn_rules.specs.declared.publishing.PublishAnswer.TheVariants as ans
 use Rattle.conn_supply.specs.declared.reply.Reply.{Reply}
 use Rattle.conn_supply.specs.declared.supply.OfferRefusal.{OfferRefusal}
 use Rattle.conn_supply.specs.declared.supply.OfferRefusal.TheVariants as refusal
-use Rattle.conn_supply.specs.Facts.{Fact}
+use Rattle.conn_supply.specs.SupplyCalls.{SupplyCall}
 use Rattle.conn_laws.specs.Asking.{OneAnswer}
 use Rattle.conn_supply.specs.Memberships.{with_window, with_membership}
 use Rattle.conn_supply.specs.Replies.{acknowledging}
@@ -62,7 +62,7 @@ acked window w v identifier None (Some y) sound h k = absurd (h.0 (contains_iden
 acked window w v identifier (Some x) None sound h k = absurd (k.0 (contains_identifier (held_of window) identifier x h.0))
 acked window w v identifier (Some x) (Some y) sound h k = (ap Some (one_item (held_of window) identifier x y sound.entries.distinct h.0 k.0), h.1 ∙ sym k.1)
 
-module _ {S P : Type 0} (call : S → Fact P → S → Type 0) (AreAlike : S → S → Type 0) (answers : OneAnswer call AreAlike) where
+module _ {S P : Type 0} (call : S → SupplyCall P → S → Type 0) (AreAlike : S → S → Type 0) (answers : OneAnswer call AreAlike) where
   offered : (slots : List ℕ) (a a' b b' : S) (connection : ℕ) (message : Message) (n m : ℕ) → AreAlike a b
       → Offers call a connection message slots n a' → Offers call b connection message slots m b' → (n ≡ m) × AreAlike a' b'
   offered [] a a' b b' connection message n m alike h k = (h.0 ∙ sym k.0, calls.still call AreAlike answers a a' b b' alike h.1 k.1)

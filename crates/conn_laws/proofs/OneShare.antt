@@ -16,7 +16,7 @@ use Rattle.session_desk.specs.declared.session.Membership.TheVariants.{NotMember
 use Rattle.conn_supply.specs.declared.reply.Reply.{Reply}
 use Rattle.conn_supply.specs.declared.supply.BindRefusal.{BindRefusal}
 use Rattle.conn_supply.specs.declared.supply.BindRefusal.TheVariants as refusal
-use Rattle.conn_supply.specs.Facts.{Fact}
+use Rattle.conn_supply.specs.SupplyCalls.{SupplyCall}
 use Rattle.conn_laws.specs.Asking.{OneAnswer}
 use Rattle.conn_supply.specs.Replies.{going_on}
 use Rattle.conn_supply.specs.Subscribing.{IsLent, EntersAs, StaysAs, Joins, AnswersEntry, AnswersEntries, SubscribesAs, Subscribes, LeavesFrom, LeavesBy, LeavesByAll, UnsubscribesAs, Unsubscribes}
@@ -39,7 +39,7 @@ none_had e = cc
 abbrev AreOne : {P : Type 0} → ℕ → ℕ → Membership P → Membership P → Type 0
 AreOne c d m n = (c ≡ d) × (m ≡ n)
 
-module _ {S P : Type 0} (call : S → Fact P → S → Type 0) (slot_of : P → ℕ) where
+module _ {S P : Type 0} (call : S → SupplyCall P → S → Type 0) (slot_of : P → ℕ) where
   stayed : (place : P) (found : Option ℕ) (old : Membership P) (c d : ℕ) (m n : Membership P) → StaysAs call slot_of place found old c m → StaysAs call slot_of place found old d n → AreOne c d m n
   stayed place found old c d m n (inl h) (inl k) = (h.1 ∙ sym k.1, h.2 ∙ sym k.2)
   stayed place found old c d m n (inl h) (inr k) = absurd (k.0 h.0)
@@ -52,7 +52,7 @@ module _ {S P : Type 0} (call : S → Fact P → S → Type 0) (slot_of : P → 
   left_from place found c d m n (inr h) (inl k) = absurd (h.0 k.0)
   left_from place found c d m n (inr h) (inr k) = (h.1 ∙ sym k.1, h.2 ∙ sym k.2)
 
-module _ {S P : Type 0} (call : S → Fact P → S → Type 0) (AreAlike : S → S → Type 0) (answers : OneAnswer call AreAlike) (slot_of : P → ℕ) where
+module _ {S P : Type 0} (call : S → SupplyCall P → S → Type 0) (AreAlike : S → S → Type 0) (answers : OneAnswer call AreAlike) (slot_of : P → ℕ) where
   abbrev Agree : ℕ → ℕ → Membership P → Membership P → S → S → Type 0
   Agree c d m n a b = AreOne c d m n × AreAlike a b
 

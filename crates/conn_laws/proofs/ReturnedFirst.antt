@@ -8,12 +8,12 @@ use Rattle.session_desk.specs.declared.session.Membership.{Membership}
 use Rattle.session_desk.specs.declared.session.Membership.TheVariants.{NotMember, Member, Leaving}
 use Rattle.conn_supply.specs.declared.reply.Then.{Then}
 use Rattle.conn_supply.specs.declared.reply.Reply.{Reply}
-use Rattle.conn_supply.specs.Facts.{Fact}
-use Rattle.conn_supply.specs.Facts.Fact.{MayTake, Take, TakeBack, TakePlace}
+use Rattle.conn_supply.specs.SupplyCalls.{SupplyCall}
+use Rattle.conn_supply.specs.SupplyCalls.SupplyCall.{MayTake, Take, TakeBack, TakePlace}
 use Rattle.conn_supply.specs.HandOuts.{AsksFor, SendsNone, SendsFresh, LeavesWith, HandsFresh}
 use Rattle.conn_engine.specs.declared.input.Input.{Input}
-use Rattle.conn_engine.specs.declared.standing.Standing.{Standing}
-use Rattle.conn_engine.specs.declared.standing.Standing.TheVariants.{Unconnected, Waiting, Connected, Ended}
+use Rattle.conn_engine.specs.declared.phase.ConnPhase.{ConnPhase}
+use Rattle.conn_engine.specs.declared.phase.ConnPhase.TheVariants.{Unconnected, Waiting, Connected, Ended}
 use Rattle.conn_engine.specs.Step.{Reacts, Hands, Steps}
 use Rattle.conn_laws.specs.Calls.{hand_out_of, handed, messages_of}
 use Rattle.conn_laws.specs.ReturnedFirst.{MayFollow, FollowInOrder, CallsReturnedFirst}
@@ -21,20 +21,20 @@ use Rattle.conn_laws.proofs.Calling.{Plain, joins}
 use Rattle.conn_laws.proofs.Stepping.{reacted}
 
 -- what may follow no call may follow any
-follows_any : {P : Type 0} (last : Option (Fact P)) (fact : Fact P) → MayFollow None fact → MayFollow last fact
+follows_any : {P : Type 0} (last : Option (SupplyCall P)) (supply_call : SupplyCall P) → MayFollow None supply_call → MayFollow last supply_call
 follows_any last (Take place place' (Ok (Some envelope))) may = let none = may.1 in absurd (cc)
 follows_any last other may = tt
 
-all_follow_any : {P : Type 0} (last : Option (Fact P)) (facts : List (Fact P)) → FollowInOrder None facts → FollowInOrder last facts
+all_follow_any : {P : Type 0} (last : Option (SupplyCall P)) (supply_calls : List (SupplyCall P)) → FollowInOrder None supply_calls → FollowInOrder last supply_calls
 all_follow_any last [] order = tt
-all_follow_any last (fact ∷ facts) order = (follows_any last fact order.0, order.1)
+all_follow_any last (supply_call ∷ supply_calls) order = (follows_any last supply_call order.0, order.1)
 
-both : {P : Type 0} (last : Option (Fact P)) (facts others : List (Fact P)) → FollowInOrder last facts → FollowInOrder None others → FollowInOrder last (facts ++ others)
+both : {P : Type 0} (last : Option (SupplyCall P)) (supply_calls others : List (SupplyCall P)) → FollowInOrder last supply_calls → FollowInOrder None others → FollowInOrder last (supply_calls ++ others)
 both last [] others these those = all_follow_any last others those
-both last (fact ∷ facts) others these those = (these.0, both (Some fact) facts others these.1 those)
+both last (supply_call ∷ supply_calls) others these those = (these.0, both (Some supply_call) supply_calls others these.1 those)
 
 -- calls that hand nothing out
-hands_none : {P : Type 0} (last : Option (Fact P)) (fact : Fact P) → hand_out_of fact ≡ None → MayFollow last fact
+hands_none : {P : Type 0} (last : Option (SupplyCall P)) (supply_call : SupplyCall P) → hand_out_of supply_call ≡ None → MayFollow last supply_call
 hands_none last (Take place place' (Ok (Some envelope))) none = absurd (cc)
 hands_none last other none = tt
 
@@ -42,29 +42,29 @@ none_of : {A : Type 0} (found : Option A) (others : List A) → cons_option foun
 none_of None others none = (refl, none)
 none_of (Some one) others none = absurd (cc)
 
-all_hand_none : {P : Type 0} (last : Option (Fact P)) (facts : List (Fact P)) → handed facts ≡ [] → FollowInOrder last facts
+all_hand_none : {P : Type 0} (last : Option (SupplyCall P)) (supply_calls : List (SupplyCall P)) → handed supply_calls ≡ [] → FollowInOrder last supply_calls
 all_hand_none last [] none = tt
-all_hand_none last (fact ∷ facts) none =
-    let neither = none_of (hand_out_of fact) (handed facts) none in
-    (hands_none last fact neither.0, all_hand_none (Some fact) facts neither.1)
+all_hand_none last (supply_call ∷ supply_calls) none =
+    let neither = none_of (hand_out_of supply_call) (handed supply_calls) none in
+    (hands_none last supply_call neither.0, all_hand_none (Some supply_call) supply_calls neither.1)
 
 no_message : {P : Type 0} (given : List (P × Held)) → messages_of given ≡ [] → given ≡ []
 no_message [] none = refl
 no_message (one ∷ others) none = absurd (cc)
 
-module _ {S P : Type 0} (call : S → Fact P → S → Type 0) where
+module _ {S P : Type 0} (call : S → SupplyCall P → S → Type 0) where
   pub none : (old new : S) → new ≡ old → CallsReturnedFirst call old new
-  none old new same = record { facts = []; made = same; order = tt }
+  none old new same = record { supply_calls = []; made = same; order = tt }
 
-  pub one : (old new : S) (fact : Fact P) → call old fact new → MayFollow None fact → CallsReturnedFirst call old new
-  one old new fact called may = record { facts = fact ∷ []; made = (new, called, refl); order = (may, tt) }
+  pub one : (old new : S) (supply_call : SupplyCall P) → call old supply_call new → MayFollow None supply_call → CallsReturnedFirst call old new
+  one old new supply_call called may = record { supply_calls = supply_call ∷ []; made = (new, called, refl); order = (may, tt) }
 
   pub behind : (old mid new : S) → CallsReturnedFirst call old mid → CallsReturnedFirst call mid new → CallsReturnedFirst call old new
   behind old mid new these those =
       record {
-        facts = these.facts ++ those.facts;
-        made = joins call these.facts those.facts old mid new these.made those.made;
-        order = both None these.facts those.facts these.order those.order;
+        supply_calls = these.supply_calls ++ those.supply_calls;
+        made = joins call these.supply_calls those.supply_calls old mid new these.made those.made;
+        order = both None these.supply_calls those.supply_calls these.order those.order;
       }
 
   -- a place asks for a message
@@ -76,7 +76,7 @@ module _ {S P : Type 0} (call : S → Fact P → S → Type 0) where
   asked_for found old new place place' (inl back) = one old new (TakeBack place place' (Ok (Some back.0))) back.2 tt
   asked_for found old new place place' (inr queued) =
       record {
-        facts = TakeBack place queued.0 (Ok None) ∷ Take queued.0 place' (Ok found) ∷ [];
+        supply_calls = TakeBack place queued.0 (Ok None) ∷ Take queued.0 place' (Ok found) ∷ [];
         made = (queued.1, queued.2, (new, queued.3, refl));
         order = (tt, (found_or_not found place queued.0 place', tt));
       }
@@ -105,24 +105,24 @@ module _ {S P : Type 0} (call : S → Fact P → S → Type 0) where
 
   -- calls that hand nothing out
   pub plain : (old new : S) → Plain call [] old new → CallsReturnedFirst call old new
-  plain old new calls = record { facts = calls.facts; made = calls.made; order = all_hand_none None calls.facts (no_message (handed calls.facts) calls.hands) }
+  plain old new calls = record { supply_calls = calls.supply_calls; made = calls.made; order = all_hand_none None calls.supply_calls (no_message (handed calls.supply_calls) calls.hands) }
 
   module _ (slot_of : P → ℕ) where
     -- the reply hands nothing out
-    pub reacts : (standing : Standing P) (input : Input) (old new : S) (number now : ℕ) (between : Standing P) (reply : Reply)
-        → Reacts call slot_of old number standing now input between reply new → CallsReturnedFirst call old new
-    reacts standing input old new number now between reply is =
-        let calls = reacted call slot_of standing input old new number now between reply is in
-        record { facts = calls.facts; made = calls.made; order = all_hand_none None calls.facts (no_message (handed calls.facts) calls.hands) }
+    pub reacts : (phase : ConnPhase P) (input : Input) (old new : S) (number now : ℕ) (between : ConnPhase P) (reply : Reply)
+        → Reacts call slot_of old number phase now input between reply new → CallsReturnedFirst call old new
+    reacts phase input old new number now between reply is =
+        let calls = reacted call slot_of phase input old new number now between reply is in
+        record { supply_calls = calls.supply_calls; made = calls.made; order = all_hand_none None calls.supply_calls (no_message (handed calls.supply_calls) calls.hands) }
 
-    hands : (between : Standing P) (old new : S) (sent : List Packet) (standing : Standing P) → Hands call slot_of old between sent standing new → CallsReturnedFirst call old new
-    hands (Unconnected opened) old new sent standing is = none old new is.2
-    hands (Waiting request ticks) old new sent standing is = none old new is.2
-    hands (Connected link) old new sent standing is = handed_fresh link.session.membership old new is.2.between is.2.fresh is.0 is.1 is.2.sent_fresh
-    hands Ended old new sent standing is = none old new is.2
+    hands : (between : ConnPhase P) (old new : S) (sent : List Packet) (phase : ConnPhase P) → Hands call slot_of old between sent phase new → CallsReturnedFirst call old new
+    hands (Unconnected opened) old new sent phase is = none old new is.2
+    hands (Waiting request ticks) old new sent phase is = none old new is.2
+    hands (Connected connected) old new sent phase is = handed_fresh connected.session.membership old new is.2.between is.2.fresh is.0 is.1 is.2.sent_fresh
+    hands Ended old new sent phase is = none old new is.2
 
-    pub stepped : (old new : S) (number now : ℕ) (standing standing' : Standing P) (input : Input) (packets : List Packet) (next : Then)
-        → Steps call slot_of old number standing now input packets next standing' new → CallsReturnedFirst call old new
-    stepped old new number now standing standing' input packets next steps =
-        behind old steps.mid new (reacts standing input old steps.mid number now steps.between steps.reply steps.reacts)
-        (hands steps.between steps.mid new steps.sent standing' steps.hands)
+    pub stepped : (old new : S) (number now : ℕ) (phase phase' : ConnPhase P) (input : Input) (packets : List Packet) (next : Then)
+        → Steps call slot_of old number phase now input packets next phase' new → CallsReturnedFirst call old new
+    stepped old new number now phase phase' input packets next steps =
+        behind old steps.mid new (reacts phase input old steps.mid number now steps.between steps.reply steps.reacts)
+        (hands steps.between steps.mid new steps.sent phase' steps.hands)

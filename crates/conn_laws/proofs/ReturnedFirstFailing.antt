@@ -8,22 +8,22 @@ use Rattle.group_jobs.specs.Stamps.{Held}
 use Rattle.member_window.specs.Contents.{Contents, after_put}
 use Rattle.session_desk.specs.declared.session.Membership.{Membership}
 use Rattle.conn_rules.specs.Publishing.{message_of}
-use Rattle.conn_supply.specs.Facts.{Fact}
-use Rattle.conn_supply.specs.Facts.Fact.{Match, Offer, Withdraw, Kicked}
+use Rattle.conn_supply.specs.SupplyCalls.{SupplyCall}
+use Rattle.conn_supply.specs.SupplyCalls.SupplyCall.{Match, Offer, Withdraw, Kicked}
 use Rattle.conn_supply.specs.HandOuts.{IsRefused, TakesSome, HandsSome}
 use Rattle.conn_supply.specs.Publishing.{OffersFirst, OffersSome, IsCutShort}
 use Rattle.conn_engine.specs.declared.input.Input.{Input}
 use Rattle.conn_engine.specs.declared.input.Input.TheVariants as inputs
-use Rattle.conn_engine.specs.declared.standing.Link.{Link}
-use Rattle.conn_engine.specs.declared.standing.Standing.{Standing}
-use Rattle.conn_engine.specs.declared.standing.Standing.TheVariants.{Unconnected, Waiting, Connected, Ended}
+use Rattle.conn_engine.specs.declared.phase.ConnectedClient.{ConnectedClient}
+use Rattle.conn_engine.specs.declared.phase.ConnPhase.{ConnPhase}
+use Rattle.conn_engine.specs.declared.phase.ConnPhase.TheVariants.{Unconnected, Waiting, Connected, Ended}
 use Rattle.conn_engine.specs.Answering.{FailsToAnswer}
 use Rattle.conn_engine.specs.Step.{hearing, after_hand_out, GivesUp, ShutsDown, CutsOff, FailsToReact, HandsLess, FailsToHand, FailsToStep}
 use Rattle.conn_laws.specs.ReturnedFirst.{CallsReturnedFirst}
 use Rattle.conn_laws.proofs.Calling.{parted, swept, failed_to_attach, failed_again, some_answered}
 use Rattle.conn_laws.proofs.ReturnedFirst.{none, one, behind, plain, asked_for, reacts}
 
-module _ {S P : Type 0} (call : S → Fact P → S → Type 0) where
+module _ {S P : Type 0} (call : S → SupplyCall P → S → Type 0) where
   -- a message is offered to some groups
   offered_first : (slots : List ℕ) (old new : S) (number : ℕ) (message : Message) → OffersFirst call old number message slots new → CallsReturnedFirst call old new
   offered_first [] old new number message offers = absurd offers
@@ -39,7 +39,7 @@ module _ {S P : Type 0} (call : S → Fact P → S → Type 0) where
   cut_short old new number publish cut =
       behind call old cut.mid new (one call old cut.mid (Match publish.topic cut.slots) cut.matched tt) (offered_some cut.slots cut.mid new number (message_of publish) cut.offered)
 
-  -- some messages are handed out, and then memory is wanted
+  -- some messages are handed out, and then an allocation fails
   refused : (old new : S) (place place' : P) → IsRefused call old place place' new → CallsReturnedFirst call old new
   refused old new place place' (inl at_once) = one call old new _ at_once.1 tt
   refused old new place place' (inr later) = behind call old later.2 new (one call old later.2 _ later.3 tt) (one call later.2 new _ later.4 tt)
@@ -59,60 +59,60 @@ module _ {S P : Type 0} (call : S → Fact P → S → Type 0) where
   handed_some old new membership window membership' window' (inr some) = taken some.3 old new some.0 some.1 some.2 window' some.7
 
   module _ (slot_of : P → ℕ) where
-    given_up : (standing : Standing P) (old new : S) (number now : ℕ) → GivesUp call slot_of old number standing now new → CallsReturnedFirst call old new
+    given_up : (phase : ConnPhase P) (old new : S) (number now : ℕ) → GivesUp call slot_of old number phase now new → CallsReturnedFirst call old new
     given_up (Unconnected opened) old new number now gives = none call old new gives
     given_up (Waiting request ticks) old new number now gives = one call old new (Withdraw number) gives tt
-    given_up (Connected link) old new number now gives = plain call old new (parted call old new link.session now gives)
+    given_up (Connected connected) old new number now gives = plain call old new (parted call old new connected.session now gives)
     given_up Ended old new number now gives = none call old new gives
 
-    shut_down : (standing : Standing P) (old new : S) (number : ℕ) → ShutsDown call slot_of old number standing new → CallsReturnedFirst call old new
+    shut_down : (phase : ConnPhase P) (old new : S) (number : ℕ) → ShutsDown call slot_of old number phase new → CallsReturnedFirst call old new
     shut_down (Unconnected opened) old new number shuts = none call old new shuts
     shut_down (Waiting request ticks) old new number shuts = one call old new (Withdraw number) shuts tt
-    shut_down (Connected link) old new number shuts = one call old new _ shuts tt
+    shut_down (Connected connected) old new number shuts = one call old new _ shuts tt
     shut_down Ended old new number shuts = none call old new shuts
 
-    cut_off : (input : Input) (standing : Standing P) (old new : S) (number now : ℕ) → CutsOff call slot_of old number standing now input new → CallsReturnedFirst call old new
-    cut_off (inputs.Packet packet) standing old new number now cuts = given_up standing old new number now cuts
-    cut_off (inputs.Fault fault) standing old new number now cuts = given_up standing old new number now cuts
-    cut_off inputs.Tick standing old new number now cuts = given_up standing old new number now cuts
-    cut_off inputs.EndOfInput standing old new number now cuts = given_up standing old new number now cuts
-    cut_off inputs.Closing standing old new number now cuts = shut_down standing old new number cuts
+    cut_off : (input : Input) (phase : ConnPhase P) (old new : S) (number now : ℕ) → CutsOff call slot_of old number phase now input new → CallsReturnedFirst call old new
+    cut_off (inputs.Packet packet) phase old new number now cuts = given_up phase old new number now cuts
+    cut_off (inputs.Fault fault) phase old new number now cuts = given_up phase old new number now cuts
+    cut_off inputs.Tick phase old new number now cuts = given_up phase old new number now cuts
+    cut_off inputs.EndOfInput phase old new number now cuts = given_up phase old new number now cuts
+    cut_off inputs.Closing phase old new number now cuts = shut_down phase old new number cuts
 
-    failed_to_answer : (packet : Packet) (old new : S) (number now : ℕ) (link link' : Link P) → FailsToAnswer call slot_of old number (hearing link now) packet link' new
+    failed_to_answer : (packet : Packet) (old new : S) (number now : ℕ) (connected connected' : ConnectedClient P) → FailsToAnswer call slot_of old number (hearing connected now) packet connected' new
         → CallsReturnedFirst call old new
-    failed_to_answer (packets.Publish publish) old new number now link link' fails = cut_short old new number publish fails.0
-    failed_to_answer (packets.Subscribe subscribe) old new number now link link' fails =
+    failed_to_answer (packets.Publish publish) old new number now connected connected' fails = cut_short old new number publish fails.0
+    failed_to_answer (packets.Subscribe subscribe) old new number now connected connected' fails =
         plain call old new
-        (some_answered call slot_of old new subscribe.subscriptions (is_some subscribe.properties.subscription_identifier) link.terms link.session.membership fails.0 fails.1)
-    failed_to_answer (packets.Unsubscribe unsubscribe) old new number now link link' fails = none call old new fails.1
-    failed_to_answer other old new number now link link' fails = absurd fails
+        (some_answered call slot_of old new subscribe.subscriptions (is_some subscribe.properties.subscription_identifier) connected.terms connected.session.membership fails.0 fails.1)
+    failed_to_answer (packets.Unsubscribe unsubscribe) old new number now connected connected' fails = none call old new fails.1
+    failed_to_answer other old new number now connected connected' fails = absurd fails
 
-    failed_to_react : (standing : Standing P) (input : Input) (old new : S) (number now : ℕ) → FailsToReact call slot_of old number standing now input new
+    failed_to_react : (phase : ConnPhase P) (input : Input) (old new : S) (number now : ℕ) → FailsToReact call slot_of old number phase now input new
         → CallsReturnedFirst call old new
     failed_to_react (Unconnected opened) (inputs.Packet packet) old new number now fails = plain call old new (failed_to_attach call old new number now _ fails.2)
     failed_to_react (Waiting request ticks) inputs.Tick old new number now fails =
         behind call old fails.0 new (plain call old fails.0 (swept call 256 old fails.0 now fails.1))
         (plain call fails.0 new (failed_again call fails.0 new number now request fails.2))
-    failed_to_react (Connected link) (inputs.Packet packet) old new number now fails =
+    failed_to_react (Connected connected) (inputs.Packet packet) old new number now fails =
         let answer = fails.2 in
         behind call old fails.0 new (one call old fails.0 (Kicked number false) fails.1 tt) (
-        behind call fails.0 answer.1 new (failed_to_answer packet fails.0 answer.1 number now link answer.0 answer.2)
+        behind call fails.0 answer.1 new (failed_to_answer packet fails.0 answer.1 number now connected answer.0 answer.2)
         (plain call answer.1 new (parted call answer.1 new answer.0.session now answer.3)))
     failed_to_react other input old new number now fails = absurd fails
 
-    handed_less : (between : Standing P) (old new : S) (now : ℕ) → HandsLess call slot_of old between now new → CallsReturnedFirst call old new
-    handed_less (Connected link) old new now hands =
-        behind call old hands.2 new (handed_some old hands.2 link.session.membership link.session.window hands.0 hands.1 hands.3)
-        (plain call hands.2 new (parted call hands.2 new (after_hand_out link hands.0 hands.1).session now hands.4))
+    handed_less : (between : ConnPhase P) (old new : S) (now : ℕ) → HandsLess call slot_of old between now new → CallsReturnedFirst call old new
+    handed_less (Connected connected) old new now hands =
+        behind call old hands.2 new (handed_some old hands.2 connected.session.membership connected.session.window hands.0 hands.1 hands.3)
+        (plain call hands.2 new (parted call hands.2 new (after_hand_out connected hands.0 hands.1).session now hands.4))
     handed_less other old new now hands = absurd hands
 
-    pub failed : (old new : S) (number now : ℕ) (standing : Standing P) (input : Input) → FailsToStep call slot_of old number standing now input new
+    pub failed : (old new : S) (number now : ℕ) (phase : ConnPhase P) (input : Input) → FailsToStep call slot_of old number phase now input new
         → CallsReturnedFirst call old new
-    failed old new number now standing input (inl cuts) = cut_off input standing old new number now cuts
-    failed old new number now standing input (inr fails) =
+    failed old new number now phase input (inl cuts) = cut_off input phase old new number now cuts
+    failed old new number now phase input (inr fails) =
         ⊎_elim
-        (λ (reply : FailsToReact call slot_of old number standing now input new). failed_to_react standing input old new number now reply)
-        (λ (hand : FailsToHand call slot_of old number standing now input new).
-        behind call old hand.mid new (reacts call slot_of standing input old hand.mid number now hand.between hand.reply hand.reacts)
+        (λ (reply : FailsToReact call slot_of old number phase now input new). failed_to_react phase input old new number now reply)
+        (λ (hand : FailsToHand call slot_of old number phase now input new).
+        behind call old hand.mid new (reacts call slot_of phase input old hand.mid number now hand.between hand.reply hand.reacts)
         (handed_less hand.between hand.mid new now hand.hands))
         fails

@@ -26,14 +26,14 @@ use Rattle.conn_rules.specs.Subscribing.{subscribe_refusal, unsubscribe_refusal}
 use Rattle.conn_supply.specs.declared.reply.Then.{Then}
 use Rattle.conn_supply.specs.declared.reply.Then.TheVariants.{Go, Close, Kicked}
 use Rattle.conn_supply.specs.declared.reply.Reply.{Reply}
-use Rattle.conn_supply.specs.Facts.{Fact}
-use Rattle.conn_supply.specs.Facts.Fact.{Match, Offer, Settle}
+use Rattle.conn_supply.specs.SupplyCalls.{SupplyCall}
+use Rattle.conn_supply.specs.SupplyCalls.SupplyCall.{Match, Offer, Settle}
 use Rattle.conn_supply.specs.Acknowledging.{Settles, AcknowledgesFor}
 use Rattle.conn_engine.specs.declared.input.Input.{Input}
 use Rattle.conn_engine.specs.declared.input.Input.TheVariants as inputs
-use Rattle.conn_engine.specs.declared.standing.Link.{Link}
-use Rattle.conn_engine.specs.declared.standing.Standing.{Standing}
-use Rattle.conn_engine.specs.declared.standing.Standing.TheVariants.{Unconnected, Waiting, Connected, Ended}
+use Rattle.conn_engine.specs.declared.phase.ConnectedClient.{ConnectedClient}
+use Rattle.conn_engine.specs.declared.phase.ConnPhase.{ConnPhase}
+use Rattle.conn_engine.specs.declared.phase.ConnPhase.TheVariants.{Unconnected, Waiting, Connected, Ended}
 use Rattle.conn_engine.specs.Answering.{Answers}
 use Rattle.conn_engine.specs.Connecting.{has_place}
 use Rattle.conn_laws.specs.Calls.{offer_of, match_of, settlement_of, hand_out_of, offered, matched, settled, handed, messages_of, fresh_messages, IsToBeOffered, Brings, Confirms, OffersToEach, OffersNone, SettlesOne, SettlesNone, MakesAll, StepCalls}
@@ -42,35 +42,35 @@ use Rattle.conn_engine.specs.Step.{hearing, AnswersFirst, Concludes, AnswersPack
 use Rattle.conn_laws.proofs.Replying.{replied_and_sent}
 use Rattle.conn_laws.proofs.Calling.{Plain, still, one, behind, joins, parted, swept, attached, tried_again, handed_out, subscribed_as, unsubscribed_as}
 
--- nothing more is found behind or before
-pub none_behind : {P X : Type 0} (find : Fact P → Option X) (facts others : List (Fact P)) (xs : List X) → filter_map find facts ≡ xs → filter_map find others ≡ [] → filter_map find (facts ++ others) ≡ xs
-none_behind find facts others xs these none = filter_map-append find facts others ∙ (λ i. these i ++ none i) ∙ append-nil xs
+-- nothing more is found after or before
+pub none_behind : {P X : Type 0} (find : SupplyCall P → Option X) (supply_calls others : List (SupplyCall P)) (xs : List X) → filter_map find supply_calls ≡ xs → filter_map find others ≡ [] → filter_map find (supply_calls ++ others) ≡ xs
+none_behind find supply_calls others xs these none = filter_map-append find supply_calls others ∙ (λ i. these i ++ none i) ∙ append-nil xs
 
-pub none_before : {P X : Type 0} (find : Fact P → Option X) (facts others : List (Fact P)) (xs : List X) → filter_map find facts ≡ [] → filter_map find others ≡ xs → filter_map find (facts ++ others) ≡ xs
-none_before find facts others xs none those = filter_map-append find facts others ∙ (λ i. none i ++ those i)
+pub none_before : {P X : Type 0} (find : SupplyCall P → Option X) (supply_calls others : List (SupplyCall P)) (xs : List X) → filter_map find supply_calls ≡ [] → filter_map find others ≡ xs → filter_map find (supply_calls ++ others) ≡ xs
+none_before find supply_calls others xs none those = filter_map-append find supply_calls others ∙ (λ i. none i ++ those i)
 
 -- what is handed out by these calls, and then by those
-hands_both : {P : Type 0} (facts others : List (Fact P)) (given more : List Message) → messages_of (handed facts) ≡ given → messages_of (handed others) ≡ more
-    → messages_of (handed (facts ++ others)) ≡ given ++ more
-hands_both {P} facts others given more these those =
-    ap messages_of (filter_map-append hand_out_of facts others) ∙ map-append (λ (h : P × Held). h.1.message) (handed facts) (handed others) ∙ (λ i. these i ++ those i)
+hands_both : {P : Type 0} (supply_calls others : List (SupplyCall P)) (given more : List Message) → messages_of (handed supply_calls) ≡ given → messages_of (handed others) ≡ more
+    → messages_of (handed (supply_calls ++ others)) ≡ given ++ more
+hands_both {P} supply_calls others given more these those =
+    ap messages_of (filter_map-append hand_out_of supply_calls others) ∙ map-append (λ (h : P × Held). h.1.message) (handed supply_calls) (handed others) ∙ (λ i. these i ++ those i)
 
-module _ {S P : Type 0} (call : S → Fact P → S → Type 0) where
+module _ {S P : Type 0} (call : S → SupplyCall P → S → Type 0) where
   -- the calls of a step, by which these messages are handed out
-  pub record Walked (given : List Message) (old : S) (number : ℕ) (standing : Standing P) (input : Input) (next : Then) (new : S) : Type 0 where
-    pub facts : List (Fact P)
-    pub made : MakesAll call old facts new
-    pub offers : OffersToEach number input facts ⊎ OffersNone standing input facts next
-    pub settles : SettlesOne standing input facts ⊎ SettlesNone standing input facts next
-    pub hands : messages_of (handed facts) ≡ given
+  pub record Walked (given : List Message) (old : S) (number : ℕ) (phase : ConnPhase P) (input : Input) (next : Then) (new : S) : Type 0 where
+    pub supply_calls : List (SupplyCall P)
+    pub made : MakesAll call old supply_calls new
+    pub offers : OffersToEach number input supply_calls ⊎ OffersNone phase input supply_calls next
+    pub settles : SettlesOne phase input supply_calls ⊎ SettlesNone phase input supply_calls next
+    pub hands : messages_of (handed supply_calls) ≡ given
 
   -- a step that brings and acknowledges nothing
-  plain : (old new : S) (number : ℕ) (standing : Standing P) (input : Input) (next : Then) → Plain call [] old new
-      → ((publish : Publish) → Brings standing input publish → next ≡ Kicked) → ((envelope : Held) (fate : Fate) → Confirms standing input envelope fate → next ≡ Kicked)
-      → Walked [] old number standing input next new
-  plain old new number standing input next calls none_brought none_acknowledged =
+  plain : (old new : S) (number : ℕ) (phase : ConnPhase P) (input : Input) (next : Then) → Plain call [] old new
+      → ((publish : Publish) → Brings phase input publish → next ≡ Kicked) → ((envelope : Held) (fate : Fate) → Confirms phase input envelope fate → next ≡ Kicked)
+      → Walked [] old number phase input next new
+  plain old new number phase input next calls none_brought none_acknowledged =
       record {
-        facts = calls.facts;
+        supply_calls = calls.supply_calls;
         made = calls.made;
         offers = inr (record { match = calls.match; offers = calls.offers; unless = none_brought });
         settles = inr (record { settles = calls.settles; unless = none_acknowledged });
@@ -78,16 +78,16 @@ module _ {S P : Type 0} (call : S → Fact P → S → Type 0) where
       }
 
   -- a step of an input by which nothing could be brought or acknowledged
-  idle : (old new : S) (number : ℕ) (standing : Standing P) (input : Input) (next : Then) → Plain call [] old new
-      → ((publish : Publish) → Brings standing input publish → ⊥) × ((envelope : Held) (fate : Fate) → Confirms standing input envelope fate → ⊥)
-      → Walked [] old number standing input next new
-  idle old new number standing input next calls never =
-      plain old new number standing input next calls (λ publish brings. absurd (never.0 publish brings)) (λ envelope fate confirms. absurd (never.1 envelope fate confirms))
+  idle : (old new : S) (number : ℕ) (phase : ConnPhase P) (input : Input) (next : Then) → Plain call [] old new
+      → ((publish : Publish) → Brings phase input publish → ⊥) × ((envelope : Held) (fate : Fate) → Confirms phase input envelope fate → ⊥)
+      → Walked [] old number phase input next new
+  idle old new number phase input next calls never =
+      plain old new number phase input next calls (λ publish brings. absurd (never.0 publish brings)) (λ envelope fate confirms. absurd (never.1 envelope fate confirms))
 
   -- calls that offer and settle the same
-  offers_alike : (number : ℕ) (standing : Standing P) (input : Input) (next : Then) (facts all : List (Fact P)) → matched all ≡ matched facts → offered all ≡ offered facts
-      → OffersToEach number input facts ⊎ OffersNone standing input facts next → OffersToEach number input all ⊎ OffersNone standing input all next
-  offers_alike number standing input next facts all same_matches same_offers (inl each) =
+  offers_alike : (number : ℕ) (phase : ConnPhase P) (input : Input) (next : Then) (supply_calls all : List (SupplyCall P)) → matched all ≡ matched supply_calls → offered all ≡ offered supply_calls
+      → OffersToEach number input supply_calls ⊎ OffersNone phase input supply_calls next → OffersToEach number input all ⊎ OffersNone phase input all next
+  offers_alike number phase input next supply_calls all same_matches same_offers (inl each) =
       inl (record {
         publish = each.publish;
         came = each.came;
@@ -96,59 +96,59 @@ module _ {S P : Type 0} (call : S → Fact P → S → Type 0) where
         match = same_matches ∙ each.match;
         offers = same_offers ∙ each.offers;
       })
-  offers_alike number standing input next facts all same_matches same_offers (inr none) =
+  offers_alike number phase input next supply_calls all same_matches same_offers (inr none) =
       inr (record { match = same_matches ∙ none.match; offers = same_offers ∙ none.offers; unless = none.unless })
 
-  settles_alike : (standing : Standing P) (input : Input) (next : Then) (facts all : List (Fact P)) → settled all ≡ settled facts
-      → SettlesOne standing input facts ⊎ SettlesNone standing input facts next → SettlesOne standing input all ⊎ SettlesNone standing input all next
-  settles_alike standing input next facts all same (inl only) =
+  settles_alike : (phase : ConnPhase P) (input : Input) (next : Then) (supply_calls all : List (SupplyCall P)) → settled all ≡ settled supply_calls
+      → SettlesOne phase input supply_calls ⊎ SettlesNone phase input supply_calls next → SettlesOne phase input all ⊎ SettlesNone phase input all next
+  settles_alike phase input next supply_calls all same (inl only) =
       inl (record { envelope = only.envelope; fate = only.fate; confirmed = only.confirmed; settles = same ∙ only.settles })
-  settles_alike standing input next facts all same (inr none) = inr (record { settles = same ∙ none.settles; unless = none.unless })
+  settles_alike phase input next supply_calls all same (inr none) = inr (record { settles = same ∙ none.settles; unless = none.unless })
 
-  -- calls behind those of a step, or before them, by which nothing is offered or settled
-  pub further : (more : List Message) (old mid new : S) (number : ℕ) (standing : Standing P) (input : Input) (next : Then)
-      → Walked [] old number standing input next mid → Plain call more mid new → Walked more old number standing input next new
-  further more old mid new number standing input next calls others =
-      let all = calls.facts ++ others.facts in
+  -- calls after those of a step, or before them, by which nothing is offered or settled
+  pub further : (more : List Message) (old mid new : S) (number : ℕ) (phase : ConnPhase P) (input : Input) (next : Then)
+      → Walked [] old number phase input next mid → Plain call more mid new → Walked more old number phase input next new
+  further more old mid new number phase input next calls others =
+      let all = calls.supply_calls ++ others.supply_calls in
       record {
-        facts = all;
-        made = joins call calls.facts others.facts old mid new calls.made others.made;
+        supply_calls = all;
+        made = joins call calls.supply_calls others.supply_calls old mid new calls.made others.made;
         offers =
-            offers_alike number standing input next calls.facts all (none_behind match_of calls.facts others.facts _ refl others.match)
-            (none_behind offer_of calls.facts others.facts _ refl others.offers) calls.offers;
-        settles = settles_alike standing input next calls.facts all (none_behind settlement_of calls.facts others.facts _ refl others.settles) calls.settles;
-        hands = hands_both calls.facts others.facts [] more calls.hands others.hands;
+            offers_alike number phase input next calls.supply_calls all (none_behind match_of calls.supply_calls others.supply_calls _ refl others.match)
+            (none_behind offer_of calls.supply_calls others.supply_calls _ refl others.offers) calls.offers;
+        settles = settles_alike phase input next calls.supply_calls all (none_behind settlement_of calls.supply_calls others.supply_calls _ refl others.settles) calls.settles;
+        hands = hands_both calls.supply_calls others.supply_calls [] more calls.hands others.hands;
       }
 
-  earlier : (old mid new : S) (number : ℕ) (standing : Standing P) (input : Input) (next : Then) → Plain call [] old mid → Walked [] mid number standing input next new
-      → Walked [] old number standing input next new
-  earlier old mid new number standing input next others calls =
-      let all = others.facts ++ calls.facts in
+  earlier : (old mid new : S) (number : ℕ) (phase : ConnPhase P) (input : Input) (next : Then) → Plain call [] old mid → Walked [] mid number phase input next new
+      → Walked [] old number phase input next new
+  earlier old mid new number phase input next others calls =
+      let all = others.supply_calls ++ calls.supply_calls in
       record {
-        facts = all;
-        made = joins call others.facts calls.facts old mid new others.made calls.made;
+        supply_calls = all;
+        made = joins call others.supply_calls calls.supply_calls old mid new others.made calls.made;
         offers =
-            offers_alike number standing input next calls.facts all (none_before match_of others.facts calls.facts _ others.match refl)
-            (none_before offer_of others.facts calls.facts _ others.offers refl) calls.offers;
-        settles = settles_alike standing input next calls.facts all (none_before settlement_of others.facts calls.facts _ others.settles refl) calls.settles;
-        hands = hands_both others.facts calls.facts [] [] others.hands calls.hands;
+            offers_alike number phase input next calls.supply_calls all (none_before match_of others.supply_calls calls.supply_calls _ others.match refl)
+            (none_before offer_of others.supply_calls calls.supply_calls _ others.offers refl) calls.offers;
+        settles = settles_alike phase input next calls.supply_calls all (none_before settlement_of others.supply_calls calls.supply_calls _ others.settles refl) calls.settles;
+        hands = hands_both others.supply_calls calls.supply_calls [] [] others.hands calls.hands;
       }
 
   -- a message is offered once to each of these groups
   record OffersTo (old : S) (number : ℕ) (message : Message) (slots : List ℕ) (new : S) : Type 0 where
-    facts : List (Fact P)
-    made : MakesAll call old facts new
-    match : matched facts ≡ []
-    offers : offered facts ≡ map (λ slot. (slot, number, message)) slots
-    settles : settled facts ≡ []
-    hands : messages_of (handed facts) ≡ []
+    supply_calls : List (SupplyCall P)
+    made : MakesAll call old supply_calls new
+    match : matched supply_calls ≡ []
+    offers : offered supply_calls ≡ map (λ slot. (slot, number, message)) slots
+    settles : settled supply_calls ≡ []
+    hands : messages_of (handed supply_calls) ≡ []
 
   offers_to : (slots : List ℕ) (old new : S) (number : ℕ) (message : Message) (taken : ℕ) → Offers call old number message slots taken new → OffersTo old number message slots new
-  offers_to [] old new number message taken offers = record { facts = []; made = offers.1; match = refl; offers = refl; settles = refl; hands = refl }
+  offers_to [] old new number message taken offers = record { supply_calls = []; made = offers.1; match = refl; offers = refl; settles = refl; hands = refl }
   offers_to (slot ∷ slots) old new number message taken offers =
       let rest = offers_to slots offers.1 new number message offers.3 offers.6 in
       record {
-        facts = Offer slot number message offers.0 ∷ rest.facts;
+        supply_calls = Offer slot number message offers.0 ∷ rest.supply_calls;
         made = (offers.1, offers.4, rest.made);
         match = rest.match;
         offers = ap (λ others. (slot, number, message) ∷ others) rest.offers;
@@ -156,16 +156,16 @@ module _ {S P : Type 0} (call : S → Fact P → S → Type 0) where
         hands = rest.hands;
       }
 
-  published : (answer : PublishAnswer) (old new : S) (number : ℕ) (link : Link P) (publish : Publish) (reply : Reply) → publish_answer publish ≡ answer
-      → AnswersPublish call old number publish answer reply new → Walked [] old number (Connected link) (inputs.Packet (packets.Publish publish)) reply.next new
-  published (answers.Close code) old new number link publish reply is answers =
-      plain old new number (Connected link) _ reply.next (still call old new answers.1) (λ brought brings. absurd (subst IsToBeOffered is brings.1)) (λ envelope fate confirms. absurd confirms)
-  published (answers.Refuse identifier code) old new number link publish reply is answers =
-      plain old new number (Connected link) _ reply.next (still call old new answers.1) (λ brought brings. absurd (subst IsToBeOffered is brings.1)) (λ envelope fate confirms. absurd confirms)
-  published (answers.Offer identifier) old new number link publish reply is offers =
+  published : (answer : PublishAnswer) (old new : S) (number : ℕ) (connected : ConnectedClient P) (publish : Publish) (reply : Reply) → publish_answer publish ≡ answer
+      → AnswersPublish call old number publish answer reply new → Walked [] old number (Connected connected) (inputs.Packet (packets.Publish publish)) reply.next new
+  published (answers.Close code) old new number connected publish reply is answers =
+      plain old new number (Connected connected) _ reply.next (still call old new answers.1) (λ brought brings. absurd (subst IsToBeOffered is brings.1)) (λ envelope fate confirms. absurd confirms)
+  published (answers.Refuse identifier code) old new number connected publish reply is answers =
+      plain old new number (Connected connected) _ reply.next (still call old new answers.1) (λ brought brings. absurd (subst IsToBeOffered is brings.1)) (λ envelope fate confirms. absurd confirms)
+  published (answers.Offer identifier) old new number connected publish reply is offers =
       let to = offers_to offers.slots offers.mid new number (message_of publish) offers.taken offers.offered in
       record {
-        facts = Match publish.topic offers.slots ∷ to.facts;
+        supply_calls = Match publish.topic offers.slots ∷ to.supply_calls;
         made = (offers.mid, offers.matched, to.made);
         offers = inl (record {
           publish = publish;
@@ -180,95 +180,95 @@ module _ {S P : Type 0} (call : S → Fact P → S → Type 0) where
       }
 
   -- a PUBACK for what the session holds, and any other
-  settled_as : (found : Option Held) (old new : S) (number : ℕ) (link : Link P) (puback : Puback) (place place' : P) (window' : Contents Held) (next : Then)
-      → has_place link.session.membership ≡ true → Acks link.session.window puback.packet_identifier found window' → Settles call old place puback.reason_code found place' new
-      → Walked [] old number (Connected link) (inputs.Packet (packets.Puback puback)) next new
-  settled_as (Some envelope) old new number link puback place place' window' next has acked settled =
+  settled_as : (found : Option Held) (old new : S) (number : ℕ) (connected : ConnectedClient P) (puback : Puback) (place place' : P) (window' : Contents Held) (next : Then)
+      → has_place connected.session.membership ≡ true → Acks connected.session.window puback.packet_identifier found window' → Settles call old place puback.reason_code found place' new
+      → Walked [] old number (Connected connected) (inputs.Packet (packets.Puback puback)) next new
+  settled_as (Some envelope) old new number connected puback place place' window' next has acked settled =
       record {
-        facts = Settle place place' envelope (fate_of puback.reason_code) ∷ [];
+        supply_calls = Settle place place' envelope (fate_of puback.reason_code) ∷ [];
         made = (new, settled, refl);
         offers = inr (record { match = refl; offers = refl; unless = λ publish brings. absurd brings });
         settles = inl (record { envelope = envelope; fate = fate_of puback.reason_code; confirmed = (has, acked.0, refl); settles = refl });
         hands = refl;
       }
-  settled_as None old new number link puback place place' window' next has acked settled =
-      plain old new number (Connected link) _ next (still call old new settled.1) (λ publish brings. absurd brings)
-      (λ envelope fate confirms. absurd (acked.0 (contains_identifier (held_of link.session.window) puback.packet_identifier envelope confirms.1)))
+  settled_as None old new number connected puback place place' window' next has acked settled =
+      plain old new number (Connected connected) _ next (still call old new settled.1) (λ publish brings. absurd brings)
+      (λ envelope fate confirms. absurd (acked.0 (contains_identifier (held_of connected.session.window) puback.packet_identifier envelope confirms.1)))
 
-  acknowledged_as : (membership : Membership P) (old new : S) (number : ℕ) (link : Link P) (puback : Puback) (membership' : Membership P) (window' : Contents Held) (next : Then)
-      → link.session.membership ≡ membership → AcknowledgesFor call old membership link.session.window puback.packet_identifier puback.reason_code membership' window' new
-      → Walked [] old number (Connected link) (inputs.Packet (packets.Puback puback)) next new
-  acknowledged_as NotMember old new number link puback membership' window' next is does =
-      plain old new number (Connected link) _ next (still call old new does.2) (λ publish brings. absurd brings)
+  acknowledged_as : (membership : Membership P) (old new : S) (number : ℕ) (connected : ConnectedClient P) (puback : Puback) (membership' : Membership P) (window' : Contents Held) (next : Then)
+      → connected.session.membership ≡ membership → AcknowledgesFor call old membership connected.session.window puback.packet_identifier puback.reason_code membership' window' new
+      → Walked [] old number (Connected connected) (inputs.Packet (packets.Puback puback)) next new
+  acknowledged_as NotMember old new number connected puback membership' window' next is does =
+      plain old new number (Connected connected) _ next (still call old new does.2) (λ publish brings. absurd brings)
       (λ envelope fate confirms. let no : true ≡ false = sym confirms.0 ∙ ap has_place is in cc)
-  acknowledged_as (Member place) old new number link puback membership' window' next is does =
-      settled_as does.1.found old new number link puback place does.0 window' next (ap has_place is) does.1.acked does.1.settled
-  acknowledged_as (Leaving place) old new number link puback membership' window' next is does =
-      settled_as does.1.found old new number link puback place does.0 window' next (ap has_place is) does.1.acked does.1.settled
+  acknowledged_as (Member place) old new number connected puback membership' window' next is does =
+      settled_as does.1.found old new number connected puback place does.0 window' next (ap has_place is) does.1.acked does.1.settled
+  acknowledged_as (Leaving place) old new number connected puback membership' window' next is does =
+      settled_as does.1.found old new number connected puback place does.0 window' next (ap has_place is) does.1.acked does.1.settled
 
   module _ (slot_of : P → ℕ) where
     -- the answer to a packet
-    answered : (packet : Packet) (old new : S) (number now : ℕ) (link after : Link P) (reply : Reply) → Answers call slot_of old number (hearing link now) packet after reply new
-        → Walked [] old number (Connected link) (inputs.Packet packet) reply.next new
-    answered (packets.Publish publish) old new number now link after reply answers = published (publish_answer publish) old new number link publish reply refl answers.0
-    answered (packets.Puback puback) old new number now link after reply answers =
-        acknowledged_as link.session.membership old new number link puback _ _ reply.next refl answers.1.settles
-    answered (packets.Subscribe subscribe) old new number now link after reply answers =
-        idle old new number (Connected link) _ reply.next (subscribed_as call slot_of (subscribe_refusal subscribe) old new link.terms link.session.membership subscribe reply answers.0 answers.1)
+    answered : (packet : Packet) (old new : S) (number now : ℕ) (connected after : ConnectedClient P) (reply : Reply) → Answers call slot_of old number (hearing connected now) packet after reply new
+        → Walked [] old number (Connected connected) (inputs.Packet packet) reply.next new
+    answered (packets.Publish publish) old new number now connected after reply answers = published (publish_answer publish) old new number connected publish reply refl answers.0
+    answered (packets.Puback puback) old new number now connected after reply answers =
+        acknowledged_as connected.session.membership old new number connected puback _ _ reply.next refl answers.1.settles
+    answered (packets.Subscribe subscribe) old new number now connected after reply answers =
+        idle old new number (Connected connected) _ reply.next (subscribed_as call slot_of (subscribe_refusal subscribe) old new connected.terms connected.session.membership subscribe reply answers.0 answers.1)
         (λ p b. b, λ e f c. c)
-    answered (packets.Unsubscribe unsubscribe) old new number now link after reply answers =
-        idle old new number (Connected link) _ reply.next (unsubscribed_as call slot_of (unsubscribe_refusal unsubscribe) old new link.session.membership unsubscribe reply answers.0 answers.1)
+    answered (packets.Unsubscribe unsubscribe) old new number now connected after reply answers =
+        idle old new number (Connected connected) _ reply.next (unsubscribed_as call slot_of (unsubscribe_refusal unsubscribe) old new connected.session.membership unsubscribe reply answers.0 answers.1)
         (λ p b. b, λ e f c. c)
-    answered packets.Pingreq old new number now link after reply answers = idle old new number (Connected link) _ reply.next (still call old new answers.2) (λ p b. b, λ e f c. c)
-    answered (packets.Disconnect disconnect) old new number now link after reply answers = idle old new number (Connected link) _ reply.next (still call old new answers.1) (λ p b. b, λ e f c. c)
-    answered (packets.Connect connect) old new number now link after reply answers = idle old new number (Connected link) _ reply.next (still call old new answers.2) (λ p b. b, λ e f c. c)
-    answered (packets.Connack connack) old new number now link after reply answers = idle old new number (Connected link) _ reply.next (still call old new answers.2) (λ p b. b, λ e f c. c)
-    answered (packets.Suback suback) old new number now link after reply answers = idle old new number (Connected link) _ reply.next (still call old new answers.2) (λ p b. b, λ e f c. c)
-    answered (packets.Unsuback unsuback) old new number now link after reply answers = idle old new number (Connected link) _ reply.next (still call old new answers.2) (λ p b. b, λ e f c. c)
-    answered packets.Pingresp old new number now link after reply answers = idle old new number (Connected link) _ reply.next (still call old new answers.2) (λ p b. b, λ e f c. c)
-    answered (packets.Foreign kind) old new number now link after reply answers = idle old new number (Connected link) _ reply.next (still call old new answers.2) (λ p b. b, λ e f c. c)
-    answered (packets.OtherVersion version) old new number now link after reply answers = idle old new number (Connected link) _ reply.next (still call old new answers.2) (λ p b. b, λ e f c. c)
-    answered packets.WithWill old new number now link after reply answers = idle old new number (Connected link) _ reply.next (still call old new answers.2) (λ p b. b, λ e f c. c)
+    answered packets.Pingreq old new number now connected after reply answers = idle old new number (Connected connected) _ reply.next (still call old new answers.2) (λ p b. b, λ e f c. c)
+    answered (packets.Disconnect disconnect) old new number now connected after reply answers = idle old new number (Connected connected) _ reply.next (still call old new answers.1) (λ p b. b, λ e f c. c)
+    answered (packets.Connect connect) old new number now connected after reply answers = idle old new number (Connected connected) _ reply.next (still call old new answers.2) (λ p b. b, λ e f c. c)
+    answered (packets.Connack connack) old new number now connected after reply answers = idle old new number (Connected connected) _ reply.next (still call old new answers.2) (λ p b. b, λ e f c. c)
+    answered (packets.Suback suback) old new number now connected after reply answers = idle old new number (Connected connected) _ reply.next (still call old new answers.2) (λ p b. b, λ e f c. c)
+    answered (packets.Unsuback unsuback) old new number now connected after reply answers = idle old new number (Connected connected) _ reply.next (still call old new answers.2) (λ p b. b, λ e f c. c)
+    answered packets.Pingresp old new number now connected after reply answers = idle old new number (Connected connected) _ reply.next (still call old new answers.2) (λ p b. b, λ e f c. c)
+    answered (packets.Foreign kind) old new number now connected after reply answers = idle old new number (Connected connected) _ reply.next (still call old new answers.2) (λ p b. b, λ e f c. c)
+    answered (packets.OtherVersion version) old new number now connected after reply answers = idle old new number (Connected connected) _ reply.next (still call old new answers.2) (λ p b. b, λ e f c. c)
+    answered packets.WithWill old new number now connected after reply answers = idle old new number (Connected connected) _ reply.next (still call old new answers.2) (λ p b. b, λ e f c. c)
 
     -- a taken over connection brings nothing
-    kicked : (old new : S) (number : ℕ) (link : Link P) (now : ℕ) (input : Input) (standing : Standing P) (reply : Reply) → IsKicked call slot_of old link now standing reply new
-        → Walked [] old number (Connected link) input reply.next new
-    kicked old new number link now input standing reply is =
+    kicked : (old new : S) (number : ℕ) (connected : ConnectedClient P) (now : ℕ) (input : Input) (phase : ConnPhase P) (reply : Reply) → IsKicked call slot_of old connected now phase reply new
+        → Walked [] old number (Connected connected) input reply.next new
+    kicked old new number connected now input phase reply is =
         let told : reply.next ≡ Kicked = ap (λ r. r.next) is.0 in
-        plain old new number (Connected link) input reply.next (parted call old new link.session now is.1.0) (λ publish brings. told) (λ envelope fate confirms. told)
+        plain old new number (Connected connected) input reply.next (parted call old new connected.session now is.1.0) (λ publish brings. told) (λ envelope fate confirms. told)
 
-    concluded : (next : Then) (old new : S) (link : Link P) (now : ℕ) (standing : Standing P) → Concludes call slot_of old link now next standing new → Plain call [] old new
-    concluded Go old new link now standing concludes = still call old new concludes.1
-    concluded Close old new link now standing concludes = parted call old new link.session now concludes.0
-    concluded Kicked old new link now standing concludes = parted call old new link.session now concludes.0
+    concluded : (next : Then) (old new : S) (connected : ConnectedClient P) (now : ℕ) (phase : ConnPhase P) → Concludes call slot_of old connected now next phase new → Plain call [] old new
+    concluded Go old new connected now phase concludes = still call old new concludes.1
+    concluded Close old new connected now phase concludes = parted call old new connected.session now concludes.0
+    concluded Kicked old new connected now phase concludes = parted call old new connected.session now concludes.0
 
-    packet_answered : (was_kicked : Bool) (old new : S) (number now : ℕ) (link : Link P) (packet : Packet) (standing : Standing P) (reply : Reply)
-        → AnswersUnlessKicked call slot_of was_kicked old link now (AnswersPacket call slot_of old number link now packet) standing reply new
-        → Walked [] old number (Connected link) (inputs.Packet packet) reply.next new
-    packet_answered true old new number now link packet standing reply is = kicked old new number link now _ standing reply is
-    packet_answered false old new number now link packet standing reply answers =
-        further [] old answers.1 new number (Connected link) _ reply.next (answered packet old answers.1 number now link answers.0 reply answers.2)
-        (concluded reply.next answers.1 new answers.0 now standing answers.3)
+    packet_answered : (was_kicked : Bool) (old new : S) (number now : ℕ) (connected : ConnectedClient P) (packet : Packet) (phase : ConnPhase P) (reply : Reply)
+        → AnswersUnlessKicked call slot_of was_kicked old connected now (AnswersPacket call slot_of old number connected now packet) phase reply new
+        → Walked [] old number (Connected connected) (inputs.Packet packet) reply.next new
+    packet_answered true old new number now connected packet phase reply is = kicked old new number connected now _ phase reply is
+    packet_answered false old new number now connected packet phase reply answers =
+        further [] old answers.1 new number (Connected connected) _ reply.next (answered packet old answers.1 number now connected answers.0 reply answers.2)
+        (concluded reply.next answers.1 new answers.0 now phase answers.3)
 
-    heard : (overdue : Bool) (old new : S) (link : Link P) (now : ℕ) (standing : Standing P) (reply : Reply) → IsHeard call slot_of overdue old link now standing reply new → Plain call [] old new
-    heard true old new link now standing reply is = parted call old new link.session now is.1.0
-    heard false old new link now standing reply is = still call old new is.2
+    heard : (overdue : Bool) (old new : S) (connected : ConnectedClient P) (now : ℕ) (phase : ConnPhase P) (reply : Reply) → IsHeard call slot_of overdue old connected now phase reply new → Plain call [] old new
+    heard true old new connected now phase reply is = parted call old new connected.session now is.1.0
+    heard false old new connected now phase reply is = still call old new is.2
 
-    tick_answered : (was_kicked : Bool) (old new : S) (link : Link P) (now : ℕ) (standing : Standing P) (reply : Reply)
-        → AnswersUnlessKicked call slot_of was_kicked old link now (AnswersTick call slot_of old link now) standing reply new → Plain call [] old new
-    tick_answered true old new link now standing reply is = parted call old new link.session now is.1.0
-    tick_answered false old new link now standing reply answers =
-        behind call old answers.0 new (swept call 256 old answers.0 now answers.1) (heard (is_overdue link.terms.keep_alive (now - link.heard)) answers.0 new link now standing reply answers.2)
+    tick_answered : (was_kicked : Bool) (old new : S) (connected : ConnectedClient P) (now : ℕ) (phase : ConnPhase P) (reply : Reply)
+        → AnswersUnlessKicked call slot_of was_kicked old connected now (AnswersTick call slot_of old connected now) phase reply new → Plain call [] old new
+    tick_answered true old new connected now phase reply is = parted call old new connected.session now is.1.0
+    tick_answered false old new connected now phase reply answers =
+        behind call old answers.0 new (swept call 256 old answers.0 now answers.1) (heard (is_overdue connected.terms.keep_alive (now - connected.heard)) answers.0 new connected now phase reply answers.2)
 
-    first_answered : (answer : FirstAnswer) (old new : S) (number max_inflight now : ℕ) (packet : Packet) (standing : Standing P) (reply : Reply)
-        → AnswersFirst call slot_of answer old number max_inflight now packet standing reply new → Plain call [] old new
-    first_answered first.Close old new number max_inflight now packet standing reply answers = still call old new answers.1
-    first_answered (first.Refuse refusal) old new number max_inflight now packet standing reply answers = still call old new answers.1
-    first_answered first.Attach old new number max_inflight now packet standing reply answers = attached call old new number now _ 0 standing reply answers.2
+    first_answered : (answer : FirstAnswer) (old new : S) (number max_inflight now : ℕ) (packet : Packet) (phase : ConnPhase P) (reply : Reply)
+        → AnswersFirst call slot_of answer old number max_inflight now packet phase reply new → Plain call [] old new
+    first_answered first.Close old new number max_inflight now packet phase reply answers = still call old new answers.1
+    first_answered (first.Refuse refusal) old new number max_inflight now packet phase reply answers = still call old new answers.1
+    first_answered first.Attach old new number max_inflight now packet phase reply answers = attached call old new number now _ 0 phase reply answers.2
 
     -- an input of a connection
-    pub reacted : (standing : Standing P) (input : Input) (old new : S) (number now : ℕ) (between : Standing P) (reply : Reply)
-        → Reacts call slot_of old number standing now input between reply new → Walked [] old number standing input reply.next new
+    pub reacted : (phase : ConnPhase P) (input : Input) (old new : S) (number now : ℕ) (between : ConnPhase P) (reply : Reply)
+        → Reacts call slot_of old number phase now input between reply new → Walked [] old number phase input reply.next new
     reacted (Unconnected opened) (inputs.Packet packet) old new number now between reply is = idle old new number _ _ reply.next (first_answered (first_answer packet) old new number opened.max_inflight now packet between reply is) (λ p b. b, λ e f c. c)
     reacted (Unconnected opened) (inputs.Fault fault) old new number now between reply is = idle old new number _ _ reply.next (still call old new is.1) (λ p b. b, λ e f c. c)
     reacted (Unconnected opened) inputs.Tick old new number now between reply is = idle old new number _ _ reply.next (swept call 256 old new now is.0) (λ p b. b, λ e f c. c)
@@ -280,38 +280,38 @@ module _ {S P : Type 0} (call : S → Fact P → S → Type 0) where
         idle old new number _ _ reply.next (behind call old is.0 new (swept call 256 old is.0 now is.1) (tried_again call is.0 new number now request ticks between reply is.2)) (λ p b. b, λ e f c. c)
     reacted (Waiting request ticks) inputs.EndOfInput old new number now between reply is = idle old new number _ _ reply.next (one call old new _ is.0 refl refl refl refl) (λ p b. b, λ e f c. c)
     reacted (Waiting request ticks) inputs.Closing old new number now between reply is = idle old new number _ _ reply.next (one call old new _ is.0 refl refl refl refl) (λ p b. b, λ e f c. c)
-    reacted (Connected link) (inputs.Packet packet) old new number now between reply is =
-        earlier old is.1 new number (Connected link) (inputs.Packet packet) reply.next (one call old is.1 _ is.2 refl refl refl refl) (packet_answered is.0 is.1 new number now link packet between reply is.3)
-    reacted (Connected link) (inputs.Fault fault) old new number now between reply is = idle old new number _ _ reply.next (parted call old new link.session now is.1.0) (λ p b. b, λ e f c. c)
-    reacted (Connected link) inputs.Tick old new number now between reply is =
-        idle old new number _ _ reply.next (behind call old is.1 new (one call old is.1 _ is.2 refl refl refl refl) (tick_answered is.0 is.1 new link now between reply is.3)) (λ p b. b, λ e f c. c)
-    reacted (Connected link) inputs.EndOfInput old new number now between reply is = idle old new number _ _ reply.next (parted call old new link.session now is.1.0) (λ p b. b, λ e f c. c)
-    reacted (Connected link) inputs.Closing old new number now between reply is = idle old new number _ _ reply.next (one call old new _ is.1 refl refl refl refl) (λ p b. b, λ e f c. c)
+    reacted (Connected connected) (inputs.Packet packet) old new number now between reply is =
+        earlier old is.1 new number (Connected connected) (inputs.Packet packet) reply.next (one call old is.1 _ is.2 refl refl refl refl) (packet_answered is.0 is.1 new number now connected packet between reply is.3)
+    reacted (Connected connected) (inputs.Fault fault) old new number now between reply is = idle old new number _ _ reply.next (parted call old new connected.session now is.1.0) (λ p b. b, λ e f c. c)
+    reacted (Connected connected) inputs.Tick old new number now between reply is =
+        idle old new number _ _ reply.next (behind call old is.1 new (one call old is.1 _ is.2 refl refl refl refl) (tick_answered is.0 is.1 new connected now between reply is.3)) (λ p b. b, λ e f c. c)
+    reacted (Connected connected) inputs.EndOfInput old new number now between reply is = idle old new number _ _ reply.next (parted call old new connected.session now is.1.0) (λ p b. b, λ e f c. c)
+    reacted (Connected connected) inputs.Closing old new number now between reply is = idle old new number _ _ reply.next (one call old new _ is.1 refl refl refl refl) (λ p b. b, λ e f c. c)
     reacted Ended input old new number now between reply is = idle old new number _ _ reply.next (still call old new is.1) (λ p b. b, λ e f c. c)
 
-    -- what is handed out behind it
-    pub handed_behind : (between : Standing P) (old new : S) (sent : List Packet) (standing : Standing P) → Hands call slot_of old between sent standing new
+    -- what is handed out after it
+    pub handed_behind : (between : ConnPhase P) (old new : S) (sent : List Packet) (phase : ConnPhase P) → Hands call slot_of old between sent phase new
         → Plain call (fresh_messages sent) old new
-    handed_behind (Unconnected opened) old new sent standing hands = subst (λ given. Plain call given old new) (sym (ap fresh_messages hands.0)) (still call old new hands.2)
-    handed_behind (Waiting request ticks) old new sent standing hands = subst (λ given. Plain call given old new) (sym (ap fresh_messages hands.0)) (still call old new hands.2)
-    handed_behind (Connected link) old new sent standing hands =
-        handed_out call old new link.session.membership link.session.window sent hands.0 hands.1 hands.2
-    handed_behind Ended old new sent standing hands = subst (λ given. Plain call given old new) (sym (ap fresh_messages hands.0)) (still call old new hands.2)
+    handed_behind (Unconnected opened) old new sent phase hands = subst (λ given. Plain call given old new) (sym (ap fresh_messages hands.0)) (still call old new hands.2)
+    handed_behind (Waiting request ticks) old new sent phase hands = subst (λ given. Plain call given old new) (sym (ap fresh_messages hands.0)) (still call old new hands.2)
+    handed_behind (Connected connected) old new sent phase hands =
+        handed_out call old new connected.session.membership connected.session.window sent hands.0 hands.1 hands.2
+    handed_behind Ended old new sent phase hands = subst (λ given. Plain call given old new) (sym (ap fresh_messages hands.0)) (still call old new hands.2)
 
-    pub stepped : (old new : S) (number now : ℕ) (standing standing' : Standing P) (input : Input) (packets : List Packet) (next : Then)
-        → Steps call slot_of old number standing now input packets next standing' new → StepCalls call old number standing input packets next new
-    stepped old new number now standing standing' input packets next steps =
-        let before = reacted standing input old steps.mid number now steps.between steps.reply steps.reacts in
-        let behind = handed_behind steps.between steps.mid new steps.sent standing' steps.hands in
-        let calls = subst (λ n. Walked (fresh_messages steps.sent) old number standing input n new) (sym steps.followed)
-        (further (fresh_messages steps.sent) old steps.mid new number standing input steps.reply.next before behind) in
+    pub stepped : (old new : S) (number now : ℕ) (phase phase' : ConnPhase P) (input : Input) (packets : List Packet) (next : Then)
+        → Steps call slot_of old number phase now input packets next phase' new → StepCalls call old number phase input packets next new
+    stepped old new number now phase phase' input packets next steps =
+        let before = reacted phase input old steps.mid number now steps.between steps.reply steps.reacts in
+        let behind = handed_behind steps.between steps.mid new steps.sent phase' steps.hands in
+        let calls = subst (λ n. Walked (fresh_messages steps.sent) old number phase input n new) (sym steps.followed)
+        (further (fresh_messages steps.sent) old steps.mid new number phase input steps.reply.next before behind) in
         record {
-          facts = calls.facts;
+          supply_calls = calls.supply_calls;
           made = calls.made;
           offers = calls.offers;
           settles = calls.settles;
           hands =
               ap fresh_messages steps.written
-              ∙ replied_and_sent call slot_of standing input old steps.mid number now steps.between steps.reply steps.sent steps.reacts
+              ∙ replied_and_sent call slot_of phase input old steps.mid number now steps.between steps.reply steps.sent steps.reacts
               ∙ sym calls.hands;
         }

@@ -13,18 +13,18 @@ use Rattle.member_window.specs.Runs as windows
 use Rattle.member_window.proofs.Law.{made_append, transcript_append}
 use Rattle.session_desk.specs.declared.session.Membership.{Membership}
 use Rattle.conn_supply.specs.declared.reply.Then.{Then}
-use Rattle.conn_supply.specs.Facts.{Fact}
+use Rattle.conn_supply.specs.SupplyCalls.{SupplyCall}
 use Rattle.conn_engine.specs.declared.input.Input.{Input}
-use Rattle.conn_engine.specs.declared.standing.Link.{Link}
-use Rattle.conn_engine.specs.declared.standing.Standing.{Standing}
-use Rattle.conn_engine.specs.declared.standing.Standing.TheVariants.{Unconnected, Waiting, Connected, Ended}
+use Rattle.conn_engine.specs.declared.phase.ConnectedClient.{ConnectedClient}
+use Rattle.conn_engine.specs.declared.phase.ConnPhase.{ConnPhase}
+use Rattle.conn_engine.specs.declared.phase.ConnPhase.TheVariants.{Unconnected, Waiting, Connected, Ended}
 use Rattle.conn_engine.specs.Step.{after_hand_out, Hands, Steps}
 use Rattle.conn_laws.specs.Calls.{settlement_of, hand_out_of, settled, handed}
 use Rattle.conn_laws.specs.Marks.{as_publish, publishes_in, publish_of, publishes_of, fresh_in, fresh_of, acknowledged_in, acknowledged_of, IsWithin}
-use Rattle.conn_laws.specs.Transcripts.{link_of, IsNotEnding, HasOneAs, IsMemberAt, IsAside, LeadsAside, SessionTurns, Transcribes}
+use Rattle.conn_laws.specs.Transcripts.{connected_of, IsNotEnding, HasOneAs, IsMemberAt, IsAside, LeadsAside, SessionSteps, Transcribes}
 use Rattle.conn_laws.proofs.Aside.{all_of_both, joins}
 use Rattle.conn_laws.proofs.HandingOut.{Handed, handed_out}
-use Rattle.conn_laws.proofs.Reacting.{SettlesAs, Turned, reacted}
+use Rattle.conn_laws.proofs.Reacting.{SettlesAs, SessionStepped, reacted}
 use Rattle.conn_laws.proofs.Replying.{replied}
 use Rattle.conn_laws.proofs.Stepping.{none_behind}
 
@@ -37,20 +37,20 @@ within_both these those within more = subst (AllByRecursion IsWithin) (sym (tran
 none_more : (marks more : List (Mark Held)) (acked : List (ℕ × ℕ)) → acknowledged_of marks ≡ acked → acknowledged_of more ≡ [] → acknowledged_of (marks ++ more) ≡ acked
 none_more marks more acked these none = filter_map-append acknowledged_in marks more ∙ (λ i. these i ++ none i) ∙ append-nil acked
 
-module _ {S P : Type 0} (call : S → Fact P → S → Type 0) where
+module _ {S P : Type 0} (call : S → SupplyCall P → S → Type 0) where
   leads_on : (old mid new : S) → LeadsAside call old mid → LeadsAside call mid new → LeadsAside call old new
   leads_on old mid new these those =
       record {
-        facts = these.facts ++ those.facts;
-        made = joins call these.facts those.facts old mid new these.made those.made;
-        aside = all_of_both IsAside these.facts those.facts these.aside those.aside;
+        supply_calls = these.supply_calls ++ those.supply_calls;
+        made = joins call these.supply_calls those.supply_calls old mid new these.made those.made;
+        aside = all_of_both IsAside these.supply_calls those.supply_calls these.aside those.aside;
       }
 
-  -- the session of a connection that begins or goes on, with what its window does behind that
-  session_turns_on : (before : Option (Link P)) (old mid new : S) (number : ℕ) (link : Link P) (membership : Membership P) (window : Contents Held) (marks : List (Mark Held))
-      (calls : List (Call Held)) → SessionTurns call old number before (Some link) marks mid → LeadsAside call mid new → windows.MakesAll link.session.window calls window
-      → AllByRecursion IsWithin (transcript_of calls) → SessionTurns call old number before (Some (after_hand_out link membership window)) (marks ++ transcript_of calls) new
-  session_turns_on None old mid new number link membership window marks calls begins later made within =
+  -- the session of a connection that begins or goes on, with what its window does after that
+  session_steps_on : (before : Option (ConnectedClient P)) (old mid new : S) (number : ℕ) (connected : ConnectedClient P) (membership : Membership P) (window : Contents Held) (marks : List (Mark Held))
+      (calls : List (Call Held)) → SessionSteps call old number before (Some connected) marks mid → LeadsAside call mid new → windows.MakesAll connected.session.window calls window
+      → AllByRecursion IsWithin (transcript_of calls) → SessionSteps call old number before (Some (after_hand_out connected membership window)) (marks ++ transcript_of calls) new
+  session_steps_on None old mid new number connected membership window marks calls begins later made within =
       record {
         answer = begins.answer;
         session = begins.session;
@@ -60,110 +60,110 @@ module _ {S P : Type 0} (call : S → Fact P → S → Type 0) where
         aside = leads_on begins.mid mid new begins.aside later;
         same = begins.same;
         calls = begins.calls ++ calls;
-        made = made_append (after_up begins.session.window link.terms.receive_maximum) link.session.window window begins.calls calls begins.made made;
+        made = made_append (after_up begins.session.window connected.terms.receive_maximum) connected.session.window window begins.calls calls begins.made made;
         marks_are =
             ap (λ (ms : List (Mark Held)). ms ++ transcript_of calls) begins.marks_are
-            ∙ ap (λ (ms : List (Mark Held)). Up link.terms.receive_maximum ∷ ms) (sym (transcript_append begins.calls calls));
+            ∙ ap (λ (ms : List (Mark Held)). Up connected.terms.receive_maximum ∷ ms) (sym (transcript_append begins.calls calls));
         within = within_both begins.calls calls begins.within within;
       }
-  session_turns_on (Some earlier) old mid new number link membership window marks calls goes later made within =
+  session_steps_on (Some earlier) old mid new number connected membership window marks calls goes later made within =
       record {
         aside = leads_on old mid new goes.aside later;
         same = goes.same;
         calls = goes.calls ++ calls;
-        made = made_append earlier.session.window link.session.window window goes.calls calls goes.made made;
+        made = made_append earlier.session.window connected.session.window window goes.calls calls goes.made made;
         marks_are = ap (λ (ms : List (Mark Held)). ms ++ transcript_of calls) goes.marks_are ∙ sym (transcript_append goes.calls calls);
         within = all_of_both IsWithin marks (transcript_of calls) goes.within within;
       }
 
-  -- nothing is settled behind it, and nothing is acknowledged
-  settles_on : (standing : Standing P) (input : Input) (next : Then) (marks more : List (Mark Held)) (facts others : List (Fact P)) → SettlesAs call standing input next marks facts
-      → acknowledged_of more ≡ [] → settled others ≡ [] → SettlesAs call standing input next (marks ++ more) (facts ++ others)
-  settles_on standing input next marks more facts others (inl only) none_acked none_settled =
+  -- nothing is settled after it, and nothing is acknowledged
+  settles_on : (phase : ConnPhase P) (input : Input) (next : Then) (marks more : List (Mark Held)) (supply_calls others : List (SupplyCall P)) → SettlesAs call phase input next marks supply_calls
+      → acknowledged_of more ≡ [] → settled others ≡ [] → SettlesAs call phase input next (marks ++ more) (supply_calls ++ others)
+  settles_on phase input next marks more supply_calls others (inl only) none_acked none_settled =
       let one = only.0 in
       inl (
         record {
           envelope = one.envelope;
           fate = one.fate;
           confirmed = one.confirmed;
-          settles = none_behind settlement_of facts others _ one.settles none_settled;
+          settles = none_behind settlement_of supply_calls others _ one.settles none_settled;
         },
         (only.1.0, none_more marks more _ only.1.1 none_acked, only.1.2),
       )
-  settles_on standing input next marks more facts others (inr none) none_acked none_settled =
-      inr (record { settles = none_behind settlement_of facts others _ none.0.settles none_settled; unless = none.0.unless }, none_more marks more _ none.1 none_acked)
+  settles_on phase input next marks more supply_calls others (inr none) none_acked none_settled =
+      inr (record { settles = none_behind settlement_of supply_calls others _ none.0.settles none_settled; unless = none.0.unless }, none_more marks more _ none.1 none_acked)
 
   -- nothing is handed out
-  hands_none : (old new : S) (number : ℕ) (standing : Standing P) (input : Input) (next : Then) (standing' : Standing P) → Turned call old number standing input next standing' new
-      → Transcribes call old number standing input [] next standing' new
-  hands_none old new number standing input next standing' turned =
+  hands_none : (old new : S) (number : ℕ) (phase : ConnPhase P) (input : Input) (next : Then) (phase' : ConnPhase P) → SessionStepped call old number phase input next phase' new
+      → Transcribes call old number phase input [] next phase' new
+  hands_none old new number phase input next phase' turned =
       record {
         marks = turned.marks;
         session = turned.session;
         publishes = sym turned.no_publish;
-        facts = turned.facts;
+        supply_calls = turned.supply_calls;
         made = turned.made;
         hands = ap (map (λ (h : P × Held). h.1)) turned.hands ∙ sym turned.none_fresh;
-        own = λ of keeps. subst (AllByRecursion (λ (h : P × Held). IsMemberAt of (link_of standing') h.0)) (sym turned.hands) tt;
+        own = λ of keeps. subst (AllByRecursion (λ (h : P × Held). IsMemberAt of (connected_of phase') h.0)) (sym turned.hands) tt;
         settles = turned.settles;
       }
 
-  -- and where the standing, the packets and the supply are what they were
-  stays : (old mid new : S) (number : ℕ) (standing : Standing P) (input : Input) (sent : List Packet) (next : Then) (between standing' : Standing P)
-      → Turned call old number standing input next between mid → sent ≡ [] → standing' ≡ between → new ≡ mid → Transcribes call old number standing input sent next standing' new
-  stays old mid new number standing input sent next between standing' turned none is same =
-      subst (λ packets. Transcribes call old number standing input packets next standing' new) (sym none)
-      (subst (λ s. Transcribes call old number standing input [] next s new) (sym is)
-      (subst (λ s. Transcribes call old number standing input [] next between s) (sym same) (hands_none old mid number standing input next between turned)))
+  -- and where the phase, the packets and the supply are what they were
+  stays : (old mid new : S) (number : ℕ) (phase : ConnPhase P) (input : Input) (sent : List Packet) (next : Then) (between phase' : ConnPhase P)
+      → SessionStepped call old number phase input next between mid → sent ≡ [] → phase' ≡ between → new ≡ mid → Transcribes call old number phase input sent next phase' new
+  stays old mid new number phase input sent next between phase' turned none is same =
+      subst (λ packets. Transcribes call old number phase input packets next phase' new) (sym none)
+      (subst (λ s. Transcribes call old number phase input [] next s new) (sym is)
+      (subst (λ s. Transcribes call old number phase input [] next between s) (sym same) (hands_none old mid number phase input next between turned)))
 
   -- this is handed out
-  hands : (old mid new : S) (number : ℕ) (standing : Standing P) (input : Input) (sent : List Packet) (next : Then) (link : Link P) (membership : Membership P)
-      (window : Contents Held) → Turned call old number standing input next (Connected link) mid → Handed call mid link.session.window sent membership window new
-      → Transcribes call old number standing input sent next (Connected (after_hand_out link membership window)) new
-  hands old mid new number standing input sent next link membership window turned out =
+  hands : (old mid new : S) (number : ℕ) (phase : ConnPhase P) (input : Input) (sent : List Packet) (next : Then) (connected : ConnectedClient P) (membership : Membership P)
+      (window : Contents Held) → SessionStepped call old number phase input next (Connected connected) mid → Handed call mid connected.session.window sent membership window new
+      → Transcribes call old number phase input sent next (Connected (after_hand_out connected membership window)) new
+  hands old mid new number phase input sent next connected membership window turned out =
       let more : List (Mark Held) = transcript_of out.sends.calls in
-      let these : handed (turned.facts ++ out.calls.facts) ≡ out.given =
-      filter_map-append hand_out_of turned.facts out.calls.facts ∙ (λ i. turned.hands i ++ out.calls.hands i) in
+      let these : handed (turned.supply_calls ++ out.calls.supply_calls) ≡ out.given =
+      filter_map-append hand_out_of turned.supply_calls out.calls.supply_calls ∙ (λ i. turned.hands i ++ out.calls.hands i) in
       record {
         marks = turned.marks ++ more;
         session =
-            session_turns_on (link_of standing) old mid new number link membership window turned.marks out.sends.calls turned.session
-            (record { facts = out.calls.facts; made = out.calls.made; aside = out.calls.aside }) out.sends.made out.sends.within;
+            session_steps_on (connected_of phase) old mid new number connected membership window turned.marks out.sends.calls turned.session
+            (record { supply_calls = out.calls.supply_calls; made = out.calls.made; aside = out.calls.aside }) out.sends.made out.sends.within;
         publishes = out.sends.publishes ∙ sym (filter_map-append publish_of turned.marks more ∙ ap (λ (ps : List Packet). ps ++ publishes_of more) turned.no_publish);
-        facts = turned.facts ++ out.calls.facts;
-        made = joins call turned.facts out.calls.facts old mid new turned.made out.calls.made;
+        supply_calls = turned.supply_calls ++ out.calls.supply_calls;
+        made = joins call turned.supply_calls out.calls.supply_calls old mid new turned.made out.calls.made;
         hands =
             ap (map (λ (h : P × Held). h.1)) these ∙ out.sends.fresh_are
             ∙ sym (filter_map-append fresh_in turned.marks more ∙ ap (λ (items : List Held). items ++ fresh_of more) turned.none_fresh);
         own = λ of keeps. subst (AllByRecursion (λ (h : P × Held). HasOneAs of membership h.0)) (sym these) (out.own of keeps);
-        settles = settles_on standing input next turned.marks more turned.facts out.calls.facts turned.settles out.sends.none_acked out.calls.settles;
+        settles = settles_on phase input next turned.marks more turned.supply_calls out.calls.supply_calls turned.settles out.sends.none_acked out.calls.settles;
       }
 
   module _ (slot_of : P → ℕ) where
-    handed_behind : (between : Standing P) (old mid new : S) (number : ℕ) (standing : Standing P) (input : Input) (sent : List Packet) (next : Then) (standing' : Standing P)
-        → Turned call old number standing input next between mid → Hands call slot_of mid between sent standing' new → Transcribes call old number standing input sent next standing' new
-    handed_behind (Unconnected opened) old mid new number standing input sent next standing' turned does = stays old mid new number standing input sent next _ standing' turned does.0 does.1 does.2
-    handed_behind (Waiting request ticks) old mid new number standing input sent next standing' turned does = stays old mid new number standing input sent next _ standing' turned does.0 does.1 does.2
-    handed_behind (Connected link) old mid new number standing input sent next standing' turned does =
-        subst (λ s. Transcribes call old number standing input sent next s new) (sym does.3)
-        (hands old mid new number standing input sent next link does.0 does.1 turned (handed_out call mid new link.session.membership link.session.window sent does.0 does.1 does.2))
-    handed_behind Ended old mid new number standing input sent next standing' turned does = stays old mid new number standing input sent next _ standing' turned does.0 does.1 does.2
+    handed_behind : (between : ConnPhase P) (old mid new : S) (number : ℕ) (phase : ConnPhase P) (input : Input) (sent : List Packet) (next : Then) (phase' : ConnPhase P)
+        → SessionStepped call old number phase input next between mid → Hands call slot_of mid between sent phase' new → Transcribes call old number phase input sent next phase' new
+    handed_behind (Unconnected opened) old mid new number phase input sent next phase' turned does = stays old mid new number phase input sent next _ phase' turned does.0 does.1 does.2
+    handed_behind (Waiting request ticks) old mid new number phase input sent next phase' turned does = stays old mid new number phase input sent next _ phase' turned does.0 does.1 does.2
+    handed_behind (Connected connected) old mid new number phase input sent next phase' turned does =
+        subst (λ s. Transcribes call old number phase input sent next s new) (sym does.3)
+        (hands old mid new number phase input sent next connected does.0 does.1 turned (handed_out call mid new connected.session.membership connected.session.window sent does.0 does.1 does.2))
+    handed_behind Ended old mid new number phase input sent next phase' turned does = stays old mid new number phase input sent next _ phase' turned does.0 does.1 does.2
 
-    pub transcribed : (old new : S) (number now : ℕ) (standing standing' : Standing P) (input : Input) (packets : List Packet) (next : Then)
-        → Steps call slot_of old number standing now input packets next standing' new → IsNotEnding standing → Transcribes call old number standing input packets next standing' new
-    transcribed old new number now standing standing' input packets next steps sound =
+    pub transcribed : (old new : S) (number now : ℕ) (phase phase' : ConnPhase P) (input : Input) (packets : List Packet) (next : Then)
+        → Steps call slot_of old number phase now input packets next phase' new → IsNotEnding phase → Transcribes call old number phase input packets next phase' new
+    transcribed old new number now phase phase' input packets next steps sound =
         let turned =
-        subst (λ (n : Then). Turned call old number standing input n steps.between steps.mid) (sym steps.followed)
-        (reacted call slot_of standing input old steps.mid number now steps.between steps.reply sound steps.reacts) in
-        let all = handed_behind steps.between old steps.mid new number standing input steps.sent next standing' turned steps.hands in
+        subst (λ (n : Then). SessionStepped call old number phase input n steps.between steps.mid) (sym steps.followed)
+        (reacted call slot_of phase input old steps.mid number now steps.between steps.reply sound steps.reacts) in
+        let all = handed_behind steps.between old steps.mid new number phase input steps.sent next phase' turned steps.hands in
         record {
           marks = all.marks;
           session = all.session;
           publishes =
               ap publishes_in steps.written ∙ filter_map-append as_publish (option_to_list steps.reply.packet) steps.sent
-              ∙ ap (λ (ps : List Packet). ps ++ publishes_in steps.sent) (replied call slot_of standing input old steps.mid number now steps.between steps.reply steps.reacts)
+              ∙ ap (λ (ps : List Packet). ps ++ publishes_in steps.sent) (replied call slot_of phase input old steps.mid number now steps.between steps.reply steps.reacts)
               ∙ all.publishes;
-          facts = all.facts;
+          supply_calls = all.supply_calls;
           made = all.made;
           hands = all.hands;
           own = all.own;

@@ -12,31 +12,31 @@ use Rattle.session_desk.specs.declared.error.DeskError.{DeskError}
 use Rattle.session_desk.specs.declared.error.DeskError.TheVariants as errors
 use Rattle.session_desk.specs.declared.session.Session.{Session}
 use Rattle.conn_supply.specs.declared.reply.Reply.{Reply}
-use Rattle.conn_supply.specs.Facts.{Fact}
-use Rattle.conn_supply.specs.Facts.Fact.{ParkAsIs}
-use Rattle.conn_engine.specs.declared.standing.ConnectRequest.{ConnectRequest}
-use Rattle.conn_engine.specs.declared.standing.Link.{Link}
-use Rattle.conn_engine.specs.declared.standing.Standing.{Standing}
+use Rattle.conn_supply.specs.SupplyCalls.{SupplyCall}
+use Rattle.conn_supply.specs.SupplyCalls.SupplyCall.{ParkAsIs}
+use Rattle.conn_engine.specs.declared.phase.ConnectRequest.{ConnectRequest}
+use Rattle.conn_engine.specs.declared.phase.ConnectedClient.{ConnectedClient}
+use Rattle.conn_engine.specs.declared.phase.ConnPhase.{ConnPhase}
 use Rattle.conn_engine.specs.Connecting.{has_place, most_ticks, Accepts, WaitsAs, ResumesAs, AttachedAs, Attaches}
 use Rattle.conn_engine.specs.Ending.{down, Parts}
 use Rattle.conn_laws.specs.Calls.{settlement_of, hand_out_of, settled, handed, MakesAll}
 use Rattle.conn_laws.specs.Marks.{publishes_of, fresh_of, acknowledged_of}
-use Rattle.conn_laws.specs.Transcripts.{link_of, session_given, IsAside, LeadsAside, AsksForOne, HandsIn, SessionTurns}
+use Rattle.conn_laws.specs.Transcripts.{connected_of, session_given, IsAside, LeadsAside, AsksForOne, HandsIn, SessionSteps}
 use Rattle.conn_laws.proofs.Aside.{Aside, all_of_both, none_in_both, joins}
 use Rattle.conn_laws.proofs.Aside as asides
 
-module _ {S P : Type 0} (call : S → Fact P → S → Type 0) where
+module _ {S P : Type 0} (call : S → SupplyCall P → S → Type 0) where
   -- calls by which nothing is settled and nothing is handed out
   pub record Quiet (old new : S) : Type 0 where
-    pub facts : List (Fact P)
-    pub made : MakesAll call old facts new
-    pub settles : settled facts ≡ []
-    pub hands : handed facts ≡ []
+    pub supply_calls : List (SupplyCall P)
+    pub made : MakesAll call old supply_calls new
+    pub settles : settled supply_calls ≡ []
+    pub hands : handed supply_calls ≡ []
 
-  pub quiet_one : (old new : S) (fact : Fact P) → call old fact new → settlement_of fact ≡ None → hand_out_of fact ≡ None → Quiet old new
-  quiet_one old new fact called no_settlement no_hand_out =
+  pub quiet_one : (old new : S) (supply_call : SupplyCall P) → call old supply_call new → settlement_of supply_call ≡ None → hand_out_of supply_call ≡ None → Quiet old new
+  quiet_one old new supply_call called no_settlement no_hand_out =
       record {
-        facts = fact ∷ [];
+        supply_calls = supply_call ∷ [];
         made = (new, called, refl);
         settles = ap (λ (found : Option (Held × Fate)). filter_map (λ o. o) (found ∷ [])) no_settlement;
         hands = ap (λ (found : Option (P × Held)). filter_map (λ o. o) (found ∷ [])) no_hand_out;
@@ -45,54 +45,54 @@ module _ {S P : Type 0} (call : S → Fact P → S → Type 0) where
   pub quiet_behind : (old mid new : S) → Quiet old mid → Quiet mid new → Quiet old new
   quiet_behind old mid new these those =
       record {
-        facts = these.facts ++ those.facts;
-        made = joins call these.facts those.facts old mid new these.made those.made;
-        settles = none_in_both settlement_of these.facts those.facts these.settles those.settles;
-        hands = none_in_both hand_out_of these.facts those.facts these.hands those.hands;
+        supply_calls = these.supply_calls ++ those.supply_calls;
+        made = joins call these.supply_calls those.supply_calls old mid new these.made those.made;
+        settles = none_in_both settlement_of these.supply_calls those.supply_calls these.settles those.settles;
+        hands = none_in_both hand_out_of these.supply_calls those.supply_calls these.hands those.hands;
       }
 
   -- among them those by which no session is asked for or handed in
   pub record Apart (old new : S) : Type 0 where
     pub calls : Quiet old new
-    pub aside : AllByRecursion IsAside calls.facts
+    pub aside : AllByRecursion IsAside calls.supply_calls
 
   pub leads : (old new : S) → Apart old new → LeadsAside call old new
-  leads old new apart = record { facts = apart.calls.facts; made = apart.calls.made; aside = apart.aside }
+  leads old new apart = record { supply_calls = apart.calls.supply_calls; made = apart.calls.made; aside = apart.aside }
 
   pub apart : (old new : S) → Aside call [] old new → Apart old new
-  apart old new calls = record { calls = record { facts = calls.facts; made = calls.made; settles = calls.settles; hands = calls.hands }; aside = calls.aside }
+  apart old new calls = record { calls = record { supply_calls = calls.supply_calls; made = calls.made; settles = calls.settles; hands = calls.hands }; aside = calls.aside }
 
   pub still : (old new : S) → new ≡ old → Apart old new
   still old new same = apart old new (asides.still call old new same)
 
-  pub apart_one : (old new : S) (fact : Fact P) → call old fact new → IsAside fact → settlement_of fact ≡ None → hand_out_of fact ≡ None → Apart old new
+  pub apart_one : (old new : S) (supply_call : SupplyCall P) → call old supply_call new → IsAside supply_call → settlement_of supply_call ≡ None → hand_out_of supply_call ≡ None → Apart old new
   unfolding quiet_one
-  apart_one old new fact called is_aside no_settlement no_hand_out = record { calls = quiet_one old new fact called no_settlement no_hand_out; aside = (is_aside, tt) }
+  apart_one old new supply_call called is_aside no_settlement no_hand_out = record { calls = quiet_one old new supply_call called no_settlement no_hand_out; aside = (is_aside, tt) }
 
   pub apart_behind : (old mid new : S) → Apart old mid → Apart mid new → Apart old new
   unfolding quiet_behind
   apart_behind old mid new these those =
       record {
         calls = quiet_behind old mid new these.calls those.calls;
-        aside = all_of_both IsAside these.calls.facts those.calls.facts these.aside those.aside;
+        aside = all_of_both IsAside these.calls.supply_calls those.calls.supply_calls these.aside those.aside;
       }
 
   -- what becomes of the session, where nothing is acknowledged
-  pub record Turn (old : S) (number : ℕ) (before after : Option (Link P)) (new : S) : Type 0 where
+  pub record SessionStep (old : S) (number : ℕ) (before after : Option (ConnectedClient P)) (new : S) : Type 0 where
     pub marks : List (Mark Held)
-    pub session : SessionTurns call old number before after marks new
+    pub session : SessionSteps call old number before after marks new
     pub no_publish : publishes_of marks ≡ []
     pub none_fresh : fresh_of marks ≡ []
     pub none_acked : acknowledged_of marks ≡ []
     pub calls : Quiet old new
 
   -- where the connection is
-  pub is_at : (old new : S) (number : ℕ) (before : Option (Link P)) (standing was : Standing P) → standing ≡ was → Turn old number before (link_of was) new
-      → Turn old number before (link_of standing) new
-  is_at old new number before standing was is turn = subst (λ s. Turn old number before (link_of s) new) (sym is) turn
+  pub is_at : (old new : S) (number : ℕ) (before : Option (ConnectedClient P)) (phase was : ConnPhase P) → phase ≡ was → SessionStep old number before (connected_of was) new
+      → SessionStep old number before (connected_of phase) new
+  is_at old new number before phase was is session_step = subst (λ s. SessionStep old number before (connected_of s) new) (sym is) session_step
 
   -- no session is asked for
-  pub stays_out : (old new : S) (number : ℕ) → Apart old new → Turn old number None None new
+  pub stays_out : (old new : S) (number : ℕ) → Apart old new → SessionStep old number None None new
   stays_out old new number calls =
       record { marks = []; session = (refl, inl (leads old new calls)); no_publish = refl; none_fresh = refl; none_acked = refl; calls = calls.calls }
 
@@ -103,7 +103,7 @@ module _ {S P : Type 0} (call : S → Fact P → S → Type 0) where
 
   -- none is given
   in_vain : (old mid new : S) (number : ℕ) (answer : Result (Attached Held P) DeskError) → Asked old number answer mid → session_given answer ≡ None → Apart mid new
-      → Turn old number None None new
+      → SessionStep old number None None new
   in_vain old mid new number answer asked none later =
       record {
         marks = [];
@@ -116,7 +116,7 @@ module _ {S P : Type 0} (call : S → Fact P → S → Type 0) where
 
   -- one is given, and goes back at once
   goes_back : (old mid behind new : S) (number : ℕ) (session : Session Held P) → Asked old number (Ok (Resumed session)) mid → call mid (ParkAsIs (down session)) behind → Apart behind new
-      → Turn old number None None new
+      → SessionStep old number None None new
   goes_back old mid behind new number session asked back later =
       record {
         marks = [];
@@ -128,11 +128,11 @@ module _ {S P : Type 0} (call : S → Fact P → S → Type 0) where
       }
 
   -- one is given, and the connection begins
-  begins : (old mid new : S) (number : ℕ) (answer : Result (Attached Held P) DeskError) (request : ConnectRequest) (present : Bool) (session : Session Held P) (standing : Standing P)
-      (reply : Reply) → Asked old number answer mid → session_given answer ≡ Some session → Accepts request present session standing reply → Apart mid new
-      → Turn old number None (link_of standing) new
-  begins old mid new number answer request present session standing reply asked given accepts later =
-      is_at old new number None standing _ accepts.begun
+  begins : (old mid new : S) (number : ℕ) (answer : Result (Attached Held P) DeskError) (request : ConnectRequest) (present : Bool) (session : Session Held P) (phase : ConnPhase P)
+      (reply : Reply) → Asked old number answer mid → session_given answer ≡ Some session → Accepts request present session phase reply → Apart mid new
+      → SessionStep old number None (connected_of phase) new
+  begins old mid new number answer request present session phase reply asked given accepts later =
+      is_at old new number None phase _ accepts.begun
       (record {
         marks = Up request.terms.receive_maximum ∷ [];
         session = record {
@@ -154,49 +154,49 @@ module _ {S P : Type 0} (call : S → Fact P → S → Type 0) where
         calls = quiet_behind old mid new asked.calls later.calls;
       })
 
-  waits_as : (fewer : Bool) (old new : S) (number : ℕ) (request : ConnectRequest) (ticks : ℕ) (standing : Standing P) (reply : Reply) → WaitsAs fewer request ticks standing reply
-      → Turn old number None None new → Turn old number None (link_of standing) new
-  waits_as true old new number request ticks standing reply waits turn = is_at old new number None standing _ waits.0 turn
-  waits_as false old new number request ticks standing reply refused turn = is_at old new number None standing _ refused.over turn
+  waits_as : (fewer : Bool) (old new : S) (number : ℕ) (request : ConnectRequest) (ticks : ℕ) (phase : ConnPhase P) (reply : Reply) → WaitsAs fewer request ticks phase reply
+      → SessionStep old number None None new → SessionStep old number None (connected_of phase) new
+  waits_as true old new number request ticks phase reply waits session_step = is_at old new number None phase _ waits.0 session_step
+  waits_as false old new number request ticks phase reply refused session_step = is_at old new number None phase _ refused.over session_step
 
-  resumed_as : (no : Bool) (old mid behind new : S) (number : ℕ) (request : ConnectRequest) (session : Session Held P) (standing : Standing P) (reply : Reply)
-      → Asked old number (Ok (Resumed session)) mid → ResumesAs call no mid request session standing reply behind → Apart behind new → Turn old number None (link_of standing) new
-  resumed_as true old mid behind new number request session standing reply asked resumes later =
-      is_at old new number None standing _ resumes.1.over (goes_back old mid behind new number session asked resumes.0 later)
-  resumed_as false old mid behind new number request session standing reply asked resumes later =
-      begins old mid new number _ request true session standing reply asked refl resumes.1 (apart_behind mid behind new (still mid behind resumes.0) later)
+  resumed_as : (no : Bool) (old mid behind new : S) (number : ℕ) (request : ConnectRequest) (session : Session Held P) (phase : ConnPhase P) (reply : Reply)
+      → Asked old number (Ok (Resumed session)) mid → ResumesAs call no mid request session phase reply behind → Apart behind new → SessionStep old number None (connected_of phase) new
+  resumed_as true old mid behind new number request session phase reply asked resumes later =
+      is_at old new number None phase _ resumes.1.over (goes_back old mid behind new number session asked resumes.0 later)
+  resumed_as false old mid behind new number request session phase reply asked resumes later =
+      begins old mid new number _ request true session phase reply asked refl resumes.1 (apart_behind mid behind new (still mid behind resumes.0) later)
 
-  attached_as : (answer : Result (Attached Held P) DeskError) (old mid behind new : S) (number : ℕ) (request : ConnectRequest) (ticks : ℕ) (standing : Standing P) (reply : Reply)
-      → Asked old number answer mid → AttachedAs call mid request ticks answer standing reply behind → Apart behind new → Turn old number None (link_of standing) new
-  attached_as (Ok (New session ended)) old mid behind new number request ticks standing reply asked is later =
-      begins old mid new number _ request false session standing reply asked refl is.1 (apart_behind mid behind new (apart mid behind (asides.retired_earlier call ended mid behind is.0)) later)
-  attached_as (Ok (Resumed session)) old mid behind new number request ticks standing reply asked is later =
-      resumed_as (has_place session.membership && not request.terms.takes_all_packets) old mid behind new number request session standing reply asked is later
-  attached_as (Ok (Replace holder)) old mid behind new number request ticks standing reply asked is later =
-      waits_as (nat_lt ticks most_ticks) old new number request ticks standing reply is.0 (in_vain old mid new number _ asked refl (apart_behind mid behind new (still mid behind is.1) later))
-  attached_as (Ok Busy) old mid behind new number request ticks standing reply asked is later =
-      is_at old new number None standing _ is.0.over (in_vain old mid new number _ asked refl (apart_behind mid behind new (still mid behind is.1) later))
-  attached_as (Err errors.Full) old mid behind new number request ticks standing reply asked is later =
-      is_at old new number None standing _ is.0.over (in_vain old mid new number _ asked refl (apart_behind mid behind new (still mid behind is.1) later))
-  attached_as (Err errors.NoPlace) old mid behind new number request ticks standing reply asked is later =
-      is_at old new number None standing _ is.0.over (in_vain old mid new number _ asked refl (apart_behind mid behind new (still mid behind is.1) later))
-  attached_as (Err errors.NoName) old mid behind new number request ticks standing reply asked is later =
-      is_at old new number None standing _ is.0.over (in_vain old mid new number _ asked refl (apart_behind mid behind new (still mid behind is.1) later))
-  attached_as (Err errors.Memory) old mid behind new number request ticks standing reply asked is later = absurd is
+  attached_as : (answer : Result (Attached Held P) DeskError) (old mid behind new : S) (number : ℕ) (request : ConnectRequest) (ticks : ℕ) (phase : ConnPhase P) (reply : Reply)
+      → Asked old number answer mid → AttachedAs call mid request ticks answer phase reply behind → Apart behind new → SessionStep old number None (connected_of phase) new
+  attached_as (Ok (New session ended)) old mid behind new number request ticks phase reply asked is later =
+      begins old mid new number _ request false session phase reply asked refl is.1 (apart_behind mid behind new (apart mid behind (asides.retired_earlier call ended mid behind is.0)) later)
+  attached_as (Ok (Resumed session)) old mid behind new number request ticks phase reply asked is later =
+      resumed_as (has_place session.membership && not request.terms.takes_all_packets) old mid behind new number request session phase reply asked is later
+  attached_as (Ok (Replace holder)) old mid behind new number request ticks phase reply asked is later =
+      waits_as (nat_lt ticks most_ticks) old new number request ticks phase reply is.0 (in_vain old mid new number _ asked refl (apart_behind mid behind new (still mid behind is.1) later))
+  attached_as (Ok Busy) old mid behind new number request ticks phase reply asked is later =
+      is_at old new number None phase _ is.0.over (in_vain old mid new number _ asked refl (apart_behind mid behind new (still mid behind is.1) later))
+  attached_as (Err errors.Full) old mid behind new number request ticks phase reply asked is later =
+      is_at old new number None phase _ is.0.over (in_vain old mid new number _ asked refl (apart_behind mid behind new (still mid behind is.1) later))
+  attached_as (Err errors.NoPlace) old mid behind new number request ticks phase reply asked is later =
+      is_at old new number None phase _ is.0.over (in_vain old mid new number _ asked refl (apart_behind mid behind new (still mid behind is.1) later))
+  attached_as (Err errors.NoName) old mid behind new number request ticks phase reply asked is later =
+      is_at old new number None phase _ is.0.over (in_vain old mid new number _ asked refl (apart_behind mid behind new (still mid behind is.1) later))
+  attached_as (Err errors.Memory) old mid behind new number request ticks phase reply asked is later = absurd is
 
-  pub attached : (old before behind new : S) (number now : ℕ) (request : ConnectRequest) (ticks : ℕ) (standing : Standing P) (reply : Reply)
-      → Apart old before → Attaches call before number now request ticks standing reply behind → Apart behind new → Turn old number None (link_of standing) new
-  attached old before behind new number now request ticks standing reply earlier attaches later =
+  pub attached : (old before behind new : S) (number now : ℕ) (request : ConnectRequest) (ticks : ℕ) (phase : ConnPhase P) (reply : Reply)
+      → Apart old before → Attaches call before number now request ticks phase reply behind → Apart behind new → SessionStep old number None (connected_of phase) new
+  attached old before behind new number now request ticks phase reply earlier attaches later =
       let asks : AsksForOne call old number attaches.answer attaches.mid =
       record { request = asked number request.client request.clean_start now; whose = refl; before = before; aside = leads old before earlier; asked = attaches.asked_for } in
-      attached_as attaches.answer old attaches.mid behind new number request ticks standing reply
+      attached_as attaches.answer old attaches.mid behind new number request ticks phase reply
       (record { asks = asks; calls = quiet_behind old before attaches.mid earlier.calls (quiet_one before attaches.mid _ attaches.asked_for refl refl) })
       attaches.answered later
 
   -- the connection goes on, and its window is what it was
-  pub goes_on : (old new : S) (number : ℕ) (link after : Link P) → after.session.identity ≡ link.session.identity → after.session.window ≡ link.session.window → Apart old new
-      → Turn old number (Some link) (Some after) new
-  goes_on old new number link after same window calls =
+  pub goes_on : (old new : S) (number : ℕ) (connected after : ConnectedClient P) → after.session.identity ≡ connected.session.identity → after.session.window ≡ connected.session.window → Apart old new
+      → SessionStep old number (Some connected) (Some after) new
+  goes_on old new number connected after same window calls =
       record {
         marks = [];
         session = record { aside = leads old new calls; same = same; calls = []; made = window; marks_are = refl; within = tt };
@@ -207,10 +207,10 @@ module _ {S P : Type 0} (call : S → Fact P → S → Type 0) where
       }
 
   -- it ends, and its session is handed in
-  pub handed_in : (old before behind new : S) (number : ℕ) (link : Link P) (session : Session Held P) → session.identity ≡ link.session.identity
-      → session.window ≡ after_down link.session.window → Apart old before → HandsIn call before session behind → Quiet before behind → Apart behind new
-      → Turn old number (Some link) None new
-  handed_in old before behind new number link session same is_down earlier hands_in called later =
+  pub handed_in : (old before behind new : S) (number : ℕ) (connected : ConnectedClient P) (session : Session Held P) → session.identity ≡ connected.session.identity
+      → session.window ≡ after_down connected.session.window → Apart old before → HandsIn call before session behind → Quiet before behind → Apart behind new
+      → SessionStep old number (Some connected) None new
+  handed_in old before behind new number connected session same is_down earlier hands_in called later =
       record {
         marks = Down ∷ [];
         session = record {
@@ -230,8 +230,8 @@ module _ {S P : Type 0} (call : S → Fact P → S → Type 0) where
         calls = quiet_behind old before new earlier.calls (quiet_behind before behind new called later.calls);
       }
 
-  pub parted : (old before new : S) (number now : ℕ) (link after : Link P) → after.session.identity ≡ link.session.identity → after.session.window ≡ link.session.window
-      → Apart old before → Parts call before after.session now new → Turn old number (Some link) None new
-  parted old before new number now link after same window earlier parts =
-      handed_in old before parts.1 new number link (down after.session) same (ap after_down window) earlier (inl (now, parts.0, parts.2)) (quiet_one before parts.1 _ parts.2 refl refl)
+  pub parted : (old before new : S) (number now : ℕ) (connected after : ConnectedClient P) → after.session.identity ≡ connected.session.identity → after.session.window ≡ connected.session.window
+      → Apart old before → Parts call before after.session now new → SessionStep old number (Some connected) None new
+  parted old before new number now connected after same window earlier parts =
+      handed_in old before parts.1 new number connected (down after.session) same (ap after_down window) earlier (inl (now, parts.0, parts.2)) (quiet_one before parts.1 _ parts.2 refl refl)
       (apart parts.1 new (asides.parted_as call parts.0 parts.1 new parts.3))

@@ -11,11 +11,11 @@ use Rattle.conn_supply.specs.declared.supply.BindRefusal.TheVariants as bind
 use Rattle.conn_supply.specs.declared.supply.OfferRefusal.{OfferRefusal}
 use Rattle.conn_supply.specs.declared.supply.OfferRefusal.TheVariants as offer
 use Rattle.conn_supply.specs.declared.supply.NoMemory.{NoMemory}
-use Rattle.conn_supply.specs.Facts.{Fact}
-use Rattle.conn_supply.specs.Facts.Fact.{Attach, Withdraw, Kicked, Park, ParkAsIs, Keep, Bury, Sweep, LendPlace, TakePlace, Bind, Find, Match, Offer, MayTake, Take, TakeBack, Settle, GiveBack}
+use Rattle.conn_supply.specs.SupplyCalls.{SupplyCall}
+use Rattle.conn_supply.specs.SupplyCalls.SupplyCall.{Attach, Withdraw, Kicked, Park, ParkAsIs, Keep, Bury, Sweep, LendPlace, TakePlace, Bind, Find, Match, Offer, MayTake, Take, TakeBack, Settle, GiveBack}
 
 -- another call asks the same: it has the same arguments, and its own answer
-abbrev pub IsSameQuestion : {P : Type 0} → Fact P → Fact P → Type 0
+abbrev pub IsSameQuestion : {P : Type 0} → SupplyCall P → SupplyCall P → Type 0
 IsSameQuestion {P} (Attach request answer) other = (its : Result (Attached Held P) DeskError) × (other ≡ Attach request its)
 IsSameQuestion (Withdraw connection) other = other ≡ Withdraw connection
 IsSameQuestion (Kicked connection answer) other = (its : Bool) × (other ≡ Kicked connection its)
@@ -37,20 +37,20 @@ IsSameQuestion {P} (Settle place place' envelope fate) other = (after : P) × (o
 IsSameQuestion {P} (GiveBack place place' envelope answer) other = (after : P) × (its : Result (Unit {0}) Held) × (other ≡ GiveBack place after envelope its)
 
 -- something was handed out, or nothing was there to be
-abbrev pub IsTold : Result (Option Held) NoMemory → Type 0
-IsTold (Ok found) = ⊤
-IsTold (Err refusal) = ⊥
+abbrev pub IsOkResult : Result (Option Held) NoMemory → Type 0
+IsOkResult (Ok found) = ⊤
+IsOkResult (Err refusal) = ⊥
 
 -- it did not want memory
-abbrev pub HadMemory : {P : Type 0} → Fact P → Type 0
+abbrev pub HadMemory : {P : Type 0} → SupplyCall P → Type 0
 HadMemory (Attach request answer) = answer ≢ Err desk.Memory
 HadMemory (Bind share answer) = answer ≢ Err bind.Memory
 HadMemory (Offer slot connection message answer) = answer ≢ Err offer.Memory
-HadMemory (Take place place' answer) = IsTold answer
-HadMemory (TakeBack place place' answer) = IsTold answer
+HadMemory (Take place place' answer) = IsOkResult answer
+HadMemory (TakeBack place place' answer) = IsOkResult answer
 HadMemory _ = ⊤
 
--- of two supplies that are alike, each answers a question as the other does, memory aside, and they are alike behind it
-abbrev pub OneAnswer : {S P : Type 0} → (S → Fact P → S → Type 0) → (S → S → Type 0) → Type 0
-OneAnswer {S} {P} call AreAlike = (one other one' other' : S) (fact its : Fact P) → AreAlike one other → IsSameQuestion fact its → HadMemory fact → HadMemory its
-    → call one fact one' → call other its other' → (fact ≡ its) × AreAlike one' other'
+-- of two supplies that are alike, each answers a question as the other does, memory aside, and they are alike after it
+abbrev pub OneAnswer : {S P : Type 0} → (S → SupplyCall P → S → Type 0) → (S → S → Type 0) → Type 0
+OneAnswer {S} {P} call AreAlike = (one other one' other' : S) (supply_call its : SupplyCall P) → AreAlike one other → IsSameQuestion supply_call its → HadMemory supply_call → HadMemory its
+    → call one supply_call one' → call other its other' → (supply_call ≡ its) × AreAlike one' other'

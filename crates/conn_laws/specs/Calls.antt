@@ -13,46 +13,46 @@ use Rattle.conn_rules.specs.Publishing.{publish_answer, message_of}
 use Rattle.conn_rules.specs.Acknowledging.{fate_of}
 use Rattle.conn_supply.specs.declared.reply.Then.{Then}
 use Rattle.conn_supply.specs.declared.reply.Then.TheVariants as thens
-use Rattle.conn_supply.specs.Facts.{Fact}
-use Rattle.conn_supply.specs.Facts.Fact.{Match, Offer, Take, TakeBack, Settle}
+use Rattle.conn_supply.specs.SupplyCalls.{SupplyCall}
+use Rattle.conn_supply.specs.SupplyCalls.SupplyCall.{Match, Offer, Take, TakeBack, Settle}
 use Rattle.conn_engine.specs.declared.input.Input.{Input}
 use Rattle.conn_engine.specs.declared.input.Input.TheVariants as inputs
-use Rattle.conn_engine.specs.declared.standing.Standing.{Standing}
-use Rattle.conn_engine.specs.declared.standing.Standing.TheVariants.{Connected}
+use Rattle.conn_engine.specs.declared.phase.ConnPhase.{ConnPhase}
+use Rattle.conn_engine.specs.declared.phase.ConnPhase.TheVariants.{Connected}
 use Rattle.conn_engine.specs.Connecting.{has_place}
 
 -- what a call offers: to the group of which slot, from which connection, and which message
-abbrev pub offer_of : {P : Type 0} → Fact P → Option (ℕ × ℕ × Message)
+abbrev pub offer_of : {P : Type 0} → SupplyCall P → Option (ℕ × ℕ × Message)
 offer_of (Offer slot connection message answer) = Some (slot, connection, message)
 offer_of other = None
 
 -- which slots a topic matched
-abbrev pub match_of : {P : Type 0} → Fact P → Option (List ℕ × List ℕ)
+abbrev pub match_of : {P : Type 0} → SupplyCall P → Option (List ℕ × List ℕ)
 match_of (Match topic slots) = Some (topic, slots)
 match_of other = None
 
 -- what a call settles, and how
-abbrev pub settlement_of : {P : Type 0} → Fact P → Option (Held × Fate)
+abbrev pub settlement_of : {P : Type 0} → SupplyCall P → Option (Held × Fate)
 settlement_of (Settle place place' envelope fate) = Some (envelope, fate)
 settlement_of other = None
 
-abbrev pub offered : {P : Type 0} → List (Fact P) → List (ℕ × ℕ × Message)
-offered facts = filter_map offer_of facts
+abbrev pub offered : {P : Type 0} → List (SupplyCall P) → List (ℕ × ℕ × Message)
+offered supply_calls = filter_map offer_of supply_calls
 
-abbrev pub matched : {P : Type 0} → List (Fact P) → List (List ℕ × List ℕ)
-matched facts = filter_map match_of facts
+abbrev pub matched : {P : Type 0} → List (SupplyCall P) → List (List ℕ × List ℕ)
+matched supply_calls = filter_map match_of supply_calls
 
-abbrev pub settled : {P : Type 0} → List (Fact P) → List (Held × Fate)
-settled facts = filter_map settlement_of facts
+abbrev pub settled : {P : Type 0} → List (SupplyCall P) → List (Held × Fate)
+settled supply_calls = filter_map settlement_of supply_calls
 
 -- what a call hands out: to which place, and what
-abbrev pub hand_out_of : {P : Type 0} → Fact P → Option (P × Held)
+abbrev pub hand_out_of : {P : Type 0} → SupplyCall P → Option (P × Held)
 hand_out_of (Take place place' (Ok (Some envelope))) = Some (place, envelope)
 hand_out_of (TakeBack place place' (Ok (Some envelope))) = Some (place, envelope)
 hand_out_of other = None
 
-abbrev pub handed : {P : Type 0} → List (Fact P) → List (P × Held)
-handed facts = filter_map hand_out_of facts
+abbrev pub handed : {P : Type 0} → List (SupplyCall P) → List (P × Held)
+handed supply_calls = filter_map hand_out_of supply_calls
 
 -- the messages of what is handed out
 abbrev pub messages_of : {P : Type 0} → List (P × Held) → List Message
@@ -82,75 +82,75 @@ IsToBeOffered (answers.Refuse identifier code) = ⊥
 IsToBeOffered (answers.Offer identifier) = ⊤
 
 -- a connection is given a PUBLISH whose message is to be offered
-abbrev pub Brings : {P : Type 0} → Standing P → Input → Publish → Type 0
-Brings (Connected link) (inputs.Packet (packets.Publish publish)) brought = (brought ≡ publish) × IsToBeOffered (publish_answer publish)
-Brings standing input brought = ⊥
+abbrev pub Brings : {P : Type 0} → ConnPhase P → Input → Publish → Type 0
+Brings (Connected connected) (inputs.Packet (packets.Publish publish)) brought = (brought ≡ publish) × IsToBeOffered (publish_answer publish)
+Brings phase input brought = ⊥
 
 -- a connection is given a PUBACK for this message, which its session holds, and which has this fate then
-abbrev pub Confirms : {P : Type 0} → Standing P → Input → Held → Fate → Type 0
-Confirms (Connected link) (inputs.Packet (packets.Puback puback)) envelope fate =
-    (has_place link.session.membership ≡ true)
-    × Contains (held_of link.session.window) (puback.packet_identifier, envelope) × (fate ≡ fate_of puback.reason_code)
-Confirms standing input envelope fate = ⊥
+abbrev pub Confirms : {P : Type 0} → ConnPhase P → Input → Held → Fate → Type 0
+Confirms (Connected connected) (inputs.Packet (packets.Puback puback)) envelope fate =
+    (has_place connected.session.membership ≡ true)
+    × Contains (held_of connected.session.window) (puback.packet_identifier, envelope) × (fate ≡ fate_of puback.reason_code)
+Confirms phase input envelope fate = ⊥
 
 -- the calls of a step in which a message was brought: it is offered once to each group that the one match answers, in their order
-pub record OffersToEach {P : Type 0} (number : ℕ) (input : Input) (facts : List (Fact P)) : Type 0 where
+pub record OffersToEach {P : Type 0} (number : ℕ) (input : Input) (supply_calls : List (SupplyCall P)) : Type 0 where
   pub publish : Publish
   pub came : input ≡ inputs.Packet (packets.Publish publish)
   pub accepted : IsToBeOffered (publish_answer publish)
   pub slots : List ℕ
-  pub match : matched facts ≡ (publish.topic, slots) ∷ []
-  pub offers : offered facts ≡ map (λ slot. (slot, number, message_of publish)) slots
+  pub match : matched supply_calls ≡ (publish.topic, slots) ∷ []
+  pub offers : offered supply_calls ≡ map (λ slot. (slot, number, message_of publish)) slots
 
 -- the calls of any other step: nothing is offered; and none that brought a message is such a step, unless another connection took the session
-pub record OffersNone {P : Type 0} (standing : Standing P) (input : Input) (facts : List (Fact P)) (next : Then) : Type 0 where
-  pub match : matched facts ≡ []
-  pub offers : offered facts ≡ []
-  pub unless : (publish : Publish) → Brings standing input publish → next ≡ thens.Kicked
+pub record OffersNone {P : Type 0} (phase : ConnPhase P) (input : Input) (supply_calls : List (SupplyCall P)) (next : Then) : Type 0 where
+  pub match : matched supply_calls ≡ []
+  pub offers : offered supply_calls ≡ []
+  pub unless : (publish : Publish) → Brings phase input publish → next ≡ thens.Kicked
 
 -- the calls of a step in which a message was acknowledged: it is settled once, and nothing else is
-pub record SettlesOne {P : Type 0} (standing : Standing P) (input : Input) (facts : List (Fact P)) : Type 0 where
+pub record SettlesOne {P : Type 0} (phase : ConnPhase P) (input : Input) (supply_calls : List (SupplyCall P)) : Type 0 where
   pub envelope : Held
   pub fate : Fate
-  pub confirmed : Confirms standing input envelope fate
-  pub settles : settled facts ≡ (envelope, fate) ∷ []
+  pub confirmed : Confirms phase input envelope fate
+  pub settles : settled supply_calls ≡ (envelope, fate) ∷ []
 
 -- the calls of any other step: nothing is settled
-pub record SettlesNone {P : Type 0} (standing : Standing P) (input : Input) (facts : List (Fact P)) (next : Then) : Type 0 where
-  pub settles : settled facts ≡ []
-  pub unless : (envelope : Held) (fate : Fate) → Confirms standing input envelope fate → next ≡ thens.Kicked
+pub record SettlesNone {P : Type 0} (phase : ConnPhase P) (input : Input) (supply_calls : List (SupplyCall P)) (next : Then) : Type 0 where
+  pub settles : settled supply_calls ≡ []
+  pub unless : (envelope : Held) (fate : Fate) → Confirms phase input envelope fate → next ≡ thens.Kicked
 
--- the calls of a step that wanted memory for a PUBLISH: its message was offered once to some of the groups, from the first on
-pub record OffersToSome {P : Type 0} (number : ℕ) (input : Input) (facts : List (Fact P)) : Type 0 where
+-- the calls of a step in which an allocation failed for a PUBLISH: its message was offered once to some of the groups, from the first on
+pub record OffersToSome {P : Type 0} (number : ℕ) (input : Input) (supply_calls : List (SupplyCall P)) : Type 0 where
   pub publish : Publish
   pub came : input ≡ inputs.Packet (packets.Publish publish)
   pub slots : List ℕ
   pub others : List ℕ
-  pub match : matched facts ≡ (publish.topic, slots ++ others) ∷ []
-  pub offers : offered facts ≡ map (λ slot. (slot, number, message_of publish)) slots
+  pub match : matched supply_calls ≡ (publish.topic, slots ++ others) ∷ []
+  pub offers : offered supply_calls ≡ map (λ slot. (slot, number, message_of publish)) slots
 
-module _ {S P : Type 0} (call : S → Fact P → S → Type 0) where
+module _ {S P : Type 0} (call : S → SupplyCall P → S → Type 0) where
   -- these calls are made, one after the other
-  abbrev pub MakesAll : S → List (Fact P) → S → Type 0
+  abbrev pub MakesAll : S → List (SupplyCall P) → S → Type 0
   MakesAll old [] new = new ≡ old
-  MakesAll old (fact ∷ facts) new = (mid : S) × call old fact mid × MakesAll mid facts new
+  MakesAll old (supply_call ∷ supply_calls) new = (mid : S) × call old supply_call mid × MakesAll mid supply_calls new
 
   -- some calls lead from the one to the other
   abbrev pub CallsLead : S → S → Type 0
-  CallsLead old new = (facts : List (Fact P)) × MakesAll old facts new
+  CallsLead old new = (supply_calls : List (SupplyCall P)) × MakesAll old supply_calls new
 
   -- the calls of a step, and what they offer, settle and hand out
-  pub record StepCalls (old : S) (number : ℕ) (standing : Standing P) (input : Input) (sent : List Packet) (next : Then) (new : S) : Type 0 where
-    pub facts : List (Fact P)
-    pub made : MakesAll old facts new
-    pub offers : OffersToEach number input facts ⊎ OffersNone standing input facts next
-    pub settles : SettlesOne standing input facts ⊎ SettlesNone standing input facts next
+  pub record StepCalls (old : S) (number : ℕ) (phase : ConnPhase P) (input : Input) (sent : List Packet) (next : Then) (new : S) : Type 0 where
+    pub supply_calls : List (SupplyCall P)
+    pub made : MakesAll old supply_calls new
+    pub offers : OffersToEach number input supply_calls ⊎ OffersNone phase input supply_calls next
+    pub settles : SettlesOne phase input supply_calls ⊎ SettlesNone phase input supply_calls next
     -- what is handed out goes out at once, each message in a PUBLISH of its own, in their order; and no other goes out for the first time
-    pub hands : fresh_messages sent ≡ messages_of (handed facts)
+    pub hands : fresh_messages sent ≡ messages_of (handed supply_calls)
 
-  -- the calls of a step that wanted memory
-  pub record FailedCalls (old : S) (number : ℕ) (standing : Standing P) (input : Input) (new : S) : Type 0 where
-    pub facts : List (Fact P)
-    pub made : MakesAll old facts new
-    pub offers : OffersToSome number input facts ⊎ (offered facts ≡ [])
-    pub settles : SettlesOne standing input facts ⊎ (settled facts ≡ [])
+  -- the calls of a step in which an allocation failed
+  pub record FailedCalls (old : S) (number : ℕ) (phase : ConnPhase P) (input : Input) (new : S) : Type 0 where
+    pub supply_calls : List (SupplyCall P)
+    pub made : MakesAll old supply_calls new
+    pub offers : OffersToSome number input supply_calls ⊎ (offered supply_calls ≡ [])
+    pub settles : SettlesOne phase input supply_calls ⊎ (settled supply_calls ≡ [])

@@ -6,3 +6,4 @@ pub mod Publishers
 pub mod ReturnedFirst
 pub mod Marks
 pub mod Transcripts
+pub mod Sizes

@@ -3,8 +3,8 @@ use Rattle.std.specs.Prelude.{◌≡◌, ◌≤◌, ℕ, min, length, Some, ⊤}
 use Rattle.group_jobs.specs.Stamps.{Held}
 use Rattle.member_window.specs.Contents.{Contents}
 use Rattle.conn_rules.specs.declared.terms.Terms.{Terms}
-use Rattle.conn_engine.specs.declared.standing.Standing.{Standing}
-use Rattle.conn_engine.specs.declared.standing.Standing.TheVariants.{Unconnected, Waiting, Connected, Ended}
+use Rattle.conn_engine.specs.declared.phase.ConnPhase.{ConnPhase}
+use Rattle.conn_engine.specs.declared.phase.ConnPhase.TheVariants.{Unconnected, Waiting, Connected, Ended}
 
 -- the least of the Receive Maximum of its CONNECT, of what the broker allows, and of 256 (3.1.2.11.3, profile)
 abbrev pub quota_of : Terms → ℕ
@@ -16,15 +16,15 @@ pub record KeepsQuota (quota : ℕ) (window : Contents Held) : Type 0 where
   pub kept : length window.owed ≤ quota
 
 -- what a connection was opened with, asked for while it waits, or was given, lets no more packets be unacknowledged than this limit
-abbrev pub IsWithinLimit : {P : Type 0} → ℕ → Standing P → Type 0
+abbrev pub IsWithinLimit : {P : Type 0} → ℕ → ConnPhase P → Type 0
 IsWithinLimit limit (Unconnected opened) = opened.max_inflight ≤ limit
 IsWithinLimit limit (Waiting request ticks) = request.terms.receive_maximum ≤ limit
-IsWithinLimit limit (Connected link) = link.terms.receive_maximum ≤ limit
+IsWithinLimit limit (Connected connected) = connected.terms.receive_maximum ≤ limit
 IsWithinLimit limit Ended = ⊤
 
 -- of the PUBLISH packets that were sent on a connection, no more are unacknowledged than its quota
-abbrev pub IsWithinQuota : {P : Type 0} → Standing P → Type 0
+abbrev pub IsWithinQuota : {P : Type 0} → ConnPhase P → Type 0
 IsWithinQuota (Unconnected opened) = ⊤
 IsWithinQuota (Waiting request ticks) = ⊤
-IsWithinQuota (Connected link) = KeepsQuota (quota_of link.terms) link.session.window
+IsWithinQuota (Connected connected) = KeepsQuota (quota_of connected.terms) connected.session.window
 IsWithinQuota Ended = ⊤

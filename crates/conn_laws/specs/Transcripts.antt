@@ -16,28 +16,28 @@ use Rattle.session_desk.specs.declared.session.Session.{Session}
 use Rattle.session_desk.specs.declared.session.Membership.{Membership}
 use Rattle.session_desk.specs.declared.session.Membership.TheVariants.{Member}
 use Rattle.conn_supply.specs.declared.reply.Then.{Then}
-use Rattle.conn_supply.specs.Facts.{Fact}
-use Rattle.conn_supply.specs.Facts.Fact.{Attach, Park, ParkAsIs, Take, TakeBack}
+use Rattle.conn_supply.specs.SupplyCalls.{SupplyCall}
+use Rattle.conn_supply.specs.SupplyCalls.SupplyCall.{Attach, Park, ParkAsIs, Take, TakeBack}
 use Rattle.conn_engine.specs.declared.input.Input.{Input}
-use Rattle.conn_engine.specs.declared.standing.Link.{Link}
-use Rattle.conn_engine.specs.declared.standing.Standing.{Standing}
-use Rattle.conn_engine.specs.declared.standing.Standing.TheVariants.{Unconnected, Waiting, Connected, Ended}
+use Rattle.conn_engine.specs.declared.phase.ConnectedClient.{ConnectedClient}
+use Rattle.conn_engine.specs.declared.phase.ConnPhase.{ConnPhase}
+use Rattle.conn_engine.specs.declared.phase.ConnPhase.TheVariants.{Unconnected, Waiting, Connected, Ended}
 use Rattle.conn_engine.specs.Ending.{down}
 use Rattle.conn_laws.specs.Calls.{MakesAll, handed, SettlesOne, SettlesNone}
 use Rattle.conn_laws.specs.Marks.{publishes_in, publishes_of, fresh_of, acknowledged_of, IsWithin, IsAckedBy}
 
 -- what a connection has, where its client has its session
-abbrev pub link_of : {P : Type 0} → Standing P → Option (Link P)
-link_of (Unconnected opened) = None
-link_of (Waiting request ticks) = None
-link_of (Connected link) = Some link
-link_of Ended = None
+abbrev pub connected_of : {P : Type 0} → ConnPhase P → Option (ConnectedClient P)
+connected_of (Unconnected opened) = None
+connected_of (Waiting request ticks) = None
+connected_of (Connected connected) = Some connected
+connected_of Ended = None
 
 -- the session of a client that is connected is not ending
-abbrev pub IsNotEnding : {P : Type 0} → Standing P → Type 0
+abbrev pub IsNotEnding : {P : Type 0} → ConnPhase P → Type 0
 IsNotEnding (Unconnected opened) = ⊤
 IsNotEnding (Waiting request ticks) = ⊤
-IsNotEnding (Connected link) = link.session.window.retired ≡ false
+IsNotEnding (Connected connected) = connected.session.window.retired ≡ false
 IsNotEnding Ended = ⊤
 
 -- this place is the member's, as far as this number of a place tells, its slot or its number in the group
@@ -45,9 +45,9 @@ abbrev pub HasOneAs : {P : Type 0} → (P → ℕ) → Membership P → P → Ty
 HasOneAs {P} of membership place = (its : P) × (membership ≡ Member its) × (of its ≡ of place)
 
 -- and so is it the place of the session of a connection
-abbrev pub IsMemberAt : {P : Type 0} → (P → ℕ) → Option (Link P) → P → Type 0
+abbrev pub IsMemberAt : {P : Type 0} → (P → ℕ) → Option (ConnectedClient P) → P → Type 0
 IsMemberAt of None place = ⊥
-IsMemberAt of (Some link) place = HasOneAs of link.session.membership place
+IsMemberAt of (Some connected) place = HasOneAs of connected.session.membership place
 
 -- the session that was handed out to whoever asked for one
 abbrev pub session_given : {P : Type 0} → Result (Attached Held P) DeskError → Option (Session Held P)
@@ -58,27 +58,27 @@ session_given (Ok Busy) = None
 session_given (Err error) = None
 
 -- a call by which no session is asked for, and none is handed in that may be asked for again
-abbrev pub IsAside : {P : Type 0} → Fact P → Type 0
+abbrev pub IsAside : {P : Type 0} → SupplyCall P → Type 0
 IsAside (Attach request answer) = ⊥
 IsAside (Park session now answer) = ⊥
 IsAside (ParkAsIs session) = ⊥
 IsAside other = ⊤
 
--- a place that is asked for a message has the same number of this kind behind it
-abbrev pub KeepsNumber : {P : Type 0} → (P → ℕ) → Fact P → Type 0
+-- a place that is asked for a message has the same number of this kind after it
+abbrev pub KeepsNumber : {P : Type 0} → (P → ℕ) → SupplyCall P → Type 0
 KeepsNumber of (Take place place' answer) = of place' ≡ of place
 KeepsNumber of (TakeBack place place' answer) = of place' ≡ of place
 KeepsNumber of other = ⊤
 
-module _ {S P : Type 0} (call : S → Fact P → S → Type 0) where
+module _ {S P : Type 0} (call : S → SupplyCall P → S → Type 0) where
   abbrev pub KeepsNumbers : (P → ℕ) → Type 0
-  KeepsNumbers of = (old new : S) (fact : Fact P) → call old fact new → KeepsNumber of fact
+  KeepsNumbers of = (old new : S) (supply_call : SupplyCall P) → call old supply_call new → KeepsNumber of supply_call
 
   -- calls by which no session is asked for, and none is handed in that may be asked for again
   pub record LeadsAside (old new : S) : Type 0 where
-    pub facts : List (Fact P)
-    pub made : MakesAll call old facts new
-    pub aside : AllByRecursion IsAside facts
+    pub supply_calls : List (SupplyCall P)
+    pub made : MakesAll call old supply_calls new
+    pub aside : AllByRecursion IsAside supply_calls
 
   -- the connection of this number asks for a session
   pub record AsksForOne (old : S) (number : ℕ) (answer : Result (Attached Held P) DeskError) (new : S) : Type 0 where
@@ -93,41 +93,41 @@ module _ {S P : Type 0} (call : S → Fact P → S → Type 0) where
   HandsIn old session new = ((now : ℕ) × (answer : Option (Session Held P)) × call old (Park session now answer) new) ⊎ call old (ParkAsIs session) new
 
   -- a session is given: its transcript goes on with `Up`, and the Receive Maximum of the connection's terms
-  pub record SessionBegins (old : S) (number : ℕ) (link : Link P) (marks : List (Mark Held)) (new : S) : Type 0 where
+  pub record SessionBegins (old : S) (number : ℕ) (connected : ConnectedClient P) (marks : List (Mark Held)) (new : S) : Type 0 where
     pub answer : Result (Attached Held P) DeskError
     pub session : Session Held P
     pub mid : S
     pub asks : AsksForOne old number answer mid
     pub given : session_given answer ≡ Some session
     pub aside : LeadsAside mid new
-    pub same : link.session.identity ≡ session.identity
+    pub same : connected.session.identity ≡ session.identity
     pub calls : List (Call Held)
-    pub made : windows.MakesAll (after_up session.window link.terms.receive_maximum) calls link.session.window
-    pub marks_are : marks ≡ Up link.terms.receive_maximum ∷ transcript_of calls
+    pub made : windows.MakesAll (after_up session.window connected.terms.receive_maximum) calls connected.session.window
+    pub marks_are : marks ≡ Up connected.terms.receive_maximum ∷ transcript_of calls
     pub within : AllByRecursion IsWithin (transcript_of calls)
 
   -- the session goes on
-  pub record SessionGoesOn (old : S) (link link' : Link P) (marks : List (Mark Held)) (new : S) : Type 0 where
+  pub record SessionGoesOn (old : S) (connected connected' : ConnectedClient P) (marks : List (Mark Held)) (new : S) : Type 0 where
     pub aside : LeadsAside old new
-    pub same : link'.session.identity ≡ link.session.identity
+    pub same : connected'.session.identity ≡ connected.session.identity
     pub calls : List (Call Held)
-    pub made : windows.MakesAll link.session.window calls link'.session.window
+    pub made : windows.MakesAll connected.session.window calls connected'.session.window
     pub marks_are : marks ≡ transcript_of calls
     pub within : AllByRecursion IsWithin marks
 
   -- the connection ends, and its session is handed in: its transcript goes on with `Down`
-  pub record SessionEnds (old : S) (link : Link P) (marks : List (Mark Held)) (new : S) : Type 0 where
+  pub record SessionEnds (old : S) (connected : ConnectedClient P) (marks : List (Mark Held)) (new : S) : Type 0 where
     pub session : Session Held P
     pub before : S
     pub behind : S
     pub aside : LeadsAside old before
     pub handed_in : HandsIn before session behind
     pub later : LeadsAside behind new
-    pub same : session.identity ≡ link.session.identity
-    pub is_down : session.window ≡ after_down link.session.window
+    pub same : session.identity ≡ connected.session.identity
+    pub is_down : session.window ≡ after_down connected.session.window
     pub marks_are : marks ≡ Down ∷ []
 
-  -- a session is asked for, and the connection has none behind that: none was given, or one that went back at once
+  -- a session is asked for, and the connection has none after that: none was given, or one that went back at once
   pub record AsksInVain (old : S) (number : ℕ) (new : S) : Type 0 where
     pub answer : Result (Attached Held P) DeskError
     pub mid : S
@@ -135,26 +135,26 @@ module _ {S P : Type 0} (call : S → Fact P → S → Type 0) where
     pub vain : ((session_given answer ≡ None) × LeadsAside mid new)
         ⊎ ((session : Session Held P) × (behind : S) × (answer ≡ Ok (Resumed session)) × call mid (ParkAsIs (down session)) behind × LeadsAside behind new)
 
-  -- the session of the connection, before and behind a step
-  abbrev pub SessionTurns : S → ℕ → Option (Link P) → Option (Link P) → List (Mark Held) → S → Type 0
-  SessionTurns old number None None marks new = (marks ≡ []) × (LeadsAside old new ⊎ AsksInVain old number new)
-  SessionTurns old number None (Some link) marks new = SessionBegins old number link marks new
-  SessionTurns old number (Some link) (Some link') marks new = SessionGoesOn old link link' marks new
-  SessionTurns old number (Some link) None marks new = SessionEnds old link marks new
+  -- the session of the connection, before and after a step
+  abbrev pub SessionSteps : S → ℕ → Option (ConnectedClient P) → Option (ConnectedClient P) → List (Mark Held) → S → Type 0
+  SessionSteps old number None None marks new = (marks ≡ []) × (LeadsAside old new ⊎ AsksInVain old number new)
+  SessionSteps old number None (Some connected) marks new = SessionBegins old number connected marks new
+  SessionSteps old number (Some connected) (Some connected') marks new = SessionGoesOn old connected connected' marks new
+  SessionSteps old number (Some connected) None marks new = SessionEnds old connected marks new
 
   -- what a step adds to the transcript of the session that its connection has
-  pub record Transcribes (old : S) (number : ℕ) (standing : Standing P) (input : Input) (sent : List Packet) (next : Then) (standing' : Standing P) (new : S) : Type 0 where
+  pub record Transcribes (old : S) (number : ℕ) (phase : ConnPhase P) (input : Input) (sent : List Packet) (next : Then) (phase' : ConnPhase P) (new : S) : Type 0 where
     pub marks : List (Mark Held)
-    pub session : SessionTurns old number (link_of standing) (link_of standing') marks new
+    pub session : SessionSteps old number (connected_of phase) (connected_of phase') marks new
     -- the PUBLISH packets of the step are those of its marks, in their order
     pub publishes : publishes_in sent ≡ publishes_of marks
-    pub facts : List (Fact P)
-    pub made : MakesAll call old facts new
+    pub supply_calls : List (SupplyCall P)
+    pub made : MakesAll call old supply_calls new
     -- what is handed out is what is sent for the first time, in that order; and to the place of this session, as far as any number of a place
     -- tells that stays where the place is asked for a message: its slot, its number in the group
-    pub hands : map (λ (h : P × Held). h.1) (handed facts) ≡ fresh_of marks
-    pub own : (of : P → ℕ) → KeepsNumbers of → AllByRecursion (λ (h : P × Held). IsMemberAt of (link_of standing') h.0) (handed facts)
+    pub hands : map (λ (h : P × Held). h.1) (handed supply_calls) ≡ fresh_of marks
+    pub own : (of : P → ℕ) → KeepsNumbers of → AllByRecursion (λ (h : P × Held). IsMemberAt of (connected_of phase') h.0) (handed supply_calls)
     -- what is acknowledged is settled, by the PUBACK that came; and nothing else is. No PUBACK for what the session holds is passed over, unless
     -- another connection took the session
-    pub settles : (SettlesOne standing input facts × ((acked : ℕ × ℕ) × (acknowledged_of marks ≡ acked ∷ []) × IsAckedBy input acked))
-        ⊎ (SettlesNone standing input facts next × (acknowledged_of marks ≡ []))
+    pub settles : (SettlesOne phase input supply_calls × ((acked : ℕ × ℕ) × (acknowledged_of marks ≡ acked ∷ []) × IsAckedBy input acked))
+        ⊎ (SettlesNone phase input supply_calls next × (acknowledged_of marks ≡ []))

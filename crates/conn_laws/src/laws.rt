@@ -4,9 +4,9 @@ ghost use Rattle.mqtt_packet.specs.declared.packet.Packet.{Packet};
 ghost use Rattle.conn_supply.specs.declared.reply.Then.{Then};
 ghost use Rattle.conn_supply.specs.declared.reply.Then.TheVariants.{Go};
 ghost use Rattle.conn_engine.specs.declared.input.Input.{Input};
-ghost use Rattle.conn_engine.specs.declared.standing.Link.{Link};
-ghost use Rattle.conn_engine.specs.declared.standing.Standing.{Standing};
-ghost use Rattle.conn_engine.specs.declared.standing.Standing.TheVariants as standings;
+ghost use Rattle.conn_engine.specs.declared.phase.ConnectedClient.{ConnectedClient};
+ghost use Rattle.conn_engine.specs.declared.phase.ConnPhase.{ConnPhase};
+ghost use Rattle.conn_engine.specs.declared.phase.ConnPhase.TheVariants as phases;
 ghost use Rattle.conn_laws.specs.Asking.{OneAnswer};
 ghost use Rattle.conn_laws.specs.Calls.{StepCalls, FailedCalls};
 ghost use Rattle.conn_laws.specs.Behind.{IsLast, KeepsOrEnds, IsAllHandedOut};
@@ -18,83 +18,83 @@ ghost use Rattle.conn_engine.specs.Step.{Steps, FailsToStep};
 
 use conn_supply::{HoldingPlace, Supply};
 
-/// **A connection is over exactly where its step says so**: it has ended behind a step that does not go on, and behind no other.
-/// And it ends by a fault, by the end of its input, and by the broker's closing (`last`). A connection whose client has its session has one behind
+/// **A connection is over exactly where its step says so**: it has ended after a step that does not go on, and after no other.
+/// And it ends by a fault, by the end of its input, and by the broker's closing (`last`). A connection whose client has its session has one after
 /// each step until it ends (`keeps`).
 pub fn ended_law<P: HoldingPlace, S: Supply<P>>()
-    ensures told { (number now : ℕ) (standing standing' : Standing P) (input : Input) (packets : List Packet) (next : Then) (old new : S) →
-        Steps S.call P.slot_of old number standing now input packets next standing' new →
-        (standing' ≡ standings.Ended) ↔ (next ≢ Go) }
-    ensures last { (number now : ℕ) (standing standing' : Standing P) (input : Input) (packets : List Packet) (next : Then) (old new : S) →
-        Steps S.call P.slot_of old number standing now input packets next standing' new →
-        IsLast input → standing' ≡ standings.Ended }
-    ensures keeps { (number now : ℕ) (link : Link P) (standing' : Standing P) (input : Input) (packets : List Packet) (next : Then) (old new : S) →
-        Steps S.call P.slot_of old number (standings.Connected link) now input packets next standing' new → KeepsOrEnds standing' }
+    ensures told { (number now : ℕ) (phase phase' : ConnPhase P) (input : Input) (packets : List Packet) (next : Then) (old new : S) →
+        Steps S.call P.slot_of old number phase now input packets next phase' new →
+        (phase' ≡ phases.Ended) ↔ (next ≢ Go) }
+    ensures last { (number now : ℕ) (phase phase' : ConnPhase P) (input : Input) (packets : List Packet) (next : Then) (old new : S) →
+        Steps S.call P.slot_of old number phase now input packets next phase' new →
+        IsLast input → phase' ≡ phases.Ended }
+    ensures keeps { (number now : ℕ) (connected : ConnectedClient P) (phase' : ConnPhase P) (input : Input) (packets : List Packet) (next : Then) (old new : S) →
+        Steps S.call P.slot_of old number (phases.Connected connected) now input packets next phase' new → KeepsOrEnds phase' }
 {}
 
-/// **Nothing is left to hand out** behind a step that leaves a client with its session: no message waits to be sent again that the
+/// **Nothing is left to hand out** after a step that leaves a client with its session: no message waits to be sent again that the
 /// quota has room for; and where the session is a member's, its window has no room for another message, or there was none, when it
 /// was asked for last, or the supply's last answer was that the place is to be handed no more now.
 pub fn eager_law<P: HoldingPlace, S: Supply<P>>()
-    ensures { (number now : ℕ) (standing : Standing P) (link : Link P) (input : Input) (packets : List Packet) (next : Then) (old new : S) →
-        Steps S.call P.slot_of old number standing now input packets next (standings.Connected link) new →
-        IsAllHandedOut S.call link new }
+    ensures { (number now : ℕ) (phase : ConnPhase P) (connected : ConnectedClient P) (input : Input) (packets : List Packet) (next : Then) (old new : S) →
+        Steps S.call P.slot_of old number phase now input packets next (phases.Connected connected) new →
+        IsAllHandedOut S.call connected new }
 {}
 
 /// **The quota is kept** (section 4.9): of the PUBLISH packets that a connection sent, those that wait for their PUBACK are never more than the
 /// Receive Maximum that its terms have, and never more than 256. And these terms are never more than the limit that the connection was opened with
 /// (`limited`, profile).
 pub fn quota_law<P: HoldingPlace, S: Supply<P>>()
-    ensures kept { (number now : ℕ) (standing standing' : Standing P) (input : Input) (packets : List Packet) (next : Then) (old new : S) →
-        Steps S.call P.slot_of old number standing now input packets next standing' new →
-        IsWithinQuota standing → IsWithinQuota standing' }
-    ensures limited { (number now limit : ℕ) (standing standing' : Standing P) (input : Input) (packets : List Packet) (next : Then) (old new : S) →
-        Steps S.call P.slot_of old number standing now input packets next standing' new →
-        IsWithinLimit limit standing → IsWithinLimit limit standing' }
+    ensures kept { (number now : ℕ) (phase phase' : ConnPhase P) (input : Input) (packets : List Packet) (next : Then) (old new : S) →
+        Steps S.call P.slot_of old number phase now input packets next phase' new →
+        IsWithinQuota phase → IsWithinQuota phase' }
+    ensures limited { (number now limit : ℕ) (phase phase' : ConnPhase P) (input : Input) (packets : List Packet) (next : Then) (old new : S) →
+        Steps S.call P.slot_of old number phase now input packets next phase' new →
+        IsWithinLimit limit phase → IsWithinLimit limit phase' }
 {}
 
-/// **A step is a list of calls**, and so is one that wants memory (`failed`): what holds of every list of calls holds behind every
+/// **A step is a list of calls**, and so is one that wants memory (`failed`): what holds of every list of calls holds after every
 /// step. Among them:
 ///
 /// - a message is offered only by the PUBLISH that brought it, once to each group that matches, in the order of their slots; where
-///   memory is wanted, to some of them, from the first on;
+///   an allocation fails, to some of them, from the first on;
 /// - a message is settled only by a PUBACK under its identifier, once, as its Reason Code says;
 /// - what is handed to a place goes out at once, each message in a PUBLISH of its own with DUP 0, in their order, and no other packet
-///   brings a message for the first time; where memory is wanted nothing goes out, and the session has what was handed.
+///   brings a message for the first time; where an allocation fails nothing goes out, and the session has what was handed.
 pub fn calls_law<P: HoldingPlace, S: Supply<P>>()
-    ensures stepped { (number now : ℕ) (standing standing' : Standing P) (input : Input) (packets : List Packet) (next : Then) (old new : S) →
-        Steps S.call P.slot_of old number standing now input packets next standing' new →
-        StepCalls S.call old number standing input packets next new }
-    ensures failed { (number now : ℕ) (standing : Standing P) (input : Input) (old new : S) →
-        FailsToStep S.call P.slot_of old number standing now input new →
-        FailedCalls S.call old number standing input new }
+    ensures stepped { (number now : ℕ) (phase phase' : ConnPhase P) (input : Input) (packets : List Packet) (next : Then) (old new : S) →
+        Steps S.call P.slot_of old number phase now input packets next phase' new →
+        StepCalls S.call old number phase input packets next new }
+    ensures failed { (number now : ℕ) (phase : ConnPhase P) (input : Input) (old new : S) →
+        FailsToStep S.call P.slot_of old number phase now input new →
+        FailedCalls S.call old number phase input new }
 {}
 
 /// **A connection publishes as itself**: whatever a step offers to a group, it offers it from the number of its connection, and so does one that
 /// wants memory (`failed`).
 pub fn publisher_law<P: HoldingPlace, S: Supply<P>>()
-    ensures stepped { (number now : ℕ) (standing standing' : Standing P) (input : Input) (packets : List Packet) (next : Then) (old new : S) →
-        Steps S.call P.slot_of old number standing now input packets next standing' new → CallsFrom S.call number old new }
-    ensures failed { (number now : ℕ) (standing : Standing P) (input : Input) (old new : S) →
-        FailsToStep S.call P.slot_of old number standing now input new → CallsFrom S.call number old new }
+    ensures stepped { (number now : ℕ) (phase phase' : ConnPhase P) (input : Input) (packets : List Packet) (next : Then) (old new : S) →
+        Steps S.call P.slot_of old number phase now input packets next phase' new → CallsFrom S.call number old new }
+    ensures failed { (number now : ℕ) (phase : ConnPhase P) (input : Input) (old new : S) →
+        FailsToStep S.call P.slot_of old number phase now input new → CallsFrom S.call number old new }
 {}
 
-/// **What was given back is handed out first**: a step hands a place a message of the queue only directly behind a call that asked for one that was
+/// **What was given back is handed out first**: a step hands a place a message of the queue only directly after a call that asked for one that was
 /// given back, and found none; and so does one that wants memory (`failed`).
 pub fn returned_first_law<P: HoldingPlace, S: Supply<P>>()
-    ensures stepped { (number now : ℕ) (standing standing' : Standing P) (input : Input) (packets : List Packet) (next : Then) (old new : S) →
-        Steps S.call P.slot_of old number standing now input packets next standing' new → CallsReturnedFirst S.call old new }
-    ensures failed { (number now : ℕ) (standing : Standing P) (input : Input) (old new : S) →
-        FailsToStep S.call P.slot_of old number standing now input new → CallsReturnedFirst S.call old new }
+    ensures stepped { (number now : ℕ) (phase phase' : ConnPhase P) (input : Input) (packets : List Packet) (next : Then) (old new : S) →
+        Steps S.call P.slot_of old number phase now input packets next phase' new → CallsReturnedFirst S.call old new }
+    ensures failed { (number now : ℕ) (phase : ConnPhase P) (input : Input) (old new : S) →
+        FailsToStep S.call P.slot_of old number phase now input new → CallsReturnedFirst S.call old new }
 {}
 
 /// **A step has one outcome** where each call of its supply has one answer, memory aside: the same packets, the same that becomes of
 /// the connection, and the same supply.
 pub fn one_step_law<P: HoldingPlace, S: Supply<P>>()
-    ensures { (number now : ℕ) (standing one other : Standing P) (input : Input) (packets packets' : List Packet) (next next' : Then) (old new new' : S) →
+    ensures { (number now : ℕ) (phase one other : ConnPhase P) (input : Input) (packets packets' : List Packet) (next next' : Then) (old new new' : S) →
         OneAnswer S.call (λ these those. these ≡ those) →
-        Steps S.call P.slot_of old number standing now input packets next one new →
-        Steps S.call P.slot_of old number standing now input packets' next' other new' →
+        Steps S.call P.slot_of old number phase now input packets next one new →
+        Steps S.call P.slot_of old number phase now input packets' next' other new' →
         (packets ≡ packets') × (next ≡ next') × (one ≡ other) × (new ≡ new') }
 {}
 
@@ -107,7 +107,7 @@ pub fn one_step_law<P: HoldingPlace, S: Supply<P>>()
 /// - What is acknowledged is settled, once, by the PUBACK that came, and nothing else is; and no PUBACK for what the session holds is passed over,
 ///   unless another connection took the session.
 pub fn transcript_law<P: HoldingPlace, S: Supply<P>>()
-    ensures { (number now : ℕ) (standing standing' : Standing P) (input : Input) (packets : List Packet) (next : Then) (old new : S) →
-        Steps S.call P.slot_of old number standing now input packets next standing' new →
-        IsNotEnding standing → Transcribes S.call old number standing input packets next standing' new }
+    ensures { (number now : ℕ) (phase phase' : ConnPhase P) (input : Input) (packets : List Packet) (next : Then) (old new : S) →
+        Steps S.call P.slot_of old number phase now input packets next phase' new →
+        IsNotEnding phase → Transcribes S.call old number phase input packets next phase' new }
 {}

@@ -1,4 +1,4 @@
--- What acts tell, one behind the other: that what waits is written first, that a read gave as much as there was room for, or that the transport took something.
+-- What acts tell, one after the other: that what waits is written first, that a read gave as much as there was room for, or that the transport took something.
 use Rattle.std.proofs.Common.{◌≡◌, ◌≢◌, ◌⊎◌, ℕ, ◌<◌, ◌≤◌, Bool, true, false, List, [], ◌∷◌, ◌++◌, Option, Some, None, Result, Ok, Err, IfOk, refl, sym, ap, subst, ◌∙◌, inl, inr, append-nil, arith}
 use Rattle.std.proofs.lemmas.List.{nil_from_length}
 use Rattle.std.proofs.lemmas.Bool.Decides.{nat_tests}
@@ -7,7 +7,7 @@ use Rattle.transport.specs.declared.answers.Got.{Got}
 use Rattle.transport.specs.declared.answers.Got.TheVariants as got
 use Rattle.transport.specs.declared.answers.Put.{Put}
 use Rattle.transport.specs.declared.answers.Put.TheVariants as put
-use Rattle.conn_engine.specs.declared.standing.Standing.TheVariants.{Ended}
+use Rattle.conn_engine.specs.declared.phase.ConnPhase.TheVariants.{Ended}
 use Rattle.client_table.specs.Clients.{ClientState}
 use Rattle.conn_service.specs.declared.served.Served.{Served}
 use Rattle.conn_service.specs.Services.{ServiceState, HasNoMore}
@@ -96,7 +96,7 @@ module _ {P T : Type 0} (counts : T → Counts) (given accepted : T → Option (
   pub sends_ended : (now : ℕ) (old new : ServiceState P T) (how : Served) → LeadsAtEdge counts given accepted now Outside old new → new.ending ≡ Some how → Sends now old new
   sends_ended now old new how led ended = record { led = led; told = ((λ waits going. cc (ended, going)), (λ going. cc (ended, going))) }
 
-  -- a read, and what is done behind it
+  -- a read, and what is done after it
   pub read_told : (size : ℕ) (its : Got) (bytes : List ℕ) (old mid new : ServiceState P T) (rest : List Act) → ReadsOnce counts given accepted size its bytes old mid → 0 < size
       → new.drained ≡ mid.drained → IsDoneOrAdvances true new (Reads size its bytes ∷ rest)
   read_told size its bytes old mid new rest reads some same = λ none. read_by size its bytes old mid new rest reads some same (either mid.drained) where
@@ -112,9 +112,9 @@ module _ {P T : Type 0} where
   done_along all new last acts acts' is along (inl done) = inl (done.0, subst (λ (s : ServiceState P T). HasNoMore s) (sym is) done.1)
   done_along all new last acts acts' is along (inr has) = inr (along has)
 
-  -- the end of the stream, behind a read
+  -- the end of the stream, after a read
   pub end_told : (read new : ServiceState P T) (before its behind : List Act) → (read.at_end ≡ false → IsDoneOrAdvances true read its)
-      → (new.client.conn.standing ≡ Ended) ⊎ ((new ≡ read) × (read.at_end ≡ false)) → IsDoneOrAdvances true new ((before ++ its) ++ behind)
+      → (new.client.conn.phase ≡ Ended) ⊎ ((new ≡ read) × (read.at_end ≡ false)) → IsDoneOrAdvances true new ((before ++ its) ++ behind)
   end_told read new before its behind more (inl over) = λ none. inl (refl, inr (inl over))
   end_told read new before its behind more (inr same) = λ none.
       done_along true new read its ((before ++ its) ++ behind) same.0 (λ has. has_first (before ++ its) behind (has_last before its has))
@@ -127,7 +127,7 @@ module _ {P T : Type 0} where
       ((λ none. done_along all new new acts (Enters is_open reads ∷ (acts ++ Leaves ∷ [])) refl (λ has. inr (has_first acts (Leaves ∷ []) has)) (more none)), inr (inl is))
   visit_told (Err served) is_open reads new acts is more = tt
 
-  -- a round: what waits is written before and behind a visit
+  -- a round: what waits is written before and after a visit
   round_done : (all : Bool) (visited written new : ServiceState P T) (a b c d : List Act) → IsDoneOrAdvances all visited b
       → (written ≡ visited) ⊎ (HasAdvance c ⊎ (written.outgoing ≢ [])) → new ≡ written → IsDoneOrAdvances all new (((a ++ b) ++ c) ++ d)
   round_done all visited written new a b c d more (inl same) is = λ none.
@@ -136,16 +136,16 @@ module _ {P T : Type 0} where
   round_done all visited written new a b c d more (inr (inl advances)) is = λ none. inr (has_first ((a ++ b) ++ c) d (has_last (a ++ b) c advances))
   round_done all visited written new a b c d more (inr (inr waits)) is = λ none. absurd (waits (sym (ap (λ (s : ServiceState P T). s.outgoing) is) ∙ none))
 
-  round_forgets : (visited written new : ServiceState P T) (a b c d : List Act) → (visited.client.conn.standing ≡ Ended) ⊎ HasForgotten b → new ≡ written → written.client ≡ visited.client
-      → (new.outgoing ≡ [] → new.client.conn.standing ≢ Ended) → new.outgoing ≡ [] → HasForgotten (((a ++ b) ++ c) ++ d)
+  round_forgets : (visited written new : ServiceState P T) (a b c d : List Act) → (visited.client.conn.phase ≡ Ended) ⊎ HasForgotten b → new ≡ written → written.client ≡ visited.client
+      → (new.outgoing ≡ [] → new.client.conn.phase ≢ Ended) → new.outgoing ≡ [] → HasForgotten (((a ++ b) ++ c) ++ d)
   round_forgets visited written new a b c d (inl over) is client_is not_over none =
-      absurd (not_over none (ap (λ (s : ServiceState P T). s.client.conn.standing) is ∙ ap (λ (its : ClientState P). its.conn.standing) client_is ∙ over))
+      absurd (not_over none (ap (λ (s : ServiceState P T). s.client.conn.phase) is ∙ ap (λ (its : ClientState P). its.conn.phase) client_is ∙ over))
   round_forgets visited written new a b c d (inr forgotten) is client_is not_over none =
       forgotten_first ((a ++ b) ++ c) d (forgotten_first (a ++ b) c (forgotten_last a b forgotten))
 
   pub round_told : (all : Bool) (visited written new : ServiceState P T) (a b c d : List Act)
-      → IsDoneOrAdvances all visited b × ((visited.client.conn.standing ≡ Ended) ⊎ HasForgotten b) → IsWrittenOn visited written c → written.ending ≡ None → new ≡ written
-      → written.client ≡ visited.client → (new.outgoing ≡ [] → new.client.conn.standing ≢ Ended)
+      → IsDoneOrAdvances all visited b × ((visited.client.conn.phase ≡ Ended) ⊎ HasForgotten b) → IsWrittenOn visited written c → written.ending ≡ None → new ≡ written
+      → written.client ≡ visited.client → (new.outgoing ≡ [] → new.client.conn.phase ≢ Ended)
       → IsDoneOrAdvances all new (((a ++ b) ++ c) ++ d) × (new.outgoing ≡ [] → HasForgotten (((a ++ b) ++ c) ++ d))
   round_told all visited written new a b c d told on going is client_is not_over =
       (round_done all visited written new a b c d told.0 (on going) is, round_forgets visited written new a b c d told.1 is client_is not_over)

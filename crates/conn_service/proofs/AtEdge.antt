@@ -6,9 +6,9 @@ use Rattle.transport.specs.declared.counts.Counts.{Counts}
 use Rattle.transport.specs.Counting.{after_got, after_put}
 use Rattle.transport.specs.declared.answers.Got.TheVariants as got
 use Rattle.transport.specs.declared.answers.Put.TheVariants as put
-use Rattle.conn_engine.specs.declared.standing.Standing.{Standing}
-use Rattle.conn_engine.specs.declared.standing.Standing.TheVariants.{Unconnected, Waiting, Connected, Ended}
-use Rattle.conn_engine.specs.Standings.{IsWaiting}
+use Rattle.conn_engine.specs.declared.phase.ConnPhase.{ConnPhase}
+use Rattle.conn_engine.specs.declared.phase.ConnPhase.TheVariants.{Unconnected, Waiting, Connected, Ended}
+use Rattle.conn_engine.specs.Phases.{IsWaiting}
 use Rattle.client_table.specs.Clients.{ClientState}
 use Rattle.client_table.specs.Streams.{fed}
 use Rattle.conn_service.specs.declared.served.Served.TheVariants as served
@@ -19,7 +19,7 @@ use Rattle.conn_service.specs.Visits.{Outside, Behind, Inside}
 use Rattle.conn_service.specs.Edges.{MayRead, ReadsOnce, WritesOnce, LeadsAtEdge}
 use Rattle.conn_service.proofs.Leading.{edge_one}
 
--- nothing behind known bytes
+-- nothing after known bytes
 nothing_known : (known : Option (List ℕ)) → append_known known [] ≡ known
 nothing_known None = refl
 nothing_known (Some xs) = ap Some (append-nil xs)
@@ -114,7 +114,7 @@ module _ {P T : Type 0} (counts : T → Counts) (given accepted : T → Option (
   may_along old inside is may = subst (MayRead counts given accepted) (sym is) may
 
   gave_here : (size count : ℕ) (old : ServiceState P T) (client : ClientState P) (transport : T) (bytes : List ℕ) (kept : ℕ) (drained : Bool) → MayRead counts given accepted old
-      → client ≡ fed old.client bytes → kept ≡ kept_since old.client.conn.standing old.kept count → drained ≡ nat_lt count size → length bytes ≡ count → counts transport ≡ counts old.transport
+      → client ≡ fed old.client bytes → kept ≡ kept_since old.client.conn.phase old.kept count → drained ≡ nat_lt count size → length bytes ≡ count → counts transport ≡ counts old.transport
       → given transport ≡ append_known (given old.transport) bytes → accepted transport ≡ accepted old.transport
       → ReadsOnce counts given accepted size (got.Bytes count) bytes old (record old { client = client; transport = transport; kept = kept; drained = drained })
   gave_here size count old client transport bytes kept drained may client_is kept_is drained_is length_is counted given_is accepted_is =
@@ -125,7 +125,7 @@ module _ {P T : Type 0} (counts : T → Counts) (given accepted : T → Option (
       }
 
   pub gave : (size count : ℕ) (old inside : ServiceState P T) (client : ClientState P) (transport : T) (bytes : List ℕ) (kept : ℕ) (drained : Bool) → inside ≡ old
-      → MayRead counts given accepted old → client ≡ fed inside.client bytes → kept ≡ kept_since inside.client.conn.standing inside.kept count → drained ≡ nat_lt count size → length bytes ≡ count → counts transport ≡ counts inside.transport
+      → MayRead counts given accepted old → client ≡ fed inside.client bytes → kept ≡ kept_since inside.client.conn.phase inside.kept count → drained ≡ nat_lt count size → length bytes ≡ count → counts transport ≡ counts inside.transport
       → given transport ≡ append_known (given inside.transport) bytes → accepted transport ≡ accepted inside.transport
       → ReadsOnce counts given accepted size (got.Bytes count) bytes old (record inside { client = client; transport = transport; kept = kept; drained = drained })
   gave size count old inside client transport bytes kept drained is may client_is kept_is drained_is length_is counted given_is accepted_is =
@@ -133,14 +133,14 @@ module _ {P T : Type 0} (counts : T → Counts) (given accepted : T → Option (
       (gave_here size count inside client transport bytes kept drained (may_along old inside is may) client_is kept_is drained_is length_is counted given_is accepted_is)
 
   -- how much of a stream is kept, where the connection waits and where it does not
-  pub kept_is : (standing : Standing P) (wants : Bool) (kept count next : ℕ) → (IsTrue wants → ¬ IsWaiting standing) × (¬ IsWaiting standing → IsTrue wants)
-      → next ≡ (if wants then 0 else min (kept + count) 65536) → next ≡ kept_since standing kept count
+  pub kept_is : (phase : ConnPhase P) (wants : Bool) (kept count next : ℕ) → (IsTrue wants → ¬ IsWaiting phase) × (¬ IsWaiting phase → IsTrue wants)
+      → next ≡ (if wants then 0 else min (kept + count) 65536) → next ≡ kept_since phase kept count
   kept_is (Unconnected opened) true kept count next is next_is = next_is
   kept_is (Unconnected opened) false kept count next is next_is = cc (is.1 (λ waits. waits))
   kept_is (Waiting request ticks) true kept count next is next_is = absurd (is.0 refl tt)
   kept_is (Waiting request ticks) false kept count next is next_is = next_is
-  kept_is (Connected link) true kept count next is next_is = next_is
-  kept_is (Connected link) false kept count next is next_is = cc (is.1 (λ waits. waits))
+  kept_is (Connected connected) true kept count next is next_is = next_is
+  kept_is (Connected connected) false kept count next is next_is = cc (is.1 (λ waits. waits))
   kept_is Ended true kept count next is next_is = next_is
   kept_is Ended false kept count next is next_is = cc (is.1 (λ waits. waits))
 
@@ -227,35 +227,35 @@ module _ {P T : Type 0} (counts : T → Counts) (given accepted : T → Option (
       (record { going = going; waits = waits; becomes = ap (λ (s : ServiceState P T). record s { ending = Some served.NoCrossing }) is }) (inl refl)
 
   pub stalled : (now : ℕ) (old inside : ServiceState P T) → inside ≡ old → old.ending ≡ None → old.outgoing ≢ [] → 1 ≤ old.refused
-      → (old.since + patience old.client.conn.standing ≤ now) ⊎ (600 ≤ old.refused)
+      → (old.since + patience old.client.conn.phase ≤ now) ⊎ (600 ≤ old.refused)
       → LeadsAtEdge counts given accepted now Behind old (record inside { ending = Some served.Stalled })
   stalled now old inside is going waits asked long =
       edge_one counts given accepted (Stalls now) old (record inside { ending = Some served.Stalled })
       (record { going = going; waits = waits; asked = asked; long = long; becomes = ap (λ (s : ServiceState P T). record s { ending = Some served.Stalled }) is }) (refl, refl)
 
-  pub over : {now : ℕ} (old inside : ServiceState P T) → inside ≡ old → old.ending ≡ None → old.client.conn.standing ≡ Ended → old.outgoing ≡ []
+  pub over : {now : ℕ} (old inside : ServiceState P T) → inside ≡ old → old.ending ≡ None → old.client.conn.phase ≡ Ended → old.outgoing ≡ []
       → LeadsAtEdge counts given accepted now Behind old (record inside { ending = Some served.Ended })
   over old inside is going ended nothing =
       edge_one counts given accepted Ends old (record inside { ending = Some served.Ended })
       (record { going = going; over = ended; nothing_waits = nothing; becomes = ap (λ (s : ServiceState P T). record s { ending = Some served.Ended }) is }) refl
 
-  patience_is : (standing : Standing P) (ended : Bool) → (IsTrue ended → standing ≡ Ended) × (standing ≡ Ended → IsTrue ended) → patience standing ≡ (if ended then 1000 else 60000)
+  patience_is : (phase : ConnPhase P) (ended : Bool) → (IsTrue ended → phase ≡ Ended) × (phase ≡ Ended → IsTrue ended) → patience phase ≡ (if ended then 1000 else 60000)
   patience_is (Unconnected opened) true is = cc (is.0 refl)
   patience_is (Unconnected opened) false is = refl
   patience_is (Waiting request ticks) true is = cc (is.0 refl)
   patience_is (Waiting request ticks) false is = refl
-  patience_is (Connected link) true is = cc (is.0 refl)
-  patience_is (Connected link) false is = refl
+  patience_is (Connected connected) true is = cc (is.0 refl)
+  patience_is (Connected connected) false is = refl
   patience_is Ended true is = refl
   patience_is Ended false is = cc (is.1 refl)
 
   -- the transport took nothing for as long as that
   pub stalled_by : (now limit : ℕ) (ended : Bool) (old inside : ServiceState P T) → inside ≡ old → old.ending ≡ None → (inside.outgoing ≡ [] → ⊥)
-      → (IsTrue ended → inside.client.conn.standing ≡ Ended) × (inside.client.conn.standing ≡ Ended → IsTrue ended) → limit ≡ (if ended then 1000 else 60000) → 1 ≤ inside.refused → limit ≤ now - inside.since
+      → (IsTrue ended → inside.client.conn.phase ≡ Ended) × (inside.client.conn.phase ≡ Ended → IsTrue ended) → limit ≡ (if ended then 1000 else 60000) → 1 ≤ inside.refused → limit ≤ now - inside.since
       → LeadsAtEdge counts given accepted now Behind old (record inside { ending = Some served.Stalled })
   stalled_by now limit ended old inside is going waits ended_is limit_is asked long =
       let some = some_limit ended limit limit_is in
-      let same : patience inside.client.conn.standing ≡ limit = patience_is inside.client.conn.standing ended ended_is ∙ sym limit_is in
-      let enough : inside.since + patience inside.client.conn.standing ≤ now = omega arith in
+      let same : patience inside.client.conn.phase ≡ limit = patience_is inside.client.conn.phase ended ended_is ∙ sym limit_is in
+      let enough : inside.since + patience inside.client.conn.phase ≤ now = omega arith in
       stalled now old inside is going (λ none. waits (ap (λ (s : ServiceState P T). s.outgoing) is ∙ none)) (subst (λ (s : ServiceState P T). 1 ≤ s.refused) is asked)
-      (inl (subst (λ (s : ServiceState P T). s.since + patience s.client.conn.standing ≤ now) is enough))
+      (inl (subst (λ (s : ServiceState P T). s.since + patience s.client.conn.phase ≤ now) is enough))

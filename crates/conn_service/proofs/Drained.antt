@@ -1,7 +1,7 @@
--- That a read gave less than there was room for is known behind acts only where it was known before them, or such a read is among them.
+-- That a read gave less than there was room for is known after acts only where it was known before them, or such a read is among them.
 use Rattle.std.proofs.Common.{◌≡◌, ◌⊎◌, ℕ, Bool, true, false, List, [], ◌∷◌, Option, refl, sym, ap, ◌∙◌, inl, inr}
 use Rattle.transport.specs.declared.counts.Counts.{Counts}
-use Rattle.conn_supply.specs.Facts.{Fact}
+use Rattle.conn_supply.specs.SupplyCalls.{SupplyCall}
 use Rattle.conn_service.specs.Services.{ServiceState}
 use Rattle.conn_service.specs.Acts.{Act, Enters, Leaves, Asks, Reads, Writes, Steps, Loses, Fails, Starves, IsFull, IsStopped, Stalls, GivesUp, Ends, Others}
 use Rattle.conn_service.specs.Moments.{still_drained}
@@ -16,7 +16,7 @@ forgets_at : (reads drained : Bool) → reads ≡ true → still_drained reads d
 forgets_at true drained is = refl
 forgets_at false drained is = cc is
 
-module _ {S P T : Type 0} (call : S → Fact P → S → Type 0) (begins ends : S → S → Type 0) (visiting : S → Bool) (slot_of : P → ℕ)
+module _ {S P T : Type 0} (call : S → SupplyCall P → S → Type 0) (begins ends : S → S → Type 0) (visiting : S → Bool) (slot_of : P → ℕ)
     (counts : T → Counts) (given accepted : T → Option (List ℕ)) where
   same_drained : (old new same : ServiceState P T) → new ≡ same → same.drained ≡ old.drained → new.drained ≡ true → old.drained ≡ true
   same_drained old new same is keeps drained = sym keeps ∙ sym (ap (λ (s : ServiceState P T). s.drained) is) ∙ drained
@@ -75,7 +75,7 @@ module _ {S P T : Type 0} (call : S → Fact P → S → Type 0) (begins ends : 
   not_before acts service not (inl is) = cc (is, not)
   not_before acts service not (inr short) = short
 
-  -- behind acts that have forgotten it, such a read is among them
+  -- after acts that have forgotten it, such a read is among them
   pub short_since : (acts : List Act) (old new : ServiceState P T) (supply supply' : S) → DoesAll call begins ends visiting slot_of counts given accepted acts old supply new supply'
       → HasForgotten acts → new.drained ≡ true → HasShortRead acts
   short_since [] old new supply supply' does forgotten is = absurd forgotten

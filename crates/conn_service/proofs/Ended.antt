@@ -1,10 +1,10 @@
--- How a connection ends, and what comes behind that.
+-- How a connection ends, and what comes after that.
 use Rattle.std.proofs.Common.{◌≡◌, ◌≢◌, ◌⊎◌, ℕ, Bool, List, [], ◌∷◌, ◌++◌, filter_map, Option, Some, None, refl, sym, ap, ◌∙◌, append-nil, inl, inr, ⊎_elim}
 use Rattle.std.specs.List.{AllByRecursion}
 use Rattle.std.specs.Option.{option_to_list}
 use Rattle.std.proofs.lemmas.List.Elements.{filter_map-append}
 use Rattle.transport.specs.declared.counts.Counts.{Counts}
-use Rattle.conn_supply.specs.Facts.{Fact}
+use Rattle.conn_supply.specs.SupplyCalls.{SupplyCall}
 use Rattle.conn_service.specs.declared.served.Served.{Served}
 use Rattle.conn_service.specs.Services.{ServiceState}
 use Rattle.conn_service.specs.Acts.{Act, Enters, Leaves, Asks, Reads, Writes, Steps, Loses, Fails, Starves, IsFull, IsStopped, Stalls, GivesUp, Ends, Others, ending_in, endings_of}
@@ -14,7 +14,7 @@ use Rattle.conn_service.specs.Transcripts.{IsQuiet}
 endings_on : (done : List Act) (act : Act) → endings_of (done ++ act ∷ []) ≡ endings_of done ++ filter_map ending_in (act ∷ [])
 endings_on done act = filter_map-append ending_in done (act ∷ [])
 
-module _ {S P T : Type 0} (call : S → Fact P → S → Type 0) (begins ends : S → S → Type 0) (visiting : S → Bool) (slot_of : P → ℕ)
+module _ {S P T : Type 0} (call : S → SupplyCall P → S → Type 0) (begins ends : S → S → Type 0) (visiting : S → Bool) (slot_of : P → ℕ)
     (counts : T → Counts) (given accepted : T → Option (List ℕ)) where
   -- an act either leaves the ending, or ends a connection that had not ended
   abbrev Turns : Option Served → Option Served → Option Served → Type 0
@@ -74,7 +74,7 @@ module _ {S P T : Type 0} (call : S → Fact P → S → Type 0) (begins ends : 
       ⊎_elim (λ (stays : (ending_in act ≡ None) × (new.ending ≡ old.ending)) (none : new.ending ≡ None). ended (sym stays.1 ∙ none))
       (λ (ends : (old.ending ≡ None) × (new.ending ≡ ending_in act)) (none : new.ending ≡ None). ended ends.0) (turns act old new supply supply' does)
 
-  -- behind its end it is quiet
+  -- after its end it is quiet
   pub quiet : (acts : List Act) (old new : ServiceState P T) (supply supply' : S) → old.ending ≢ None → DoesAll call begins ends visiting slot_of counts given accepted acts old supply new supply'
       → AllByRecursion IsQuiet acts
   quiet [] old new supply supply' ended does = tt

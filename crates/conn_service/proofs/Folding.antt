@@ -3,7 +3,7 @@ use Rattle.std.proofs.Common.{◌≡◌, ℕ, Bool, List, [], ◌∷◌, ◌++�
 use Rattle.std.specs.List.{flat_map}
 use Rattle.std.proofs.lemmas.Grind.{flat_map-append}
 use Rattle.transport.specs.declared.counts.Counts.{Counts}
-use Rattle.conn_supply.specs.Facts.{Fact}
+use Rattle.conn_supply.specs.SupplyCalls.{SupplyCall}
 use Rattle.conn_service.specs.Services.{ServiceState}
 use Rattle.conn_service.specs.Acts.{Act}
 use Rattle.conn_service.specs.Lives.{Does, DoesAll}
@@ -12,7 +12,7 @@ use Rattle.conn_service.specs.Lives.{Does, DoesAll}
 pub one_more : {A B : Type 0} (f : A → List B) (these : List A) (last : A) → flat_map f (these ++ last ∷ []) ≡ flat_map f these ++ f last
 one_more f these last = flat_map-append f these (last ∷ []) ∙ ap (λ (l : List _). flat_map f these ++ l) (append-nil (f last))
 
-module _ {S P T : Type 0} (call : S → Fact P → S → Type 0) (begins ends : S → S → Type 0) (visiting : S → Bool) (slot_of : P → ℕ)
+module _ {S P T : Type 0} (call : S → SupplyCall P → S → Type 0) (begins ends : S → S → Type 0) (visiting : S → Bool) (slot_of : P → ℕ)
     (counts : T → Counts) (given accepted : T → Option (List ℕ)) where
   pub folded : (Q : List Act → ServiceState P T → S → Type 0)
       → ((done : List Act) (act : Act) (old new : ServiceState P T) (supply supply' : S) → Q done old supply → Does call begins ends visiting slot_of counts given accepted act old supply new supply'

@@ -1,7 +1,7 @@
 -- Acts one after the other.
 use Rattle.std.proofs.Common.{◌≡◌, ℕ, Bool, List, [], ◌∷◌, ◌++◌, Option, refl, subst, inl, inr}
 use Rattle.transport.specs.declared.counts.Counts.{Counts}
-use Rattle.conn_supply.specs.Facts.{Fact}
+use Rattle.conn_supply.specs.SupplyCalls.{SupplyCall}
 use Rattle.conn_service.specs.Services.{ServiceState}
 use Rattle.conn_service.specs.Acts.{Act, Enters, Leaves, Asks, Reads, Writes, Steps, Loses, Fails, Starves, IsFull, IsStopped, Stalls, GivesUp, Ends, Others}
 use Rattle.conn_service.specs.Visits.{Stand, Outside, Inside, Behind, Parting, Parted, IsStillOut, TreadsOutside, TreadsBehind, Treads, Rests, Walks}
@@ -49,7 +49,7 @@ still_walks : (now : ℕ) (mid : Stand) (acts : List Act) → IsStillOut mid →
 still_walks now mid acts (inl out) walks = subst (λ (stand : Stand). Walks now stand acts Outside) out walks
 still_walks now mid acts (inr behind) walks = walks_outside now acts Outside (subst (λ (stand : Stand). Walks now stand acts Outside) behind walks)
 
--- one walk behind another
+-- one walk after another
 pub walks_both : (now : ℕ) (a b c : Stand) (these those : List Act) → Walks now a these b → Walks now b those c → Walks now a (these ++ those) c
 walks_both now a b c [] those first then = rests_then now a b c those first then
 walks_both now a b c (act ∷ these) those first then = (first.0, first.1, walks_both now first.0 b c these those first.2 then)
@@ -72,7 +72,7 @@ module _ {P T : Type 0} (counts : T → Counts) (given accepted : T → Option (
   edge_on {now = now} {stand = stand} old mid new first then =
       record { acts = first.acts ++ then.acts; does = edge_both first.acts then.acts old mid new first.does then.does; walks = walks_both now stand stand stand first.acts then.acts first.walks then.walks }
 
-  -- what is done towards the transport in front of the visit may be done behind it
+  -- what is done towards the transport in front of the visit may be done after it
   tread_behind : (now : ℕ) (act : Act) (mid : Stand) (old between : ServiceState P T) → DoesAtEdge counts given accepted act old between → TreadsOutside now act mid
       → TreadsBehind now act Behind × IsStillOut mid
   tread_behind now (Enters is_open reads) mid old between does treads = absurd does
@@ -100,7 +100,7 @@ module _ {P T : Type 0} (counts : T → Counts) (given accepted : T → Option (
   unfoldable pub edge_behind : {now : ℕ} (old new : ServiceState P T) → LeadsAtEdge counts given accepted now Outside old new → LeadsAtEdge counts given accepted now Behind old new
   edge_behind {now = now} old new led = record { acts = led.acts; does = led.does; walks = behind_all now led.acts old new led.does led.walks }
 
-module _ {S P T : Type 0} (call : S → Fact P → S → Type 0) (begins ends : S → S → Type 0) (visiting : S → Bool) (slot_of : P → ℕ)
+module _ {S P T : Type 0} (call : S → SupplyCall P → S → Type 0) (begins ends : S → S → Type 0) (visiting : S → Bool) (slot_of : P → ℕ)
     (counts : T → Counts) (given accepted : T → Option (List ℕ)) where
   unfoldable pub leads_nothing : {now : ℕ} {stand : Stand} (old new : ServiceState P T) (supply supply' : S) → new ≡ old → supply' ≡ supply
       → Leads call begins ends visiting slot_of counts given accepted now stand stand old supply new supply'

@@ -11,6 +11,6 @@ pub mod Folding
 pub mod Written
 pub mod Read
 pub mod Ended
-pub mod Standings
+pub mod Phases
 pub mod Sessions
 pub mod Marks

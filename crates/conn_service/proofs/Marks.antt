@@ -10,29 +10,29 @@ use Rattle.transport.specs.declared.answers.Got.{Got}
 use Rattle.transport.specs.declared.answers.Got.TheVariants as got
 use Rattle.group_jobs.specs.Stamps.{Held}
 use Rattle.member_window.specs.Contents.{Contents, after_up, after_down, IsSound}
-use Rattle.member_window.specs.Marks.{Mark, Standing as Point, standing_after, standing_after_all}
+use Rattle.member_window.specs.Marks.{Mark, WindowState, window_after, window_after_all}
 use Rattle.member_window.specs.Transcript.{IsLegalFrom}
 use Rattle.member_window.specs.Calls.{Call, Up, Down, Put, NextResend, Ack, TakeFirst, Restore, IsAllowed, Makes}
-use Rattle.member_window.specs.Runs.{MakesAll, marks_of, transcript_of, standing_of}
+use Rattle.member_window.specs.Runs.{MakesAll, marks_of, transcript_of, window_state}
 use Rattle.member_window.proofs.Legality.{legal_append}
-use Rattle.member_window.proofs.Law.{sound_after_all, legal_calls, standing_after_calls}
+use Rattle.member_window.proofs.Law.{sound_after_all, legal_calls, window_after_calls}
 use Rattle.session_desk.specs.declared.session.Session.{Session}
 use Rattle.conn_supply.specs.declared.reply.Then.{Then}
-use Rattle.conn_supply.specs.Facts.{Fact}
+use Rattle.conn_supply.specs.SupplyCalls.{SupplyCall}
 use Rattle.conn_engine.specs.declared.input.Input.{Input}
 use Rattle.conn_engine.specs.declared.input.Input.TheVariants as inputs
-use Rattle.conn_engine.specs.declared.standing.Link.{Link}
-use Rattle.conn_engine.specs.declared.standing.Standing.{Standing}
-use Rattle.conn_engine.specs.declared.standing.Standing.TheVariants.{Unconnected, Waiting, Connected, Ended}
+use Rattle.conn_engine.specs.declared.phase.ConnectedClient.{ConnectedClient}
+use Rattle.conn_engine.specs.declared.phase.ConnPhase.{ConnPhase}
+use Rattle.conn_engine.specs.declared.phase.ConnPhase.TheVariants.{Unconnected, Waiting, Connected, Ended}
 use Rattle.conn_engine.specs.Step.{Steps as Stepping}
 use Rattle.conn_laws.specs.Behind.{KeepsOrEnds}
 use Rattle.conn_laws.specs.Marks.{publishes_in, publishes_of, publish_of, as_publish, IsWithin}
-use Rattle.conn_laws.specs.Transcripts.{link_of, IsNotEnding, SessionTurns, Transcribes}
+use Rattle.conn_laws.specs.Transcripts.{connected_of, IsNotEnding, SessionSteps, Transcribes}
 use Rattle.conn_laws.proofs.Ended.{ends_by, keeping}
 use Rattle.conn_laws.proofs.Transcripts.{transcribed}
-use Rattle.client_table.specs.Clients.{ClientState, moment_of, words, Moves, IsGivenUp}
+use Rattle.client_table.specs.Clients.{ClientState, moment_of, step_output, ClientSteps, IsGivenUp}
 use Rattle.conn_service.specs.Services.{ServiceState}
-use Rattle.conn_service.specs.Acts.{Act, Enters, Leaves, Asks, Reads, Writes, Steps, Loses, Fails, Starves, IsFull, IsStopped, Stalls, GivesUp, Ends, Others, said_in, packets_said}
+use Rattle.conn_service.specs.Acts.{Act, Enters, Leaves, Asks, Reads, Writes, Steps, Loses, Fails, Starves, IsFull, IsStopped, Stalls, GivesUp, Ends, Others, packets_sent_in, packets_sent}
 use Rattle.conn_service.specs.Moments.{fed_by}
 use Rattle.conn_service.specs.Lives.{Does}
 use Rattle.conn_service.specs.Sessions.{IsGiven, IsLegalLife}
@@ -40,30 +40,30 @@ use Rattle.conn_service.proofs.Folding.{one_more}
 
 -- a transcript is legal from what a window held, and another window stands where it leads
 pub record Leads (first : Contents Held) (told : List (Mark Held)) (w : Contents Held) : Type 0 where
-  pub legal : IsLegalFrom (standing_of first) told
-  pub stands : standing_after_all (standing_of first) told ≡ standing_of w
+  pub legal : IsLegalFrom (window_state first) told
+  pub stands : window_after_all (window_state first) told ≡ window_state w
   pub sound : IsSound w
   pub up : IsSome w.quota × (w.retired ≡ false)
 
-standing_after_append : (s : Point Held) (before behind : List (Mark Held)) → standing_after_all s (before ++ behind) ≡ standing_after_all (standing_after_all s before) behind
-standing_after_append s [] behind = refl
-standing_after_append s (mark ∷ before) behind = standing_after_append (standing_after s mark) before behind
+window_after_append : (s : WindowState Held) (before behind : List (Mark Held)) → window_after_all s (before ++ behind) ≡ window_after_all (window_after_all s before) behind
+window_after_append s [] behind = refl
+window_after_append s (mark ∷ before) behind = window_after_append (window_after s mark) before behind
 
-legal_on : (first : Contents Held) (told : List (Mark Held)) (w w' : Contents Held) (calls : List (Call Held)) → IsLegalFrom (standing_of first) told
-    → standing_after_all (standing_of first) told ≡ standing_of w → IsSound w → w.retired ≡ false → MakesAll w calls w' → IsLegalFrom (standing_of first) (told ++ transcript_of calls)
+legal_on : (first : Contents Held) (told : List (Mark Held)) (w w' : Contents Held) (calls : List (Call Held)) → IsLegalFrom (window_state first) told
+    → window_after_all (window_state first) told ≡ window_state w → IsSound w → w.retired ≡ false → MakesAll w calls w' → IsLegalFrom (window_state first) (told ++ transcript_of calls)
 legal_on first told w w' calls legal stands sound goes_on made =
-    legal_append (standing_of first) told (transcript_of calls) legal
-    (subst (λ (s : Point Held). IsLegalFrom s (transcript_of calls)) (sym stands) (legal_calls w w' calls sound goes_on made))
+    legal_append (window_state first) told (transcript_of calls) legal
+    (subst (λ (s : WindowState Held). IsLegalFrom s (transcript_of calls)) (sym stands) (legal_calls w w' calls sound goes_on made))
 
-leads_by : (first : Contents Held) (told : List (Mark Held)) (w w' : Contents Held) (calls : List (Call Held)) → IsLegalFrom (standing_of first) told
-    → standing_after_all (standing_of first) told ≡ standing_of w → IsSound w → w.retired ≡ false → MakesAll w calls w' → (IsSome w'.quota × (w'.retired ≡ false))
+leads_by : (first : Contents Held) (told : List (Mark Held)) (w w' : Contents Held) (calls : List (Call Held)) → IsLegalFrom (window_state first) told
+    → window_after_all (window_state first) told ≡ window_state w → IsSound w → w.retired ≡ false → MakesAll w calls w' → (IsSome w'.quota × (w'.retired ≡ false))
     → Leads first (told ++ transcript_of calls) w'
 leads_by first told w w' calls legal stands sound goes_on made up =
     record {
       legal = legal_on first told w w' calls legal stands sound goes_on made;
       stands =
-          standing_after_append (standing_of first) told (transcript_of calls) ∙ ap (λ (s : Point Held). standing_after_all s (transcript_of calls)) stands
-          ∙ standing_after_calls w w' calls up.1 made;
+          window_after_append (window_state first) told (transcript_of calls) ∙ ap (λ (s : WindowState Held). window_after_all s (transcript_of calls)) stands
+          ∙ window_after_calls w w' calls up.1 made;
       sound = sound_after_all w w' calls sound made;
       up = up;
     }
@@ -95,54 +95,54 @@ stays_up (call ∷ calls) old new up within made =
     stays_up calls made.1.0 new (stays_up_once call old made.1.0 up parts.0 made.0 made.1.1) parts.1 made.1.2
 
 -- what was said so far, and what is said then
-publishes_on : (done : List Act) (act : Act) → publishes_in (packets_said (done ++ act ∷ [])) ≡ publishes_in (packets_said done) ++ publishes_in (said_in act)
-publishes_on done act = ap publishes_in (one_more said_in done act) ∙ filter_map-append as_publish (packets_said done) (said_in act)
+publishes_on : (done : List Act) (act : Act) → publishes_in (packets_sent (done ++ act ∷ [])) ≡ publishes_in (packets_sent done) ++ publishes_in (packets_sent_in act)
+publishes_on done act = ap publishes_in (one_more packets_sent_in done act) ∙ filter_map-append as_publish (packets_sent done) (packets_sent_in act)
 
-module _ {S P : Type 0} (call : S → Fact P → S → Type 0) where
+module _ {S P : Type 0} (call : S → SupplyCall P → S → Type 0) where
   -- where the marks of a life have led, by how far the connection has come
-  abbrev LegalAt : Contents Held → List (Mark Held) → Standing P → Type 0
-  LegalAt first told (Unconnected opened) = IsLegalFrom (standing_of first) told
-  LegalAt first told (Waiting request ticks) = IsLegalFrom (standing_of first) told
-  LegalAt first told (Connected link) = Leads first told link.session.window
-  LegalAt first told Ended = IsLegalFrom (standing_of first) told
+  abbrev LegalAt : Contents Held → List (Mark Held) → ConnPhase P → Type 0
+  LegalAt first told (Unconnected opened) = IsLegalFrom (window_state first) told
+  LegalAt first told (Waiting request ticks) = IsLegalFrom (window_state first) told
+  LegalAt first told (Connected connected) = Leads first told connected.session.window
+  LegalAt first told Ended = IsLegalFrom (window_state first) told
 
-  pub record Tells (done : List Act) (first : Contents Held) (standing : Standing P) : Type 0 where
+  pub record Tells (done : List Act) (first : Contents Held) (phase : ConnPhase P) : Type 0 where
     pub marks : List (Mark Held)
-    pub publishes : publishes_in (packets_said done) ≡ publishes_of marks
-    pub legal : LegalAt first marks standing
+    pub publishes : publishes_in (packets_sent done) ≡ publishes_of marks
+    pub legal : LegalAt first marks phase
 
-  pub record HasSession (number : ℕ) (done : List Act) (standing : Standing P) : Type 0 where
+  pub record HasSession (number : ℕ) (done : List Act) (phase : ConnPhase P) : Type 0 where
     pub session : Session Held P
     pub given : IsGiven call number session
-    pub keeps : KeepsOrEnds standing
-    pub tells : IsSound session.window → session.window.retired ≡ false → Tells done session.window standing
+    pub keeps : KeepsOrEnds phase
+    pub tells : IsSound session.window → session.window.retired ≡ false → Tells done session.window phase
 
-  abbrev pub IsAt : ℕ → List Act → Standing P → Type 0
-  IsAt number done standing = ((publishes_in (packets_said done) ≡ []) × (link_of standing ≡ None)) ⊎ HasSession number done standing
+  abbrev pub IsAt : ℕ → List Act → ConnPhase P → Type 0
+  IsAt number done phase = ((publishes_in (packets_sent done) ≡ []) × (connected_of phase ≡ None)) ⊎ HasSession number done phase
 
-  legal_at : (first : Contents Held) (told : List (Mark Held)) (standing : Standing P) → LegalAt first told standing → IsLegalFrom (standing_of first) told
+  legal_at : (first : Contents Held) (told : List (Mark Held)) (phase : ConnPhase P) → LegalAt first told phase → IsLegalFrom (window_state first) told
   legal_at first told (Unconnected opened) legal = legal
   legal_at first told (Waiting request ticks) legal = legal
-  legal_at first told (Connected link) legal = legal.legal
+  legal_at first told (Connected connected) legal = legal.legal
   legal_at first told Ended legal = legal
 
-  pub lives : (number : ℕ) (done : List Act) (standing : Standing P) → IsAt number done standing → IsLegalLife call number done
-  lives number done standing (inl none) = inl none.0
-  lives number done standing (inr has) =
+  pub lives : (number : ℕ) (done : List Act) (phase : ConnPhase P) → IsAt number done phase → IsLegalLife call number done
+  lives number done phase (inl none) = inl none.0
+  lives number done phase (inr has) =
       inr (
         has.session,
         has.given,
         λ sound going. let it = has.tells sound going in
-            record { marks = it.marks; publishes = it.publishes; legal = legal_at has.session.window it.marks standing it.legal },
+            record { marks = it.marks; publishes = it.publishes; legal = legal_at has.session.window it.marks phase it.legal },
       )
 
   -- an act that says nothing, and leaves how far the connection has come
-  quiet_at : (number : ℕ) (done : List Act) (act : Act) (old new : Standing P) → said_in act ≡ [] → new ≡ old → IsAt number done old → IsAt number (done ++ act ∷ []) new
+  quiet_at : (number : ℕ) (done : List Act) (act : Act) (old new : ConnPhase P) → packets_sent_in act ≡ [] → new ≡ old → IsAt number done old → IsAt number (done ++ act ∷ []) new
   quiet_at number done act old new none is (inl before) =
-      inl (publishes_on done act ∙ ap (λ (l : List Packet). publishes_in (packets_said done) ++ publishes_in l) none ∙ append-nil (publishes_in (packets_said done)) ∙ before.0, ap link_of is ∙ before.1)
+      inl (publishes_on done act ∙ ap (λ (l : List Packet). publishes_in (packets_sent done) ++ publishes_in l) none ∙ append-nil (publishes_in (packets_sent done)) ∙ before.0, ap connected_of is ∙ before.1)
   quiet_at number done act old new none is (inr has) =
-      let same = publishes_on done act ∙ ap (λ (l : List Packet). publishes_in (packets_said done) ++ publishes_in l) none ∙ append-nil (publishes_in (packets_said done)) in
-      subst (λ (s : Standing P). IsAt number (done ++ act ∷ []) s) (sym is)
+      let same = publishes_on done act ∙ ap (λ (l : List Packet). publishes_in (packets_sent done) ++ publishes_in l) none ∙ append-nil (publishes_in (packets_sent done)) in
+      subst (λ (s : ConnPhase P). IsAt number (done ++ act ∷ []) s) (sym is)
       (inr (record {
         session = has.session;
         given = has.given;
@@ -151,12 +151,12 @@ module _ {S P : Type 0} (call : S → Fact P → S → Type 0) where
       }))
 
   -- an act that says nothing, and ends it
-  over_at : (number : ℕ) (done : List Act) (act : Act) (old new : Standing P) → said_in act ≡ [] → new ≡ Ended → IsAt number done old → IsAt number (done ++ act ∷ []) new
+  over_at : (number : ℕ) (done : List Act) (act : Act) (old new : ConnPhase P) → packets_sent_in act ≡ [] → new ≡ Ended → IsAt number done old → IsAt number (done ++ act ∷ []) new
   over_at number done act old new none is (inl before) =
-      inl (publishes_on done act ∙ ap (λ (l : List Packet). publishes_in (packets_said done) ++ publishes_in l) none ∙ append-nil (publishes_in (packets_said done)) ∙ before.0, ap link_of is)
+      inl (publishes_on done act ∙ ap (λ (l : List Packet). publishes_in (packets_sent done) ++ publishes_in l) none ∙ append-nil (publishes_in (packets_sent done)) ∙ before.0, ap connected_of is)
   over_at number done act old new none is (inr has) =
-      let same = publishes_on done act ∙ ap (λ (l : List Packet). publishes_in (packets_said done) ++ publishes_in l) none ∙ append-nil (publishes_in (packets_said done)) in
-      subst (λ (s : Standing P). IsAt number (done ++ act ∷ []) s) (sym is)
+      let same = publishes_on done act ∙ ap (λ (l : List Packet). publishes_in (packets_sent done) ++ publishes_in l) none ∙ append-nil (publishes_in (packets_sent done)) in
+      subst (λ (s : ConnPhase P). IsAt number (done ++ act ∷ []) s) (sym is)
       (inr (record {
         session = has.session;
         given = has.given;
@@ -165,23 +165,23 @@ module _ {S P : Type 0} (call : S → Fact P → S → Type 0) where
             record { marks = it.marks; publishes = same ∙ it.publishes; legal = legal_at has.session.window it.marks old it.legal };
       }))
 
-  not_ending_none : (standing : Standing P) → link_of standing ≡ None → IsNotEnding standing
+  not_ending_none : (phase : ConnPhase P) → connected_of phase ≡ None → IsNotEnding phase
   not_ending_none (Unconnected opened) none = tt
   not_ending_none (Waiting request ticks) none = tt
-  not_ending_none (Connected link) none = absurd (let n = none in cc)
+  not_ending_none (Connected connected) none = absurd (let n = none in cc)
   not_ending_none Ended none = tt
 
   -- a step before there is a session
-  begins_at : (number : ℕ) (done : List Act) (act : Act) (packets : List Packet) (standing' : Standing P) (told : List (Mark Held)) (supply supply' : S) → said_in act ≡ packets
-      → publishes_in (packets_said done) ≡ [] → publishes_in packets ≡ publishes_of told
-      → SessionTurns call supply number None (link_of standing') told supply' → IsAt number (done ++ act ∷ []) standing'
+  begins_at : (number : ℕ) (done : List Act) (act : Act) (packets : List Packet) (phase' : ConnPhase P) (told : List (Mark Held)) (supply supply' : S) → packets_sent_in act ≡ packets
+      → publishes_in (packets_sent done) ≡ [] → publishes_in packets ≡ publishes_of told
+      → SessionSteps call supply number None (connected_of phase') told supply' → IsAt number (done ++ act ∷ []) phase'
   begins_at number done act packets (Unconnected opened) told supply supply' said before publishes turns =
       inl (publishes_on done act ∙ (λ i. before i ++ (ap publishes_in said ∙ publishes ∙ ap publishes_of turns.0) i), refl)
   begins_at number done act packets (Waiting request ticks) told supply supply' said before publishes turns =
       inl (publishes_on done act ∙ (λ i. before i ++ (ap publishes_in said ∙ publishes ∙ ap publishes_of turns.0) i), refl)
   begins_at number done act packets Ended told supply supply' said before publishes turns =
       inl (publishes_on done act ∙ (λ i. before i ++ (ap publishes_in said ∙ publishes ∙ ap publishes_of turns.0) i), refl)
-  begins_at number done act packets (Connected link) told supply supply' said before publishes turns =
+  begins_at number done act packets (Connected connected) told supply supply' said before publishes turns =
       inr (record {
         session = turns.session;
         given = record {
@@ -195,106 +195,106 @@ module _ {S P : Type 0} (call : S → Fact P → S → Type 0) where
         };
         keeps = tt;
         tells = λ sound going.
-            let up = stays_up turns.calls (after_up turns.session.window link.terms.receive_maximum) link.session.window (refl, going) turns.within turns.made in
+            let up = stays_up turns.calls (after_up turns.session.window connected.terms.receive_maximum) connected.session.window (refl, going) turns.within turns.made in
             record {
               marks = told;
               publishes = publishes_on done act ∙ (λ i. before i ++ (ap publishes_in said ∙ publishes) i);
-              legal = subst (λ (m : List (Mark Held)). Leads turns.session.window m link.session.window) (sym turns.marks_are)
-                  (leads_by turns.session.window [] turns.session.window link.session.window (Up link.terms.receive_maximum ∷ turns.calls) (legal_calls turns.session.window turns.session.window [] sound going refl) refl sound going
-                  (going, (after_up turns.session.window link.terms.receive_maximum, refl, turns.made)) up);
+              legal = subst (λ (m : List (Mark Held)). Leads turns.session.window m connected.session.window) (sym turns.marks_are)
+                  (leads_by turns.session.window [] turns.session.window connected.session.window (Up connected.terms.receive_maximum ∷ turns.calls) (legal_calls turns.session.window turns.session.window [] sound going refl) refl sound going
+                  (going, (after_up turns.session.window connected.terms.receive_maximum, refl, turns.made)) up);
             };
       })
 
   -- a step of a connection that has its session
-  goes_tells : (done : List Act) (act : Act) (packets : List Packet) (number : ℕ) (input : Input) (next : Then) (first : Contents Held) (link : Link P) (standing' : Standing P) (supply supply' : S)
-      → said_in act ≡ packets → KeepsOrEnds standing' → (it : Tells done first (Connected link))
-      → Transcribes call supply number (Connected link) input packets next standing' supply' → Tells (done ++ act ∷ []) first standing'
-  goes_tells done act packets number input next first link (Unconnected opened) supply supply' said keeps it step = absurd keeps
-  goes_tells done act packets number input next first link (Waiting request ticks) supply supply' said keeps it step = absurd keeps
-  goes_tells done act packets number input next first link (Connected link') supply supply' said keeps it step =
+  goes_tells : (done : List Act) (act : Act) (packets : List Packet) (number : ℕ) (input : Input) (next : Then) (first : Contents Held) (connected : ConnectedClient P) (phase' : ConnPhase P) (supply supply' : S)
+      → packets_sent_in act ≡ packets → KeepsOrEnds phase' → (it : Tells done first (Connected connected))
+      → Transcribes call supply number (Connected connected) input packets next phase' supply' → Tells (done ++ act ∷ []) first phase'
+  goes_tells done act packets number input next first connected (Unconnected opened) supply supply' said keeps it step = absurd keeps
+  goes_tells done act packets number input next first connected (Waiting request ticks) supply supply' said keeps it step = absurd keeps
+  goes_tells done act packets number input next first connected (Connected connected') supply supply' said keeps it step =
       let within = subst (AllByRecursion IsWithin) step.session.marks_are step.session.within in
-      let up = stays_up step.session.calls link.session.window link'.session.window it.legal.up within step.session.made in
+      let up = stays_up step.session.calls connected.session.window connected'.session.window it.legal.up within step.session.made in
       record {
         marks = it.marks ++ step.marks;
         publishes =
             publishes_on done act ∙ (λ i. it.publishes i ++ (ap publishes_in said ∙ step.publishes) i) ∙ sym (filter_map-append publish_of it.marks step.marks);
-        legal = subst (λ (m : List (Mark Held)). Leads first (it.marks ++ m) link'.session.window) (sym step.session.marks_are)
-            (leads_by first it.marks link.session.window link'.session.window step.session.calls it.legal.legal it.legal.stands it.legal.sound it.legal.up.1 step.session.made up);
+        legal = subst (λ (m : List (Mark Held)). Leads first (it.marks ++ m) connected'.session.window) (sym step.session.marks_are)
+            (leads_by first it.marks connected.session.window connected'.session.window step.session.calls it.legal.legal it.legal.stands it.legal.sound it.legal.up.1 step.session.made up);
       }
-  goes_tells done act packets number input next first link Ended supply supply' said keeps it step =
+  goes_tells done act packets number input next first connected Ended supply supply' said keeps it step =
       record {
         marks = it.marks ++ step.marks;
         publishes =
             publishes_on done act ∙ (λ i. it.publishes i ++ (ap publishes_in said ∙ step.publishes) i) ∙ sym (filter_map-append publish_of it.marks step.marks);
-        legal = subst (λ (m : List (Mark Held)). IsLegalFrom (standing_of first) (it.marks ++ m)) (sym step.session.marks_are)
-            (legal_on first it.marks link.session.window (after_down link.session.window) (Down ∷ []) it.legal.legal it.legal.stands it.legal.sound it.legal.up.1
-            (tt, (after_down link.session.window, refl, refl)));
+        legal = subst (λ (m : List (Mark Held)). IsLegalFrom (window_state first) (it.marks ++ m)) (sym step.session.marks_are)
+            (legal_on first it.marks connected.session.window (after_down connected.session.window) (Down ∷ []) it.legal.legal it.legal.stands it.legal.sound it.legal.up.1
+            (tt, (after_down connected.session.window, refl, refl)));
       }
 
-module _ {S P T : Type 0} (call : S → Fact P → S → Type 0) (begins ends : S → S → Type 0) (visiting : S → Bool) (slot_of : P → ℕ)
+module _ {S P T : Type 0} (call : S → SupplyCall P → S → Type 0) (begins ends : S → S → Type 0) (visiting : S → Bool) (slot_of : P → ℕ)
     (counts : T → Counts) (given accepted : T → Option (List ℕ)) where
-  abbrev StepsSo : S → ℕ → Standing P → ℕ → Input → List Packet → Then → Standing P → S → Type 0
-  StepsSo supply number standing now input packets next standing' supply' = Stepping call slot_of supply number standing now input packets next standing' supply'
+  abbrev StepsSo : S → ℕ → ConnPhase P → ℕ → Input → List Packet → Then → ConnPhase P → S → Type 0
+  StepsSo supply number phase now input packets next phase' supply' = Stepping call slot_of supply number phase now input packets next phase' supply'
 
-  with_session : (number now : ℕ) (done : List Act) (act : Act) (input : Input) (packets : List Packet) (next : Then) (standing standing' : Standing P) (supply supply' : S) → said_in act ≡ packets
-      → standing ≢ Ended → StepsSo supply number standing now input packets next standing' supply' → HasSession call number done standing → HasSession call number (done ++ act ∷ []) standing'
-  with_session number now done act input packets next (Unconnected opened) standing' supply supply' said not_over steps has = absurd has.keeps
-  with_session number now done act input packets next (Waiting request ticks) standing' supply supply' said not_over steps has = absurd has.keeps
-  with_session number now done act input packets next Ended standing' supply supply' said not_over steps has = absurd (not_over refl)
-  with_session number now done act input packets next (Connected link) standing' supply supply' said not_over steps has =
-      let keeps = keeping call slot_of supply supply' number now link standing' input packets next steps in
+  with_session : (number now : ℕ) (done : List Act) (act : Act) (input : Input) (packets : List Packet) (next : Then) (phase phase' : ConnPhase P) (supply supply' : S) → packets_sent_in act ≡ packets
+      → phase ≢ Ended → StepsSo supply number phase now input packets next phase' supply' → HasSession call number done phase → HasSession call number (done ++ act ∷ []) phase'
+  with_session number now done act input packets next (Unconnected opened) phase' supply supply' said not_over steps has = absurd has.keeps
+  with_session number now done act input packets next (Waiting request ticks) phase' supply supply' said not_over steps has = absurd has.keeps
+  with_session number now done act input packets next Ended phase' supply supply' said not_over steps has = absurd (not_over refl)
+  with_session number now done act input packets next (Connected connected) phase' supply supply' said not_over steps has =
+      let keeps = keeping call slot_of supply supply' number now connected phase' input packets next steps in
       record {
         session = has.session;
         given = has.given;
         keeps = keeps;
         tells = λ sound going.
             let it = has.tells sound going in
-            goes_tells call done act packets number input next has.session.window link standing' supply supply' said keeps it
-            (transcribed call slot_of supply supply' number now (Connected link) standing' input packets next steps it.legal.up.1);
+            goes_tells call done act packets number input next has.session.window connected phase' supply supply' said keeps it
+            (transcribed call slot_of supply supply' number now (Connected connected) phase' input packets next steps it.legal.up.1);
       }
 
-  step_at : (number now : ℕ) (done : List Act) (act : Act) (input : Input) (packets : List Packet) (next : Then) (standing standing' : Standing P) (supply supply' : S) → said_in act ≡ packets
-      → standing ≢ Ended → StepsSo supply number standing now input packets next standing' supply' → IsAt call number done standing → IsAt call number (done ++ act ∷ []) standing'
-  step_at number now done act input packets next standing standing' supply supply' said not_over steps (inl before) =
-      let step = transcribed call slot_of supply supply' number now standing standing' input packets next steps (not_ending_none call standing before.1) in
-      begins_at call number done act packets standing' step.marks supply supply' said before.0 step.publishes
-      (subst (λ (l : Option (Link P)). SessionTurns call supply number l (link_of standing') step.marks supply') before.1 step.session)
-  step_at number now done act input packets next standing standing' supply supply' said not_over steps (inr has) =
-      inr (with_session number now done act input packets next standing standing' supply supply' said not_over steps has)
+  step_at : (number now : ℕ) (done : List Act) (act : Act) (input : Input) (packets : List Packet) (next : Then) (phase phase' : ConnPhase P) (supply supply' : S) → packets_sent_in act ≡ packets
+      → phase ≢ Ended → StepsSo supply number phase now input packets next phase' supply' → IsAt call number done phase → IsAt call number (done ++ act ∷ []) phase'
+  step_at number now done act input packets next phase phase' supply supply' said not_over steps (inl before) =
+      let step = transcribed call slot_of supply supply' number now phase phase' input packets next steps (not_ending_none call phase before.1) in
+      begins_at call number done act packets phase' step.marks supply supply' said before.0 step.publishes
+      (subst (λ (l : Option (ConnectedClient P)). SessionSteps call supply number l (connected_of phase') step.marks supply') before.1 step.session)
+  step_at number now done act input packets next phase phase' supply supply' said not_over steps (inr has) =
+      inr (with_session number now done act input packets next phase phase' supply supply' said not_over steps has)
 
   -- the number stays, too
   pub record IsTellingAs (number : ℕ) (done : List Act) (service : ServiceState P T) : Type 0 where
     pub same : service.client.conn.number ≡ number
-    pub at : IsAt call number done service.client.conn.standing
+    pub at : IsAt call number done service.client.conn.phase
 
-  moved_at : (number now : ℕ) (done : List Act) (act : Act) (input : Input) (packets : List Packet) (next : Then) (old new : ServiceState P T) (supply supply' : S) → said_in act ≡ packets
-      → old.client.conn.standing ≢ Ended → Moves call slot_of supply old.client now input (words old.client.conn.number packets next) new.client supply'
+  moved_at : (number now : ℕ) (done : List Act) (act : Act) (input : Input) (packets : List Packet) (next : Then) (old new : ServiceState P T) (supply supply' : S) → packets_sent_in act ≡ packets
+      → old.client.conn.phase ≢ Ended → ClientSteps call slot_of supply old.client now input (step_output old.client.conn.number packets next) new.client supply'
       → IsTellingAs number done old → IsTellingAs number (done ++ act ∷ []) new
   moved_at number now done act input packets next old new supply supply' said not_over moved tells =
       record {
         same = moved.same ∙ tells.same;
         at =
-            step_at number (moment_of old.client now) done act input packets next old.client.conn.standing new.client.conn.standing supply supply' said not_over
-            (subst (λ (n : ℕ). StepsSo supply n old.client.conn.standing (moment_of old.client now) input packets next new.client.conn.standing supply') tells.same moved.stepped) tells.at;
+            step_at number (moment_of old.client now) done act input packets next old.client.conn.phase new.client.conn.phase supply supply' said not_over
+            (subst (λ (n : ℕ). StepsSo supply n old.client.conn.phase (moment_of old.client now) input packets next new.client.conn.phase supply') tells.same moved.stepped) tells.at;
       }
 
-  quiet_as : (number : ℕ) (done : List Act) (act : Act) (old new : ServiceState P T) → said_in act ≡ [] → new.client.conn ≡ old.client.conn → IsTellingAs number done old → IsTellingAs number (done ++ act ∷ []) new
+  quiet_as : (number : ℕ) (done : List Act) (act : Act) (old new : ServiceState P T) → packets_sent_in act ≡ [] → new.client.conn ≡ old.client.conn → IsTellingAs number done old → IsTellingAs number (done ++ act ∷ []) new
   quiet_as number done act old new none is tells =
       record {
         same = ap (λ c. c.number) is ∙ tells.same;
-        at = quiet_at call number done act old.client.conn.standing new.client.conn.standing none (ap (λ c. c.standing) is) tells.at;
+        at = quiet_at call number done act old.client.conn.phase new.client.conn.phase none (ap (λ c. c.phase) is) tells.at;
       }
 
-  over_as : (number : ℕ) (done : List Act) (act : Act) (old new : ServiceState P T) → said_in act ≡ [] → new.client.conn.number ≡ old.client.conn.number → new.client.conn.standing ≡ Ended
+  over_as : (number : ℕ) (done : List Act) (act : Act) (old new : ServiceState P T) → packets_sent_in act ≡ [] → new.client.conn.number ≡ old.client.conn.number → new.client.conn.phase ≡ Ended
       → IsTellingAs number done old → IsTellingAs number (done ++ act ∷ []) new
   over_as number done act old new none same over tells =
-      record { same = same ∙ tells.same; at = over_at call number done act old.client.conn.standing new.client.conn.standing none over tells.at }
+      record { same = same ∙ tells.same; at = over_at call number done act old.client.conn.phase new.client.conn.phase none over tells.at }
 
-  given_up_as : (number now : ℕ) (done : List Act) (act : Act) (old new : ServiceState P T) (supply supply' : S) → said_in act ≡ []
+  given_up_as : (number now : ℕ) (done : List Act) (act : Act) (old new : ServiceState P T) (supply supply' : S) → packets_sent_in act ≡ []
       → IsGivenUp call slot_of supply old.client now inputs.EndOfInput new.client supply' → IsTellingAs number done old → IsTellingAs number (done ++ act ∷ []) new
   given_up_as number now done act old new supply supply' none (inl moved) tells =
       over_as number done act old new none moved.1.same
-      (ends_by call slot_of supply supply' old.client.conn.number (moment_of old.client now) old.client.conn.standing new.client.conn.standing inputs.EndOfInput moved.0.packets moved.0.next
+      (ends_by call slot_of supply supply' old.client.conn.number (moment_of old.client now) old.client.conn.phase new.client.conn.phase inputs.EndOfInput moved.0.packets moved.0.next
       moved.1.stepped tt) tells
   given_up_as number now done act old new supply supply' none (inr failed) tells = over_as number done act old new none failed.same failed.over tells
 

@@ -4,13 +4,13 @@ use Rattle.mqtt_packet.specs.declared.packet.Packet.{Packet}
 use Rattle.mqtt_wire.specs.Stream.{Unread}
 use Rattle.transport.specs.declared.counts.Counts.{Counts}
 use Rattle.conn_supply.specs.declared.reply.Then.{Then}
-use Rattle.conn_supply.specs.Facts.{Fact}
+use Rattle.conn_supply.specs.SupplyCalls.{SupplyCall}
 use Rattle.conn_supply.specs.declared.supply.NoMemory.{NoMemory}
 use Rattle.conn_engine.specs.declared.input.Input.{Input}
 use Rattle.conn_engine.specs.declared.input.Input.TheVariants as inputs
-use Rattle.conn_engine.specs.declared.standing.Standing.TheVariants.{Ended}
+use Rattle.conn_engine.specs.declared.phase.ConnPhase.TheVariants.{Ended}
 use Rattle.conn_engine.specs.Step.{IsNoPacket}
-use Rattle.client_table.specs.Clients.{ClientState, words, Moves, FailsToMove, IsGivenUp}
+use Rattle.client_table.specs.Clients.{ClientState, step_output, ClientSteps, ClientFailsToStep, IsGivenUp}
 use Rattle.client_table.specs.Streams.{IsInFront, FailsToReadOne}
 use Rattle.conn_service.specs.declared.served.Served.TheVariants as served
 use Rattle.conn_service.specs.Services.{ServiceState, bytes_of, write_room}
@@ -43,7 +43,7 @@ no_tick inputs.Tick unread unread' now ticked front = absurd front
 no_tick inputs.EndOfInput unread unread' now ticked front = absurd front
 no_tick inputs.Closing unread unread' now ticked front = absurd front
 
-module _ {S P T : Type 0} (call : S → Fact P → S → Type 0) (begins ends : S → S → Type 0) (visiting : S → Bool) (slot_of : P → ℕ)
+module _ {S P T : Type 0} (call : S → SupplyCall P → S → Type 0) (begins ends : S → S → Type 0) (visiting : S → Bool) (slot_of : P → ℕ)
     (counts : T → Counts) (given accepted : T → Option (List ℕ)) where
   -- what may be stepped is stepped where it may stand
   stepped_in : (input : Input) (now : ℕ) (service : ServiceState P T) (supply : S) (is_open : Bool) → visiting supply ≡ is_open
@@ -57,7 +57,7 @@ module _ {S P T : Type 0} (call : S → Fact P → S → Type 0) (begins ends : 
   -- one step, whose packets wait to be written
   pub stepped : (now : ℕ) (input : Input) (packets : List Packet) (next : Then) (old inside : ServiceState P T) (client : ClientState P) (outgoing : List ℕ) (since ticked : ℕ) (supply supply' : S) (is_open : Bool) → visiting supply ≡ is_open
       → inside ≡ old → IsDue call begins ends visiting slot_of counts given accepted input now old supply → TakesFront inside.client.unread input client.unread
-      → Moves call slot_of supply inside.client now input (words inside.client.conn.number packets next) client supply'
+      → ClientSteps call slot_of supply inside.client now input (step_output inside.client.conn.number packets next) client supply'
       → outgoing ≡ inside.outgoing ++ bytes_of packets → since ≡ since_step inside.outgoing now inside.since → ticked ≡ ticked_by input now inside.ticked
       → Leads call begins ends visiting slot_of counts given accepted now (Inside is_open) (Inside is_open) old supply (record inside { client = client; outgoing = outgoing; since = since; ticked = ticked }) supply'
   stepped now input packets next old inside client outgoing since ticked supply supply' is_open is_visiting is due front moved outgoing_is since_is ticked_is =
@@ -73,7 +73,7 @@ module _ {S P T : Type 0} (call : S → Fact P → S → Type 0) (begins ends : 
   -- one step, for whose packets there was no memory
   pub lost : (now : ℕ) (input : Input) (packets : List Packet) (next : Then) (old inside : ServiceState P T) (client : ClientState P) (outgoing : List ℕ) (ticked : ℕ) (supply supply' : S) (is_open : Bool) → visiting supply ≡ is_open
       → inside ≡ old → IsDue call begins ends visiting slot_of counts given accepted input now old supply → TakesFront inside.client.unread input client.unread
-      → Moves call slot_of supply inside.client now input (words inside.client.conn.number packets next) client supply'
+      → ClientSteps call slot_of supply inside.client now input (step_output inside.client.conn.number packets next) client supply'
       → outgoing ≡ inside.outgoing → write_room < length (inside.outgoing ++ bytes_of packets) → ticked ≡ ticked_by input now inside.ticked
       → Leads call begins ends visiting slot_of counts given accepted now (Inside is_open) (Inside is_open) old supply (record inside { client = client; outgoing = outgoing; ticked = ticked; ending = Some served.Memory }) supply'
   lost now input packets next old inside client outgoing ticked supply supply' is_open is_visiting is due front moved outgoing_is full ticked_is =
@@ -87,10 +87,10 @@ module _ {S P T : Type 0} (call : S → Fact P → S → Type 0) (begins ends : 
         becomes = λ i. record inside { client = client; outgoing = outgoing_is i; ticked = ticked_is i; ending = Some served.Memory };
       }) (refl, stepped_in input now old supply is_open is_visiting due.may, refl))
 
-  -- one step that wanted memory
+  -- one step in which an allocation failed
   pub failed : (now : ℕ) (input : Input) (old inside : ServiceState P T) (client : ClientState P) (ticked : ℕ) (supply supply' : S) (is_open : Bool) → visiting supply ≡ is_open
       → inside ≡ old → IsDue call begins ends visiting slot_of counts given accepted input now old supply → TakesFront inside.client.unread input client.unread
-      → FailsToMove call slot_of supply inside.client now input client supply' → ticked ≡ ticked_by input now inside.ticked
+      → ClientFailsToStep call slot_of supply inside.client now input client supply' → ticked ≡ ticked_by input now inside.ticked
       → Leads call begins ends visiting slot_of counts given accepted now (Inside is_open) (Inside is_open) old supply (record inside { client = client; ticked = ticked; ending = Some served.Memory }) supply'
   failed now input old inside client ticked supply supply' is_open is_visiting is due front fails ticked_is =
       subst (λ (s : ServiceState P T). Leads call begins ends visiting slot_of counts given accepted now (Inside is_open) (Inside is_open) s supply (record inside { client = client; ticked = ticked; ending = Some served.Memory }) supply') is
@@ -104,7 +104,7 @@ module _ {S P T : Type 0} (call : S → Fact P → S → Type 0) (begins ends : 
 
   -- what stands in front may be stepped where there is room
   due_front : (input : Input) (now : ℕ) (service : ServiceState P T) (unread' : Unread) (supply : S) → IsInFront service.client.unread input unread' → service.ending ≡ None
-      → service.client.conn.standing ≢ Ended → visiting supply ≡ true → length service.outgoing < write_room
+      → service.client.conn.phase ≢ Ended → visiting supply ≡ true → length service.outgoing < write_room
       → IsDue call begins ends visiting slot_of counts given accepted input now service supply
   due_front (inputs.Packet packet) now service unread' supply front going not_over visited room = record { going = going; not_over = not_over; may = (visited, room) }
   due_front (inputs.Fault fault) now service unread' supply front going not_over visited room = record { going = going; not_over = not_over; may = (visited, room) }
@@ -113,15 +113,15 @@ module _ {S P T : Type 0} (call : S → Fact P → S → Type 0) (begins ends : 
   due_front inputs.Closing now service unread' supply front going not_over visited room = absurd front
 
   due_inside : (input : Input) (now : ℕ) (old inside : ServiceState P T) (unread' : Unread) (supply : S) → inside ≡ old → IsInFront inside.client.unread input unread' → old.ending ≡ None
-      → old.client.conn.standing ≢ Ended → visiting supply ≡ true → length old.outgoing < write_room
+      → old.client.conn.phase ≢ Ended → visiting supply ≡ true → length old.outgoing < write_room
       → IsDue call begins ends visiting slot_of counts given accepted input now old supply
   due_inside input now old inside unread' supply is front going not_over visited room =
       due_front input now old unread' supply (subst (λ (s : ServiceState P T). IsInFront s.client.unread input unread') is front) going not_over visited room
 
   -- the packet or the fault in front is stepped
   pub stepped_front : (now : ℕ) (packets : List Packet) (next : Then) (old inside : ServiceState P T) (client : ClientState P) (outgoing : List ℕ) (since : ℕ) (supply supply' : S)
-      → inside ≡ old → old.ending ≡ None → old.client.conn.standing ≢ Ended → visiting supply ≡ true → length old.outgoing < write_room
-      → ((input : Input) × IsInFront inside.client.unread input client.unread × Moves call slot_of supply inside.client now input (words inside.client.conn.number packets next) client supply')
+      → inside ≡ old → old.ending ≡ None → old.client.conn.phase ≢ Ended → visiting supply ≡ true → length old.outgoing < write_room
+      → ((input : Input) × IsInFront inside.client.unread input client.unread × ClientSteps call slot_of supply inside.client now input (step_output inside.client.conn.number packets next) client supply')
       → outgoing ≡ inside.outgoing ++ bytes_of packets → since ≡ since_step inside.outgoing now inside.since
       → Leads call begins ends visiting slot_of counts given accepted now (Inside true) (Inside true) old supply (record inside { client = client; outgoing = outgoing; since = since }) supply'
   stepped_front now packets next old inside client outgoing since supply supply' is going not_over visited room front outgoing_is since_is =
@@ -130,8 +130,8 @@ module _ {S P T : Type 0} (call : S → Fact P → S → Type 0) (begins ends : 
       (sym (no_tick front.0 inside.client.unread client.unread now inside.ticked front.1))
 
   pub lost_front : (now : ℕ) (packets : List Packet) (next : Then) (old inside : ServiceState P T) (client : ClientState P) (outgoing : List ℕ) (supply supply' : S)
-      → inside ≡ old → old.ending ≡ None → old.client.conn.standing ≢ Ended → visiting supply ≡ true → length old.outgoing < write_room
-      → ((input : Input) × IsInFront inside.client.unread input client.unread × Moves call slot_of supply inside.client now input (words inside.client.conn.number packets next) client supply')
+      → inside ≡ old → old.ending ≡ None → old.client.conn.phase ≢ Ended → visiting supply ≡ true → length old.outgoing < write_room
+      → ((input : Input) × IsInFront inside.client.unread input client.unread × ClientSteps call slot_of supply inside.client now input (step_output inside.client.conn.number packets next) client supply')
       → outgoing ≡ inside.outgoing → write_room < length (inside.outgoing ++ bytes_of packets)
       → Leads call begins ends visiting slot_of counts given accepted now (Inside true) (Inside true) old supply (record inside { client = client; outgoing = outgoing; ending = Some served.Memory }) supply'
   lost_front now packets next old inside client outgoing supply supply' is going not_over visited room front outgoing_is full =
@@ -139,9 +139,9 @@ module _ {S P T : Type 0} (call : S → Fact P → S → Type 0) (begins ends : 
       (due_inside front.0 now old inside client.unread supply is front.1 going not_over visited room) (takes_front front.0 inside.client.unread client.unread front.1) front.2 outgoing_is full
       (sym (no_tick front.0 inside.client.unread client.unread now inside.ticked front.1))
 
-  -- memory was wanted for it
+  -- an allocation failed for it
   pub failed_front : (now : ℕ) (old inside : ServiceState P T) (client : ClientState P) (supply supply' : S)
-      → inside ≡ old → old.ending ≡ None → old.client.conn.standing ≢ Ended → visiting supply ≡ true → length old.outgoing < write_room
+      → inside ≡ old → old.ending ≡ None → old.client.conn.phase ≢ Ended → visiting supply ≡ true → length old.outgoing < write_room
       → FailsToReadOne call slot_of supply inside.client now client supply'
       → Leads call begins ends visiting slot_of counts given accepted now (Inside true) (Inside true) old supply (record inside { client = client; ending = Some served.Memory }) supply'
   failed_front now old inside client supply supply' is going not_over visited room (inl given_up) =
@@ -149,7 +149,7 @@ module _ {S P T : Type 0} (call : S → Fact P → S → Type 0) (begins ends : 
       (leads_one call begins ends visiting slot_of counts given accepted (IsFull now) inside (record inside { client = client; ending = Some served.Memory }) supply supply'
       (record {
         going = ap (λ (s : ServiceState P T). s.ending) is ∙ going;
-        not_over = λ over. not_over (sym (ap (λ (s : ServiceState P T). s.client.conn.standing) is) ∙ over);
+        not_over = λ over. not_over (sym (ap (λ (s : ServiceState P T). s.client.conn.phase) is) ∙ over);
         given_up = given_up;
         becomes = refl;
       }) (refl, refl, refl))
@@ -159,7 +159,7 @@ module _ {S P T : Type 0} (call : S → Fact P → S → Type 0) (begins ends : 
 
   -- a connection without its last step is given up, within a visit
   pub abandoned : (now : ℕ) (is_open : Bool) (old inside : ServiceState P T) (client : ClientState P) (supply between mid supply' : S)
-      → inside ≡ old → old.ending ≢ None → inside.client.conn.standing ≢ Ended → begins supply between → visiting between ≡ is_open
+      → inside ≡ old → old.ending ≢ None → inside.client.conn.phase ≢ Ended → begins supply between → visiting between ≡ is_open
       → IsGivenUp call slot_of between inside.client now inputs.EndOfInput client mid → ends mid supply'
       → Leads call begins ends visiting slot_of counts given accepted now Behind Behind old supply (record inside { client = client; drained = false }) supply'
   abandoned now is_open old inside client supply between mid supply' is ended not_over entered told given_up left =
@@ -175,8 +175,8 @@ module _ {S P T : Type 0} (call : S → Fact P → S → Type 0) (begins ends : 
 
   -- whatever came of a last step, the connection was given up by it
   pub given_up_by : (result : Result Then NoMemory) (now : ℕ) (packets : List Packet) (client client' : ClientState P) (supply supply' : S)
-      → MatchResult result (λ next. Moves call slot_of supply client now inputs.EndOfInput (words client.conn.number packets next) client' supply')
-      (λ _. (packets ≡ []) × FailsToMove call slot_of supply client now inputs.EndOfInput client' supply')
+      → MatchResult result (λ next. ClientSteps call slot_of supply client now inputs.EndOfInput (step_output client.conn.number packets next) client' supply')
+      (λ _. (packets ≡ []) × ClientFailsToStep call slot_of supply client now inputs.EndOfInput client' supply')
       → IsGivenUp call slot_of supply client now inputs.EndOfInput client' supply'
-  given_up_by (Ok next) now packets client client' supply supply' moved = inl (words client.conn.number packets next, moved)
+  given_up_by (Ok next) now packets client client' supply supply' moved = inl (step_output client.conn.number packets next, moved)
   given_up_by (Err error) now packets client client' supply supply' failed = inr failed.1

@@ -11,10 +11,10 @@ use Rattle.transport.specs.Scripts.{got_count}
 use Rattle.std.proofs.lemmas.List.{nil_from_length}
 use Rattle.transport.specs.declared.answers.Got.{Got}
 use Rattle.transport.specs.declared.answers.Got.TheVariants as got
-use Rattle.conn_supply.specs.Facts.{Fact}
+use Rattle.conn_supply.specs.SupplyCalls.{SupplyCall}
 use Rattle.conn_engine.specs.declared.input.Input.{Input}
 use Rattle.conn_engine.specs.declared.input.Input.TheVariants as inputs
-use Rattle.conn_engine.specs.declared.standing.Standing.TheVariants.{Ended}
+use Rattle.conn_engine.specs.declared.phase.ConnPhase.TheVariants.{Ended}
 use Rattle.conn_engine.specs.Step.{Steps as Stepping}
 use Rattle.conn_laws.proofs.Ended.{ends_by}
 use Rattle.client_table.specs.Clients.{ClientState, moment_of}
@@ -52,8 +52,8 @@ pub record HasRead {P T : Type 0} (acts : List Act) (service : ServiceState P T)
   pub rest : List ℕ
   pub begun : Begins (bytes_read acts) (packets_read acts) rest
   pub faults : AllByRecursion (λ fault. FaultAt fault rest) (faults_met acts)
-  pub unread : service.ending ≡ None → service.client.conn.standing ≢ Ended → service.client.unread ≡ record { bytes = rest; fault = None }
-  pub unfaulted : service.ending ≡ None → service.client.conn.standing ≢ Ended → faults_met acts ≡ []
+  pub unread : service.ending ≡ None → service.client.conn.phase ≢ Ended → service.client.unread ≡ record { bytes = rest; fault = None }
+  pub unfaulted : service.ending ≡ None → service.client.conn.phase ≢ Ended → faults_met acts ≡ []
 
 pub so_far : {P T : Type 0} (acts : List Act) (service : ServiceState P T) → HasRead acts service → ReadsItsStream acts service
 so_far acts service has = record { rest = has.rest; begun = has.begun; faults = has.faults; unread = has.unread }
@@ -61,7 +61,7 @@ so_far acts service has = record { rest = has.rest; begun = has.begun; faults = 
 module _ {P T : Type 0} where
   -- an act by which nothing is read, and no packet and no fault stepped
   aside : (done : List Act) (act : Act) (old new : ServiceState P T) → read_in act ≡ [] → flat_map packet_in (input_in act) ≡ [] → flat_map fault_in (input_in act) ≡ []
-      → (new.ending ≡ None → new.client.conn.standing ≢ Ended → (old.ending ≡ None) × (old.client.conn.standing ≢ Ended) × (new.client.unread ≡ old.client.unread))
+      → (new.ending ≡ None → new.client.conn.phase ≢ Ended → (old.ending ≡ None) × (old.client.conn.phase ≢ Ended) × (new.client.unread ≡ old.client.unread))
       → HasRead done old → HasRead (done ++ act ∷ []) new
   aside done act old new no_bytes no_packet no_fault goes has =
       let same_bytes : bytes_read (done ++ act ∷ []) ≡ bytes_read done = one_more read_in done act ∙ ap (λ (l : List ℕ). bytes_read done ++ l) no_bytes ∙ append-nil (bytes_read done) in
@@ -77,7 +77,7 @@ module _ {P T : Type 0} where
 
   -- a read: what it gave stands behind what is unread
   reads : (done : List Act) (act : Act) (bytes : List ℕ) (old new : ServiceState P T) → read_in act ≡ bytes → flat_map packet_in (input_in act) ≡ [] → flat_map fault_in (input_in act) ≡ []
-      → old.ending ≡ None → old.client.conn.standing ≢ Ended
+      → old.ending ≡ None → old.client.conn.phase ≢ Ended
       → (new.ending ≡ None → new.client.unread ≡ longer old.client.unread.fault old.client.unread.bytes bytes)
       → HasRead done old → HasRead (done ++ act ∷ []) new
   reads done act bytes old new its no_packet no_fault going not_over feeds has =
@@ -97,7 +97,7 @@ module _ {P T : Type 0} where
 
   -- a packet is taken from the front
   takes : (done : List Act) (act : Act) (packet : Packet) (old new : ServiceState P T) → read_in act ≡ [] → input_in act ≡ inputs.Packet packet ∷ []
-      → old.ending ≡ None → old.client.conn.standing ≢ Ended → Takes old.client.unread packet new.client.unread
+      → old.ending ≡ None → old.client.conn.phase ≢ Ended → Takes old.client.unread packet new.client.unread
       → HasRead done old → HasRead (done ++ act ∷ []) new
   takes done act packet old new no_bytes its going not_over taken has =
       let same_bytes : bytes_read (done ++ act ∷ []) ≡ bytes_read done = one_more read_in done act ∙ ap (λ (l : List ℕ). bytes_read done ++ l) no_bytes ∙ append-nil (bytes_read done) in
@@ -118,7 +118,7 @@ module _ {P T : Type 0} where
 
   -- a fault is met
   stops : (done : List Act) (act : Act) (fault : StreamFault) (old new : ServiceState P T) → read_in act ≡ [] → input_in act ≡ inputs.Fault fault ∷ []
-      → old.ending ≡ None → old.client.conn.standing ≢ Ended → Stops old.client.unread fault new.client.unread → (new.ending ≡ None → new.client.conn.standing ≢ Ended → ⊥)
+      → old.ending ≡ None → old.client.conn.phase ≢ Ended → Stops old.client.unread fault new.client.unread → (new.ending ≡ None → new.client.conn.phase ≢ Ended → ⊥)
       → HasRead done old → HasRead (done ++ act ∷ []) new
   stops done act fault old new no_bytes its going not_over met over has =
       let same_bytes : bytes_read (done ++ act ∷ []) ≡ bytes_read done = one_more read_in done act ∙ ap (λ (l : List ℕ). bytes_read done ++ l) no_bytes ∙ append-nil (bytes_read done) in
@@ -144,12 +144,12 @@ module _ {P T : Type 0} where
 nothing_fed : (u : Unread) → u.fault ≡ None → u ≡ longer u.fault u.bytes []
 nothing_fed u none = (λ i. record { bytes = sym (append-nil u.bytes) i; fault = none i }) ∙ ap (λ (f : Option StreamFault). longer f u.bytes []) (sym none)
 
-module _ {S P T : Type 0} (call : S → Fact P → S → Type 0) (begins ends : S → S → Type 0) (visiting : S → Bool) (slot_of : P → ℕ)
+module _ {S P T : Type 0} (call : S → SupplyCall P → S → Type 0) (begins ends : S → S → Type 0) (visiting : S → Bool) (slot_of : P → ℕ)
     (counts : T → Counts) (given accepted : T → Option (List ℕ)) where
   -- what a step takes from the front, where it is made of a connection that goes on
-  stepped_front : (done : List Act) (act : Act) (input : Input) (old new : ServiceState P T) → read_in act ≡ [] → input_in act ≡ input ∷ [] → old.ending ≡ None → old.client.conn.standing ≢ Ended
+  stepped_front : (done : List Act) (act : Act) (input : Input) (old new : ServiceState P T) → read_in act ≡ [] → input_in act ≡ input ∷ [] → old.ending ≡ None → old.client.conn.phase ≢ Ended
       → TakesFront old.client.unread input new.client.unread
-      → ((fault : StreamFault) → input ≡ inputs.Fault fault → new.ending ≡ None → new.client.conn.standing ≢ Ended → ⊥)
+      → ((fault : StreamFault) → input ≡ inputs.Fault fault → new.ending ≡ None → new.client.conn.phase ≢ Ended → ⊥)
       → HasRead done old → HasRead (done ++ act ∷ []) new
   stepped_front done act (inputs.Packet packet) old new no_bytes its going not_over front over has = takes done act packet old new no_bytes its going not_over front has
   stepped_front done act (inputs.Fault fault) old new no_bytes its going not_over front over has =
@@ -166,7 +166,7 @@ module _ {S P T : Type 0} (call : S → Fact P → S → Type 0) (begins ends : 
       → (new.ending ≡ None → (old.ending ≡ None) × (new.client ≡ old.client)) → HasRead done old → HasRead (done ++ act ∷ []) new
   beside done act old new no_bytes no_packet no_fault goes has =
       aside done act old new no_bytes no_packet no_fault
-      (λ still lives. let it = goes still in (it.0, λ over. lives (ap (λ (c : ClientState P). c.conn.standing) it.1 ∙ over), ap (λ (c : ClientState P). c.unread) it.1)) has
+      (λ still lives. let it = goes still in (it.0, λ over. lives (ap (λ (c : ClientState P). c.conn.phase) it.1 ∙ over), ap (λ (c : ClientState P). c.unread) it.1)) has
 
   -- what a read makes of what is unread
   feeds : (its : Got) (client : ClientState P) (bytes : List ℕ) → client.unread.fault ≡ None → length bytes ≡ got_count its
@@ -200,8 +200,8 @@ module _ {S P T : Type 0} (call : S → Fact P → S → Type 0) (begins ends : 
   read_on done (Steps now input packets next) old new supply supply' has does =
       stepped_front done (Steps now input packets next) input old new refl refl does.due.going does.due.not_over does.front
       (λ fault is still lives.
-      lives (ends_by call slot_of supply supply' old.client.conn.number (moment_of old.client now) old.client.conn.standing new.client.conn.standing (inputs.Fault fault) packets next
-      (subst (λ (i : Input). Stepping call slot_of supply old.client.conn.number old.client.conn.standing (moment_of old.client now) i packets next new.client.conn.standing supply') is
+      lives (ends_by call slot_of supply supply' old.client.conn.number (moment_of old.client now) old.client.conn.phase new.client.conn.phase (inputs.Fault fault) packets next
+      (subst (λ (i : Input). Stepping call slot_of supply old.client.conn.number old.client.conn.phase (moment_of old.client now) i packets next new.client.conn.phase supply') is
       does.moved.stepped) tt)) has
   read_on done (Loses now input packets next) old new supply supply' has does =
       stepped_front done (Loses now input packets next) input old new refl refl does.due.going does.due.not_over does.front

@@ -4,8 +4,8 @@ use Rattle.transport.specs.declared.counts.Counts.{Counts}
 use Rattle.transport.specs.declared.answers.Put.{Put}
 use Rattle.transport.specs.declared.answers.Put.TheVariants as put
 use Rattle.transport.specs.declared.answers.Got.{Got}
-use Rattle.conn_supply.specs.Facts.{Fact}
-use Rattle.conn_engine.specs.declared.standing.Standing.TheVariants.{Ended}
+use Rattle.conn_supply.specs.SupplyCalls.{SupplyCall}
+use Rattle.conn_engine.specs.declared.phase.ConnPhase.TheVariants.{Ended}
 use Rattle.client_table.specs.Clients.{ClientState}
 use Rattle.conn_service.specs.Services.{ServiceState, IdlesTick, KeepsIdles}
 use Rattle.conn_service.specs.Acts.{Reads, Writes, Enters, Leaves}
@@ -15,7 +15,7 @@ use Rattle.conn_service.specs.Edges.{ReadsOnce, WritesOnce, LeadsAtEdge}
 use Rattle.conn_service.specs.Lives.{Leads}
 use Rattle.conn_service.proofs.Leading.{edge_one, edge_on, leads_one, leads_on, leads_at_edge}
 
--- ticks before and behind which no read gave nothing
+-- ticks before and after which no read gave nothing
 pub idles_between : {P T : Type 0} (counts : T → Counts) (now : ℕ) (a b c d : ServiceState P T) → KeepsIdles counts a b → IdlesTick counts now b c → KeepsIdles counts c d → IdlesTick counts now a d
 idles_between counts now a b c d first ticks last =
     λ changed. last.1 ∙ ticks (λ same. changed (last.0 ∙ same ∙ first.0))
@@ -35,11 +35,11 @@ none_or_some (byte ∷ bytes) = inr (λ none. cc none)
 
 -- a Tick in a visit is one of the round
 pub ticks_on : {P T : Type 0} (now : ℕ) (sent visited written new : ServiceState P T) → (sent.outgoing ≢ [] → visited.outgoing ≢ []) → (sent.outgoing ≢ [] → written ≡ visited)
-    → (sent.outgoing ≡ [] → (visited.client.conn.standing ≡ Ended) ⊎ (visited.ticked ≡ now)) → new ≡ written → written.client ≡ visited.client → written.ticked ≡ visited.ticked
-    → (new.outgoing ≡ [] → new.client.conn.standing ≢ Ended) → new.outgoing ≡ [] → new.ticked ≡ now
+    → (sent.outgoing ≡ [] → (visited.client.conn.phase ≡ Ended) ⊎ (visited.ticked ≡ now)) → new ≡ written → written.client ≡ visited.client → written.ticked ≡ visited.ticked
+    → (new.outgoing ≡ [] → new.client.conn.phase ≢ Ended) → new.outgoing ≡ [] → new.ticked ≡ now
 ticks_on {P} {T} now sent visited written new waits unasked ticks is client_is ticked_is not_over none = by (none_or_some sent.outgoing) where
-  behind : (visited.client.conn.standing ≡ Ended) ⊎ (visited.ticked ≡ now) → new.ticked ≡ now
-  behind (inl over) = absurd (not_over none (ap (λ (s : ServiceState P T). s.client.conn.standing) is ∙ ap (λ (its : ClientState P). its.conn.standing) client_is ∙ over))
+  behind : (visited.client.conn.phase ≡ Ended) ⊎ (visited.ticked ≡ now) → new.ticked ≡ now
+  behind (inl over) = absurd (not_over none (ap (λ (s : ServiceState P T). s.client.conn.phase) is ∙ ap (λ (its : ClientState P). its.conn.phase) client_is ∙ over))
   behind (inr ticked) = ap (λ (s : ServiceState P T). s.ticked) is ∙ ticked_is ∙ ticked
 
   by : (sent.outgoing ≡ []) ⊎ (sent.outgoing ≢ []) → new.ticked ≡ now
@@ -57,7 +57,7 @@ module _ {P T : Type 0} (counts : T → Counts) (given accepted : T → Option (
   less_waits now count old new writes =
       let whole = ap length writes.front in let both = length-append writes.taken new.outgoing in let taken = writes.count in let some = writes.some in omega arith
 
-module _ {S P T : Type 0} (call : S → Fact P → S → Type 0) (begins ends : S → S → Type 0) (visiting : S → Bool) (slot_of : P → ℕ)
+module _ {S P T : Type 0} (call : S → SupplyCall P → S → Type 0) (begins ends : S → S → Type 0) (visiting : S → Bool) (slot_of : P → ℕ)
     (counts : T → Counts) (given accepted : T → Option (List ℕ)) where
   -- acts towards the transport, and then others
   unfoldable pub edge_then : {now : ℕ} {a b : Stand} (old mid new : ServiceState P T) (supply supply' : S) → LeadsAtEdge counts given accepted now a old mid

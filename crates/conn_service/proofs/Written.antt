@@ -9,23 +9,23 @@ use Rattle.transport.specs.declared.answers.Got.{Got}
 use Rattle.transport.specs.declared.answers.Got.TheVariants as got
 use Rattle.transport.specs.declared.answers.Put.{Put}
 use Rattle.transport.specs.declared.answers.Put.TheVariants as put
-use Rattle.conn_supply.specs.Facts.{Fact}
+use Rattle.conn_supply.specs.SupplyCalls.{SupplyCall}
 use Rattle.conn_service.specs.declared.served.Served.TheVariants as served
 use Rattle.conn_service.specs.Services.{ServiceState, bytes_of}
-use Rattle.conn_service.specs.Acts.{Act, Enters, Leaves, Asks, Reads, Writes, Steps, Loses, Fails, Starves, IsFull, IsStopped, Stalls, GivesUp, Ends, Others, said_in, packets_said}
+use Rattle.conn_service.specs.Acts.{Act, Enters, Leaves, Asks, Reads, Writes, Steps, Loses, Fails, Starves, IsFull, IsStopped, Stalls, GivesUp, Ends, Others, packets_sent_in, packets_sent}
 use Rattle.conn_service.specs.Moments.{ending_read, ending_write}
 use Rattle.conn_service.specs.Lives.{Does}
 use Rattle.conn_service.specs.Transcripts.{WritesItsPackets}
 use Rattle.conn_service.proofs.Folding.{one_more}
 
--- known bytes with some behind them, and then others
+-- known bytes with some after them, and then others
 append_twice : (known : Option (List ℕ)) (a b : List ℕ) → append_known (append_known known a) b ≡ append_known known (a ++ b)
 append_twice None a b = refl
 append_twice (Some xs) a b = ap Some (append_assoc xs a b)
 
 module _ {P T : Type 0} (accepted : T → Option (List ℕ)) (first : T) where
   -- an act that says nothing, and leaves what was taken
-  silent : (done : List Act) (act : Act) (old new : ServiceState P T) → said_in act ≡ [] → accepted new.transport ≡ accepted old.transport
+  silent : (done : List Act) (act : Act) (old new : ServiceState P T) → packets_sent_in act ≡ [] → accepted new.transport ≡ accepted old.transport
       → (new.ending ≡ None → (old.ending ≡ None) × (new.outgoing ≡ old.outgoing)) → (new.ending ≡ Some served.Ended → (old.ending ≡ Some served.Ended) ⊎ ((old.ending ≡ None) × (old.outgoing ≡ [])))
       → WritesItsPackets accepted first done old → WritesItsPackets accepted first (done ++ act ∷ []) new
   silent done act old new none same goes ended kept =
@@ -33,13 +33,13 @@ module _ {P T : Type 0} (accepted : T → Option (List ℕ)) (first : T) where
         rest = kept.rest;
         begun =
             ap (λ (k : Option (List ℕ)). append_known k kept.rest) same ∙ kept.begun
-            ∙ ap (λ (l : List Packet). append_known (accepted first) (bytes_of l)) (sym (append-nil (packets_said done)) ∙ ap (λ (l : List Packet). packets_said done ++ l) (sym none) ∙ sym (one_more said_in done act));
+            ∙ ap (λ (l : List Packet). append_known (accepted first) (bytes_of l)) (sym (append-nil (packets_sent done)) ∙ ap (λ (l : List Packet). packets_sent done ++ l) (sym none) ∙ sym (one_more packets_sent_in done act));
         waits = λ going. let it = goes going in kept.waits it.0 ∙ sym it.1;
         all = λ is. ⊎_elim (λ (e : old.ending ≡ Some served.Ended). kept.all e) (λ (e : (old.ending ≡ None) × (old.outgoing ≡ [])). kept.waits e.0 ∙ e.1) (ended is);
       }
 
   -- a step says something; it waits to be written, or is lost
-  speaks : (done : List Act) (act : Act) (packets : List Packet) (old new : ServiceState P T) → said_in act ≡ packets → accepted new.transport ≡ accepted old.transport → old.ending ≡ None
+  speaks : (done : List Act) (act : Act) (packets : List Packet) (old new : ServiceState P T) → packets_sent_in act ≡ packets → accepted new.transport ≡ accepted old.transport → old.ending ≡ None
       → (new.ending ≡ None → new.outgoing ≡ old.outgoing ++ bytes_of packets) → (new.ending ≡ Some served.Ended → ⊥)
       → WritesItsPackets accepted first done old → WritesItsPackets accepted first (done ++ act ∷ []) new
   speaks done act packets old new said same going goes never kept =
@@ -49,15 +49,15 @@ module _ {P T : Type 0} (accepted : T → Option (List ℕ)) (first : T) where
             ap (λ (k : Option (List ℕ)). append_known k (kept.rest ++ bytes_of packets)) same
             ∙ sym (append_twice (accepted old.transport) kept.rest (bytes_of packets))
             ∙ ap (λ (k : Option (List ℕ)). append_known k (bytes_of packets)) kept.begun
-            ∙ append_twice (accepted first) (bytes_of (packets_said done)) (bytes_of packets)
+            ∙ append_twice (accepted first) (bytes_of (packets_sent done)) (bytes_of packets)
             ∙ ap (append_known (accepted first))
-            (sym (flat_map-append written (packets_said done) packets) ∙ ap (λ (l : List Packet). bytes_of (packets_said done ++ l)) (sym said) ∙ ap bytes_of (sym (one_more said_in done act)));
+            (sym (flat_map-append written (packets_sent done) packets) ∙ ap (λ (l : List Packet). bytes_of (packets_sent done ++ l)) (sym said) ∙ ap bytes_of (sym (one_more packets_sent_in done act)));
         waits = λ still. ap (λ (l : List ℕ). l ++ bytes_of packets) (kept.waits going) ∙ sym (goes still);
         all = λ is. absurd (never is);
       }
 
   -- a write takes some of what waits
-  takes : (done : List Act) (act : Act) (old new : ServiceState P T) (taken : List ℕ) → said_in act ≡ [] → old.ending ≡ None → old.outgoing ≡ taken ++ new.outgoing
+  takes : (done : List Act) (act : Act) (old new : ServiceState P T) (taken : List ℕ) → packets_sent_in act ≡ [] → old.ending ≡ None → old.outgoing ≡ taken ++ new.outgoing
       → accepted new.transport ≡ append_known (accepted old.transport) taken → (new.ending ≡ Some served.Ended → ⊥)
       → WritesItsPackets accepted first done old → WritesItsPackets accepted first (done ++ act ∷ []) new
   takes done act old new taken none going front taken_is never kept =
@@ -66,12 +66,12 @@ module _ {P T : Type 0} (accepted : T → Option (List ℕ)) (first : T) where
         begun =
             ap (λ (k : Option (List ℕ)). append_known k new.outgoing) taken_is ∙ append_twice (accepted old.transport) taken new.outgoing
             ∙ ap (append_known (accepted old.transport)) (sym front ∙ sym (kept.waits going)) ∙ kept.begun
-            ∙ ap (λ (l : List Packet). append_known (accepted first) (bytes_of l)) (sym (append-nil (packets_said done)) ∙ ap (λ (l : List Packet). packets_said done ++ l) (sym none) ∙ sym (one_more said_in done act));
+            ∙ ap (λ (l : List Packet). append_known (accepted first) (bytes_of l)) (sym (append-nil (packets_sent done)) ∙ ap (λ (l : List Packet). packets_sent done ++ l) (sym none) ∙ sym (one_more packets_sent_in done act));
         waits = λ still. refl;
         all = λ is. absurd (never is);
       }
 
-module _ {S P T : Type 0} (call : S → Fact P → S → Type 0) (begins ends : S → S → Type 0) (visiting : S → Bool) (slot_of : P → ℕ)
+module _ {S P T : Type 0} (call : S → SupplyCall P → S → Type 0) (begins ends : S → S → Type 0) (visiting : S → Bool) (slot_of : P → ℕ)
     (counts : T → Counts) (given accepted : T → Option (List ℕ)) (first : T) where
   -- a read does not end it with 0
   read_never : (got : Got) → ending_read got ≡ Some served.Ended → ⊥

@@ -27,7 +27,7 @@ pub data Act : Type 0 where
   Steps : (now : ℕ) → (input : Input) → (packets : List Packet) → (next : Then) → Act
   -- one step, for whose packets there was no memory, as they are more than there is room for; nothing is written any more
   Loses : (now : ℕ) → (input : Input) → (packets : List Packet) → (next : Then) → Act
-  -- one step that wanted memory; nothing is written any more
+  -- one step in which an allocation failed; nothing is written any more
   Fails : (now : ℕ) → (input : Input) → Act
   -- one read of the transport, for whose bytes there was no memory; nothing is written any more
   Starves : (got : Got) → (bytes : List ℕ) → Act
@@ -37,7 +37,7 @@ pub data Act : Type 0 where
   IsStopped : Act
   -- the transport took nothing for too long; nothing is written any more
   Stalls : (now : ℕ) → Act
-  -- behind such an end, the connection is given up, if it has not ended yet
+  -- after such an end, the connection is given up, if it has not ended yet
   GivesUp : (now : ℕ) → Act
   -- the connection has ended, and all that it said is written
   Ends : Act
@@ -76,10 +76,10 @@ fault_in inputs.EndOfInput = []
 fault_in inputs.Closing = []
 
 -- what a step said, whether it could be written or not
-abbrev pub said_in : Act → List Packet
-said_in (Steps now input packets next) = packets
-said_in (Loses now input packets next) = packets
-said_in _ = []
+abbrev pub packets_sent_in : Act → List Packet
+packets_sent_in (Steps now input packets next) = packets
+packets_sent_in (Loses now input packets next) = packets
+packets_sent_in _ = []
 
 -- how an act ends the connection, if it does
 abbrev pub ending_in : Act → Option Served
@@ -107,8 +107,8 @@ packets_read acts = flat_map packet_in (inputs_of acts)
 abbrev pub faults_met : List Act → List StreamFault
 faults_met acts = flat_map fault_in (inputs_of acts)
 
-abbrev pub packets_said : List Act → List Packet
-packets_said acts = flat_map said_in acts
+abbrev pub packets_sent : List Act → List Packet
+packets_sent acts = flat_map packets_sent_in acts
 
 abbrev pub endings_of : List Act → List Served
 endings_of acts = filter_map ending_in acts

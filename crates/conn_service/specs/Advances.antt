@@ -5,8 +5,8 @@ use Rattle.transport.specs.declared.answers.Got.{Got}
 use Rattle.transport.specs.declared.answers.Got.TheVariants as got
 use Rattle.transport.specs.declared.answers.Put.{Put}
 use Rattle.transport.specs.declared.answers.Put.TheVariants as put
-use Rattle.conn_supply.specs.Facts.{Fact}
-use Rattle.conn_engine.specs.declared.standing.Standing.TheVariants.{Ended}
+use Rattle.conn_supply.specs.SupplyCalls.{SupplyCall}
+use Rattle.conn_engine.specs.declared.phase.ConnPhase.TheVariants.{Ended}
 use Rattle.conn_service.specs.declared.served.Direction.{Direction}
 use Rattle.conn_service.specs.declared.served.Round.{Round}
 use Rattle.conn_service.specs.declared.served.Round.TheVariants as rounds
@@ -75,7 +75,7 @@ WritesFirst old new acts = old.outgoing ≢ [] → new.ending ≡ None → Begin
 
 -- what the acts of a visit tell, in a round that reads
 abbrev pub TellsOfVisit : {P T : Type 0} → Result Bool Served → ServiceState P T → List Act → Type 0
-TellsOfVisit result new acts = IfOk result (λ all. IsDoneOrAdvances all new acts × ((new.client.conn.standing ≡ Ended) ⊎ HasForgotten acts))
+TellsOfVisit result new acts = IfOk result (λ all. IsDoneOrAdvances all new acts × ((new.client.conn.phase ≡ Ended) ⊎ HasForgotten acts))
 
 -- and those of the whole round
 abbrev pub TellsOfRound : {P T : Type 0} → Result Bool Served → ServiceState P T → List Act → Type 0
@@ -87,7 +87,7 @@ module _ {P T : Type 0} (counts : T → Counts) (given accepted : T → Option (
     pub led : LeadsAtEdge counts given accepted now stand old new
     pub told : Holds led.acts
 
-module _ {S P T : Type 0} (call : S → Fact P → S → Type 0) (begins ends : S → S → Type 0) (visiting : S → Bool) (slot_of : P → ℕ)
+module _ {S P T : Type 0} (call : S → SupplyCall P → S → Type 0) (begins ends : S → S → Type 0) (visiting : S → Bool) (slot_of : P → ℕ)
     (counts : T → Counts) (given accepted : T → Option (List ℕ)) where
   -- acts, of which this holds, lead from the one to the other
   pub record LeadsBy (Holds : List Act → Type 0) (now : ℕ) (from to : Stand) (old : ServiceState P T) (supply : S) (new : ServiceState P T) (supply' : S) : Type 0 where

@@ -6,7 +6,7 @@ use Rattle.transport.specs.Counting.{after_got, after_put}
 use Rattle.transport.specs.Scripts.{put_count, got_count}
 use Rattle.transport.specs.declared.answers.Got.{Got}
 use Rattle.transport.specs.declared.answers.Put.{Put}
-use Rattle.conn_engine.specs.declared.standing.Standing.TheVariants.{Ended}
+use Rattle.conn_engine.specs.declared.phase.ConnPhase.TheVariants.{Ended}
 use Rattle.client_table.specs.Streams.{IsRead}
 use Rattle.conn_service.specs.declared.served.Served.TheVariants as served
 use Rattle.conn_service.specs.Services.{ServiceState, KeepsEnough, patience, most_refused}
@@ -27,7 +27,7 @@ module _ {P T : Type 0} (counts : T → Counts) (given accepted : T → Option (
   -- until it keeps enough
   pub record MayRead (service : ServiceState P T) : Type 0 where
     pub going : service.ending ≡ None
-    pub not_over : service.client.conn.standing ≢ Ended
+    pub not_over : service.client.conn.phase ≢ Ended
     pub not_at_end : service.at_end ≡ false
     pub answered : IsRead service.client
     pub nothing_waits : service.outgoing ≡ []
@@ -40,7 +40,7 @@ module _ {P T : Type 0} (counts : T → Counts) (given accepted : T → Option (
     pub becomes : new ≡ record old {
       client = fed_by got old.client bytes;
       transport = new.transport;
-      kept = kept_by got old.client.conn.standing old.kept;
+      kept = kept_by got old.client.conn.phase old.kept;
       drained = drained_by got size;
       at_end = ends_by got;
       ending = ending_read got;
@@ -76,13 +76,13 @@ module _ {P T : Type 0} (counts : T → Counts) (given accepted : T → Option (
     pub going : old.ending ≡ None
     pub waits : old.outgoing ≢ []
     pub asked : 1 ≤ old.refused
-    pub long : (old.since + patience old.client.conn.standing ≤ now) ⊎ (most_refused ≤ old.refused)
+    pub long : (old.since + patience old.client.conn.phase ≤ now) ⊎ (most_refused ≤ old.refused)
     pub becomes : new ≡ record old { ending = Some served.Stalled }
 
   -- the connection has ended, and all that it said is written
   pub record IsEnded (old new : ServiceState P T) : Type 0 where
     pub going : old.ending ≡ None
-    pub over : old.client.conn.standing ≡ Ended
+    pub over : old.client.conn.phase ≡ Ended
     pub nothing_waits : old.outgoing ≡ []
     pub becomes : new ≡ record old { ending = Some served.Ended }
 

@@ -4,13 +4,13 @@ use Rattle.mqtt_packet.specs.declared.packet.Packet.{Packet}
 use Rattle.mqtt_wire.specs.Stream.{Unread}
 use Rattle.transport.specs.declared.counts.Counts.{Counts}
 use Rattle.conn_supply.specs.declared.reply.Then.{Then}
-use Rattle.conn_supply.specs.Facts.{Fact}
-use Rattle.conn_supply.specs.Facts.Fact.{Kicked}
+use Rattle.conn_supply.specs.SupplyCalls.{SupplyCall}
+use Rattle.conn_supply.specs.SupplyCalls.SupplyCall.{Kicked}
 use Rattle.conn_engine.specs.declared.input.Input.{Input}
 use Rattle.conn_engine.specs.declared.input.Input.TheVariants as inputs
-use Rattle.conn_engine.specs.declared.standing.Standing.TheVariants.{Ended}
+use Rattle.conn_engine.specs.declared.phase.ConnPhase.TheVariants.{Ended}
 use Rattle.conn_engine.specs.Looking.{IsSilentTooLong}
-use Rattle.client_table.specs.Clients.{words, Moves, FailsToMove, IsGivenUp}
+use Rattle.client_table.specs.Clients.{step_output, ClientSteps, ClientFailsToStep, IsGivenUp}
 use Rattle.client_table.specs.Streams.{IsRead, IsInFront}
 use Rattle.conn_service.specs.declared.served.Served.TheVariants as served
 use Rattle.conn_service.specs.Services.{ServiceState, bytes_of, write_room}
@@ -19,7 +19,7 @@ use Rattle.conn_service.specs.Visits.{Stand, Outside, Behind, Walks}
 use Rattle.conn_service.specs.Moments.{ticked_by, since_step, still_drained}
 use Rattle.conn_service.specs.Edges.{DoesAtEdge}
 
--- what is unread behind an input: a packet or a fault is taken from the front; time, the end and the close take nothing
+-- what is unread after an input: a packet or a fault is taken from the front; time, the end and the close take nothing
 abbrev pub TakesFront : Unread → Input → Unread → Type 0
 TakesFront unread (inputs.Packet packet) unread' = IsInFront unread (inputs.Packet packet) unread'
 TakesFront unread (inputs.Fault fault) unread' = IsInFront unread (inputs.Fault fault) unread'
@@ -27,7 +27,7 @@ TakesFront unread inputs.Tick unread' = unread' ≡ unread
 TakesFront unread inputs.EndOfInput unread' = unread' ≡ unread
 TakesFront unread inputs.Closing unread' = unread' ≡ unread
 
-module _ {S P T : Type 0} (call : S → Fact P → S → Type 0) (begins ends : S → S → Type 0) (visiting : S → Bool) (slot_of : P → ℕ)
+module _ {S P T : Type 0} (call : S → SupplyCall P → S → Type 0) (begins ends : S → S → Type 0) (visiting : S → Bool) (slot_of : P → ℕ)
     (counts : T → Counts) (given accepted : T → Option (List ℕ)) where
   -- when an input may be stepped: a packet or a fault within a visit, where there is room for what is said; a Tick within a visit, where nothing
   -- waits to be written, or the connection is overdue, or the supply has just said that it is taken over, which a peer that does not read must not hold
@@ -38,13 +38,13 @@ module _ {S P T : Type 0} (call : S → Fact P → S → Type 0) (begins ends : 
   MayStep inputs.Tick now service supply =
       (visiting supply ≡ true)
       × ((service.outgoing ≡ [])
-      ⊎ (IsSilentTooLong service.client.conn.standing now ⊎ ((asked : S) × call asked (Kicked service.client.conn.number true) supply)))
+      ⊎ (IsSilentTooLong service.client.conn.phase now ⊎ ((asked : S) × call asked (Kicked service.client.conn.number true) supply)))
   MayStep inputs.EndOfInput now service supply = (visiting supply ≡ true) × (service.at_end ≡ true) × IsRead service.client
   MayStep inputs.Closing now service supply = visiting supply ≡ false
 
   pub record IsDue (input : Input) (now : ℕ) (service : ServiceState P T) (supply : S) : Type 0 where
     pub going : service.ending ≡ None
-    pub not_over : service.client.conn.standing ≢ Ended
+    pub not_over : service.client.conn.phase ≢ Ended
     pub may : MayStep input now service supply
 
   -- a visit begins, unless the supply is shut; a round that reads forgets that an earlier read gave less than there was room for
@@ -66,7 +66,7 @@ module _ {S P T : Type 0} (call : S → Fact P → S → Type 0) (begins ends : 
   pub record StepsOnce (now : ℕ) (input : Input) (packets : List Packet) (next : Then) (old : ServiceState P T) (supply : S) (new : ServiceState P T) (supply' : S) : Type 0 where
     pub due : IsDue input now old supply
     pub front : TakesFront old.client.unread input new.client.unread
-    pub moved : Moves call slot_of supply old.client now input (words old.client.conn.number packets next) new.client supply'
+    pub moved : ClientSteps call slot_of supply old.client now input (step_output old.client.conn.number packets next) new.client supply'
     pub becomes : new ≡ record old {
       client = new.client;
       outgoing = old.outgoing ++ bytes_of packets;
@@ -78,28 +78,28 @@ module _ {S P T : Type 0} (call : S → Fact P → S → Type 0) (begins ends : 
   pub record LosesPackets (now : ℕ) (input : Input) (packets : List Packet) (next : Then) (old : ServiceState P T) (supply : S) (new : ServiceState P T) (supply' : S) : Type 0 where
     pub due : IsDue input now old supply
     pub front : TakesFront old.client.unread input new.client.unread
-    pub moved : Moves call slot_of supply old.client now input (words old.client.conn.number packets next) new.client supply'
+    pub moved : ClientSteps call slot_of supply old.client now input (step_output old.client.conn.number packets next) new.client supply'
     pub full : write_room < length (old.outgoing ++ bytes_of packets)
     pub becomes : new ≡ record old { client = new.client; ticked = ticked_by input now old.ticked; ending = Some served.Memory }
 
-  -- one step that wanted memory
+  -- one step in which an allocation failed
   pub record FailsOnce (now : ℕ) (input : Input) (old : ServiceState P T) (supply : S) (new : ServiceState P T) (supply' : S) : Type 0 where
     pub due : IsDue input now old supply
     pub front : TakesFront old.client.unread input new.client.unread
-    pub failed : FailsToMove call slot_of supply old.client now input new.client supply'
+    pub failed : ClientFailsToStep call slot_of supply old.client now input new.client supply'
     pub becomes : new ≡ record old { client = new.client; ticked = ticked_by input now old.ticked; ending = Some served.Memory }
 
   -- there was no memory for the packet in front: the connection is given up
   pub record IsFullUp (now : ℕ) (old : ServiceState P T) (supply : S) (new : ServiceState P T) (supply' : S) : Type 0 where
     pub going : old.ending ≡ None
-    pub not_over : old.client.conn.standing ≢ Ended
+    pub not_over : old.client.conn.phase ≢ Ended
     pub given_up : IsGivenUp call slot_of supply old.client now inputs.EndOfInput new.client supply'
     pub becomes : new ≡ record old { client = new.client; ending = Some served.Memory }
 
-  -- behind an end without its last step, the connection is given up
+  -- after an end without its last step, the connection is given up
   pub record IsAbandoned (now : ℕ) (old : ServiceState P T) (supply : S) (new : ServiceState P T) (supply' : S) : Type 0 where
     pub ended : old.ending ≢ None
-    pub not_over : old.client.conn.standing ≢ Ended
+    pub not_over : old.client.conn.phase ≢ Ended
     pub given_up : IsGivenUp call slot_of supply old.client now inputs.EndOfInput new.client supply'
     pub becomes : new ≡ record old { client = new.client }
 

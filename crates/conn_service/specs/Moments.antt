@@ -6,14 +6,14 @@ use Rattle.transport.specs.declared.answers.Put.{Put}
 use Rattle.transport.specs.declared.answers.Put.TheVariants as put
 use Rattle.conn_engine.specs.declared.input.Input.{Input}
 use Rattle.conn_engine.specs.declared.input.Input.TheVariants as inputs
-use Rattle.conn_engine.specs.declared.standing.Standing.{Standing}
-use Rattle.conn_engine.specs.declared.standing.Standing.TheVariants.{Unconnected, Waiting, Connected, Ended}
+use Rattle.conn_engine.specs.declared.phase.ConnPhase.{ConnPhase}
+use Rattle.conn_engine.specs.declared.phase.ConnPhase.TheVariants.{Unconnected, Waiting, Connected, Ended}
 use Rattle.client_table.specs.Clients.{ClientState}
 use Rattle.client_table.specs.Streams.{fed}
 use Rattle.conn_service.specs.declared.served.Served.{Served}
 use Rattle.conn_service.specs.declared.served.Served.TheVariants as served
 
--- the moment of the latest Tick, behind this input
+-- the moment of the latest Tick, after this input
 abbrev pub ticked_by : Input → ℕ → ℕ → ℕ
 ticked_by (inputs.Packet packet) now ticked = ticked
 ticked_by (inputs.Fault fault) now ticked = ticked
@@ -21,7 +21,7 @@ ticked_by inputs.Tick now ticked = now
 ticked_by inputs.EndOfInput now ticked = ticked
 ticked_by inputs.Closing now ticked = ticked
 
--- how it has ended, behind a read and behind a write
+-- how it has ended, after a read and after a write
 abbrev pub ending_read : Got → Option Served
 ending_read (got.Bytes count) = None
 ending_read got.Idle = None
@@ -40,42 +40,42 @@ ends_by got.Idle = false
 ends_by got.End = true
 ends_by got.Failed = false
 
--- since when nothing was taken, behind a write
+-- since when nothing was taken, after a write
 abbrev pub since_write : Put → ℕ → ℕ → ℕ
 since_write (put.Wrote count) now since = now
 since_write put.Idle now since = since
 since_write put.Failed now since = since
 
--- and behind a step: where nothing waited before it, since then
+-- and after a step: where nothing waited before it, since then
 abbrev pub since_step : List ℕ → ℕ → ℕ → ℕ
 since_step [] now since = now
 since_step (byte ∷ bytes) now since = since
 
--- how many writes in a row gave nothing, behind a write
+-- how many writes in a row gave nothing, after a write
 abbrev pub refused_write : Put → ℕ → ℕ
 refused_write (put.Wrote count) refused = 0
 refused_write put.Idle refused = min (refused + 1) 600
 refused_write put.Failed refused = refused
 
--- the client, behind a read that gave these bytes
+-- the client, after a read that gave these bytes
 abbrev pub fed_by : {P : Type 0} → Got → ClientState P → List ℕ → ClientState P
 fed_by (got.Bytes count) client bytes = fed client bytes
 fed_by got.Idle client bytes = client
 fed_by got.End client bytes = client
 fed_by got.Failed client bytes = client
 
--- how much of a stream is kept while the connection waits for its session, behind so many bytes more, counted up to 65,536; none where it does not wait
-abbrev pub kept_since : {P : Type 0} → Standing P → ℕ → ℕ → ℕ
+-- how much of a stream is kept while the connection waits for its session, after so many bytes more, counted up to 65,536; none where it does not wait
+abbrev pub kept_since : {P : Type 0} → ConnPhase P → ℕ → ℕ → ℕ
 kept_since (Unconnected opened) kept count = 0
 kept_since (Waiting request ticks) kept count = min (kept + count) 65536
-kept_since (Connected link) kept count = 0
+kept_since (Connected connected) kept count = 0
 kept_since Ended kept count = 0
 
-abbrev pub kept_by : {P : Type 0} → Got → Standing P → ℕ → ℕ
-kept_by (got.Bytes count) standing kept = kept_since standing kept count
-kept_by got.Idle standing kept = kept
-kept_by got.End standing kept = kept
-kept_by got.Failed standing kept = kept
+abbrev pub kept_by : {P : Type 0} → Got → ConnPhase P → ℕ → ℕ
+kept_by (got.Bytes count) phase kept = kept_since phase kept count
+kept_by got.Idle phase kept = kept
+kept_by got.End phase kept = kept
+kept_by got.Failed phase kept = kept
 
 -- a read gave less than there was room for
 abbrev pub drained_by : Got → ℕ → Bool
@@ -84,7 +84,7 @@ drained_by got.Idle size = true
 drained_by got.End size = true
 drained_by got.Failed size = true
 
--- and behind the beginning of a visit: a round that reads forgets it
+-- and after the beginning of a visit: a round that reads forgets it
 abbrev pub still_drained : Bool → Bool → Bool
 still_drained true drained = false
 still_drained false drained = drained

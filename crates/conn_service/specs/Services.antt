@@ -4,10 +4,10 @@ use Rattle.std.specs.List.{flat_map}
 use Rattle.mqtt_packet.specs.declared.packet.Packet.{Packet}
 use Rattle.mqtt_wire.specs.Writing.{written}
 use Rattle.transport.specs.declared.counts.Counts.{Counts}
-use Rattle.conn_engine.specs.declared.standing.Opening.{Opening}
-use Rattle.conn_engine.specs.declared.standing.Standing.{Standing}
-use Rattle.conn_engine.specs.declared.standing.Standing.TheVariants.{Unconnected, Waiting, Connected, Ended}
-use Rattle.conn_engine.specs.Standings.{IsWaiting}
+use Rattle.conn_engine.specs.declared.phase.Opening.{Opening}
+use Rattle.conn_engine.specs.declared.phase.ConnPhase.{ConnPhase}
+use Rattle.conn_engine.specs.declared.phase.ConnPhase.TheVariants.{Unconnected, Waiting, Connected, Ended}
+use Rattle.conn_engine.specs.Phases.{IsWaiting}
 use Rattle.client_table.specs.Clients.{ClientState, arrived}
 use Rattle.client_table.specs.Streams.{IsRead}
 use Rattle.conn_service.specs.declared.served.Served.{Served}
@@ -56,10 +56,10 @@ abbrev pub tick_period : ℕ
 tick_period = 50
 
 -- for how many milliseconds a transport may take nothing of what waits: 60 seconds, and a second where the connection has ended
-abbrev pub patience : {P : Type 0} → Standing P → ℕ
+abbrev pub patience : {P : Type 0} → ConnPhase P → ℕ
 patience (Unconnected opened) = 60000
 patience (Waiting request ticks) = 60000
-patience (Connected link) = 60000
+patience (Connected connected) = 60000
 patience Ended = 1000
 
 -- how many writes in a row may give nothing, where each of them waits: 600
@@ -75,7 +75,7 @@ pub record IsCounted (counts : Counts) (at_end : Bool) (ending : Option Served) 
 -- a connection that was opened so, over a transport of which nothing was asked yet
 abbrev pub opened : {P T : Type 0} → ℕ → Opening → T → ServiceState P T
 opened number opening transport = record {
-  client = arrived (record { number = number; latest = opening.at; standing = Unconnected opening });
+  client = arrived (record { number = number; latest = opening.at; phase = Unconnected opening });
   transport = transport;
   outgoing = [];
   since = opening.at;
@@ -89,16 +89,16 @@ opened number opening transport = record {
 
 -- all that came and is whole was answered, or the connection is over
 abbrev pub IsAnswered : {P T : Type 0} → ServiceState P T → Type 0
-IsAnswered service = IsRead service.client ⊎ (service.client.conn.standing ≡ Ended)
+IsAnswered service = IsRead service.client ⊎ (service.client.conn.phase ≡ Ended)
 
 -- it waits for its session, and has kept as much of its stream meanwhile as it may
 abbrev pub KeepsEnough : {P T : Type 0} → ServiceState P T → Type 0
-KeepsEnough service = IsWaiting service.client.conn.standing × (kept_room ≤ service.kept)
+KeepsEnough service = IsWaiting service.client.conn.phase × (kept_room ≤ service.kept)
 
 -- no more can be done at once, where nothing waits to be written: a read gave less than there was room for, it is over, or it waits for its session and
 -- keeps enough
 abbrev pub HasNoMore : {P T : Type 0} → ServiceState P T → Type 0
-HasNoMore service = (service.drained ≡ true) ⊎ ((service.client.conn.standing ≡ Ended) ⊎ KeepsEnough service)
+HasNoMore service = (service.drained ≡ true) ⊎ ((service.client.conn.phase ≡ Ended) ⊎ KeepsEnough service)
 
 -- nothing was asked of the transport, and the latest Tick was at this moment
 pub record KeepsEdgeAt {P T : Type 0} (ticked : ℕ) (old new : ServiceState P T) : Type 0 where
@@ -116,7 +116,7 @@ IsOnTime service now = now - service.ticked < tick_period
 
 -- a connection that is not over is answered, and on time
 abbrev pub IsServed : {P T : Type 0} → ServiceState P T → ℕ → Type 0
-IsServed service now = (service.client.conn.standing ≡ Ended) ⊎ (IsRead service.client × IsOnTime service now)
+IsServed service now = (service.client.conn.phase ≡ Ended) ⊎ (IsRead service.client × IsOnTime service now)
 
 -- a read that gave nothing is a Tick: where the count of these reads has changed, the latest Tick is of this moment
 abbrev pub IdlesTick : {P T : Type 0} → (T → Counts) → ℕ → ServiceState P T → ServiceState P T → Type 0
@@ -126,12 +126,12 @@ IdlesTick counts now old new = ((counts new.transport).idles ≢ (counts old.tra
 abbrev pub KeepsIdles : {P T : Type 0} → (T → Counts) → ServiceState P T → ServiceState P T → Type 0
 KeepsIdles counts old new = ((counts new.transport).idles ≡ (counts old.transport).idles) × (new.ticked ≡ old.ticked)
 
--- what a connection waits for, behind a round at this moment
-abbrev pub IsTold : {P T : Type 0} → Round → ServiceState P T → ℕ → Type 0
-IsTold rounds.More service now = (service.ending ≡ None) × (service.outgoing ≡ []) × IsOnTime service now
-IsTold rounds.Reading service now =
+-- what a connection waits for, after a round at this moment
+abbrev pub Describes : {P T : Type 0} → Round → ServiceState P T → ℕ → Type 0
+Describes rounds.More service now = (service.ending ≡ None) × (service.outgoing ≡ []) × IsOnTime service now
+Describes rounds.Reading service now =
     (service.ending ≡ None) × (service.outgoing ≡ []) × (service.drained ≡ true) × (IsRead service.client × IsOnTime service now)
-IsTold rounds.Writing service now = (service.ending ≡ None) × (service.outgoing ≢ [])
-IsTold rounds.Waiting service now =
-    (service.ending ≡ None) × (service.outgoing ≡ []) × IsWaiting service.client.conn.standing × IsOnTime service now
-IsTold (rounds.Ended served) service now = (service.ending ≡ Some served) × (service.client.conn.standing ≡ Ended)
+Describes rounds.Writing service now = (service.ending ≡ None) × (service.outgoing ≢ [])
+Describes rounds.Waiting service now =
+    (service.ending ≡ None) × (service.outgoing ≡ []) × IsWaiting service.client.conn.phase × IsOnTime service now
+Describes (rounds.Ended served) service now = (service.ending ≡ Some served) × (service.client.conn.phase ≡ Ended)

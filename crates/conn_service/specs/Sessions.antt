@@ -4,46 +4,46 @@ use Rattle.group_jobs.specs.Stamps.{Held}
 use Rattle.member_window.specs.Contents.{Contents, IsSound}
 use Rattle.member_window.specs.Marks.{Mark}
 use Rattle.member_window.specs.Transcript.{IsLegalFrom}
-use Rattle.member_window.specs.Runs.{standing_of}
+use Rattle.member_window.specs.Runs.{window_state}
 use Rattle.session_desk.specs.declared.session.Session.{Session}
 use Rattle.session_desk.specs.Attaching.{Request}
 use Rattle.session_desk.specs.declared.attached.Attached.{Attached}
 use Rattle.session_desk.specs.declared.error.DeskError.{DeskError}
 use Rattle.mqtt_packet.specs.declared.packet.Packet.{Packet}
 use Rattle.conn_supply.specs.declared.reply.Then.{Then}
-use Rattle.conn_supply.specs.Facts.{Fact}
-use Rattle.conn_supply.specs.Facts.Fact.{Attach}
+use Rattle.conn_supply.specs.SupplyCalls.{SupplyCall}
+use Rattle.conn_supply.specs.SupplyCalls.SupplyCall.{Attach}
 use Rattle.conn_engine.specs.declared.input.Input.TheVariants as inputs
-use Rattle.conn_engine.specs.declared.standing.Standing.{Standing}
+use Rattle.conn_engine.specs.declared.phase.ConnPhase.{ConnPhase}
 use Rattle.conn_laws.specs.Calls.{FailedCalls}
 use Rattle.conn_laws.specs.Transcripts.{IsNotEnding, session_given, Transcribes}
 use Rattle.conn_laws.specs.Marks.{publishes_in, publishes_of}
 use Rattle.conn_service.specs.Services.{ServiceState}
-use Rattle.conn_service.specs.Acts.{Act, Steps, Loses, Fails, IsFull, GivesUp, packets_said}
+use Rattle.conn_service.specs.Acts.{Act, Steps, Loses, Fails, IsFull, GivesUp, packets_sent}
 
-module _ {S P : Type 0} (call : S → Fact P → S → Type 0) where
+module _ {S P : Type 0} (call : S → SupplyCall P → S → Type 0) where
   -- where a connection is given up, the end of the stream is its last step: that does the same for its session, or wanted memory
-  abbrev pub TellsOfTheLast : ℕ → Standing P → S → Standing P → S → Type 0
-  TellsOfTheLast number standing supply standing' supply' =
-      ((packets : List Packet) × (next : Then) × (IsNotEnding standing → Transcribes call supply number standing inputs.EndOfInput packets next standing' supply'))
-      ⊎ FailedCalls call supply number standing inputs.EndOfInput supply'
+  abbrev pub TellsOfTheLast : ℕ → ConnPhase P → S → ConnPhase P → S → Type 0
+  TellsOfTheLast number phase supply phase' supply' =
+      ((packets : List Packet) × (next : Then) × (IsNotEnding phase → Transcribes call supply number phase inputs.EndOfInput packets next phase' supply'))
+      ⊎ FailedCalls call supply number phase inputs.EndOfInput supply'
 
-module _ {S P T : Type 0} (call : S → Fact P → S → Type 0) where
+module _ {S P T : Type 0} (call : S → SupplyCall P → S → Type 0) where
   -- a step adds to the transcript of its session, where that is not ending: its PUBLISH packets are those of the marks; what is handed out is what
   -- is sent for the first time; what is acknowledged is settled; and where it ends the connection, the session is handed in with all that it holds. A
-  -- step that wanted memory made calls of its table, and no others; and so it is where the connection is given up
+  -- step in which an allocation failed made calls of its table, and no others; and so it is where the connection is given up
   abbrev pub TellsItsSession : Act → ServiceState P T → S → ServiceState P T → S → Type 0
   TellsItsSession (Steps now input packets next) old supply new supply' =
-      IsNotEnding old.client.conn.standing → Transcribes call supply old.client.conn.number old.client.conn.standing input packets next new.client.conn.standing supply'
+      IsNotEnding old.client.conn.phase → Transcribes call supply old.client.conn.number old.client.conn.phase input packets next new.client.conn.phase supply'
   TellsItsSession (Loses now input packets next) old supply new supply' =
-      IsNotEnding old.client.conn.standing → Transcribes call supply old.client.conn.number old.client.conn.standing input packets next new.client.conn.standing supply'
-  TellsItsSession (Fails now input) old supply new supply' = FailedCalls call supply old.client.conn.number old.client.conn.standing input supply'
-  TellsItsSession (IsFull now) old supply new supply' = TellsOfTheLast call old.client.conn.number old.client.conn.standing supply new.client.conn.standing supply'
-  TellsItsSession (GivesUp now) old supply new supply' = TellsOfTheLast call old.client.conn.number old.client.conn.standing supply new.client.conn.standing supply'
+      IsNotEnding old.client.conn.phase → Transcribes call supply old.client.conn.number old.client.conn.phase input packets next new.client.conn.phase supply'
+  TellsItsSession (Fails now input) old supply new supply' = FailedCalls call supply old.client.conn.number old.client.conn.phase input supply'
+  TellsItsSession (IsFull now) old supply new supply' = TellsOfTheLast call old.client.conn.number old.client.conn.phase supply new.client.conn.phase supply'
+  TellsItsSession (GivesUp now) old supply new supply' = TellsOfTheLast call old.client.conn.number old.client.conn.phase supply new.client.conn.phase supply'
   TellsItsSession _ old supply new supply' = ⊤
 
 -- a session was handed out to the connection of this number
-pub record IsGiven {S P : Type 0} (call : S → Fact P → S → Type 0) (number : ℕ) (session : Session Held P) : Type 0 where
+pub record IsGiven {S P : Type 0} (call : S → SupplyCall P → S → Type 0) (number : ℕ) (session : Session Held P) : Type 0 where
   pub request : Request
   pub whose : request.connection ≡ number
   pub answer : Result (Attached Held P) DeskError
@@ -55,12 +55,12 @@ pub record IsGiven {S P : Type 0} (call : S → Fact P → S → Type 0) (number
 -- the PUBLISH packets of these acts are those of a legal transcript, from what this window held
 pub record SendsLegally (acts : List Act) (window : Contents Held) : Type 0 where
   pub marks : List (Mark Held)
-  pub publishes : publishes_in (packets_said acts) ≡ publishes_of marks
-  pub legal : IsLegalFrom (standing_of window) marks
+  pub publishes : publishes_in (packets_sent acts) ≡ publishes_of marks
+  pub legal : IsLegalFrom (window_state window) marks
 
 -- no PUBLISH is said; or a session was handed out, and what is said is legal from what its window held, where that is sound, as every `Window` of a
 -- program is, and not ending
-abbrev pub IsLegalLife : {S P : Type 0} → (S → Fact P → S → Type 0) → ℕ → List Act → Type 0
+abbrev pub IsLegalLife : {S P : Type 0} → (S → SupplyCall P → S → Type 0) → ℕ → List Act → Type 0
 IsLegalLife {S} {P} call number acts =
-    (publishes_in (packets_said acts) ≡ [])
+    (publishes_in (packets_sent acts) ≡ [])
     ⊎ ((session : Session Held P) × IsGiven call number session × (IsSound session.window → session.window.retired ≡ false → SendsLegally acts session.window))

@@ -4,11 +4,11 @@ use Rattle.std.specs.List.{AllByRecursion}
 use Rattle.std.specs.Io.KnownBytes.{append_known}
 use Rattle.mqtt_wire.specs.Stream.{Begins, FaultAt}
 use Rattle.conn_engine.specs.declared.input.Input.{Input}
-use Rattle.conn_engine.specs.declared.standing.Standing.TheVariants.{Ended}
+use Rattle.conn_engine.specs.declared.phase.ConnPhase.TheVariants.{Ended}
 use Rattle.conn_laws.specs.Behind.{IsLast}
 use Rattle.conn_service.specs.declared.served.Served.TheVariants as served
 use Rattle.conn_service.specs.Services.{ServiceState, bytes_of}
-use Rattle.conn_service.specs.Acts.{Act, Enters, Leaves, Asks, GivesUp, Others, bytes_read, packets_read, faults_met, packets_said}
+use Rattle.conn_service.specs.Acts.{Act, Enters, Leaves, Asks, GivesUp, Others, bytes_read, packets_read, faults_met, packets_sent}
 
 -- the steps took, in order, the packets that the bytes read spell, one after the other (2.1, 4.13); a fault that was met stands in front of the rest,
 -- which is what is unread as long as the connection goes on
@@ -16,13 +16,13 @@ pub record ReadsItsStream {P T : Type 0} (acts : List Act) (service : ServiceSta
   pub rest : List ℕ
   pub begun : Begins (bytes_read acts) (packets_read acts) rest
   pub faults : AllByRecursion (λ fault. FaultAt fault rest) (faults_met acts)
-  pub unread : service.ending ≡ None → service.client.conn.standing ≢ Ended → service.client.unread ≡ record { bytes = rest; fault = None }
+  pub unread : service.ending ≡ None → service.client.conn.phase ≢ Ended → service.client.unread ≡ record { bytes = rest; fault = None }
 
 -- what the transport took is a beginning of the written forms of the packets that steps said, in their order; what lacks is what waits, as long
 -- as the connection has not ended, and nothing where it ended with 0
 pub record WritesItsPackets {P T : Type 0} (accepted : T → Option (List ℕ)) (first : T) (acts : List Act) (service : ServiceState P T) : Type 0 where
   pub rest : List ℕ
-  pub begun : append_known (accepted service.transport) rest ≡ append_known (accepted first) (bytes_of (packets_said acts))
+  pub begun : append_known (accepted service.transport) rest ≡ append_known (accepted first) (bytes_of (packets_sent acts))
   pub waits : service.ending ≡ None → rest ≡ service.outgoing
   pub all : service.ending ≡ Some served.Ended → rest ≡ []
 

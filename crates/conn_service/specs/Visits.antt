@@ -10,9 +10,9 @@ pub data Stand : Type 0 where
   Outside : Stand
   -- in it, which is one of an open supply, or was refused
   Inside : (is_open : Bool) → Stand
-  -- behind it, or the round has none
+  -- after it, or the round has none
   Behind : Stand
-  -- in a further visit, which only gives the connection up; and behind that step
+  -- in a further visit, which only gives the connection up; and after that step
   Parting : Stand
   Parted : Stand
 

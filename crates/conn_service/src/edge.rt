@@ -3,7 +3,7 @@ ghost use Rattle.std.specs.Prelude.{◌≡◌, ◌≢◌, ◌⊎◌, ◌↔◌, 
 ghost use Rattle.transport.specs.declared.answers.Got.TheVariants as gots;
 ghost use Rattle.conn_service.specs.declared.served.Served.TheVariants as endings;
 ghost use Rattle.conn_service.specs.Crossings.{RefusesAlways};
-ghost use Rattle.conn_engine.specs.declared.standing.Standing.TheVariants.{Ended};
+ghost use Rattle.conn_engine.specs.declared.phase.ConnPhase.TheVariants.{Ended};
 ghost use Rattle.conn_service.specs.Services.{KeepsEnough, KeepsIdles, kept_room, most_refused};
 ghost use Rattle.conn_service.specs.Advances.{IsWrittenOn, LeadsAtEdgeBy, WritesFirst};
 ghost use Rattle.conn_service.specs.Visits.{Behind, Inside, Outside};
@@ -166,7 +166,7 @@ impl<P: HoldingPlace, T: Transport> Service<P, T> {
         requires refused { most_refused ≤ self.old.refused }
         ensures led { Leads S.call S.begins S.ends S.visiting P.slot_of T.counts T.given T.accepted now Outside Behind self.old supply.old self.new supply.new }
         ensures ended { self.new.ending ≡ Some endings.Stalled }
-        ensures over { self.new.client.conn.standing ≡ Ended }
+        ensures over { self.new.client.conn.phase ≡ Ended }
     {
         self.ending = Some(Served::Stalled);
         self.give_up(supply, now);
@@ -179,7 +179,7 @@ impl<P: HoldingPlace, T: Transport> Service<P, T> {
         ensures client { self.new.client ≡ self.old.client }
         ensures idles { KeepsIdles T.counts self.old self.new }
         ensures transport { self.new.transport ≡ self.old.transport }
-        ensures goes_on { OnOk result ((self.new ≡ self.old) × (self.old.outgoing ≡ [] → self.old.client.conn.standing ≢ Ended)) }
+        ensures goes_on { OnOk result ((self.new ≡ self.old) × (self.old.outgoing ≡ [] → self.old.client.conn.phase ≢ Ended)) }
         ensures ended { IfErr result (λ served. self.new.ending ≡ Some served) }
         ensures no_crossing { result ≢ Err endings.NoCrossing }
     {
@@ -204,7 +204,7 @@ fn patience(over: bool) -> u64
     if over { LINGER } else { PATIENCE }
 }
 
-/// How many bytes of the stream are kept since the connection waits for its session, behind so many more; none where it does not wait.
+/// How many bytes of the stream are kept since the connection waits for its session, after so many more; none where it does not wait.
 fn kept_after(kept: usize, count: usize, wants_input: bool) -> usize
     ensures { result ≡ (if wants_input then 0 else min (kept + count) kept_room) }
 {

@@ -4,7 +4,7 @@
 ghost use Rattle.std.specs.Prelude.{◌≡◌, ◌≢◌, ℕ, List, None};
 ghost use Rattle.std.specs.List.{AllByRecursion};
 ghost use Rattle.std.specs.Option.{option_to_list};
-ghost use Rattle.conn_engine.specs.declared.standing.Opening.{Opening};
+ghost use Rattle.conn_engine.specs.declared.phase.Opening.{Opening};
 ghost use Rattle.conn_laws.specs.Quotas.{IsWithinLimit, IsWithinQuota};
 ghost use Rattle.conn_service.specs.Acts.{Act, endings_of};
 ghost use Rattle.conn_service.specs.Services.{ServiceState, opened};
@@ -34,8 +34,8 @@ pub fn writing_law<P: HoldingPlace, T: Transport, S: Supply<P>>()
 {}
 
 /// **A connection ends once, for a reason** (`once`): of all its acts, one ends it, and its ending says which: a read that failed (901), a write that
-/// failed (902), a step, a read or a packet that memory was wanted for (903), a crossing that let nothing pass (904), a transport that took nothing for too
-/// long (905), or that a step closed it and all that was said is written (0). Behind that it is not read, written or stepped, but given up, where its
+/// failed (902), a step, a read or a packet for which an allocation failed (903), a crossing that let nothing pass (904), a transport that took nothing for too
+/// long (905), or that a step closed it and all that was said is written (0). After that it is not read, written or stepped, but given up, where its
 /// last step is missing (`quiet`).
 pub fn ending_law<P: HoldingPlace, T: Transport, S: Supply<P>>()
     ensures once { (number : ℕ) (opening : Opening) (first : T) (acts : List Act) (service : ServiceState P T) (supply supply' : S) →
@@ -51,16 +51,16 @@ pub fn ending_law<P: HoldingPlace, T: Transport, S: Supply<P>>()
 pub fn quota_law<P: HoldingPlace, T: Transport, S: Supply<P>>()
     ensures kept { (number : ℕ) (opening : Opening) (first : T) (acts : List Act) (service : ServiceState P T) (supply supply' : S) →
         DoesAll S.call S.begins S.ends S.visiting P.slot_of T.counts T.given T.accepted acts (opened number opening first) supply service supply' →
-        IsWithinQuota service.client.conn.standing }
+        IsWithinQuota service.client.conn.phase }
     ensures limited { (number : ℕ) (opening : Opening) (first : T) (acts : List Act) (service : ServiceState P T) (supply supply' : S) →
         DoesAll S.call S.begins S.ends S.visiting P.slot_of T.counts T.given T.accepted acts (opened number opening first) supply service supply' →
-        IsWithinLimit opening.max_inflight service.client.conn.standing }
+        IsWithinLimit opening.max_inflight service.client.conn.phase }
 {}
 
 /// **Each step of a life keeps its session** (sections 4.4, 4.8.2 and 4.9), as each step of a connection does: its PUBLISH packets are those of the marks
 /// that it adds to the transcript of its session, what its place was handed is what it sends for the first time, in that order, what is acknowledged is
-/// settled, and where it ends the connection, the session is handed in with all that it holds. A step that wanted memory made the calls that its table has
-/// for that, and no others. So it is too where the connection is given up, behind an end without its last step or for a packet that memory was wanted for:
+/// settled, and where it ends the connection, the session is handed in with all that it holds. A step in which an allocation failed made the calls that its table has
+/// for that, and no others. So it is too where the connection is given up, after an end without its last step or for a packet for which an allocation failed:
 /// its session is handed in with all that it holds.
 pub fn session_law<P: HoldingPlace, T: Transport, S: Supply<P>>()
     ensures { (act : Act) (old new : ServiceState P T) (supply supply' : S) →
@@ -68,7 +68,7 @@ pub fn session_law<P: HoldingPlace, T: Transport, S: Supply<P>>()
 {}
 
 /// **The PUBLISH packets of a life are those of a legal transcript** (sections 4.4 and 4.9), from what the window held of the session that the connection
-/// was given: each message that is sent for the first time goes out with DUP 0 under the least identifier that is free, behind all that is sent again;
+/// was given: each message that is sent for the first time goes out with DUP 0 under the least identifier that is free, after all that is sent again;
 /// what is sent again has its own identifier, in the order of first sending; only what is held is acknowledged; and no more is unacknowledged than the
 /// Receive Maximum, at each moment. A connection that was given no session sends no PUBLISH.
 pub fn transcript_law<P: HoldingPlace, T: Transport, S: Supply<P>>()

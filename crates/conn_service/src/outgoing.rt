@@ -73,7 +73,7 @@ impl Outgoing {
         }
     }
 
-    /// Puts the packets behind them, each in its one written form.
+    /// Puts the packets after them, each in its one written form.
     ///
     /// # Errors
     ///
@@ -102,7 +102,7 @@ fn drop_front(buffer: &mut Vec<u8>, count: usize)
     }
 }
 
-/// Writes the packets behind what the buffer holds. Where there is no memory it holds what it held.
+/// Writes the packets after what the buffer holds. Where there is no memory it holds what it held.
 fn encode_all(buffer: &mut Vec<u8>, packets: &[Packet]) -> Result<(), NoMemory>
     requires room { write_room ≤ vec_capacity buffer.old }
     ensures put { OnOk result (buffer.new.items ≡ buffer.old.items ++ bytes_of packets.now) }
@@ -120,7 +120,7 @@ fn encode_all(buffer: &mut Vec<u8>, packets: &[Packet]) -> Result<(), NoMemory>
     Ok(())
 }
 
-/// Puts what a step said behind what waits. Answers the moment since which nothing was taken: this one, where nothing waited.
+/// Puts what a step said after what waits. Answers the moment since which nothing was taken: this one, where nothing waited.
 pub(crate) fn put_down(
     outgoing: &mut Outgoing,
     packets: &[Packet],

@@ -1,14 +1,14 @@
 //! Rounds: a connection goes on as far as it can without waiting.
 ghost use Rattle.std.specs.Prelude.{◌≡◌, ◌≢◌, ◌⊎◌, ◌<◌, [], length, if◌then◌else◌, None, Some, Ok, Err, true, false, OnOk, IfOk, IfErr};
-ghost use Rattle.conn_engine.specs.declared.standing.Standing.TheVariants.{Ended};
+ghost use Rattle.conn_engine.specs.declared.phase.ConnPhase.TheVariants.{Ended};
 ghost use Rattle.conn_engine.specs.Looking.{IsSilentTooLong};
 ghost use Rattle.conn_service.specs.declared.served.Round.TheVariants as rounds;
 ghost use Rattle.conn_service.specs.declared.served.Served.TheVariants as endings;
 ghost use Rattle.conn_service.specs.Crossings.{RefusesAlways};
-ghost use Rattle.conn_supply.specs.Facts.Fact.{Kicked};
+ghost use Rattle.conn_supply.specs.SupplyCalls.SupplyCall.{Kicked};
 ghost use Rattle.conn_engine.specs.declared.input.Input.TheVariants as inputs;
 ghost use Rattle.conn_service.specs.Moments.{is_tick_for, still_drained};
-ghost use Rattle.conn_service.specs.Services.{HasNoMore, IsAnswered, IsOnTime, IsServed, IsTold, IdlesTick, KeepsEdge, KeepsEdgeAt, KeepsEnough};
+ghost use Rattle.conn_service.specs.Services.{HasNoMore, IsAnswered, IsOnTime, IsServed, Describes, IdlesTick, KeepsEdge, KeepsEdgeAt, KeepsEnough};
 ghost use Rattle.conn_service.specs.Directions.{Follows, reads, writes};
 ghost use Rattle.conn_service.specs.Visits.{Behind, Inside, Outside};
 ghost use Rattle.conn_service.specs.Lives.{IsDue, Leads};
@@ -40,13 +40,13 @@ impl<P: HoldingPlace, T: Transport> Service<P, T> {
         requires going { self.old.ending ≡ None }
         requires room { 0 < length buffer.old }
         ensures led { RoundsTo S.call S.begins S.ends S.visiting P.slot_of T.counts T.given T.accepted direction result now self.old supply.old self.new supply.new }
-        ensures told { IsTold result self.new now }
+        ensures told { Describes result self.new now }
         ensures idles { IdlesTick T.counts now self.old self.new }
         ensures way { Follows T.given T.accepted direction now self.old self.new }
         ensures crossing { result ≡ rounds.Ended endings.NoCrossing → RefusesAlways X.refuses crossing.now worker }
     {
         match self.go_on(supply, crossing, worker, now, buffer, direction) {
-            Ok(all) => self.outlook(all, now),
+            Ok(all) => self.waits_for(all, now),
             Err(served) => {
                 self.give_up(supply, now);
                 Round::Ended(served)
@@ -54,13 +54,13 @@ impl<P: HoldingPlace, T: Transport> Service<P, T> {
         }
     }
 
-    /// What it waits for, behind a round in which all that is whole was stepped, or not.
-    fn outlook(&self, all: bool, now: u64) -> Round
+    /// What it waits for, after a round in which all that is whole was stepped, or not.
+    fn waits_for(&self, all: bool, now: u64) -> Round
         requires going { self.now.ending ≡ None }
-        requires not_over { self.now.outgoing ≡ [] → self.now.client.conn.standing ≢ Ended }
+        requires not_over { self.now.outgoing ≡ [] → self.now.client.conn.phase ≢ Ended }
         requires timely { self.now.outgoing ≡ [] → IsOnTime self.now now }
         requires all { all ≡ true → IsServed self.now now }
-        ensures told { IsTold result self.now now }
+        ensures told { Describes result self.now now }
         ensures more { result ≡ rounds.More → (self.now.outgoing ≡ []) × (all ≡ true → ¬ HasNoMore self.now) }
     {
         if !self.outgoing.is_empty() {
@@ -88,7 +88,7 @@ impl<P: HoldingPlace, T: Transport> Service<P, T> {
         requires room { 0 < length buffer.old }
         ensures led { LeadsBy S.call S.begins S.ends S.visiting P.slot_of T.counts T.given T.accepted (λ acts. WritesFirst self.old self.new acts × (reads direction ≡ true → TellsOfRound result self.new acts)) now Outside Behind self.old supply.old self.new supply.new }
         ensures all { result ≡ Ok true → IsServed self.new now }
-        ensures not_over { OnOk result (self.new.outgoing ≡ [] → self.new.client.conn.standing ≢ Ended) }
+        ensures not_over { OnOk result (self.new.outgoing ≡ [] → self.new.client.conn.phase ≢ Ended) }
         ensures timely { OnOk result (self.new.outgoing ≡ [] → IsOnTime self.new now) }
         ensures going { OnOk result (self.new.ending ≡ None) }
         ensures ended { IfErr result (λ served. self.new.ending ≡ Some served) }
@@ -124,7 +124,7 @@ impl<P: HoldingPlace, T: Transport> Service<P, T> {
         ensures going { OnOk result (self.new.ending ≡ None) }
         ensures ended { IfErr result (λ served. self.new.ending ≡ Some served) }
         ensures idles { IdlesTick T.counts now self.old self.new }
-        ensures ticks { reads ≡ false → self.old.outgoing ≡ [] → OnOk result ((self.new.client.conn.standing ≡ Ended) ⊎ (self.new.ticked ≡ now)) }
+        ensures ticks { reads ≡ false → self.old.outgoing ≡ [] → OnOk result ((self.new.client.conn.phase ≡ Ended) ⊎ (self.new.ticked ≡ now)) }
         ensures unread { reads ≡ false → T.given self.new.transport ≡ T.given self.old.transport }
         ensures unwritten { T.accepted self.new.transport ≡ T.accepted self.old.transport }
     {
@@ -148,7 +148,7 @@ impl<P: HoldingPlace, T: Transport> Service<P, T> {
         is_open: bool,
     ) -> Result<bool, Served>
         requires going { self.old.ending ≡ None }
-        requires not_over { self.old.client.conn.standing ≢ Ended }
+        requires not_over { self.old.client.conn.phase ≢ Ended }
         requires visiting { S.visiting supply.old ≡ is_open }
         requires room { 0 < length buffer.old }
         ensures led { LeadsBy S.call S.begins S.ends S.visiting P.slot_of T.counts T.given T.accepted (λ acts. reads ≡ true → IfOk result (λ all. IsDoneOrAdvances all self.new acts)) now (Inside is_open) (Inside is_open) self.old supply.old self.new supply.new }
@@ -159,7 +159,7 @@ impl<P: HoldingPlace, T: Transport> Service<P, T> {
         ensures going { OnOk result (self.new.ending ≡ None) }
         ensures ended { IfErr result (λ served. self.new.ending ≡ Some served) }
         ensures idles { IdlesTick T.counts now self.old self.new }
-        ensures ticks { reads ≡ false → self.old.outgoing ≡ [] → OnOk result ((self.new.client.conn.standing ≡ Ended) ⊎ (self.new.ticked ≡ now)) }
+        ensures ticks { reads ≡ false → self.old.outgoing ≡ [] → OnOk result ((self.new.client.conn.phase ≡ Ended) ⊎ (self.new.ticked ≡ now)) }
         ensures unread { reads ≡ false → T.given self.new.transport ≡ T.given self.old.transport }
         ensures unwritten { T.accepted self.new.transport ≡ T.accepted self.old.transport }
     {
@@ -173,7 +173,7 @@ impl<P: HoldingPlace, T: Transport> Service<P, T> {
     /// The broker closes.
     fn close<S: Supply<P>>(&mut self, supply: &mut S, now: u64) -> Result<bool, Served>
         requires going { self.old.ending ≡ None }
-        requires not_over { self.old.client.conn.standing ≢ Ended }
+        requires not_over { self.old.client.conn.phase ≢ Ended }
         requires shut { S.visiting supply.old ≡ false }
         ensures led { LeadsBy S.call S.begins S.ends S.visiting P.slot_of T.counts T.given T.accepted (λ acts. IfOk result (λ all. IsDoneOrAdvances all self.new acts)) now (Inside false) (Inside false) self.old supply.old self.new supply.new }
         ensures all { result ≡ Ok true → IsServed self.new now }
@@ -183,7 +183,7 @@ impl<P: HoldingPlace, T: Transport> Service<P, T> {
         ensures going { OnOk result (self.new.ending ≡ None) }
         ensures ended { IfErr result (λ served. self.new.ending ≡ Some served) }
         ensures idles { IdlesTick T.counts now self.old self.new }
-        ensures over { OnOk result (self.new.client.conn.standing ≡ Ended) }
+        ensures over { OnOk result (self.new.client.conn.phase ≡ Ended) }
         ensures transport { self.new.transport ≡ self.old.transport }
     {
         self.step(supply, now, Input::Closing)?;
@@ -200,7 +200,7 @@ impl<P: HoldingPlace, T: Transport> Service<P, T> {
         reads: bool,
     ) -> Result<bool, Served>
         requires going { self.old.ending ≡ None }
-        requires not_over { self.old.client.conn.standing ≢ Ended }
+        requires not_over { self.old.client.conn.phase ≢ Ended }
         requires visiting { S.visiting supply.old ≡ true }
         requires room { 0 < length buffer.old }
         ensures led { LeadsBy S.call S.begins S.ends S.visiting P.slot_of T.counts T.given T.accepted (λ acts. reads ≡ true → IfOk result (λ all. IsDoneOrAdvances all self.new acts)) now (Inside true) (Inside true) self.old supply.old self.new supply.new }
@@ -275,7 +275,7 @@ impl<P: HoldingPlace, T: Transport> Service<P, T> {
         requires answered { IsAnswered self.old }
         requires visiting { S.visiting supply.old ≡ true }
         ensures led { Leads S.call S.begins S.ends S.visiting P.slot_of T.counts T.given T.accepted now (Inside true) (Inside true) self.old supply.old self.new supply.new }
-        ensures over { OnOk result ((self.new.client.conn.standing ≡ Ended) ⊎ ((self.new ≡ self.old) × (self.old.at_end ≡ false))) }
+        ensures over { OnOk result ((self.new.client.conn.phase ≡ Ended) ⊎ ((self.new ≡ self.old) × (self.old.at_end ≡ false))) }
         ensures no_crossing { result ≢ Err endings.NoCrossing }
         ensures going { OnOk result (self.new.ending ≡ None) }
         ensures ended { IfErr result (λ served. self.new.ending ≡ Some served) }
@@ -311,7 +311,7 @@ impl<P: HoldingPlace, T: Transport> Service<P, T> {
     /// Whether more is read now, where it is to be read: all that was said is written, and it is not over; and if it waits for its session, it has not kept enough.
     fn may_read(&self, reads: bool) -> bool
         ensures wanted { result ≡ true → reads ≡ true }
-        ensures yes { result ≡ true → (self.now.client.conn.standing ≢ Ended) × (self.now.outgoing ≡ []) × (self.now.at_end ≡ false) × ¬ KeepsEnough self.now }
+        ensures yes { result ≡ true → (self.now.client.conn.phase ≢ Ended) × (self.now.outgoing ≡ []) × (self.now.at_end ≡ false) × ¬ KeepsEnough self.now }
         ensures no { reads ≡ true → result ≡ false → self.now.outgoing ≡ [] → self.now.at_end ≡ false → HasNoMore self.now }
     {
         reads
@@ -324,7 +324,7 @@ impl<P: HoldingPlace, T: Transport> Service<P, T> {
     /// Whether a Tick can't wait until the transport takes more: it is overdue, or another connection asked for its session, which the supply says.
     fn is_urgent<S: Supply<P>>(&self, supply: &mut S, now: u64) -> bool
         ensures led { Leads S.call S.begins S.ends S.visiting P.slot_of T.counts T.given T.accepted now (Inside true) (Inside true) self.now supply.old self.now supply.new }
-        ensures urgent { result ≡ true → IsSilentTooLong self.now.client.conn.standing now ⊎ ((asked : S) × S.call asked (Kicked self.now.client.conn.number true) supply.new) }
+        ensures urgent { result ≡ true → IsSilentTooLong self.now.client.conn.phase now ⊎ ((asked : S) × S.call asked (Kicked self.now.client.conn.number true) supply.new) }
         ensures visiting { S.visiting supply.new ≡ S.visiting supply.old }
     {
         if self.is_overdue(now) {
@@ -342,13 +342,13 @@ impl<P: HoldingPlace, T: Transport> Service<P, T> {
 
     /// Whether a Tick at this moment ends it for silence.
     fn is_overdue(&self, now: u64) -> bool
-        ensures { result ≡ true → IsSilentTooLong self.now.client.conn.standing now }
+        ensures { result ≡ true → IsSilentTooLong self.now.client.conn.phase now }
     {
         matches!(self.client.deadline(), Some(deadline) if deadline <= now)
     }
 }
 
-/// Whether there is still nothing to read behind the beginning of a visit: where it is to be read, that is asked again.
+/// Whether there is still nothing to read after the beginning of a visit: where it is to be read, that is asked again.
 fn is_still_drained(drained: bool, reads: bool) -> bool
     ensures { result ≡ still_drained reads drained }
 {

@@ -12,7 +12,7 @@ pub enum Served {
     Read,
     /// 902: a write of the transport failed.
     Write,
-    /// 903: memory was wanted and refused.
+    /// 903: an allocation failed.
     Memory,
     /// 904: the crossing let nothing pass in 10,000 turns.
     NoCrossing,
@@ -69,7 +69,7 @@ impl Direction {
     }
 }
 
-/// What a connection waits for behind a round.
+/// What a connection waits for after a round.
 #[derive(Clone, Copy, Debug, PartialEq, Eq)]
 pub enum Round {
     /// Nothing: more can be done at once.

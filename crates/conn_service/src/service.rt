@@ -2,8 +2,8 @@
 ghost use Rattle.std.specs.Prelude.{◌≡◌, ◌<◌, ◌≤◌, ◌^◌, ◌↔◌, ℕ, IsTrue, MatchOption, MatchResult};
 ghost use Rattle.transport.specs.Counting.{no_counts};
 ghost use Rattle.conn_engine.specs.Looking.{IsSilentTooLong, TakesAt, held_by};
-ghost use Rattle.conn_engine.specs.Standings.{IsWaiting};
-ghost use Rattle.conn_engine.specs.declared.standing.Standing.TheVariants as standings;
+ghost use Rattle.conn_engine.specs.Phases.{IsWaiting};
+ghost use Rattle.conn_engine.specs.declared.phase.ConnPhase.TheVariants as phases;
 ghost use Rattle.conn_service.specs.Services.{opened};
 
 use crate::outgoing::Outgoing;
@@ -60,7 +60,7 @@ impl<P: HoldingPlace, T: Transport> Model for Service<P, T> {
 
 impl<P: HoldingPlace, T: Transport> Service<P, T> {
     /// A connection of this number, below 1,024, that is opened so over a transport of which nothing was asked yet.
-    /// Takes the memory for what waits to be written. A want of memory hands the transport back.
+    /// Takes the memory for what waits to be written. A lack of memory hands the transport back.
     pub fn open(
         alloc: Global,
         number: u16,
@@ -93,15 +93,15 @@ impl<P: HoldingPlace, T: Transport> Service<P, T> {
     /// The moment, in milliseconds, from which a Tick ends the connection for silence: see [`Conn::deadline`](conn_engine::Conn::deadline).
     pub fn deadline(&self) -> Option<u64>
         ensures { MatchOption result
-            ((now : ℕ) → now < 2 ^ 64 → ¬ IsSilentTooLong self.now.client.conn.standing now)
-            (λ deadline. (now : ℕ) → IsSilentTooLong self.now.client.conn.standing now ↔ deadline ≤ now) }
+            ((now : ℕ) → now < 2 ^ 64 → ¬ IsSilentTooLong self.now.client.conn.phase now)
+            (λ deadline. (now : ℕ) → IsSilentTooLong self.now.client.conn.phase now ↔ deadline ≤ now) }
     {
         self.client.deadline()
     }
 
     /// How many messages its client has not acknowledged.
     pub fn held(&self) -> usize
-        ensures { result ≡ held_by self.now.client.conn.standing }
+        ensures { result ≡ held_by self.now.client.conn.phase }
     {
         self.client.held()
     }
@@ -109,15 +109,15 @@ impl<P: HoldingPlace, T: Transport> Service<P, T> {
     /// The slot of the group that its client would be handed a message of now: see [`Conn::takes_from`](conn_engine::Conn::takes_from).
     pub fn takes_from(&self) -> Option<u8>
         ensures { MatchOption result
-            ((place : P) → ¬ TakesAt self.now.client.conn.standing place)
-            (λ slot. (place : P) × TakesAt self.now.client.conn.standing place × (P.slot_of place ≡ slot)) }
+            ((place : P) → ¬ TakesAt self.now.client.conn.phase place)
+            (λ slot. (place : P) × TakesAt self.now.client.conn.phase place × (P.slot_of place ≡ slot)) }
     {
         self.client.takes_from()
     }
 
     /// Whether its client waits for a session that another connection has.
     pub fn is_waiting(&self) -> bool
-        ensures { IsTrue result ↔ IsWaiting self.now.client.conn.standing }
+        ensures { IsTrue result ↔ IsWaiting self.now.client.conn.phase }
     {
         !self.client.wants_input()
     }
@@ -146,7 +146,7 @@ impl<P: HoldingPlace, T: Transport> Service<P, T> {
 
     /// Lets go of a connection that has ended, as [`Round::Ended`](crate::Round::Ended) tells, and gives its transport.
     pub fn end(self) -> T
-        requires { self.client.conn.standing ≡ standings.Ended }
+        requires { self.client.conn.phase ≡ phases.Ended }
         ensures { result ≡ self.transport }
     {
         let Service {

@@ -18,10 +18,10 @@ use transport::{Clock, Crossing, Transport};
 const READ_SIZE: usize = 4_096;
 
 /// Serves one connection of this number, below 1,024, with this limit, from its opening to its end, and hands its transport back: rounds, one after the other, at the
-/// moments that the clock tells. A call of the transport that gives nothing is to have waited for a while; behind a round that ends with 600 writes
+/// moments that the clock tells. A call of the transport that gives nothing is to have waited for a while; after a round that ends with 600 writes
 /// in a row that gave nothing, or with more, the connection is given up.
 ///
-/// It returns only once the connection has ended. A want of memory at the very start is [`Served::Memory`] too: nothing was asked of the transport then.
+/// It returns only once the connection has ended. A lack of memory at the very start is [`Served::Memory`] too: nothing was asked of the transport then.
 pub fn serve<P: HoldingPlace, T: Transport, S: Supply<P>, X: Crossing, C: Clock, R: Wait>(
     rt: &R,
     alloc: Global,

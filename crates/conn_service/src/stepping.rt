@@ -2,7 +2,7 @@
 ghost use Rattle.std.specs.Prelude.{◌≡◌, Bool, ◌≢◌, ◌<◌, length, [], None, Some, Ok, true, false, OnOk, IfErr};
 ghost use Rattle.conn_supply.specs.declared.reply.Then.TheVariants.{Go};
 ghost use Rattle.conn_engine.specs.Step.{IsNoPacket};
-ghost use Rattle.conn_engine.specs.declared.standing.Standing.TheVariants.{Ended};
+ghost use Rattle.conn_engine.specs.declared.phase.ConnPhase.TheVariants.{Ended};
 ghost use Rattle.conn_laws.specs.Behind.{IsLast};
 ghost use Rattle.conn_service.specs.Services.{write_room, IsAnswered, KeepsEdge, KeepsEdgeAt};
 ghost use Rattle.conn_service.specs.declared.served.Served.TheVariants as endings;
@@ -17,7 +17,7 @@ use conn_engine::Input;
 use conn_supply::{HoldingPlace, NoMemory, Supply, Then};
 use transport::Transport;
 
-/// The moment of the latest Tick, behind this input.
+/// The moment of the latest Tick, after this input.
 fn ticked_at(input: &Input, now: u64, ticked: u64) -> u64
     ensures { result ≡ ticked_by input.now now ticked }
 {
@@ -27,7 +27,7 @@ fn ticked_at(input: &Input, now: u64, ticked: u64) -> u64
     }
 }
 
-/// Whether the connection goes on behind a step.
+/// Whether the connection goes on after a step.
 fn goes_on(next: Then) -> bool
     ensures yes { result ≡ true → next ≡ Go }
     ensures no { result ≡ false → next ≢ Go }
@@ -50,7 +50,7 @@ impl<P: HoldingPlace, T: Transport> Service<P, T> {
         requires due { IsDue S.call S.begins S.ends S.visiting P.slot_of T.counts T.given T.accepted input now self.old supply.old }
         ensures led { (is_open : Bool) → S.visiting supply.old ≡ is_open → Leads S.call S.begins S.ends S.visiting P.slot_of T.counts T.given T.accepted now (Inside is_open) (Inside is_open) self.old supply.old self.new supply.new }
         ensures goes_on { OnOk result (self.new.ending ≡ None) }
-        ensures last { OnOk result (IsLast input → self.new.client.conn.standing ≡ Ended) }
+        ensures last { OnOk result (IsLast input → self.new.client.conn.phase ≡ Ended) }
         ensures waits { OnOk result (self.old.outgoing ≢ [] → self.new.outgoing ≢ []) }
         ensures ended { IfErr result (λ served. (served ≡ endings.Memory) × (self.new.ending ≡ Some served)) }
         ensures stays { KeepsEdgeAt (ticked_by input now self.old.ticked) self.old self.new }
@@ -79,11 +79,11 @@ impl<P: HoldingPlace, T: Transport> Service<P, T> {
     /// goes on.
     fn step_front<S: Supply<P>>(&mut self, supply: &mut S, now: u64) -> Result<bool, Served>
         requires going { self.old.ending ≡ None }
-        requires not_over { self.old.client.conn.standing ≢ Ended }
+        requires not_over { self.old.client.conn.phase ≢ Ended }
         requires room { length self.old.outgoing < write_room }
         requires visiting { S.visiting supply.old ≡ true }
         ensures led { Leads S.call S.begins S.ends S.visiting P.slot_of T.counts T.given T.accepted now (Inside true) (Inside true) self.old supply.old self.new supply.new }
-        ensures goes_on { result ≡ Ok true → (self.new.client.conn.standing ≢ Ended) × (length self.new.client.unread.bytes < length self.old.client.unread.bytes) }
+        ensures goes_on { result ≡ Ok true → (self.new.client.conn.phase ≢ Ended) × (length self.new.client.unread.bytes < length self.old.client.unread.bytes) }
         ensures all { result ≡ Ok false → IsAnswered self.new }
         ensures going { OnOk result (self.new.ending ≡ None) }
         ensures ended { IfErr result (λ served. (served ≡ endings.Memory) × (self.new.ending ≡ Some served)) }
@@ -136,11 +136,11 @@ impl<P: HoldingPlace, T: Transport> Service<P, T> {
         Ok(false)
     }
 
-    /// Behind an end without its last step, the connection is given up: its session is parked.
+    /// After an end without its last step, the connection is given up: its session is parked.
     pub(crate) fn give_up<S: Supply<P>>(&mut self, supply: &mut S, now: u64)
         requires ended { self.old.ending ≢ None }
         ensures led { Leads S.call S.begins S.ends S.visiting P.slot_of T.counts T.given T.accepted now Behind Behind self.old supply.old self.new supply.new }
-        ensures over { self.new.client.conn.standing ≡ Ended }
+        ensures over { self.new.client.conn.phase ≡ Ended }
         ensures ending { self.new.ending ≡ self.old.ending }
         ensures edge { (self.new.transport ≡ self.old.transport) × (self.new.ticked ≡ self.old.ticked) }
     {

@@ -4,15 +4,15 @@ use Rattle.mqtt_packet.specs.declared.packet.Packet.{Packet}
 use Rattle.group_jobs.specs.Stamps.{Held}
 use Rattle.member_window.specs.Identifiers.{identifiers, IsLeastFree}
 use Rattle.member_window.specs.Contents.{Contents, HasRoom, held_of, after_put}
-use Rattle.conn_supply.specs.Facts.{Fact}
-use Rattle.conn_supply.specs.Facts.Fact.{MayTake}
+use Rattle.conn_supply.specs.SupplyCalls.{SupplyCall}
+use Rattle.conn_supply.specs.SupplyCalls.SupplyCall.{MayTake}
 use Rattle.conn_supply.specs.HandOuts.{AsksFor, SendsOne, SendsFresh, TakesSome}
 
--- packets behind packets
+-- packets after packets
 joined : (before after after' sent : List Packet) (packet : Packet) → after ≡ before ++ packet ∷ [] → after' ≡ after ++ sent → after' ≡ before ++ packet ∷ sent
 joined before after after' sent packet one more = more ∙ ap (λ xs. xs ++ sent) one ∙ append_assoc before (packet ∷ []) sent
 
-module _ {S P : Type 0} (call : S → Fact P → S → Type 0) where
+module _ {S P : Type 0} (call : S → SupplyCall P → S → Type 0) where
   pub one_more_sent : (old mid new : S) (place between place' : P) (window window_between window' : Contents Held)
       (before after after' sent : List Packet) (packet : Packet)
       → after ≡ before ++ packet ∷ [] → SendsOne call old place window packet between window_between mid

@@ -3,11 +3,11 @@ use Rattle.std.proofs.Common.{◌≡◌, ℕ, ◌+◌, List, [], ◌∷◌, Resu
 use Rattle.group_jobs.specs.declared.message.Message.{Message}
 use Rattle.group_jobs.specs.declared.stamp.Stamp.{Stamp}
 use Rattle.conn_supply.specs.declared.supply.OfferRefusal.{OfferRefusal}
-use Rattle.conn_supply.specs.Facts.{Fact}
-use Rattle.conn_supply.specs.Facts.Fact.{Offer}
+use Rattle.conn_supply.specs.SupplyCalls.{SupplyCall}
+use Rattle.conn_supply.specs.SupplyCalls.SupplyCall.{Offer}
 use Rattle.conn_supply.specs.Publishing.{Took, Offers, OffersFirst}
 
-module _ {S P : Type 0} (call : S → Fact P → S → Type 0) where
+module _ {S P : Type 0} (call : S → SupplyCall P → S → Type 0) where
   -- to the last of them
   pub last_offered : (old new : S) (connection slot : ℕ) (message : Message) (slots rest : List ℕ) (taken : ℕ) (answer : Result Stamp OfferRefusal)
       → slots ≡ slot ∷ rest → rest ≡ [] → call old (Offer slot connection message answer) new → Took answer taken → Offers call old connection message slots taken new

@@ -7,11 +7,11 @@ use Rattle.session_desk.specs.declared.session.Session.{Session}
 use Rattle.session_desk.specs.declared.session.Membership.{Membership}
 use Rattle.session_desk.specs.declared.session.Membership.TheVariants.{NotMember, Member, Leaving}
 use Rattle.conn_rules.specs.Acknowledging.{fate_of}
-use Rattle.conn_supply.specs.Facts.{Fact}
-use Rattle.conn_supply.specs.Facts.Fact.{Settle}
+use Rattle.conn_supply.specs.SupplyCalls.{SupplyCall}
+use Rattle.conn_supply.specs.SupplyCalls.SupplyCall.{Settle}
 use Rattle.conn_supply.specs.Memberships.{with_window, with_membership}
 
-module _ {S P : Type 0} (call : S → Fact P → S → Type 0) where
+module _ {S P : Type 0} (call : S → SupplyCall P → S → Type 0) where
   -- the place settles the message that was found under the identifier: below 80 it is acknowledged, else refused
   abbrev pub Settles : S → P → ℕ → Option Held → P → S → Type 0
   Settles old place code None place' new = (place' ≡ place) × (new ≡ old)

@@ -1,4 +1,4 @@
--- What is handed out behind the reply (sections 4.4, 4.6, 4.8.2 and 4.9).
+-- What is handed out after the reply (sections 4.4, 4.6, 4.8.2 and 4.9).
 use Rattle.std.specs.Prelude.{◌≡◌, ◌≢◌, ◌⊎◌, ℕ, ◌+◌, ◌<◌, length, true, false, List, [], ◌∷◌, ◌++◌, Option, Some, None, Ok, Err}
 use Rattle.mqtt_packet.specs.declared.packet.Packet.{Packet}
 use Rattle.group_jobs.specs.Stamps.{Held}
@@ -8,8 +8,8 @@ use Rattle.session_desk.specs.declared.session.Membership.{Membership}
 use Rattle.session_desk.specs.declared.session.Membership.TheVariants.{NotMember, Member, Leaving}
 use Rattle.conn_rules.specs.Packets.{job}
 use Rattle.conn_supply.specs.declared.supply.NoMemory.{NoMemory}
-use Rattle.conn_supply.specs.Facts.{Fact}
-use Rattle.conn_supply.specs.Facts.Fact.{MayTake, Take, TakeBack, TakePlace}
+use Rattle.conn_supply.specs.SupplyCalls.{SupplyCall}
+use Rattle.conn_supply.specs.SupplyCalls.SupplyCall.{MayTake, Take, TakeBack, TakePlace}
 
 -- what waits is sent again, the oldest first, with DUP 1 and under its own identifier, until the quota is used up or nothing waits (4.4)
 abbrev pub SendsAgain : Contents Held → List Packet → Contents Held → Type 0
@@ -34,14 +34,14 @@ pub record HoldsMore (old new : Contents Held) : Type 0 where
   pub one : length new.owed ≡ length old.owed + 1
   pub few : length old.owed < 256
 
-module _ {S P : Type 0} (call : S → Fact P → S → Type 0) where
+module _ {S P : Type 0} (call : S → SupplyCall P → S → Type 0) where
   -- a place is handed a message: one that was given back, or else the oldest that is queued, or else none
   abbrev pub AsksFor : S → P → Option Held → P → S → Type 0
   AsksFor old place found place' new =
       ((envelope : Held) × (found ≡ Some envelope) × call old (TakeBack place place' (Ok (Some envelope))) new)
       ⊎ ((between : P) × (mid : S) × call old (TakeBack place between (Ok None)) mid × call mid (Take between place' (Ok found)) new)
 
-  -- memory was wanted for a hand-out, and nothing was handed out
+  -- an allocation failed for a hand-out, and nothing was handed out
   abbrev pub IsRefused : S → P → P → S → Type 0
   IsRefused old place place' new =
       ((refusal : NoMemory) × call old (TakeBack place place' (Err refusal)) new)
@@ -96,7 +96,7 @@ module _ {S P : Type 0} (call : S → Fact P → S → Type 0) where
     pub sent_again : SendsAgain window again between
     pub sent_fresh : HandsFresh old membership between fresh membership' window' new
 
-  -- where memory was wanted, what is held stays, and these messages were put behind it, each where there was room and the supply allowed one more
+  -- where an allocation failed, what is held stays, and these messages were put after it, each where there was room and the supply allowed one more
   abbrev pub TakesSome : S → P → Contents Held → List Held → P → Contents Held → S → Type 0
   TakesSome old place window [] place' window' new =
       (window' ≡ window) × (((place' ≡ place) × (new ≡ old)) ⊎ (HasRoom window × call old (MayTake place true) old × IsRefused old place place' new))
@@ -105,7 +105,7 @@ module _ {S P : Type 0} (call : S → Fact P → S → Type 0) where
       × IsLeastFree (identifiers (held_of window)) identifier × HasRoom window
       × TakesSome mid between (after_put window identifier envelope) envelopes place' window' new
 
-  -- where memory was wanted, what was done is a beginning of what is due: of what waits these were sent again; or all that could be, and then a
+  -- where an allocation failed, what was done is a beginning of what is due: of what waits these were sent again; or all that could be, and then a
   -- member was handed these messages
   abbrev pub HandsSome : S → Membership P → Contents Held → Membership P → Contents Held → S → Type 0
   HandsSome old membership window membership' window' new =

@@ -18,7 +18,7 @@ pub record IsOneOf (all : List Held) (envelope : Held) (others : List Held) : Ty
   pub together : all ≡ before ++ envelope ∷ behind
   pub apart : others ≡ before ++ behind
 
--- these, and behind them the message that was found, if one was
+-- these, and after them the message that was found, if one was
 abbrev pub with_found : List Held → Result (Option Held) NoMemory → List Held
 with_found all (Ok (Some envelope)) = all ++ envelope ∷ []
 with_found all (Ok None) = all

@@ -1,4 +1,4 @@
-pub mod Facts
+pub mod SupplyCalls
 pub mod Holding
 pub mod Ready
 pub mod Replies

@@ -9,11 +9,11 @@ use Rattle.conn_rules.specs.Publishing.{publish_answer, puback_code, message_of}
 use Rattle.conn_supply.specs.declared.reply.Reply.{Reply}
 use Rattle.conn_supply.specs.declared.supply.OfferRefusal.{OfferRefusal}
 use Rattle.conn_supply.specs.declared.supply.OfferRefusal.TheVariants as refusal
-use Rattle.conn_supply.specs.Facts.{Fact}
-use Rattle.conn_supply.specs.Facts.Fact.{Match, Offer}
+use Rattle.conn_supply.specs.SupplyCalls.{SupplyCall}
+use Rattle.conn_supply.specs.SupplyCalls.SupplyCall.{Match, Offer}
 use Rattle.conn_supply.specs.Replies.{closing_with, acknowledging}
 
--- how many took the message, of a group that gave this answer; want of memory is none
+-- how many took the message, of a group that gave this answer; lack of memory is none
 abbrev pub Took : Result Stamp OfferRefusal → ℕ → Type 0
 Took (Ok stamp) taken = taken ≡ 1
 Took (Err refusal.Shut) taken = taken ≡ 0
@@ -21,7 +21,7 @@ Took (Err refusal.LifeSpent) taken = taken ≡ 0
 Took (Err refusal.Full) taken = taken ≡ 0
 Took (Err refusal.Memory) taken = ⊥
 
-module _ {S P : Type 0} (call : S → Fact P → S → Type 0) where
+module _ {S P : Type 0} (call : S → SupplyCall P → S → Type 0) where
   -- the message is offered once to each of these groups, in their order, and so many take it
   abbrev pub Offers : S → ℕ → Message → List ℕ → ℕ → S → Type 0
   Offers old connection message [] taken new = (taken ≡ 0) × (new ≡ old)
@@ -60,7 +60,7 @@ module _ {S P : Type 0} (call : S → Fact P → S → Type 0) where
   abbrev pub Publishes : S → ℕ → Publish → Reply → S → Type 0
   Publishes old connection publish reply new = AnswersPublish old connection publish (publish_answer publish) reply new
 
-  -- what was done where memory was wanted: the message was offered to none of the groups that match, or to each of them up to one that had no memory for it
+  -- what was done where an allocation failed: the message was offered to none of the groups that match, or to each of them up to one that had no memory for it
   pub record IsCutShort (old : S) (connection : ℕ) (publish : Publish) (new : S) : Type 0 where
     pub slots : List ℕ
     pub mid : S

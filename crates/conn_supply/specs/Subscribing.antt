@@ -15,11 +15,11 @@ use Rattle.session_desk.specs.declared.session.Membership.TheVariants.{NotMember
 use Rattle.conn_supply.specs.declared.reply.Reply.{Reply}
 use Rattle.conn_supply.specs.declared.supply.BindRefusal.{BindRefusal}
 use Rattle.conn_supply.specs.declared.supply.BindRefusal.TheVariants as refusal
-use Rattle.conn_supply.specs.Facts.{Fact}
-use Rattle.conn_supply.specs.Facts.Fact.{Bind, Find, LendPlace}
+use Rattle.conn_supply.specs.SupplyCalls.{SupplyCall}
+use Rattle.conn_supply.specs.SupplyCalls.SupplyCall.{Bind, Find, LendPlace}
 use Rattle.conn_supply.specs.Replies.{going_on, closing_with}
 
-module _ {S P : Type 0} (call : S → Fact P → S → Type 0) (slot_of : P → ℕ) where
+module _ {S P : Type 0} (call : S → SupplyCall P → S → Type 0) (slot_of : P → ℕ) where
   -- a place in the group of this slot is asked for, and is of that group: 97 where none is free
   abbrev pub IsLent : S → ℕ → Option P → ℕ → Membership P → S → Type 0
   IsLent old slot None code membership new = call old (LendPlace slot None) new × (code ≡ 0x97) × (membership ≡ NotMember)
@@ -69,7 +69,7 @@ module _ {S P : Type 0} (call : S → Fact P → S → Type 0) (slot_of : P → 
       × AnswersEntry old membership (entry_answer identified entry terms) code between mid
       × AnswersFirst identified terms mid between entries membership' new)
 
-  -- where memory was wanted, some of the entries were answered, from the first on, or none
+  -- where an allocation failed, some of the entries were answered, from the first on, or none
   abbrev pub AnswersSome : Bool → Terms → S → Membership P → List Subscription → Membership P → S → Type 0
   AnswersSome identified terms old membership entries membership' new =
       ((membership' ≡ membership) × (new ≡ old)) ⊎ AnswersFirst identified terms old membership entries membership' new

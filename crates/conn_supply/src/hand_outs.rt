@@ -1,4 +1,4 @@
-//! What is handed out behind the reply (sections 4.4, 4.6, 4.8.2 and 4.9).
+//! What is handed out after the reply (sections 4.4, 4.6, 4.8.2 and 4.9).
 ghost use Rattle.std.specs.Prelude.{◌≡◌, ◌<◌, ◌∷◌, ◌++◌, [], true, false, ℕ, List, Some, None, Ok, OnOk, OnErr, IfOk, MatchOption, MatchResult};
 ghost use Rattle.mqtt_packet.specs.declared.packet.Packet.{Packet};
 ghost use Rattle.group_jobs.specs.Stamps.{Held};
@@ -18,13 +18,13 @@ use session_desk::Membership;
 use std::mem;
 
 /// Hands out to a session what is due: what waits is sent again; then a member is handed messages while there is room, and who
-/// leaves is no member once it holds nothing. The packets go behind those that are there.
+/// leaves is no member once it holds nothing. The packets go after those that are there.
 ///
 /// A visit of the supply is going on. What the session holds is out at its place, then and from then on.
 ///
 /// # Errors
 ///
-/// Want of memory. Nothing that the session holds is lost.
+/// Lack of memory. Nothing that the session holds is lost.
 pub fn hand_out<P: HoldingPlace, S: Supply<P>>(
     supply: &mut S,
     membership: &mut Membership<P>,

@@ -4,7 +4,7 @@ ghost use Rattle.mqtt_topic.specs.Names.{name_of};
 ghost use Rattle.conn_rules.specs.Publishing.{message_of, publish_answer};
 ghost use Rattle.conn_rules.specs.declared.publishing.PublishAnswer.TheVariants as answers;
 ghost use Rattle.conn_supply.specs.declared.supply.OfferRefusal.TheVariants as refusals;
-ghost use Rattle.conn_supply.specs.Facts.Fact.{Match, Offer};
+ghost use Rattle.conn_supply.specs.SupplyCalls.SupplyCall.{Match, Offer};
 ghost use Rattle.conn_supply.specs.Publishing.{Took, Offers, OffersFirst, OffersSome, IsOffered, IsCutShort, Publishes};
 
 use crate::reply::Reply;
@@ -19,7 +19,7 @@ use std::alloc::Global;
 ///
 /// # Errors
 ///
-/// Want of memory: of the groups that match, the message was offered to none, or to each up to one that had no memory for it.
+/// Lack of memory: of the groups that match, the message was offered to none, or to each up to one that had no memory for it.
 pub fn publish<P: HoldingPlace, S: Supply<P>>(
     supply: &mut S,
     alloc: Global,

@@ -6,7 +6,7 @@ use conn_rules::{disconnect, puback};
 use mqtt_packet::{Packet, PacketIdentifier, ReasonCode};
 use std::alloc::Global;
 
-/// What becomes of a connection behind a step.
+/// What becomes of a connection after a step.
 #[derive(Clone, Copy, Debug, PartialEq, Eq)]
 pub enum Then {
     /// It goes on.

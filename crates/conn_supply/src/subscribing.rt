@@ -1,7 +1,7 @@
 //! The answers to a SUBSCRIBE and to an UNSUBSCRIBE (sections 3.8 to 3.11).
 ghost use Rattle.std.specs.Prelude.{◌≡◌, ◌<◌, ◌≤◌, ◌+◌, ◌++◌, ◌↔◌, List, ℕ, Option, Some, length, IsTrue, MatchResult, vec_len, vec_capacity, is_some};
 ghost use Rattle.mqtt_topic.specs.Names.{share_of};
-ghost use Rattle.conn_supply.specs.Facts.Fact.{Find};
+ghost use Rattle.conn_supply.specs.SupplyCalls.SupplyCall.{Find};
 ghost use Rattle.conn_supply.specs.Holding.{StayOut};
 ghost use Rattle.conn_supply.specs.Subscribing.{IsLent, EntersAs, Joins, AnswersEntry, AnswersEntries, AnswersFirst, AnswersSome, IsUnbound, Subscribes, LeavesBy, LeavesByAll, Unsubscribes};
 ghost use Rattle.session_desk.specs.declared.session.Membership.TheVariants.{NotMember};
@@ -26,7 +26,7 @@ use std::vec::IntoIter;
 ///
 /// # Errors
 ///
-/// Want of memory; some of the entries may have been answered.
+/// Lack of memory; some of the entries may have been answered.
 pub fn subscribe<P: HoldingPlace, S: Supply<P>>(
     supply: &mut S,
     alloc: Global,
@@ -183,7 +183,7 @@ fn enter<P: HoldingPlace, S: Supply<P>>(
 ///
 /// # Errors
 ///
-/// Want of memory; nothing was asked.
+/// Lack of memory; nothing was asked.
 pub fn unsubscribe<P: HoldingPlace, S: Supply<P>>(
     supply: &mut S,
     alloc: Global,

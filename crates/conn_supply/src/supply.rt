@@ -1,7 +1,7 @@
 //! What a connection asks: who has which session, which share is bound to which slot, and who has which message.
 ghost use Rattle.std.specs.Prelude.{◌≡◌, ◌<◌, ◌≤◌, [], List, length, IfOk, IfErr, IfSome, Bool, true, ⊤};
-ghost use Rattle.conn_supply.specs.Facts.{Fact};
-ghost use Rattle.conn_supply.specs.Facts.Fact.{Attach, Withdraw, Kicked, Park, ParkAsIs, Keep, Bury, Sweep, LendPlace, TakePlace, Bind, Find, Match, Offer, MayTake, Take, TakeBack, Settle, GiveBack};
+ghost use Rattle.conn_supply.specs.SupplyCalls.{SupplyCall};
+ghost use Rattle.conn_supply.specs.SupplyCalls.SupplyCall.{Attach, Withdraw, Kicked, Park, ParkAsIs, Keep, Bury, Sweep, LendPlace, TakePlace, Bind, Find, Match, Offer, MayTake, Take, TakeBack, Settle, GiveBack};
 ghost use Rattle.conn_supply.specs.Holding.{IsAmong, IsOutAtPlace, FindsOut, SpendsOut, ReturnsOut};
 ghost use Rattle.conn_supply.specs.Ready.{IsReady, IsSoundSession};
 ghost use Rattle.group_jobs.specs.Stamps.{Held};
@@ -15,7 +15,7 @@ use session_desk::{Attached, DeskError, Place, Session};
 use std::alloc::{AllocError, AllocFailed};
 use thiserror::Error;
 
-/// Memory was wanted and refused. Nothing has changed then.
+/// An allocation failed. Nothing has changed then.
 #[derive(Clone, Copy, Debug, PartialEq, Eq, Error)]
 #[error("out of memory")]
 pub struct NoMemory;
@@ -50,7 +50,7 @@ pub enum BindRefusal {
     /// 205: all eight slots are bound to other shares.
     #[error("all slots are bound to other shares")]
     NoSlot,
-    /// 206: memory was wanted and refused.
+    /// 206: an allocation failed.
     #[error("out of memory")]
     Memory,
 }
@@ -67,7 +67,7 @@ pub enum OfferRefusal {
     /// 501: as many messages wait as the group's capacity allows.
     #[error("the queue is full")]
     Full,
-    /// 503: memory was wanted and refused.
+    /// 503: an allocation failed.
     #[error("out of memory")]
     Memory,
 }
@@ -91,7 +91,7 @@ pub trait HoldingPlace: Place {
 /// So a supply is never handed a message that it does not know.
 pub trait Supply<P: HoldingPlace> {
     /// What a call with these arguments and this answer makes of the supply.
-    ghost call: { Self → Fact P → Self → Type 0 };
+    ghost call: { Self → SupplyCall P → Self → Type 0 };
 
     /// Whether a visit is going on.
     ghost visiting: { Self → Bool };
@@ -238,7 +238,7 @@ pub trait Supply<P: HoldingPlace> {
         ensures called { call self.old (Settle place.old place.new envelope fate) self.new }
         ensures visiting { visiting self.new ≡ visiting self.old };
 
-    /// The place gives a message back that it was handed. A want of memory hands it back, and changes nothing.
+    /// The place gives a message back that it was handed. A lack of memory hands it back, and changes nothing.
     fn give_back(&mut self, place: &mut P, envelope: Envelope) -> Result<(), Envelope>
         requires { IsAmong P.has_out place.old envelope }
         ensures same { IfErr result (λ back. back ≡ envelope) }

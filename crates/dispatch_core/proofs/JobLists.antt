@@ -19,7 +19,7 @@ get_or-jobs_from port from (suc count) (suc k) d less =
     let e : from + 1 + k ≡ from + suc k = omega arith in
     get_or-jobs_from port (from + 1) count k d (omega arith) ∙ ap (λ n. record { port = port; number = n }) e
 
--- two stretches, one behind the other
+-- two stretches, one after the other
 pub jobs_from-add : (port from count more : ℕ) → jobs_from port from (count + more) ≡ jobs_from port from count ++ jobs_from port (from + count) more
 jobs_from-add port from zero more =
     let n : 0 + more ≡ more = omega arith in

@@ -33,7 +33,7 @@ all_lie_before (run ∷ runs) job begin uncovered =
     (lies_before run job (All-head (λ r. BeginsBefore r (alone job)) run runs begin) (λ covers. uncovered (inl covers)))
     (all_lie_before runs job (All-tail (λ r. BeginsBefore r (alone job)) run runs begin) (λ covered. uncovered (inr covered)))
 
--- a job among sorted runs that do not have it: what stands before it, and what behind
+-- a job among sorted runs that do not have it: what stands before it, and what after
 pub record At (old : List Run) (job : Job) (front back : List Run) : Type 0 where
   pub parts : front ++ back ≡ old
   pub filled : All IsFilled (front ++ back)
@@ -118,7 +118,7 @@ apart_beyond job middle run begins full apart =
     apart)
     begins
 
--- where the first run behind a job does not touch it, none does
+-- where the first run after a job does not touch it, none does
 pub apart_back : (back : List Run) (job : Job) → EachBefore LiesApart back → All IsFilled back → All (λ run. BeginsAfter run job) back → ¬ BeginsBehind back job → All (LiesApart (alone job)) back
 apart_back [] job each filled begin begins = All-nil (LiesApart (alone job))
 apart_back (run ∷ rest) job each filled begin begins =

@@ -1,4 +1,4 @@
--- The four ways in which a job is put into sorted runs: by whether the run before it touches it, and the one behind.
+-- The four ways in which a job is put into sorted runs: by whether the run before it touches it, and the one after.
 use Rattle.std.proofs.Common.{◌≡◌, ◌+◌, ◌-◌, ◌<◌, ◌≤◌, ◌⊎◌, List, [], ◌∷◌, ◌++◌, length, All, refl, sym, ap, ◌∙◌, subst, inl, inr, ⊎_elim, arith, append_assoc, append-nil, length-append}
 use Rattle.std.proofs.lemmas.List.Elements.{All-head, All-tail, All-weaker}
 use Rattle.dispatch_core.specs.declared.event.Job.{Job}
@@ -84,7 +84,7 @@ joins_before old new job front back at ends begins is =
       closes_gap = λ b h. absurd (lacks h);
     })
 
--- the run behind it begins with it
+-- the run after it begins with it
 pub joins_behind : (old new : List Run) (job : Job) (front back : List Run) → At old job front back → ¬ EndsBefore front job → (begins : BeginsBehind back job) → new ≡ front ++ record { port = begins.run.port; from = job.number; last = begins.run.last } ∷ begins.back → Joins old job new
 joins_behind old new job front back at ends begins is =
     let run = begins.run in

@@ -59,7 +59,7 @@ sooner_apart job run other port touches before full part =
     ahead)
     part
 
--- a run right behind a job: what begins after the job and lies apart from it begins later
+-- a run right after a job: what begins after the job and lies apart from it begins later
 later_apart : (job : Job) (run other : Run) → run.port ≡ job.port → job.number + 1 ≡ run.from → IsFilled run → BeginsAfter other job → IsFilled other → LiesApart run other ⊎ LiesApart other run → BeginsSooner run other
 later_apart job run other port touches run_full after full part =
     ⊎_elim
@@ -83,7 +83,7 @@ later_apart job run other port touches run_full after full part =
     ahead)
     part
 
--- the run right behind a job begins no later than all that begins after the job
+-- the run right after a job begins no later than all that begins after the job
 before_after : (job : Job) (run other : Run) → run.port ≡ job.port → job.number + 1 ≡ run.from → BeginsAfter other job → BeginsBefore run other
 before_after job run other port touches after =
     ⊎_elim
@@ -149,7 +149,7 @@ none_begins job xs ys no_first no_second begins =
     (λ (r : BeginsWith ys begins.run). no_second (record { run = begins.run; back = r.0; there = r.1; port = begins.port; touches = begins.touches }))
     (begins_one begins.run xs ys (begins.back, begins.there))
 
--- the run right behind a job, in the first list and in the second
+-- the run right after a job, in the first list and in the second
 pub begins_first : (job : Job) (back beyond : List Run) → Back job beyond → (begins : BeginsBehind back job) → (b : BeginsBehind (merged back beyond) job) × (begins.run.last ≡ b.run.last) × (merged begins.back beyond ≡ b.back)
 begins_first job back beyond after begins =
     let run = begins.run in
@@ -279,7 +279,7 @@ at_both settled recent job place near at at_near filled sorted absent small =
       small = small;
     }
 
--- the run right behind the job is taken out of the list that has it
+-- the run right after the job is taken out of the list that has it
 pub shortened : (old new : List Run) (place : ℕ) (job : Job) (result : Option ℕ) → IsPlaceOf old job place → TakesBehind old place job result new → Shortens old place job new
 shortened old new place job None at taken =
     subst (Shortens old place job) (sym taken.1) (record { within = at.within; front = refl; behind = back_of old job place at; fewer = omega arith })

@@ -139,7 +139,7 @@ stands_last : (jobs : List Job) (job : Job) → ¬ Contains jobs job → StandsO
 stands_last jobs job absent =
     record { before = jobs; behind = []; there = refl; not_before = absent; not_behind = λ has. absurd (let h : has.0 < 0 = has.1 in omega arith) }
 
--- a job that stood once does so still with another behind
+-- a job that stood once does so still with another after
 stands_still : (jobs : List Job) (job other : Job) → other ≢ job → StandsOnce jobs other → StandsOnce (jobs ++ job ∷ []) other
 stands_still jobs job other differs once =
     record {

@@ -104,7 +104,7 @@ length-merged =
     by_merging (λ xs ys zs. length zs ≡ length xs + length ys) (λ ys. omega arith) (λ xs. omega arith)
     (λ x xs y ys before rest. omega (arith, rest)) (λ x xs y ys sooner rest. omega (arith, rest))
 
--- what holds of each run of both, and of each one and each one behind it
+-- what holds of each run of both, and of each one and each one after it
 pub All-merged : (Q : Run → Type 0) (xs ys : List Run) → All Q xs → All Q ys → All Q (merged xs ys)
 All-merged Q =
     by_merging (λ xs ys zs. All Q xs → All Q ys → All Q zs) (λ ys none all. all) (λ xs all none. all)

@@ -10,7 +10,7 @@ use Rattle.dispatch_core.specs.Merging.{merged, first_of}
 use Rattle.dispatch_core.proofs.Orders.{All-front, All-back, each_front, each_across, across_first, begins_by_true, begins_by_false}
 use Rattle.dispatch_core.proofs.MergedLists.{BeginsSooner, before_all, sooner_all, begins_through, sooner_through}
 
--- the places from `front + back` on have what the two lists have behind their first `front` and `back` runs
+-- the places from `front + back` on have what the two lists have after their first `front` and `back` runs
 pub record IsMergedFrom (old more now : List Run) (front back : ℕ) : Type 0 where
   pub long : length now ≡ length old + length more
   pub within : front ≤ length old

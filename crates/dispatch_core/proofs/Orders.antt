@@ -1,4 +1,4 @@
--- Lists in which something holds of each element and each one behind it.
+-- Lists in which something holds of each element and each one after it.
 use Rattle.std.proofs.Common.{◌≡◌, ◌<◌, ◌≤◌, ◌&&◌, true, false, eqb, leb, List, [], ◌∷◌, ◌++◌, All, inl, inr, ⊎_elim, arith}
 use Rattle.std.proofs.lemmas.Bool.{cases_lt}
 use Rattle.std.proofs.lemmas.Bool.Decides.{nat_tests}
@@ -54,7 +54,7 @@ across_first R xs y ys all = All-weaker (λ x. All (R x) (y ∷ ys)) (λ x. R x 
 pub across_rest : (R : Run → Run → Type 0) (xs : List Run) (y : Run) (ys : List Run) → All (λ x. All (R x) (y ∷ ys)) xs → All (λ x. All (R x) ys) xs
 across_rest R xs y ys all = All-weaker (λ x. All (R x) (y ∷ ys)) (λ x. All (R x) ys) (λ x h. All-tail (R x) y ys h) xs all
 
--- a run begins at a job or before it, or behind it
+-- a run begins at a job or before it, or after it
 pub begins_by_true : (job : Job) (run : Run) → begins_by job run ≡ true → BeginsBefore run (alone job)
 begins_by_true job run is =
     ⊎_elim

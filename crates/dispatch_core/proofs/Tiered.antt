@@ -100,7 +100,7 @@ place_both long short job place near at at_short =
 pub places_both : (tiers : Tiers) (job : Job) (places : Places) → ArePlacesOf tiers job places → IsPlaceOf (both tiers) job (places.long + places.short)
 places_both tiers job places at = place_both tiers.long.items tiers.short.items job places.long places.short at.long at.short
 
--- the run right behind the job is taken out
+-- the run right after the job is taken out
 module _ (long short : List Run) (job : Job) (place near : ℕ) (at : IsPlaceOf long job place) (at_short : IsPlaceOf short job near) where
   first_cut : IsCut long job place
   first_cut = cut_of long job place at
@@ -139,7 +139,7 @@ module _ (long short : List Run) (job : Job) (place near : ℕ) (at : IsPlaceOf 
   pub taken_neither : ¬ BeginsBehind (drop place long) job → ¬ BeginsBehind (drop near short) job → TakesBehind (merged long short) (place + near) job None (merged long short)
   taken_neither first second = (subst (λ rs. ¬ BeginsBehind rs job) (sym (drop_both long short job place near first_cut second_cut)) (none_begins job (drop place long) (drop near short) first second), refl)
 
-  -- where it is not the first behind the job in the first list
+  -- where it is not the first after the job in the first list
   pub taken_else : ¬ BeginsBehind (drop place long) job → All IsFilled (merged long short) → EachBefore LiesApart (merged long short) → (result : Option ℕ) (new : List Run) → TakesBehind short near job result new → TakesBehind (merged long short) (place + near) job result (merged long new)
   taken_else first filled apart None new taken = subst (λ rs. TakesBehind (merged long short) (place + near) job None (merged long rs)) (sym taken.1) (taken_neither first taken.0)
   taken_else first filled apart (Some last) new taken = taken_second filled apart last new taken

@@ -94,7 +94,7 @@ joined_touching old now kept place d run last so_far less read ends read_last =
           (across_first LiesApart ends.front ends.run [] (each_across LiesApart ends.front (ends.run ∷ []) apart)) (All-nil (LiesApart longer)));
     })
 
--- a run that does not touch the last one comes behind it
+-- a run that does not touch the last one comes after it
 pub joined_next : (old now : List Run) (kept place : ℕ) (d run : Run) → AreJoinedSoFar old now kept place → place < length now → run ≡ get_or now place d → ¬ EndsBefore (take kept now) (first_of run) → AreJoinedSoFar old (set now kept run) (kept + 1) (place + 1)
 joined_next old now kept place d run so_far less read ends =
     let front = take kept now in

@@ -43,7 +43,7 @@ BeginsBefore run other = (run.port < other.port) ⊎ ((run.port ≡ other.port) 
 abbrev pub LiesApart : Run → Run → Type 0
 LiesApart run other = (run.port < other.port) ⊎ ((run.port ≡ other.port) × (run.last + 1 < other.from))
 
--- something holds of each run and each one behind it
+-- something holds of each run and each one after it
 abbrev pub EachBefore : (Run → Run → Type 0) → List Run → Type 0
 EachBefore R [] = Unit {0}
 EachBefore R (run ∷ behind) = All (R run) behind × EachBefore R behind
@@ -56,7 +56,7 @@ pub record AreKept (runs : List Run) : Type 0 where
   -- where no job is there twice, the runs of a port never touch
   pub apart : NoneTwice (jobs_of runs) → EachBefore LiesApart runs
 
--- the job with the number before this one is there, and the one with the number behind it
+-- the job with the number before this one is there, and the one with the number after it
 abbrev pub HasBefore : List Job → Job → Type 0
 HasBefore jobs job = (number : ℕ) × (number + 1 ≡ job.number) × Contains jobs (record { port = job.port; number = number })
 

@@ -12,7 +12,7 @@ covers job run = ((run.port == job.port) && nat_le run.from job.number) && nat_l
 abbrev pub begins_by : Job → Run → Bool
 begins_by job run = nat_lt run.port job.port || ((run.port == job.port) && nat_le run.from job.number)
 
--- so many runs begin at a job or before it, and the others behind it
+-- so many runs begin at a job or before it, and the others after it
 pub record IsPlaceOf (runs : List Run) (job : Job) (place : ℕ) : Type 0 where
   pub within : place ≤ length runs
   pub front : All (λ run. begins_by job run ≡ true) (take place runs)
@@ -26,7 +26,7 @@ pub record EndsBefore (runs : List Run) (job : Job) : Type 0 where
   pub port : run.port ≡ job.port
   pub touches : run.last + 1 ≡ job.number
 
--- the first of the runs begins right behind a job
+-- the first of the runs begins right after a job
 pub record BeginsBehind (runs : List Run) (job : Job) : Type 0 where
   pub run : Run
   pub back : List Run

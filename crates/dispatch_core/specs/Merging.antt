@@ -8,7 +8,7 @@ use Rattle.dispatch_core.specs.Joining.{begins_by, EndsBefore, BeginsBehind, IsS
 abbrev pub first_of : Run → Job
 first_of run = record { port = run.port; number = run.from }
 
--- a run comes behind those that begin before it, and then `rest` goes on with the others
+-- a run comes after those that begin before it, and then `rest` goes on with the others
 abbrev pub merged_at : Run → (List Run → List Run) → List Run → List Run
 merged_at run rest [] = run ∷ rest []
 merged_at run rest (other ∷ others) = if begins_by (first_of other) run then run ∷ rest (other ∷ others) else other ∷ merged_at run rest others
@@ -18,11 +18,11 @@ abbrev pub merged : List Run → List Run → List Run
 merged [] others = others
 merged (run ∷ runs) others = merged_at run (merged runs) others
 
--- a run begins behind a job
+-- a run begins after a job
 abbrev pub BeginsAfter : Run → Job → Type 0
 BeginsAfter run job = (job.port < run.port) ⊎ ((job.port ≡ run.port) × (job.number < run.from))
 
--- the run right behind a job, if there is one, is taken out, and its last number is told
+-- the run right after a job, if there is one, is taken out, and its last number is told
 abbrev pub TakesBehind : List Run → ℕ → Job → Option ℕ → List Run → Type 0
 TakesBehind old place job None new = ¬ BeginsBehind (drop place old) job × (new ≡ old)
 TakesBehind old place job (Some last) new = (begins : BeginsBehind (drop place old) job) × (last ≡ begins.run.last) × (take place new ≡ take place old) × (drop place new ≡ begins.back) × (place ≤ length new)
@@ -32,7 +32,7 @@ abbrev pub Lengthens : List Run → ℕ → Job → ℕ → Bool → List Run �
 Lengthens old place job last true new = (ends : EndsBefore (take place old) job) × (new ≡ ends.front ++ record { port = ends.run.port; from = ends.run.from; last = last } ∷ drop place old)
 Lengthens old place job last false new = ¬ EndsBefore (take place old) job × (new ≡ old)
 
--- behind a job stands what stood there, or all but the run right behind it, and the last number to which the job's run goes
+-- after a job stands what stood there, or all but the run right after it, and the last number to which the job's run goes
 abbrev pub IsOpened : List Run → Job → ℕ → List Run → Type 0
 IsOpened back job last opened = (¬ BeginsBehind back job × (last ≡ job.number) × (opened ≡ back)) ⊎ ((begins : BeginsBehind back job) × (last ≡ begins.run.last) × (opened ≡ begins.back))
 

@@ -5,7 +5,7 @@ use Rattle.dispatch_core.specs.declared.runs.Run.{Run}
 use Rattle.dispatch_core.specs.JobRuns.{jobs_of_run, IsFilled}
 use Rattle.dispatch_core.specs.Merging.{first_of}
 
--- the first run that is left, and those behind it
+-- the first run that is left, and those after it
 abbrev pub ahead_of : Option Run → List Run → List Run
 ahead_of None behind = []
 ahead_of (Some run) behind = run ∷ behind
@@ -19,7 +19,7 @@ abbrev pub IsBegun : Option Run → Type 0
 IsBegun None = Unit {0}
 IsBegun (Some run) = IsFilled run
 
--- what is left of a run behind its first job
+-- what is left of a run after its first job
 pub record IsBehindFirst (run : Run) (rest : Option Run) : Type 0 where
   pub jobs : jobs_of_run run ≡ first_of run ∷ jobs_begun rest
   pub begun : IsBegun rest

@@ -37,7 +37,7 @@ pub enum StepError {
     /// 301: no step allows the event.
     #[error("the event may not happen: {why}")]
     Stuck { why: Why },
-    /// 302: memory was wanted and refused.
+    /// 302: an allocation failed.
     #[error("out of memory")]
     Memory,
 }
@@ -60,7 +60,7 @@ pub enum ReplayError {
 /// Why there is no room for what is to be kept. Nothing has changed then.
 #[derive(Clone, Copy, Debug, PartialEq, Eq, Error)]
 pub enum RoomError {
-    /// 302: memory was wanted and refused.
+    /// 302: an allocation failed.
     #[error("out of memory")]
     Memory,
 }

@@ -33,7 +33,7 @@ impl Run {
         }
     }
 
-    /// What is left of it behind its first job, if anything is.
+    /// What is left of it after its first job, if anything is.
     pub(crate) fn behind_first(self) -> Option<Run>
         requires { IsFilled self }
         ensures { IsBehindFirst self result }
@@ -130,7 +130,7 @@ pub(crate) fn ends_before(runs: &[Run], job: Job) -> bool
     }
 }
 
-/// Whether the first of these runs begins right behind the job.
+/// Whether the first of these runs begins right after the job.
 fn begins_behind(runs: &[Run], job: Job) -> bool
     requires { job.number < u64.MAX }
     ensures { MatchBool result (BeginsBehind runs.now job) (¬ BeginsBehind runs.now job) }
@@ -141,7 +141,7 @@ fn begins_behind(runs: &[Run], job: Job) -> bool
     }
 }
 
-/// Takes the run right behind the job out, if there is one, and gives its last number. So many of the runs
+/// Takes the run right after the job out, if there is one, and gives its last number. So many of the runs
 /// begin by the job.
 pub(crate) fn take_behind(runs: &mut Vec<Run>, place: usize, job: Job) -> Option<u64>
     requires within { place ≤ vec_len runs.old }
@@ -200,7 +200,7 @@ pub(crate) fn join(older: &mut Tiers, recent: &mut Vec<Run>, places: Places, nea
     insert_at(recent, near, run);
 }
 
-/// Takes the run right behind the job out of the list that has it, and gives the last number to which the
+/// Takes the run right after the job out of the list that has it, and gives the last number to which the
 /// job's run goes then.
 fn take_either(
     older: &mut Tiers,

@@ -88,7 +88,7 @@ pub(crate) fn merge_into(runs: &mut Vec<Run>, more: &[Run])
     }
 }
 
-/// Puts more runs behind these. It takes no memory: there is room for them.
+/// Puts more runs after these. It takes no memory: there is room for them.
 fn append(runs: &mut Vec<Run>, more: &[Run])
     requires { vec_len runs.old + length more.now ≤ vec_capacity runs.old }
     ensures items { runs.new.items ≡ runs.old.items ++ more.now }

@@ -11,7 +11,7 @@ use std::marker::Model;
 #[derive(Debug, Drop)]
 pub(crate) struct Port {
     spots: Vec<Spot>,
-    // How many were handed out. Hand-outs go in order, so these stand first, and the queued ones behind.
+    // How many were handed out. Hand-outs go in order, so these stand first, and the queued ones after.
     handed_out: usize,
 }
 

@@ -164,7 +164,7 @@ impl Runs {
     ///
     /// It costs no more than [`Runs::contains`] where the job joins the run before it, as at the end of its
     /// port. Where it gets a run of its own, it moves recent runs, of which there are at most 128; each 128th
-    /// time it goes over at most 4096 runs, and each 4096th time over all. Where it joins the run behind it, it
+    /// time it goes over at most 4096 runs, and each 4096th time over all. Where it joins the run after it, it
     /// may move all that follow.
     ///
     /// There is room for a run, as [`Runs::spare`] tells, and the number is below 2^64 - 1.

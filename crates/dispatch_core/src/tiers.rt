@@ -67,7 +67,7 @@ impl Tiers {
         has_at(&self.long, places.long, job) || has_at(&self.short, places.short, job)
     }
 
-    /// Takes the run right behind the job out, if there is one, and gives its last number.
+    /// Takes the run right after the job out, if there is one, and gives its last number.
     pub(crate) fn take_behind(&mut self, places: Places, job: Job) -> Option<u64>
         requires places { ArePlacesOf self.old job places }
         requires filled { All IsFilled (both self.old) }

@@ -1,7 +1,7 @@
 -- The words that are left.
 use Rattle.std.proofs.Common.{◌≡◌, ℕ, ◌+◌, Bool, true, false, List, [], ◌∷◌, take, drop, refl, sym, ◌∙◌, Some, None, arith}
 use Rattle.memchr.specs.Find.{IsFirstByte, is_byte}
-use Rattle.line_io.proofs.Cutting.{cut_first, cut_none}
+use Rattle.text_io.proofs.Cutting.{cut_first, cut_none}
 use Rattle.drive.specs.Words.{words_of, words_left}
 
 pub next_word : (is_done : Bool) (line : List ℕ) (words : List (List ℕ)) (end : ℕ) → is_done ≡ false → words_left is_done line ≡ words

@@ -1,16 +1,16 @@
 -- The events of the lines, one line after another.
 use Rattle.std.proofs.Common.{◌≡◌, ℕ, ◌+◌, true, false, cond, List, [], ◌∷◌, ◌++◌, refl, sym, ap, ◌∙◌, append_assoc, Some, None, Result, Ok, Err}
 use Rattle.local_server.specs.declared.event.TimedEvent.{TimedEvent}
-use Rattle.line_io.specs.Lines.{lines_of}
+use Rattle.text_io.specs.Lines.{lines_of}
 use Rattle.drive.specs.Words.{words_of}
 use Rattle.drive.specs.Scripts.{followed_by, timed_event_of, is_passed_over, script_from, script_of}
 
--- events, and those of the lines behind them
+-- events, and those of the lines after them
 abbrev pub ahead : List TimedEvent → Result (List TimedEvent) ℕ → Result (List TimedEvent) ℕ
 ahead events (Ok more) = Ok (events ++ more)
 ahead events (Err line) = Err line
 
--- what an input spells: these events, and those of the rest behind the line of this number
+-- what an input spells: these events, and those of the rest after the line of this number
 abbrev pub Spells : List ℕ → List TimedEvent → ℕ → List ℕ → Type 0
 Spells input events number rest = script_of input ≡ ahead events (script_from (number + 1) (lines_of rest))
 

@@ -1,7 +1,7 @@
 -- An input has one output.
 use Rattle.std.proofs.Common.{◌≡◌, ℕ, zero, suc, List, ◌++◌, length, Result, Ok, sym, ap, ◌∙◌, subst}
 use Rattle.std.specs.List.{flat_map}
-use Rattle.client_table.specs.Clients.{Said}
+use Rattle.client_table.specs.Clients.{StepOutput}
 use Rattle.local_broker.specs.Broker.{Broker}
 use Rattle.local_broker.specs.Alike as brokers
 use Rattle.local_broker.proofs.OneBeginning.{one_told}
@@ -20,7 +20,7 @@ reported (suc slot) one other text text' alike h k =
     let line = one_told one other slot h.1 k.1 alike h.3 k.3 in
     h.4 ∙ (λ i. earlier i ++ line i) ∙ sym k.4
 
-module _ (lines : Said → List ℕ) (setup : Setup) where
+module _ (lines : StepOutput → List ℕ) (setup : Setup) where
   pub one_transcript : (events : List TimedEvent) (text text' : List ℕ) → IsTranscript lines setup events text → IsTranscript lines setup events text' → text ≡ text'
   one_transcript events text text' h k =
       let run = one_run setup events h.said k.said h.first k.first h.last k.last h.new k.new h.happens k.happens in

@@ -2,7 +2,7 @@
 use Rattle.std.proofs.Common.{◌≡◌, ℕ, ◌+◌, ◌<◌, List, [], ◌∷◌, ◌++◌, length, get_or, take, refl, sym, ap, subst, ◌∙◌, Ok}
 use Rattle.std.proofs.lemmas.List.{take_more}
 use Rattle.std.proofs.lemmas.List.Concat.{flat_map-append}
-use Rattle.client_table.specs.Clients.{Said}
+use Rattle.client_table.specs.Clients.{StepOutput}
 use Rattle.local_server.specs.declared.event.TimedEvent.{TimedEvent}
 use Rattle.local_server.specs.Servers.{ServerState}
 use Rattle.local_server.specs.Happening.{Happens, HappensAll}
@@ -15,15 +15,15 @@ use Rattle.local_server.proofs.Transcripts.{shortness}
 use Rattle.std.specs.List.{flat_map}
 
 -- what is told of the events so far
-abbrev pub IsTold : (Said → List ℕ) → ServerState → List TimedEvent → List ℕ → ServerState → Type 0
-IsTold lines old events text new = (said : List Said) × (text ≡ flat_map lines said) × HappensAll old events said new
+abbrev pub IsTextOf : (StepOutput → List ℕ) → ServerState → List TimedEvent → List ℕ → ServerState → Type 0
+IsTextOf lines old events text new = (said : List StepOutput) × (text ≡ flat_map lines said) × HappensAll old events said new
 
-pub nothing_told : (lines : Said → List ℕ) (server : ServerState) (events : List TimedEvent) → IsTold lines server (take 0 events) [] server
+pub nothing_told : (lines : StepOutput → List ℕ) (server : ServerState) (events : List TimedEvent) → IsTextOf lines server (take 0 events) [] server
 nothing_told lines server events = ([], refl, (refl, refl))
 
-pub more_told : (lines : Said → List ℕ) (events : List TimedEvent) (index : ℕ) (event : TimedEvent) (old mid new : ServerState) (text text' : List ℕ) (more : List Said)
-    → index < length events → event ≡ get_or events index event → IsTold lines old (take index events) text mid → Happens mid event.moment event.event more (Ok tt) new → text' ≡ text ++ flat_map lines more
-    → IsTold lines old (take (index + 1) events) text' new
+pub more_told : (lines : StepOutput → List ℕ) (events : List TimedEvent) (index : ℕ) (event : TimedEvent) (old mid new : ServerState) (text text' : List ℕ) (more : List StepOutput)
+    → index < length events → event ≡ get_or events index event → IsTextOf lines old (take index events) text mid → Happens mid event.moment event.event more (Ok tt) new → text' ≡ text ++ flat_map lines more
+    → IsTextOf lines old (take (index + 1) events) text' new
 more_told lines events index event old mid new text text' more within is so_far happens longer = (
   so_far.0 ++ more,
   longer ∙ ap (λ xs. xs ++ flat_map lines more) so_far.1 ∙ sym (flat_map-append lines so_far.0 more),
@@ -31,13 +31,13 @@ more_told lines events index event old mid new text text' more within is so_far 
       (more_happens (take index events) event old mid new so_far.0 more so_far.2 happens),
 )
 
-writable_behind : (earlier more : List Said) → AllWritable (earlier ++ more) → AllWritable more
+writable_behind : (earlier more : List StepOutput) → AllWritable (earlier ++ more) → AllWritable more
 writable_behind [] more all = all
 writable_behind (one ∷ earlier) more all = writable_behind earlier more all.1
 
 -- whatever is said in one event more can be written
-pub next_writable : (lines : Said → List ℕ) (setup : Setup) (earlier : List TimedEvent) (first mid : ServerState) (text : List ℕ) → IsNewServer setup first → IsTold lines first earlier text mid
-    → (event : TimedEvent) (more : List Said) (new : ServerState) → Happens mid event.moment event.event more (Ok tt) new → AllWritable more
+pub next_writable : (lines : StepOutput → List ℕ) (setup : Setup) (earlier : List TimedEvent) (first mid : ServerState) (text : List ℕ) → IsNewServer setup first → IsTextOf lines first earlier text mid
+    → (event : TimedEvent) (more : List StepOutput) (new : ServerState) → Happens mid event.moment event.event more (Ok tt) new → AllWritable more
 next_writable lines setup earlier first mid text is_new so_far event more new happens =
     let run = more_happens earlier event first mid new so_far.0 more so_far.2 happens in
     writable_behind so_far.0 more (writable (so_far.0 ++ more) (shortness setup (earlier ++ event ∷ []) (so_far.0 ++ more) first new is_new run))

@@ -3,12 +3,12 @@ use Rattle.std.proofs.Common.{◌≡◌, ℕ, ◌+◌, List, [], ◌∷◌, ◌+
 use Rattle.hex.specs.Hex.{decode_of}
 use Rattle.local_server.specs.declared.event.Event.TheVariants.{Open}
 use Rattle.local_server.specs.declared.event.TimedEvent.{TimedEvent}
-use Rattle.line_io.specs.Lines.{lines_of}
+use Rattle.text_io.specs.Lines.{lines_of}
 use Rattle.drive.specs.Scripts.{followed_by}
 use Rattle.drive.specs.Streams.{at_once, piece_of, pieces_from, behind_opening, client_script_of}
 use Rattle.drive.proofs.Lines.{ahead, event_ahead}
 
--- what an input spells: these events, and those of the rest behind the line of this number
+-- what an input spells: these events, and those of the rest after the line of this number
 abbrev pub Spells : List ℕ → List TimedEvent → ℕ → List ℕ → Type 0
 Spells input events number rest = client_script_of input ≡ ahead events (pieces_from (number + 1) (lines_of rest))
 

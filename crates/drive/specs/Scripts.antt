@@ -2,9 +2,9 @@
 use Rattle.std.specs.Prelude.{◌≡◌, ℕ, ◌+◌, ◌==◌, bytes_eq, codes, Bool, true, if◌then◌else◌, List, [], ◌∷◌, Option, Some, None, Result, Ok, Err}
 use Rattle.hex.specs.Hex.{decode_of}
 use Rattle.hex.specs.declared.error.FromHexError.{FromHexError}
-use Rattle.line_io.specs.Lines.{lines_of}
-use Rattle.line_io.specs.declared.error.RunError.{RunError}
-use Rattle.line_io.specs.declared.error.RunError.TheVariants.{ReadFailed, TooManyReads, WriteFailed, Network, Memory, Unfinished, Line}
+use Rattle.text_io.specs.Lines.{lines_of}
+use Rattle.text_io.specs.declared.error.RunError.{RunError}
+use Rattle.text_io.specs.declared.error.RunError.TheVariants.{ReadFailed, TooManyReads, WriteFailed, Network, Memory, Unfinished, Line}
 use Rattle.local_server.specs.declared.event.Event.{Event}
 use Rattle.local_server.specs.declared.event.Event.TheVariants.{Open, Bytes, Tick, End, Close}
 use Rattle.local_server.specs.declared.event.TimedEvent.{TimedEvent}
@@ -28,7 +28,7 @@ of_piece word None piece = None
 of_piece word (Some number) (Err error) = None
 of_piece word (Some number) (Ok piece) = if bytes_eq word (codes "bytes") then Some (Bytes number piece) else None
 
--- the words behind the moment
+-- the words after the moment
 abbrev pub event_of : List (List ℕ) → Option Event
 event_of (word ∷ []) = of_server word
 event_of (word ∷ number ∷ []) = of_connection word (connection_of number)
@@ -50,7 +50,7 @@ abbrev pub is_passed_over : List ℕ → Bool
 is_passed_over [] = true
 is_passed_over (byte ∷ bytes) = byte == 35
 
--- the event of a line in front of those of the lines behind it, or the number of the first line that spells none
+-- the event of a line in front of those of the lines after it, or the number of the first line that spells none
 abbrev pub followed_by : Option TimedEvent → ℕ → Result (List TimedEvent) ℕ → Result (List TimedEvent) ℕ
 followed_by None number later = Err number
 followed_by (Some event) number (Ok events) = Ok (event ∷ events)

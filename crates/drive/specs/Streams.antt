@@ -2,7 +2,7 @@
 use Rattle.std.specs.Prelude.{ℕ, ◌+◌, List, [], ◌∷◌, Option, Some, None, Result, Ok, Err}
 use Rattle.hex.specs.Hex.{decode_of}
 use Rattle.hex.specs.declared.error.FromHexError.{FromHexError}
-use Rattle.line_io.specs.Lines.{lines_of}
+use Rattle.text_io.specs.Lines.{lines_of}
 use Rattle.local_server.specs.declared.event.Event.{Event}
 use Rattle.local_server.specs.declared.event.Event.TheVariants.{Open, Bytes, End}
 use Rattle.local_server.specs.declared.event.TimedEvent.{TimedEvent}
@@ -22,7 +22,7 @@ abbrev pub pieces_from : ℕ → List (List ℕ) → Result (List TimedEvent) �
 pieces_from number [] = Ok (at_once (End 0) ∷ [])
 pieces_from number (line ∷ lines) = followed_by (piece_of (decode_of line)) number (pieces_from (number + 1) lines)
 
--- behind the opening of the connection
+-- after the opening of the connection
 abbrev pub behind_opening : Result (List TimedEvent) ℕ → Result (List TimedEvent) ℕ
 behind_opening (Ok events) = Ok (at_once (Open 0) ∷ events)
 behind_opening (Err line) = Err line

@@ -7,7 +7,7 @@ use Rattle.mqtt_packet.specs.declared.packet.Packet.{Packet}
 use Rattle.mqtt_wire.specs.Writing.{written}
 use Rattle.conn_supply.specs.declared.reply.Then.{Then}
 use Rattle.conn_supply.specs.declared.reply.Then.TheVariants as thens
-use Rattle.client_table.specs.Clients.{Said}
+use Rattle.client_table.specs.Clients.{StepOutput}
 use Rattle.local_broker.specs.Broker.{Broker}
 use Rattle.local_broker.specs.Reporting.{TellsLine}
 use Rattle.local_server.specs.declared.event.TimedEvent.{TimedEvent}
@@ -15,7 +15,7 @@ use Rattle.local_server.specs.declared.setup.Setup.{Setup}
 use Rattle.local_server.specs.Servers.{ServerState, IsNewServer}
 use Rattle.local_server.specs.Happening.{HappensAll}
 use Rattle.hex.specs.Hex.{encode_lower}
-use Rattle.line_io.specs.Passing.{Begins}
+use Rattle.text_io.specs.Passing.{Begins}
 use Rattle.drive.specs.Scripts.{script_of}
 use Rattle.drive.specs.Streams.{client_script_of}
 
@@ -34,15 +34,15 @@ next_line connection thens.Close = decimal connection ++ codes " close\n"
 next_line connection thens.Kicked = decimal connection ++ codes " kicked\n"
 
 -- what one step of a connection wrote, and where the connection ends, that
-abbrev pub lines_said : Said → List ℕ
-lines_said said = flat_map (packet_line said.connection) said.packets ++ next_line said.connection said.next
+abbrev pub lines_of_output : StepOutput → List ℕ
+lines_of_output said = flat_map (packet_line said.connection) said.packets ++ next_line said.connection said.next
 
 -- a packet in a run of one connection: its bytes alone
 abbrev pub client_line : Packet → List ℕ
 client_line packet = hex_line (written packet)
 
 -- what one step of the only connection wrote
-abbrev pub client_lines : Said → List ℕ
+abbrev pub client_lines : StepOutput → List ℕ
 client_lines said = flat_map client_line said.packets
 
 -- the lines of the reports of the first so many shares, in the order of their slots
@@ -51,10 +51,10 @@ ReportsFirst zero b text = text ≡ []
 ReportsFirst (suc slot) b text = (earlier line : List ℕ) × ReportsFirst slot b earlier × TellsLine b slot line × (text ≡ earlier ++ line)
 
 -- A run of a server over these events: the lines of what is said in them, and then the reports.
-pub record IsTranscript (lines : Said → List ℕ) (setup : Setup) (events : List TimedEvent) (text : List ℕ) : Type 0 where
+pub record IsTranscript (lines : StepOutput → List ℕ) (setup : Setup) (events : List TimedEvent) (text : List ℕ) : Type 0 where
   pub first : ServerState
   pub new : IsNewServer setup first
-  pub said : List Said
+  pub said : List StepOutput
   pub last : ServerState
   pub happens : HappensAll first events said last
   pub reports : List ℕ
@@ -62,14 +62,14 @@ pub record IsTranscript (lines : Said → List ℕ) (setup : Setup) (events : Li
   pub whole : text ≡ flat_map lines said ++ reports
 
 -- the transcript of the events that an input spells
-pub record IsOutput (script : Result (List TimedEvent) ℕ) (lines : Said → List ℕ) (setup : Setup) (output : List ℕ) : Type 0 where
+pub record IsOutput (script : Result (List TimedEvent) ℕ) (lines : StepOutput → List ℕ) (setup : Setup) (output : List ℕ) : Type 0 where
   pub events : List TimedEvent
   pub spelled : script ≡ Ok events
   pub transcript : IsTranscript lines setup events output
 
 -- the output of `drive_lines` for an input
 abbrev pub IsDriveOutput : Setup → List ℕ → List ℕ → Type 0
-IsDriveOutput setup input output = IsOutput (script_of input) lines_said setup output
+IsDriveOutput setup input output = IsOutput (script_of input) lines_of_output setup output
 
 -- the output of `drive_client` for an input
 abbrev pub IsClientOutput : Setup → List ℕ → List ℕ → Type 0

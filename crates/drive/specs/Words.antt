@@ -1,7 +1,7 @@
 -- The words of a line, and the numbers among them (profile).
 use Rattle.std.specs.Prelude.{ℕ, ◌+◌, ◌*◌, ◌-◌, ◌^◌, nat_lt, Bool, true, false, if◌then◌else◌, List, [], ◌∷◌, Option, Some, None}
 use Rattle.std.specs.Char.{is_ascii_digit}
-use Rattle.line_io.specs.Lines.{cut_at}
+use Rattle.text_io.specs.Lines.{cut_at}
 
 -- a line is cut at each blank
 abbrev pub words_of : List ℕ → List (List ℕ)
@@ -16,7 +16,7 @@ words_left false line = words_of line
 abbrev pub if_below : ℕ → ℕ → Option ℕ
 if_below bound number = if nat_lt number bound then Some number else None
 
--- a number with one digit more behind it, below 2^64
+-- a number with one digit more after it, below 2^64
 abbrev pub with_digit : ℕ → ℕ → Option ℕ
 with_digit number byte = if is_ascii_digit byte then if_below (2 ^ 64) (number * 10 + (byte - 48)) else None
 

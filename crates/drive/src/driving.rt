@@ -2,8 +2,8 @@
 ghost use Rattle.std.specs.Prelude.{◌≡◌, ◌≢◌, ◌++◌, List, ℕ, length, Err, OnOk, IfOk, IfErr, IfSome, Ok};
 ghost use Rattle.std.specs.List.{flat_map};
 ghost use Rattle.std.specs.Io.KnownBytes.{Keeps};
-ghost use Rattle.line_io.specs.declared.error.RunError.TheVariants.{Memory};
-ghost use Rattle.client_table.specs.Clients.{Said as Words};
+ghost use Rattle.text_io.specs.declared.error.RunError.TheVariants.{Memory};
+ghost use Rattle.client_table.specs.Clients.{StepOutput as Output};
 ghost use Rattle.local_server.specs.declared.setup.Setup.{Setup as Beginning};
 ghost use Rattle.local_server.specs.Servers.{IsNewServer, ServerState};
 ghost use Rattle.local_server.specs.Happening.{Happens, HappensAll};
@@ -17,11 +17,11 @@ use crate::form::Form;
 use crate::script::read_script;
 use crate::stream::read_stream;
 use crate::transcript::Transcript;
-use client_table::Said;
-use line_io::{RunError, read_all, write_all};
+use client_table::StepOutput;
 use local_server::{Server, Setup, TimedEvent};
 use std::alloc::Global;
 use std::io::{Read, Write};
+use text_io::{RunError, read_all, write_all};
 
 /// Drives a server by the events that an input spells, one a line, and writes what is said in them: a line for each packet, and
 /// one where a connection ends; at the end the line of the report of each share that is bound.
@@ -125,7 +125,7 @@ fn transcript(
 {
     match Server::open(alloc, setup) {
         Ok(mut server) => {
-            let text = play(alloc, form, &mut server, events);
+            let text = transcribe(alloc, form, &mut server, events);
             server.end();
             text
         }
@@ -133,15 +133,15 @@ fn transcript(
     }
 }
 
-/// What is written of these events, and of the reports behind them.
-fn play(
+/// What is written of these events, and of the reports after them.
+fn transcribe(
     alloc: Global,
     form: Form,
     server: &mut Server,
     events: &[TimedEvent],
 ) -> Result<Vec<u8>, RunError>
     requires { (setup : Beginning) × IsNewServer setup server.old }
-    ensures ok { IfOk result (λ text. (said : List Words) × (reports : List ℕ) × HappensAll server.old events.now said server.new
+    ensures ok { IfOk result (λ text. (said : List Output) × (reports : List ℕ) × HappensAll server.old events.now said server.new
         × (text.items ≡ flat_map (lines_as form) said ++ reports) × ReportsFirst (length server.new.broker.routes) server.new.broker reports) }
     ensures err { IfErr result (λ error. error ≡ Memory) }
 {
@@ -159,14 +159,14 @@ fn happen(
     form: Form,
     server: &mut Server,
     event: &TimedEvent,
-    said: &mut Vec<Said>,
+    said: &mut Vec<StepOutput>,
     transcript: &mut Transcript,
 ) -> Result<(), RunError>
     // Whatever is said in it can be written.
-    requires { (words : List Words) (after : ServerState) →
-        Happens server.old event.now.moment event.now.event words (Ok tt) after → AllWritable words }
-    ensures ok { OnOk result ((words : List Words) × Happens server.old event.now.moment event.now.event words (Ok tt) server.new
-        × (transcript.new ≡ transcript.old ++ flat_map (lines_as form) words)) }
+    requires { (outputs : List Output) (after : ServerState) →
+        Happens server.old event.now.moment event.now.event outputs (Ok tt) after → AllWritable outputs }
+    ensures ok { OnOk result ((outputs : List Output) × Happens server.old event.now.moment event.now.event outputs (Ok tt) server.new
+        × (transcript.new ≡ transcript.old ++ flat_map (lines_as form) outputs)) }
     ensures err { IfErr result (λ error. error ≡ Memory) }
 {
     said.clear();

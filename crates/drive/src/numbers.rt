@@ -23,7 +23,7 @@ pub(crate) fn number(word: &[u8]) -> Option<u64>
     Some(number)
 }
 
-/// A number with one digit more behind it.
+/// A number with one digit more after it.
 fn with_digit(number: u64, byte: u8) -> Option<u64>
     ensures { result ≡ with_digit number byte }
 {

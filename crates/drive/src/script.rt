@@ -1,7 +1,7 @@
 //! The events that the lines of an input spell.
 ghost use Rattle.std.specs.Prelude.{◌≡◌, Ok, IfOk, IfErr};
 ghost use Rattle.hex.specs.Hex.{decode_of};
-ghost use Rattle.line_io.specs.declared.error.RunError.TheVariants.{Memory};
+ghost use Rattle.text_io.specs.declared.error.RunError.TheVariants.{Memory};
 ghost use Rattle.drive.specs.Words.{words_of, connection_of};
 ghost use Rattle.drive.specs.Scripts.{of_server, of_connection, of_piece, event_of, timed_event_of, is_passed_over, script_of, NamesBadLine};
 
@@ -10,9 +10,9 @@ use crate::numbers::{connection, number};
 use crate::words::Words;
 use bytes::BytesMut;
 use hex::FromHexError;
-use line_io::{RunError, split_line};
 use local_server::{Event, TimedEvent};
 use std::alloc::Global;
+use text_io::{RunError, split_line};
 
 /// The events that an input spells.
 ///
@@ -70,7 +70,7 @@ fn timed_event(buffer: &mut BytesMut, line: &[u8]) -> Result<Option<TimedEvent>,
     }
 }
 
-/// The event that the words behind a moment spell.
+/// The event that the words after a moment spell.
 fn event(buffer: &mut BytesMut, words: &mut Words) -> Result<Option<Event>, RunError>
     ensures ok { IfOk result (λ found. found ≡ event_of words.old) }
     ensures err { IfErr result (λ error. error ≡ Memory) }

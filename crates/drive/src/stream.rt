@@ -1,16 +1,16 @@
 //! The stream of one client, in lines of hex digits.
 ghost use Rattle.std.specs.Prelude.{◌≡◌, Ok, IfOk, IfErr};
 ghost use Rattle.hex.specs.Hex.{decode_of};
-ghost use Rattle.line_io.specs.declared.error.RunError.TheVariants.{Memory};
+ghost use Rattle.text_io.specs.declared.error.RunError.TheVariants.{Memory};
 ghost use Rattle.drive.specs.Scripts.{NamesBadLine};
 ghost use Rattle.drive.specs.Streams.{at_once, piece_of, client_script_of};
 
 use crate::digits::decode;
 use bytes::BytesMut;
 use hex::FromHexError;
-use line_io::{RunError, split_line};
 use local_server::{ConnectionNumber, Event, TimedEvent};
 use std::alloc::Global;
+use text_io::{RunError, split_line};
 
 /// The life of the one connection: it is opened, the stream comes, a piece a line, and ends.
 ///

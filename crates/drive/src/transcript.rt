@@ -3,24 +3,24 @@ ghost use Rattle.std.specs.Prelude.{◌≡◌, ◌<◌, ◌++◌, [], List, ℕ,
 ghost use Rattle.mqtt_wire.specs.Writing.{written};
 ghost use Rattle.local_broker.specs.Reporting.{TellsLine};
 ghost use Rattle.local_server.specs.Sizes.{AllWritable, IsWritable};
-ghost use Rattle.line_io.specs.declared.error.RunError.TheVariants.{Memory};
+ghost use Rattle.text_io.specs.declared.error.RunError.TheVariants.{Memory};
 ghost use Rattle.std.specs.Fmt.{decimal};
 ghost use Rattle.std.specs.List.{AllByRecursion, flat_map};
 ghost use Rattle.hex.specs.Hex.{encode_lower};
-ghost use Rattle.drive.specs.Transcripts.{packet_line, next_line, lines_said, client_line, ReportsFirst};
+ghost use Rattle.drive.specs.Transcripts.{packet_line, next_line, lines_of_output, client_line, ReportsFirst};
 ghost use Rattle.drive.specs.Forms.{lines_as};
 
 use crate::form::Form;
-use client_table::Said;
+use client_table::StepOutput;
 use conn_supply::Then;
 use itoa::Buffer;
-use line_io::RunError;
 use local_server::Server;
 use mqtt_fields::Fault;
 use mqtt_packet::Packet;
 use mqtt_wire::encode_into;
 use std::alloc::Global;
 use std::marker::Model;
+use text_io::RunError;
 
 /// What is written of a run, as it grows. Contracts see it as its bytes.
 #[derive(Drop)]
@@ -58,7 +58,7 @@ impl Transcript {
 
     /// Adds what was said.
     #[tactic(auto, using(crate::proofs::Texts::one_more))]
-    pub(crate) fn tell(&mut self, form: Form, said: &[Said]) -> Result<(), RunError>
+    pub(crate) fn tell(&mut self, form: Form, said: &[StepOutput]) -> Result<(), RunError>
         requires { AllWritable said.now }
         ensures ok { OnOk result (self.new ≡ self.old ++ flat_map (lines_as form) said.now) }
         ensures err { IfErr result (λ error. error ≡ Memory) }
@@ -73,9 +73,9 @@ impl Transcript {
     }
 
     /// Adds what one step of a connection wrote.
-    fn tell_step(&mut self, said: &Said) -> Result<(), RunError>
+    fn tell_step(&mut self, said: &StepOutput) -> Result<(), RunError>
         requires { AllByRecursion IsWritable said.now.packets }
-        ensures ok { OnOk result (self.new ≡ self.old ++ lines_said said.now) }
+        ensures ok { OnOk result (self.new ≡ self.old ++ lines_of_output said.now) }
         ensures err { IfErr result (λ error. error ≡ Memory) }
     {
         let connection = said.connection();
@@ -178,7 +178,7 @@ impl Transcript {
     }
 }
 
-/// Adds the bytes of a packet. It is not too long, so no fault is met but want of memory.
+/// Adds the bytes of a packet. It is not too long, so no fault is met but lack of memory.
 fn write_packet(bytes: &mut Vec<u8>, packet: &Packet) -> Result<(), RunError>
     requires { IsWritable packet.now }
     ensures ok { OnOk result (bytes.new.items ≡ bytes.old.items ++ written packet.now) }

@@ -1,8 +1,7 @@
-//! Plays: lines of events, and behind `> ` what is written then.
+//! Scenarios: lines of events, and after `> ` what is written then.
 use bytes::Bytes;
 use conn_rules::MaxInflight;
 use drive::drive_lines;
-use line_io::RunError;
 use local_server::Setup;
 use mqtt_packet::Text;
 use mqtt_topic::{Routes, Share};
@@ -10,6 +9,7 @@ use solo_output::solo;
 use std::alloc::Global;
 use std::fmt::Debug;
 use std::process::Abort;
+use text_io::RunError;
 
 /// A server in each of whose groups so many messages may wait, and on which these shares are bound.
 pub fn setup(rt: &impl Abort, alloc: Global, capacity: usize, shares: &[&'static str]) -> Setup {
@@ -75,29 +75,35 @@ pub fn assert_same<T: PartialEq + Debug>(rt: &impl Abort, found: &T, wanted: &T)
     assert_eq!(rt; found, wanted);
 }
 
-/// Plays a play on a server in each of whose groups 1,024 messages may wait, and on which no share is bound.
-pub fn play_alone(rt: &impl Abort, alloc: Global, lines: &str) {
-    play(rt, alloc, 1_024, &[], lines);
+/// Runs a scenario on a server in each of whose groups 1,024 messages may wait, and on which no share is bound.
+pub fn run_alone(rt: &impl Abort, alloc: Global, lines: &str) {
+    run_with(rt, alloc, 1_024, &[], lines);
 }
 
-/// Plays a play: up to each of its events, and whole. What is written behind an event is all that is new in the output, but for
+/// Runs a scenario: up to each of its events, and whole. What is written after an event is all that is new in the output, but for
 /// the reports.
-pub fn play(rt: &impl Abort, alloc: Global, capacity: usize, shares: &[&'static str], play: &str) {
-    play_limited(rt, alloc, capacity, MaxInflight::most(), shares, play);
+pub fn run_with(
+    rt: &impl Abort,
+    alloc: Global,
+    capacity: usize,
+    shares: &[&'static str],
+    scenario: &str,
+) {
+    run_limited(rt, alloc, capacity, MaxInflight::most(), shares, scenario);
 }
 
 /// The same, where a client has so many messages unacknowledged at most.
-pub fn play_limited(
+pub fn run_limited(
     rt: &impl Abort,
     alloc: Global,
     capacity: usize,
     max_inflight: MaxInflight,
     shares: &[&'static str],
-    play: &str,
+    scenario: &str,
 ) {
     let mut events = String::new(alloc);
     let mut said = String::new(alloc);
-    for line in play.lines() {
+    for line in scenario.lines() {
         match line.trim().strip_prefix("> ") {
             Some(told) if told.starts_with("$share") => {}
             Some(told) => add(rt, &mut said, told),
@@ -125,7 +131,7 @@ pub fn play_limited(
         alloc,
         limited(rt, alloc, capacity, max_inflight, shares),
         &events,
-        play,
+        scenario,
     );
 }
 
@@ -144,9 +150,9 @@ fn compare(rt: &impl Abort, alloc: Global, setup: Setup, events: &str, said: &st
 }
 
 /// Compares all that is written of these events.
-fn conclude(rt: &impl Abort, alloc: Global, setup: Setup, events: &str, play: &str) {
+fn conclude(rt: &impl Abort, alloc: Global, setup: Setup, events: &str, scenario: &str) {
     let mut all = String::new(alloc);
-    for line in play.lines() {
+    for line in scenario.lines() {
         if let Some(told) = line.trim().strip_prefix("> ") {
             add(rt, &mut all, told);
         }

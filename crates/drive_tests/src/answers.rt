@@ -1,10 +1,10 @@
 //! What single packets are answered.
-use crate::acting::play_alone;
+use crate::acting::run_alone;
 use std::test::Fail;
 
 #[test]
 fn first_packets(rt: HostRuntime) -> Result<(), Fail> {
-    let plays = [
+    let scenarios = [
         // MQTT 3.1.1
         "0 open 0
         0 bytes 0 100E00044D5154540402003C00027731
@@ -29,16 +29,16 @@ fn first_packets(rt: HostRuntime) -> Result<(), Fail> {
         > 0 e00182
         > 0 close",
     ];
-    for lines in plays.iter() {
-        play_alone(&rt, rt.alloc(), lines);
+    for lines in scenarios.iter() {
+        run_alone(&rt, rt.alloc(), lines);
     }
     Ok(())
 }
 
-// Behind a CONNECT: what closes the connection, and with which DISCONNECT.
+// After a CONNECT: what closes the connection, and with which DISCONNECT.
 #[test]
 fn what_closes(rt: HostRuntime) -> Result<(), Fail> {
-    let plays = [
+    let scenarios = [
         // QoS 0, QoS 2, RETAIN
         "0 open 0
         0 bytes 0 100F00044D5154540502003C0000027731300700036A6F620041
@@ -67,8 +67,8 @@ fn what_closes(rt: HostRuntime) -> Result<(), Fail> {
         > 0 e00195
         > 0 close",
     ];
-    for lines in plays.iter() {
-        play_alone(&rt, rt.alloc(), lines);
+    for lines in scenarios.iter() {
+        run_alone(&rt, rt.alloc(), lines);
     }
     Ok(())
 }
@@ -76,7 +76,7 @@ fn what_closes(rt: HostRuntime) -> Result<(), Fail> {
 // What is forwarded stands in rising order; an expiry is refused.
 #[test]
 fn properties(rt: HostRuntime) -> Result<(), Fail> {
-    play_alone(
+    run_alone(
         &rt,
         rt.alloc(),
         "0 open 0
@@ -99,7 +99,7 @@ fn properties(rt: HostRuntime) -> Result<(), Fail> {
 // A stream in pieces, several packets in one, and a number that is opened again.
 #[test]
 fn pieces_and_packets(rt: HostRuntime) -> Result<(), Fail> {
-    play_alone(
+    run_alone(
         &rt,
         rt.alloc(),
         "0 bytes 0 100F00044D5154540502003C0000027731

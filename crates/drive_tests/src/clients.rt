@@ -34,7 +34,7 @@ pub(crate) const FIRST_JOB_OUT: &[u8] = b"\
 $share/g/job accepted 1 acknowledged 0 refused 0 held 0 queued 0 returned 1
 ";
 
-// Each run has a name, and below it the lines that come in, each with what goes out for it behind `> `.
+// Each run has a name, and below it the lines that come in, each with what goes out for it after `> `.
 const RUNS: &str = "\
 empty_and_bad_input
 
@@ -253,7 +253,7 @@ pub(crate) fn join(alloc: Global, parts: &[&[u8]]) -> Result<Vec<u8>, AllocError
     Ok(all)
 }
 
-/// The lines of a run that come in, with a line's end behind each but the last.
+/// The lines of a run that come in, with a line's end after each but the last.
 fn input_of(alloc: Global, run: &str) -> Result<Vec<u8>, AllocError> {
     let mut input = Vec::new(alloc);
     for line in run.lines().skip(1) {
@@ -286,8 +286,14 @@ fn compare(rt: &impl Abort, alloc: Global, setup: Setup, input: &[u8], run: &str
     assert_same_bytes(rt, &written, &output, run);
 }
 
-/// Compares all that is written in a run, with and without a line's end behind its last line.
-fn play_run(rt: &impl Abort, alloc: Global, capacity: usize, shares: &[&'static str], run: &str) {
+/// Compares all that is written in a run, with and without a line's end after its last line.
+fn run_scenario(
+    rt: &impl Abort,
+    alloc: Global,
+    capacity: usize,
+    shares: &[&'static str],
+    run: &str,
+) {
     let input = input_of(alloc, run).ok().expect(rt, "memory");
     compare(rt, alloc, setup(rt, alloc, capacity, shares), &input, run);
     let ended = join(alloc, &[&input, b"\n"]).ok().expect(rt, "memory");
@@ -295,22 +301,22 @@ fn play_run(rt: &impl Abort, alloc: Global, capacity: usize, shares: &[&'static 
 }
 
 /// The runs of a list, which stand apart by an empty line, over a server on which no share is bound.
-fn play_runs(rt: &impl Abort, alloc: Global, runs: &str) {
+fn run_all(rt: &impl Abort, alloc: Global, runs: &str) {
     for run in runs.split("\n\n") {
-        play_run(rt, alloc, 1_024, &[], run);
+        run_scenario(rt, alloc, 1_024, &[], run);
     }
 }
 
 #[test]
 fn runs(rt: HostRuntime) {
-    play_runs(&rt, rt.alloc(), RUNS);
-    play_runs(&rt, rt.alloc(), SUBSCRIPTIONS);
+    run_all(&rt, rt.alloc(), RUNS);
+    run_all(&rt, rt.alloc(), SUBSCRIPTIONS);
 }
 
 /// Two messages may wait in the one group: the third job is refused.
 #[test]
 fn full_queue(rt: HostRuntime) {
-    play_run(
+    run_scenario(
         &rt,
         rt.alloc(),
         2,
@@ -331,7 +337,7 @@ fn full_queue(rt: HostRuntime) {
 /// The second group is full of a job that the first one does not match.
 #[test]
 fn two_groups(rt: HostRuntime) {
-    play_run(
+    run_scenario(
         &rt,
         rt.alloc(),
         1,
@@ -361,7 +367,7 @@ fn ninth_share(rt: HostRuntime) {
         "$share/7/a",
         "$share/8/a",
     ];
-    play_run(
+    run_scenario(
         &rt,
         rt.alloc(),
         1_024,

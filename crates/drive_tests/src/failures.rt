@@ -2,13 +2,13 @@
 use crate::acting::{assert_same, assert_same_bytes, plain};
 use crate::clients::{CONNECT, FIRST_JOB_OUT, JOB, SUBSCRIBE, join};
 use drive::drive_lines;
-use line_io::RunError;
 use solo_output::solo;
 use std::alloc::Global;
 use std::io;
 use std::io::{ErrorKind, Read, Write};
 use std::process::Abort;
 use std::test::Fail;
+use text_io::RunError;
 
 /// A form of a run.
 #[derive(Clone, Copy)]
@@ -177,7 +177,7 @@ const SAID: &[u8] = b"\
 $share/g/job accepted 0 acknowledged 0 refused 0 held 0 queued 0 returned 0
 ";
 
-/// A writer that fails behind each byte of the output has the bytes up to there.
+/// A writer that fails after each byte of the output has the bytes up to there.
 fn fail_behind_each(rt: &impl Abort, alloc: Global, form: Form, input: &[u8], output: &[u8]) {
     for room in 0..=output.len() {
         let mut writer = FailingWriter::new(alloc, room);

@@ -1,11 +1,11 @@
 //! What becomes of jobs.
-use crate::acting::{play, play_alone, play_limited};
+use crate::acting::{run_alone, run_limited, run_with};
 use conn_rules::MaxInflight;
 use std::test::Fail;
 
 #[test]
 fn first_job(rt: HostRuntime) -> Result<(), Fail> {
-    play_alone(
+    run_alone(
         &rt,
         rt.alloc(),
         "0 open 0
@@ -25,7 +25,7 @@ fn first_job(rt: HostRuntime) -> Result<(), Fail> {
 
 #[test]
 fn receive_maximum_of_one(rt: HostRuntime) -> Result<(), Fail> {
-    play_alone(
+    run_alone(
         &rt,
         rt.alloc(),
         "0 open 0
@@ -53,7 +53,7 @@ fn receive_maximum_of_one(rt: HostRuntime) -> Result<(), Fail> {
 #[test]
 fn limit_of_two(rt: HostRuntime) -> Result<(), Fail> {
     let two = MaxInflight::new(2).ok_or("2 is a limit")?;
-    play_limited(
+    run_limited(
         &rt,
         rt.alloc(),
         1_024,
@@ -83,7 +83,7 @@ fn limit_of_two(rt: HostRuntime) -> Result<(), Fail> {
 
 #[test]
 fn refused_job(rt: HostRuntime) -> Result<(), Fail> {
-    play_alone(
+    run_alone(
         &rt,
         rt.alloc(),
         "0 open 0
@@ -106,7 +106,7 @@ fn refused_job(rt: HostRuntime) -> Result<(), Fail> {
 // w1 is handed the first job of p and goes; its session is given up, and w2 is handed the job.
 #[test]
 fn returned_job(rt: HostRuntime) -> Result<(), Fail> {
-    play_alone(
+    run_alone(
         &rt,
         rt.alloc(),
         "0 open 0
@@ -148,7 +148,7 @@ fn returned_job(rt: HostRuntime) -> Result<(), Fail> {
 // The same, but w2 is handed a second job before: the first one comes to it out of order.
 #[test]
 fn returned_out_of_order(rt: HostRuntime) -> Result<(), Fail> {
-    play_alone(
+    run_alone(
         &rt,
         rt.alloc(),
         "0 open 0
@@ -194,7 +194,7 @@ fn returned_out_of_order(rt: HostRuntime) -> Result<(), Fail> {
 
 #[test]
 fn full_queue(rt: HostRuntime) -> Result<(), Fail> {
-    play(
+    run_with(
         &rt,
         rt.alloc(),
         2,
@@ -219,7 +219,7 @@ fn full_queue(rt: HostRuntime) -> Result<(), Fail> {
 // not. A third group matches nothing.
 #[test]
 fn two_groups(rt: HostRuntime) -> Result<(), Fail> {
-    play(
+    run_with(
         &rt,
         rt.alloc(),
         1,
@@ -259,7 +259,7 @@ fn eight_groups(rt: HostRuntime) -> Result<(), Fail> {
         "$share/g/job",
         "$share/h/job",
     ];
-    play(
+    run_with(
         &rt,
         rt.alloc(),
         1_024,
@@ -292,7 +292,7 @@ fn eight_groups(rt: HostRuntime) -> Result<(), Fail> {
 // A client that leaves its group keeps what it holds, and is handed nothing fresh; the group stays.
 #[test]
 fn unsubscribe(rt: HostRuntime) -> Result<(), Fail> {
-    play_alone(
+    run_alone(
         &rt,
         rt.alloc(),
         "0 open 0

@@ -1,4 +1,4 @@
-//! Tests of `drive` and of `solo`, and over them of the connections and the groups of a server: rows of events and of what is written behind each,
+//! Tests of `drive` and of `solo`, and over them of the connections and the groups of a server: rows of events and of what is written after each,
 //! worked out by hand from the standard. They stand apart, so that no library is proved twice.
 #![tactic(auto)]
 

@@ -1,11 +1,11 @@
 //! Single packets of one client, and what goes out for each.
 use crate::acting::{answered, plain};
 use crate::clients::{CONNACK, CONNECT, join};
-use line_io::RunError;
 use std::alloc::Global;
 use std::test::Fail;
+use text_io::RunError;
 
-// A name, whether it comes first or behind a CONNECT, the bytes that come in, and the line that goes out.
+// A name, whether it comes first or after a CONNECT, the bytes that come in, and the line that goes out.
 const REPLIES: &str = "\
 assigned_identifier first 100D00044D5154540502003C000000 201e00001b12000d6175746f2d30303030303030312401250027000100002900
 older_version first 100E00044D5154540402003C00027731 2003008400
@@ -48,7 +48,7 @@ subscription_identifier connected 82090001020B0500016101 9004000100a1
 no_local connected 8212000100000C2473686172652F672F6A6F6205 e00182
 ";
 
-// What goes out for these digits, first or behind a CONNECT, without the CONNACK of that.
+// What goes out for these digits, first or after a CONNECT, without the CONNACK of that.
 fn reply_to(alloc: Global, place: &str, digits: &str) -> Result<Vec<u8>, RunError> {
     let before: &[u8] = if place == "connected" { CONNECT } else { b"" };
     let input = join(alloc, &[before, digits.as_bytes()])?;

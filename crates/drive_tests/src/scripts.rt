@@ -1,8 +1,8 @@
 //! Scripts: lines that spell no event, and lines that are passed over.
 use crate::acting::{assert_same, plain, written};
 use drive::drive_lines;
-use line_io::RunError;
 use std::test::Fail;
+use text_io::RunError;
 
 #[test]
 fn bad_lines(rt: HostRuntime) -> Result<(), Fail> {

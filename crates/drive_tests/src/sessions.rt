@@ -1,10 +1,10 @@
 //! Sessions: resumed, taken over, and given up.
-use crate::acting::play_alone;
+use crate::acting::run_alone;
 use std::test::Fail;
 
 #[test]
 fn resume(rt: HostRuntime) -> Result<(), Fail> {
-    play_alone(
+    run_alone(
         &rt,
         rt.alloc(),
         "0 open 0
@@ -50,7 +50,7 @@ fn resume(rt: HostRuntime) -> Result<(), Fail> {
 
 #[test]
 fn takeover(rt: HostRuntime) -> Result<(), Fail> {
-    play_alone(
+    run_alone(
         &rt,
         rt.alloc(),
         "0 open 0
@@ -74,10 +74,10 @@ fn takeover(rt: HostRuntime) -> Result<(), Fail> {
     Ok(())
 }
 
-// What comes while a connection waits for its session is read behind the Tick that gives it.
+// What comes while a connection waits for its session is read after the Tick that gives it.
 #[test]
 fn what_comes_during_a_takeover(rt: HostRuntime) -> Result<(), Fail> {
-    play_alone(
+    run_alone(
         &rt,
         rt.alloc(),
         "0 open 0
@@ -110,7 +110,7 @@ fn what_comes_during_a_takeover(rt: HostRuntime) -> Result<(), Fail> {
 // A moment that is less than an earlier one is that one: no time goes on.
 #[test]
 fn clock_that_goes_back(rt: HostRuntime) -> Result<(), Fail> {
-    play_alone(
+    run_alone(
         &rt,
         rt.alloc(),
         "100000 open 0
@@ -145,14 +145,14 @@ fn longest_wait(rt: HostRuntime) -> Result<(), Fail> {
         > 1 2003008900
         > 1 close",
     )?;
-    play_alone(&rt, rt.alloc(), &lines);
+    run_alone(&rt, rt.alloc(), &lines);
     Ok(())
 }
 
 // A session of 3,600 seconds is there up to the last of their milliseconds.
 #[test]
 fn expiry(rt: HostRuntime) -> Result<(), Fail> {
-    let plays = [
+    let scenarios = [
         "0 open 0
         0 bytes 0 101700044D5154540502003C081100000E1021000A00027731
         > 0 200e00000b2401250027000100002900
@@ -170,8 +170,8 @@ fn expiry(rt: HostRuntime) -> Result<(), Fail> {
         3601000 bytes 1 101700044D5154540500003C081100000E1021000200027731
         > 1 200e00000b2401250027000100002900",
     ];
-    for lines in plays.iter() {
-        play_alone(&rt, rt.alloc(), lines);
+    for lines in scenarios.iter() {
+        run_alone(&rt, rt.alloc(), lines);
     }
     Ok(())
 }
@@ -179,7 +179,7 @@ fn expiry(rt: HostRuntime) -> Result<(), Fail> {
 // What a client holds at the close is held, though its session's expiry is 0.
 #[test]
 fn held_at_the_close(rt: HostRuntime) -> Result<(), Fail> {
-    play_alone(
+    run_alone(
         &rt,
         rt.alloc(),
         "0 open 0

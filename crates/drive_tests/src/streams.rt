@@ -1,10 +1,10 @@
 //! Streams of one client: wherever they are cut, wherever they end, with bytes replaced, and long ones.
 use crate::acting::{answered, plain};
 use crate::clients::{CONNACK, CONNECT, FIRST_JOB_OUT, JOB, MEMBER_OUT, SUBACK, SUBSCRIBE, join};
-use line_io::RunError;
 use std::alloc::{AllocError, Global};
 use std::process::Abort;
 use std::test::Fail;
+use text_io::RunError;
 
 /// The digits of 48 bytes: a CONNECT of 17, a SUBSCRIBE of 20 and a PUBLISH of 11.
 fn first_job(alloc: Global) -> Result<Vec<u8>, AllocError> {
@@ -64,7 +64,7 @@ fn run_of_first(alloc: Global, digits: &[u8], bytes: usize) -> Result<Vec<u8>, R
     answered(alloc, plain(alloc), first)
 }
 
-/// A stream that ends behind each byte: what goes out is that of the packets that are whole.
+/// A stream that ends after each byte: what goes out is that of the packets that are whole.
 #[test]
 fn every_end(rt: HostRuntime) -> Result<(), Fail> {
     let digits = first_job(rt.alloc())?;

@@ -94,17 +94,17 @@ impl Worker {
         match place.take() {
             None => false,
             Some(connection) => {
-                self.let_go(number, connection);
+                self.unwatch(number, connection);
                 true
             }
         }
     }
 
     /// Watches a connection no more.
-    fn let_go(&mut self, number: usize, connection: Connection) {
+    fn unwatch(&mut self, number: usize, connection: Connection) {
         let mut socket = connection.into_socket();
         if self.reactor.has(number) {
-            let _refused = self.reactor.let_go(number, &mut socket);
+            let _refused = self.reactor.unwatch(number, &mut socket);
         }
     }
 }

@@ -165,15 +165,15 @@ module _ (stamp : Stamp) where
   -- **each message is held as often as the places have it out**
   pub held_is_out : (books : Books Held PlaceState) (places : List PlaceState) (held : List Held) → IsLawful HasOut books → HasAll books places held → sum_by is_of held ≡ sum_by out_at places
   held_is_out books places held lawful all =
-      let f : Row Held PlaceState → ℕ = λ row. sum_by is_of (items_of (session_in row.standing)) in
-      let g : Row Held PlaceState → ℕ = λ row. sum_by out_at (place_of (session_in row.standing)) in
+      let f : Row Held PlaceState → ℕ = λ row. sum_by is_of (items_of (session_in row.held_by)) in
+      let g : Row Held PlaceState → ℕ = λ row. sum_by out_at (place_of (session_in row.held_by)) in
       omega (
         arith,
         all.items is_of,
         all.places out_at,
         none_free books.free lawful.out.places,
         same_sums f g (rows.entries books.rows) (entries_sorted books.rows)
-            (λ number row is. kept (session_in row.standing) (λ session has. lawful.out.sessions number row session (get-entries books.rows number ∙ is) has)),
+            (λ number row is. kept (session_in row.held_by) (λ session has. lawful.out.sessions number row session (get-entries books.rows number ∙ is) has)),
       )
 
   -- ---- of one group

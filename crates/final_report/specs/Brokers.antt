@@ -20,7 +20,7 @@ abbrev pub OfEachReport : {W : Type 0} → (List PortState → List PlaceState �
 OfEachReport Promised ports places held answers = (slot : ℕ) (report : Report) → slice_get answers slot ≡ Some (Ok report)
     → Promised (at_slot port_slot slot (joined ports)) (at_slot place_slot slot places) (at_slot held_slot slot held) report
 
--- it is no message for which a group has no report: a port or a place of it is not there, or memory was wanted
+-- it is no message for which a group has no report: a port or a place of it is not there, or an allocation failed
 abbrev pub LacksNoMessage : FinishError → Type 0
 LacksNoMessage (Missing (Port number)) = ⊤
 LacksNoMessage (Missing (Place number)) = ⊤

@@ -16,8 +16,8 @@ use gate_word::{Drained, Turn};
 use group_jobs::Envelope;
 use group_jobs::laws::{lawful_end_law, one_fate_law};
 use group_queue::LawfulWitness;
-use shared_desk::DeskPass;
-use shared_supply::{Hall, StillOpen};
+use shared_desk::DeskView;
+use shared_supply::{SharedBroker, StillOpen};
 use std::alloc::Global;
 use std::sync::Wait;
 
@@ -31,7 +31,7 @@ use std::sync::Wait;
 /// - `what_happened`: that fate is the one that it had;
 /// - `lawful`: the report and the first hand-outs are a lawful state of a group.
 ///
-/// And where these places and messages were all that a broker's desk had, as [`Hall::empty`] gives them, no group lacks a message at its end (`none_lacks`).
+/// And where these places and messages were all that a broker's desk had, as [`SharedBroker::empty`] gives them, no group lacks a message at its end (`none_lacks`).
 ///
 /// Nothing is accepted or handed out any more: for that a turn of the gate is wanted, and there is none ([`refute`]).
 ///
@@ -39,7 +39,7 @@ use std::sync::Wait;
 ///
 /// # Errors
 ///
-/// [`Unended`]: memory was wanted and refused. All that was given comes back. Why a group has no report its answer says.
+/// [`Unended`]: an allocation failed. All that was given comes back. Why a group has no report its answer says.
 pub fn end_groups<'g, B: Broker, R: Wait>(
     rt: &R,
     alloc: Global,
@@ -71,7 +71,7 @@ where
 
 /// Ends a broker whose gate was drained, with the ports of all its workers: the same, of the places, and the messages that
 /// sessions held, that its desk has. These are just the messages that are out at these places, so no group lacks one at its end
-/// (`none_lacks`): where one has no report, a port or a place of it is not there, or memory was wanted.
+/// (`none_lacks`): where one has no report, a port or a place of it is not there, or an allocation failed.
 ///
 /// The pass knows all calls that were made of the desk then, of which what it knew is the beginning (`before`). They lead to the sessions, places and messages
 /// that the groups end with (`kept`).
@@ -83,21 +83,21 @@ pub fn end_broker<'g, B: Broker, N: HistoryName, R: Wait>(
     rt: &R,
     alloc: Global,
     drained: &Drained,
-    hall: Hall<'g, B, N>,
+    shared_broker: SharedBroker<'g, B, N>,
     ports: Vec<Ports<B>>,
-    me: &mut DeskPass<BrokerPlace<B>, N>,
+    me: &mut DeskView<BrokerPlace<B>, N>,
 ) -> Result<Ended<'g, B::Seen>, StillOpen<'g, B>>
 where
     B::Seen: LawfulWitness,
     requires drained { drained.now ≡ B.gate }
     ensures before { IsPrefix me.old me.new }
     ensures kept { IfOk result (λ ended. KeptItsPromisesBehind B.group me.new ports.items ended.answers.items ended.strangers.items) }
-    ensures left { IfErr result (IsLeft me.new hall.entry ports.items) }
+    ensures left { IfErr result (IsLeft me.new shared_broker.entry ports.items) }
 {
     let _ = drained;
     one_fate_law();
     lawful_end_law();
-    hall.finish(rt, alloc, ports, me)
+    shared_broker.finish(rt, alloc, ports, me)
 }
 
 /// **Nothing is accepted or handed out after close.** Who has the token that a broker's gate was drained, and a turn of it,

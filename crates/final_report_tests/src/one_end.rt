@@ -13,9 +13,9 @@ use gate_word::{Drained, Gate, GateSeat, Turn};
 use group_jobs::{Envelope, Message, SharedMessage};
 use group_queue::Nobody;
 use mqtt_packet::{RareProperties, Text};
-use shared_desk::{DeskPass, OpenedDesk};
+use shared_desk::{DeskView, OpenedDesk};
 use shared_routes::SharedRoutes;
-use shared_supply::Hall;
+use shared_supply::SharedBroker;
 use std::alloc::Global;
 use std::marker::Brand;
 use std::sync::Wait;
@@ -100,13 +100,13 @@ fn end<B: Broker<Seen = Nobody>, N: HistoryName, R: Wait>(
     rt: &R,
     alloc: Global,
     drained: &Drained,
-    hall: Hall<'_, B, N>,
+    shared_broker: SharedBroker<'_, B, N>,
     ports: Vec<Ports<B>>,
-    pass: &mut DeskPass<BrokerPlace<B>, N>,
+    pass: &mut DeskView<BrokerPlace<B>, N>,
 ) -> Option<(usize, u64, usize)>
     requires { drained.now ≡ B.gate }
 {
-    match end_broker(rt, alloc, drained, hall, ports, pass) {
+    match end_broker(rt, alloc, drained, shared_broker, ports, pass) {
         Ok(ended) => Some(count(ended)),
         Err(left) => {
             left.abandon();
@@ -176,8 +176,8 @@ fn end_with<B: Broker<Seen = Nobody>, N: HistoryName, R: Wait>(
 {
     let (desk, mut pass) = desk.name::<N>();
     desk.take_places(rt, &mut pass, places);
-    let hall = Hall::new(gate, groups, desk, SharedRoutes::new(alloc));
-    end(rt, alloc, drained, hall, ports, &mut pass)
+    let shared_broker = SharedBroker::new(gate, groups, desk, SharedRoutes::new(alloc));
+    end(rt, alloc, drained, shared_broker, ports, &mut pass)
 }
 
 /// The day of a broker with one worker, who offers a message.

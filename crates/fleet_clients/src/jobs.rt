@@ -42,7 +42,7 @@ pub struct Jobs {
     pub accepted: u64,
     pub acknowledged: u64,
     pub refused: u64,
-    /// How many first deliveries to a member came behind a later job of their publisher.
+    /// How many first deliveries to a member came after a later job of their publisher.
     pub turned: u64,
     /// How many deliveries were on their way at most where a connection was dropped.
     pub hidden: u64,

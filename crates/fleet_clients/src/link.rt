@@ -56,7 +56,7 @@ pub fn next(stream: &mut TcpStream, alloc: Global) -> Result<Packet, Wrong> {
     Ok(Packet { first, body })
 }
 
-/// The bytes of the next packet behind its length, where it begins with this byte.
+/// The bytes of the next packet after its length, where it begins with this byte.
 pub fn wanted(stream: &mut TcpStream, alloc: Global, first: u8) -> Result<Vec<u8>, Wrong> {
     let packet = next(stream, alloc)?;
     if packet.first == first {
@@ -75,7 +75,7 @@ pub fn ends(stream: &mut TcpStream) -> Result<(), Wrong> {
     }
 }
 
-/// A CONNECT of the client whose identifier is this letter and digit, with a Receive Maximum, for a session that lives for an hour behind its connection, or
+/// A CONNECT of the client whose identifier is this letter and digit, with a Receive Maximum, for a session that lives for an hour after its connection, or
 /// ends with it. Whether Clean Start is set, and the Session Present of the CONNACK that is the next packet.
 pub fn join(stream: &mut TcpStream, alloc: Global, asks: Asks) -> Result<bool, Wrong> {
     send(stream, &connect(asks))?;

@@ -3,7 +3,6 @@ ghost use Rattle.std.specs.Prelude.{◌≤◌};
 
 use conn_rules::MaxInflight;
 use fleet_clients::{Counts, Wrong};
-use line_io::RunError;
 use mqtt_topic::Routes;
 use std::alloc::Global;
 use std::io::Read;
@@ -15,6 +14,7 @@ use std::thread::Threads;
 use std::time::Duration;
 use std::{io, thread};
 use tcp_server::serve_at;
+use text_io::RunError;
 
 /// For how many milliseconds a read waits before it looks again, and how often it looks at most.
 const PAUSE: u64 = 5;
@@ -77,7 +77,7 @@ pub(crate) fn live<
     Night { saw, ended, output }
 }
 
-/// What clients do, and the flag behind it.
+/// What clients do, and the flag after it.
 fn pass<R: Net<Listener = TcpListener, Stream = TcpStream> + Clock, D: Day>(
     rt: &R,
     alloc: Global,

@@ -5,12 +5,12 @@ use Rattle.std.proofs.lemmas.Bool.{eqb-true}
 use Rattle.std.proofs.lemmas.List.Elements.{All-head, All-tail}
 use Rattle.std.proofs.lemmas.List.Sums.{sum_by-cons, get_or-le-sum_by}
 use Rattle.gate_word.specs.declared.step.View.{View}
-use Rattle.gate_word.specs.Steps.{shut_bit, is_shut, Standing, standing_of}
-use Rattle.gate_word.specs.Steps.Standing.{Outside, Inside, Bouncing}
+use Rattle.gate_word.specs.Steps.{shut_bit, is_shut, SeatState, seat_state}
+use Rattle.gate_word.specs.Steps.SeatState.{Outside, Inside, Bouncing}
 use Rattle.gate_word.specs.Seats.{adds, away}
 use Rattle.gate_word.specs.GateLaw.{GateLaw, IsOutside}
 
-adds_none : (standing : Standing) → adds standing ≡ 0 → standing ≡ Outside
+adds_none : (state : SeatState) → adds state ≡ 0 → state ≡ Outside
 adds_none Outside none = refl
 adds_none Inside none = absurd (omega arith)
 adds_none Bouncing none = absurd (omega arith)
@@ -21,7 +21,7 @@ all_outside seats word views law one = (
   λ k d lt.
       let part : away (get_or views k d) ≤ sum_by away views = get_or-le-sum_by away views k d lt in
       let is = law.counted in
-      adds_none (standing_of (get_or views k d).steps) (omega arith),
+      adds_none (seat_state (get_or views k d).steps) (omega arith),
 )
 
 none_away : (views : List View) → All IsOutside views → sum_by away views ≡ 0

@@ -7,8 +7,8 @@ use Rattle.std.proofs.lemmas.List.Sums.{sum_by_push}
 use mathlib.Core.Option.{some}
 use lib.ListN.{get_elem?}
 use Rattle.gate_word.specs.declared.step.View.{View}
-use Rattle.gate_word.specs.Steps.{standing_of, saw_drained}
-use Rattle.gate_word.specs.Steps.Standing.{Outside, Inside}
+use Rattle.gate_word.specs.Steps.{seat_state, saw_drained}
+use Rattle.gate_word.specs.Steps.SeatState.{Outside, Inside}
 use Rattle.gate_word.specs.Seats.{adds, away, has_number, all_seats, cut_seat, rest_after_cut, token}
 use Rattle.gate_word.specs.GateLaw.{GateLaw, IsNotInside, NobodyIsInside, KnowsShut, HasShut, IsSeatIfAway, KnowsDrained}
 use Rattle.gate_word.proofs.Places.{all_at, any_at, any_front, sum_at}
@@ -55,7 +55,7 @@ cut_numbers number v two = numbers number v.first v.count two
     numbers k first count two = grind (arith, nat_tests)
 
 pub keeps_cut : (seats word : ℕ) (views : List View) (place : ℕ) (v : View) → GateLaw seats word views → get_elem? views place ≡ some v
-    → 2 ≤ v.count → standing_of v.steps ≡ Outside → GateLaw seats word (set views place (rest_after_cut v) ++ cut_seat v ∷ [])
+    → 2 ≤ v.count → seat_state v.steps ≡ Outside → GateLaw seats word (set views place (rest_after_cut v) ++ cut_seat v ∷ [])
 keeps_cut seats word views place v law at two outside =
     let w = rest_after_cut v in
     let u = cut_seat v in

@@ -11,8 +11,8 @@ use lib.ListN.{get_elem?}
 use Rattle.gate_word.specs.declared.step.View.{View}
 use Rattle.gate_word.specs.declared.step.Step.{Step}
 use Rattle.gate_word.specs.declared.step.Step.TheVariants.{Entered, Bounced, TakenOff, Left, Shut, Looked}
-use Rattle.gate_word.specs.Steps.{shut_bit, is_shut, standing_of, is_shutting, has_shut, found_shut, knows_shut, saw_drained}
-use Rattle.gate_word.specs.Steps.Standing.{Outside, Inside, Bouncing}
+use Rattle.gate_word.specs.Steps.{shut_bit, is_shut, seat_state, is_shutting, has_shut, found_shut, knows_shut, saw_drained}
+use Rattle.gate_word.specs.Steps.SeatState.{Outside, Inside, Bouncing}
 use Rattle.gate_word.specs.Seats.{stepped, adds, away, has_number}
 use Rattle.gate_word.specs.GateLaw.{GateLaw, IsNotInside, NobodyIsInside, KnowsShut, HasShut, IsSeatIfAway, KnowsDrained}
 use Rattle.gate_word.proofs.AllOut.{all_outside}
@@ -93,10 +93,10 @@ module _ (seats word : ℕ) (views : List View) (place : ℕ) (v : View) (law : 
       let stays = shut_again word (word + 2) bit in
       keeps_set (word + 2) step (omega arith) (λ _. one) stays (λ mark. stays (knows mark)) (λ shut. inl (shut_again _ word (sym bit) shut)) (λ mark. saw_at (saw mark)) (λ shut _. not_inside shut)
 
-  pub keeps_enter : v.count ≡ 1 → standing_of v.steps ≡ Outside → is_shut word ≡ false → GateLaw seats (word + 2) (set views place (stepped (Entered word) v))
+  pub keeps_enter : v.count ≡ 1 → seat_state v.steps ≡ Outside → is_shut word ≡ false → GateLaw seats (word + 2) (set views place (stepped (Entered word) v))
   keeps_enter one outside is_open = adds_two (Entered word) one (ap adds outside) refl knows_at (λ mark. mark) (λ shut. absurd (true≢false (sym shut ∙ is_open)))
 
-  pub keeps_bounce : v.count ≡ 1 → standing_of v.steps ≡ Outside → GateLaw seats (word + 2) (set views place (stepped (Bounced word) v))
+  pub keeps_bounce : v.count ≡ 1 → seat_state v.steps ≡ Outside → GateLaw seats (word + 2) (set views place (stepped (Bounced word) v))
   keeps_bounce one outside = adds_two (Bounced word) one (ap adds outside) refl knows_at (λ mark. mark) (λ _ inside. absurd (cc))
 
   -- who is not outside has added 2, which the word has
@@ -107,7 +107,7 @@ module _ (seats word : ℕ) (views : List View) (place : ℕ) (v : View) (law : 
       omega arith
 
   -- 2 less, by a seat that was not outside
-  takes_two : (step : Step) → away v ≡ 1 → standing_of (step ∷ v.steps) ≡ Outside
+  takes_two : (step : Step) → away v ≡ 1 → seat_state (step ∷ v.steps) ≡ Outside
       → (knows_shut (step ∷ v.steps) ≡ true → is_shut word ≡ true)
       → (saw_drained (step ∷ v.steps) ≡ true → saw_drained v.steps ≡ true)
       → GateLaw seats (word - 2) (set views place (stepped step v))
@@ -119,10 +119,10 @@ module _ (seats word : ℕ) (views : List View) (place : ℕ) (v : View) (law : 
       keeps_set (word - 2) step (omega arith) (λ in_it. absurd (omega arith)) stays (λ mark. stays (knows mark)) (λ shut. inl (shut_again _ word (sym bit) shut)) (λ mark. saw_at (saw mark))
       (λ _ _ inside. let never : Outside ≡ Inside = sym outside ∙ inside in absurd (cc))
 
-  pub keeps_take_off : standing_of v.steps ≡ Bouncing → GateLaw seats (word - 2) (set views place (stepped (TakenOff word) v))
+  pub keeps_take_off : seat_state v.steps ≡ Bouncing → GateLaw seats (word - 2) (set views place (stepped (TakenOff word) v))
   keeps_take_off bouncing = takes_two (TakenOff word) (ap adds bouncing) refl knows_at (λ mark. mark)
 
-  pub keeps_leave : standing_of v.steps ≡ Inside → GateLaw seats (word - 2) (set views place (stepped (Left word) v))
+  pub keeps_leave : seat_state v.steps ≡ Inside → GateLaw seats (word - 2) (set views place (stepped (Left word) v))
   keeps_leave inside = takes_two (Left word) (ap adds inside) refl knows_at (λ mark. mark)
 
   pub keeps_shut : v.count ≡ 1 → GateLaw seats (word + (1 - shut_bit word)) (set views place (stepped (Shut word) v))

@@ -26,7 +26,7 @@ pub drained_mark : (old new : Seat) → Makes LookDrained old new → saw_draine
 drained_mark old new made =
     ap saw_drained (steps_are LookDrained old new made) ∙ ap (λ (n : ℕ). (n == 1) || saw_drained old.steps) made.2.0
 
--- a mark that some step left stays, whatever step comes behind it
+-- a mark that some step left stays, whatever step comes after it
 any_stays : (mark : Step → Bool) (kind : Kind) (found : ℕ) (old : Seat) → list_any mark old.steps ≡ true → list_any mark (view_after kind found (view_of old)).steps ≡ true
 any_stays mark Cut found old marked = marked
 any_stays mark Enter found old marked = ap (λ (b : Bool). mark (Entered found) || b) marked ∙ or-true (mark (Entered found))

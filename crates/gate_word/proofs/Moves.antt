@@ -10,8 +10,8 @@ use lib.ListN.{get_elem?}
 use Rattle.atomic_table.specs.Table.{State, Me, keeps, Allows, Splits, Joins}
 use Rattle.atomic_table.proofs.Lists.{at_set}
 use Rattle.gate_word.specs.declared.step.View.{View}
-use Rattle.gate_word.specs.Steps.{shut_bit, is_shut, standing_of, knows_shut, saw_drained}
-use Rattle.gate_word.specs.Steps.Standing.{Outside, Inside, Bouncing}
+use Rattle.gate_word.specs.Steps.{shut_bit, is_shut, seat_state, knows_shut, saw_drained}
+use Rattle.gate_word.specs.Steps.SeatState.{Outside, Inside, Bouncing}
 use Rattle.gate_word.specs.Seats.{adds, cut_seat, rest_after_cut, token}
 use Rattle.gate_word.specs.GateLaw.{GateLaw, IsNotInside, KnowsShut, KnowsDrained}
 use Rattle.gate_word.specs.Kinds.{Kind, May, word_after, view_after, new_views}
@@ -56,7 +56,7 @@ steps seats slots place me f kind is_step s past _ at _ =
       ((s.views, place, own, at), is.0, refl),
     )
 
-pub enters : (seats slots place : ℕ) (me : Known) → me.0.count ≡ 1 → standing_of me.0.steps ≡ Outside
+pub enters : (seats slots place : ℕ) (me : Known) → me.0.count ≡ 1 → seat_state me.0.steps ≡ Outside
     → Allows (HasPast seats) slots place me 0 (λ n. (n + 2) % 2 ^ 64) (Tells entry me)
 enters seats slots place me one outside = steps seats slots place me (λ n. (n + 2) % 2 ^ 64) entry (λ seats word views law at.
     let room = small seats word views law in
@@ -72,11 +72,11 @@ enters seats slots place me one outside = steps seats slots place me (λ n. (n +
 less_two : (word : ℕ) → 2 ≤ word → word < 162 → (word + 18446744073709551614) % 18446744073709551616 ≡ word - 2
 less_two word two most = omega arith
 
-pub takes_off : (seats slots place : ℕ) (me : Known) → standing_of me.0.steps ≡ Bouncing → Allows (HasPast seats) slots place me 0 (λ n. (n + (2 ^ 64 - 2)) % 2 ^ 64) (Tells (λ _. TakeOff) me)
+pub takes_off : (seats slots place : ℕ) (me : Known) → seat_state me.0.steps ≡ Bouncing → Allows (HasPast seats) slots place me 0 (λ n. (n + (2 ^ 64 - 2)) % 2 ^ 64) (Tells (λ _. TakeOff) me)
 takes_off seats slots place me bouncing = steps seats slots place me (λ n. (n + (2 ^ 64 - 2)) % 2 ^ 64) (λ _. TakeOff)
     (λ seats word views law at. (bouncing, less_two word (has_two seats word views place me.0 law at (ap adds bouncing)) (small seats word views law), refl))
 
-pub leaves : (seats slots place : ℕ) (me : Known) → standing_of me.0.steps ≡ Inside → Allows (HasPast seats) slots place me 0 (λ n. (n + (2 ^ 64 - 2)) % 2 ^ 64) (Tells (λ _. Leave) me)
+pub leaves : (seats slots place : ℕ) (me : Known) → seat_state me.0.steps ≡ Inside → Allows (HasPast seats) slots place me 0 (λ n. (n + (2 ^ 64 - 2)) % 2 ^ 64) (Tells (λ _. Leave) me)
 leaves seats slots place me inside = steps seats slots place me (λ n. (n + (2 ^ 64 - 2)) % 2 ^ 64) (λ _. Leave)
     (λ seats word views law at. (inside, less_two word (has_two seats word views place me.0 law at (ap adds inside)) (small seats word views law), refl))
 
@@ -99,7 +99,7 @@ looks seats slots place me one = steps seats slots place me (λ n. n) look (λ s
     goes word true is = ((eqb-true word 1 is, one), refl, refl)
     goes word false is = ((eqb-false word 1 is, one), refl, refl)
 
-pub cuts : (seats place : ℕ) (v : View) → 2 ≤ v.count → standing_of v.steps ≡ Outside → Splits (HasPast seats) place v (rest_after_cut v) (cut_seat v)
+pub cuts : (seats place : ℕ) (v : View) → 2 ≤ v.count → seat_state v.steps ≡ Outside → Splits (HasPast seats) place v (rest_after_cut v) (cut_seat v)
 cuts seats place v two outside s past at = (past.0, past.1, made Cut place v past.2 at (outside, two))
 
 pub witnesses : (seats place : ℕ) (v : View) → saw_drained v.steps ≡ true → Splits (HasPast seats) place v v (token v.seats)
@@ -107,17 +107,17 @@ witnesses seats place v saw s past at = (past.0, past.1, made Witness place v pa
 
 -- who saw the gate drained, and who is inside, are never both there
 excluded : (seats word : ℕ) (views : List View) (one other : ℕ) (inside drained : View) → GateLaw seats word views
-    → get_elem? views one ≡ some inside → standing_of inside.steps ≡ Inside → get_elem? views other ≡ some drained → saw_drained drained.steps ≡ true → ⊥
+    → get_elem? views one ≡ some inside → seat_state inside.steps ≡ Inside → get_elem? views other ≡ some drained → saw_drained drained.steps ≡ true → ⊥
 excluded seats word views one other inside drained law at is there saw =
     all_at IsNotInside views one inside at (all_at (KnowsDrained word views) views other drained there law.drained saw).1 is
 
-pub clashes : (seats place other : ℕ) (v w : View) → standing_of v.steps ≡ Inside → saw_drained w.steps ≡ true
+pub clashes : (seats place other : ℕ) (v w : View) → seat_state v.steps ≡ Inside → saw_drained w.steps ≡ true
     → Joins (HasPast seats) place v other w (clash v w) (token 0)
 clashes seats place other v w inside saw s past at apart there =
     let before : get_elem? s.views other ≡ some w = ⊎_elim (λ (t : (other ≡ place) × (clash v w ≡ w)). absurd (apart t.0)) (λ t. t.1) (at_set s.views place other (clash v w) w there) in
     absurd (excluded seats past.0 s.views place other v w (schedule_keeps seats past.0 s.views past.2) at inside before saw)
 
-pub never : (seats slots place : ℕ) (me : Known) (v w : View) (f : ℕ → ℕ) (told : ℕ → Known → Type 0) → standing_of v.steps ≡ Inside → me.0 ≡ clash v w
+pub never : (seats slots place : ℕ) (me : Known) (v w : View) (f : ℕ → ℕ) (told : ℕ → Known → Type 0) → seat_state v.steps ≡ Inside → me.0 ≡ clash v w
     → Allows (HasPast seats) slots place me 0 f told
 never seats slots place me v w f told inside is s past _ at _ =
     let here : get_elem? s.views place ≡ some (clash v w) = at ∙ ap some is in

@@ -6,8 +6,8 @@ use Rattle.std.proofs.lemmas.Bool.Decides.{nat_tests}
 use Rattle.std.proofs.lemmas.List.Elements.{All-head, All-tail}
 use Rattle.std.proofs.lemmas.List.Sums.{sum_by-cons, get_or-le-sum_by}
 use Rattle.gate_word.specs.declared.step.View.{View}
-use Rattle.gate_word.specs.Steps.{shut_bit, Standing, standing_of}
-use Rattle.gate_word.specs.Steps.Standing.{Outside, Inside, Bouncing}
+use Rattle.gate_word.specs.Steps.{shut_bit, SeatState, seat_state}
+use Rattle.gate_word.specs.Steps.SeatState.{Outside, Inside, Bouncing}
 use Rattle.gate_word.specs.Seats.{adds, away, has_number}
 use Rattle.gate_word.specs.GateLaw.{GateLaw, IsSeatIfAway}
 
@@ -43,12 +43,12 @@ first_below seats word views law k d lt some_seat =
     let most = law.numbers v.first in
     grind (arith, nat_tests)
 
-adds_most : (standing : Standing) → adds standing ≤ 1
+adds_most : (state : SeatState) → adds state ≤ 1
 adds_most Outside = omega arith
 adds_most Inside = omega arith
 adds_most Bouncing = omega arith
 
-counts : (standing : Standing) (count : ℕ) → (adds standing ≡ 1 → count ≡ 1) → adds standing ≤ count
+counts : (state : SeatState) (count : ℕ) → (adds state ≡ 1 → count ≡ 1) → adds state ≤ count
 counts Outside count one = zero-le
 counts Inside count one = let is = one refl in omega arith
 counts Bouncing count one = let is = one refl in omega arith
@@ -59,7 +59,7 @@ away_below : (n : ℕ) (views : List View) → All IsSeatIfAway views → All (�
 away_below n [] seated small = omega arith
 away_below n (v ∷ vs) seated small =
     let less = away_below n vs (All-tail IsSeatIfAway v vs seated) (All-tail (λ u. 1 ≤ u.count → u.first < n) v vs small) in
-    let seat = counts (standing_of v.steps) v.count (All-head IsSeatIfAway v vs seated) in
+    let seat = counts (seat_state v.steps) v.count (All-head IsSeatIfAway v vs seated) in
     let first = All-head (λ u. 1 ≤ u.count → u.first < n) v vs small in
     let parts = below_add n (λ k. sum_by (has_number k) (v ∷ vs)) (λ k. has_number k v) (λ k. sum_by (has_number k) vs) (λ k. sum_by-cons (has_number k) v vs) in
     let one : away v ≤ below n (λ k. has_number k v) = ⊎_elim
@@ -67,7 +67,7 @@ away_below n (v ∷ vs) seated small =
     (λ (some_seat : 1 ≤ v.count).
     let own : has_number v.first v ≡ 1 = grind (arith, nat_tests) in
     let part = below_term n (λ k. has_number k v) v.first (first some_seat) in
-    let most = adds_most (standing_of v.steps) in
+    let most = adds_most (seat_state v.steps) in
     omega arith)
     (cases_lt v.count 1) in
     omega (arith, sum_by-cons away v vs)

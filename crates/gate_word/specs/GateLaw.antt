@@ -1,15 +1,15 @@
 -- The gate's law: what the word says of the seats. It holds at every moment of every schedule.
 use Rattle.std.specs.Prelude.{◌≡◌, ℕ, ◌+◌, ◌*◌, ◌≤◌, nat_lt, if◌then◌else◌, true, List, All, Any, sum_by}
 use Rattle.gate_word.specs.declared.step.View.{View}
-use Rattle.gate_word.specs.Steps.{shut_bit, is_shut, standing_of, has_shut, knows_shut, saw_drained}
-use Rattle.gate_word.specs.Steps.Standing.{Outside, Inside}
+use Rattle.gate_word.specs.Steps.{shut_bit, is_shut, seat_state, has_shut, knows_shut, saw_drained}
+use Rattle.gate_word.specs.Steps.SeatState.{Outside, Inside}
 use Rattle.gate_word.specs.Seats.{away, has_number}
 
 abbrev pub IsOutside : View → Type 0
-IsOutside v = standing_of v.steps ≡ Outside
+IsOutside v = seat_state v.steps ≡ Outside
 
 abbrev pub IsNotInside : View → Type 0
-IsNotInside v = ¬ (standing_of v.steps ≡ Inside)
+IsNotInside v = ¬ (seat_state v.steps ≡ Inside)
 
 abbrev pub NobodyIsInside : List View → Type 0
 NobodyIsInside views = All IsNotInside views

@@ -2,8 +2,8 @@
 use Rattle.std.specs.Prelude.{◌≡◌, ℕ, ◌+◌, ◌-◌, ◌≤◌, ◌≢◌, true, false, List, [], ◌∷◌, ◌++◌, slice_set}
 use Rattle.gate_word.specs.declared.step.View.{View}
 use Rattle.gate_word.specs.declared.step.Step.TheVariants.{Entered, Bounced, TakenOff, Left, Shut, Looked}
-use Rattle.gate_word.specs.Steps.{shut_bit, is_shut, standing_of, saw_drained}
-use Rattle.gate_word.specs.Steps.Standing.{Outside, Inside, Bouncing}
+use Rattle.gate_word.specs.Steps.{shut_bit, is_shut, seat_state, saw_drained}
+use Rattle.gate_word.specs.Steps.SeatState.{Outside, Inside, Bouncing}
 use Rattle.gate_word.specs.Seats.{stepped, cut_seat, rest_after_cut, token}
 
 pub data Kind : Type 0 where
@@ -23,11 +23,11 @@ pub data Kind : Type 0 where
 
 -- where the word is this number, the holder of the view v may make the step: but for the cutting and the token, one seat
 abbrev pub May : Kind → ℕ → View → Type 0
-May Cut word v = (standing_of v.steps ≡ Outside) × (2 ≤ v.count)
-May Enter word v = (standing_of v.steps ≡ Outside) × (v.count ≡ 1) × (is_shut word ≡ false)
-May Bounce word v = (standing_of v.steps ≡ Outside) × (v.count ≡ 1) × (is_shut word ≡ true)
-May TakeOff word v = standing_of v.steps ≡ Bouncing
-May Leave word v = standing_of v.steps ≡ Inside
+May Cut word v = (seat_state v.steps ≡ Outside) × (2 ≤ v.count)
+May Enter word v = (seat_state v.steps ≡ Outside) × (v.count ≡ 1) × (is_shut word ≡ false)
+May Bounce word v = (seat_state v.steps ≡ Outside) × (v.count ≡ 1) × (is_shut word ≡ true)
+May TakeOff word v = seat_state v.steps ≡ Bouncing
+May Leave word v = seat_state v.steps ≡ Inside
 May SetBit word v = v.count ≡ 1
 May LookDrained word v = (word ≡ 1) × (v.count ≡ 1)
 May Look word v = (word ≢ 1) × (v.count ≡ 1)

@@ -4,8 +4,8 @@ use Rattle.atomic_table.specs.Table.{State, Me}
 use Rattle.atomic_table.specs.Seated.{TableId}
 use Rattle.gate_word.specs.declared.step.View.{View}
 use Rattle.gate_word.specs.declared.step.Step.TheVariants.{Looked}
-use Rattle.gate_word.specs.Steps.{is_shut, Standing, standing_of}
-use Rattle.gate_word.specs.Steps.Standing.{Outside, Inside, Bouncing}
+use Rattle.gate_word.specs.Steps.{is_shut, SeatState, seat_state}
+use Rattle.gate_word.specs.Steps.SeatState.{Outside, Inside, Bouncing}
 use Rattle.gate_word.specs.Seats.{stepped, token}
 use Rattle.gate_word.specs.Kinds.{Kind, May, view_after}
 use Rattle.gate_word.specs.Kinds.Kind.{Enter, Bounce, LookDrained, Look}
@@ -37,10 +37,10 @@ abbrev pub clash : View → View → View
 clash turn witness = stepped (Looked 1) turn
 
 -- what stands behind a value that is one seat: one view, and where it stands
-pub record IsOneSeat (standing : Standing) (me : Me (Unit {0}) View) : Type 0 where
+pub record IsOneSeat (state : SeatState) (me : Me (Unit {0}) View) : Type 0 where
   pub bare : me.1 ≡ []
   pub one : me.0.count ≡ 1
-  pub stands : standing_of me.0.steps ≡ standing
+  pub stands : seat_state me.0.steps ≡ state
 
 abbrev pub IsSeat : Me (Unit {0}) View → Type 0
 IsSeat me = IsOneSeat Outside me

@@ -4,8 +4,8 @@ use Rattle.atomic_table.specs.Seated.{TableId}
 use Rattle.gate_word.specs.declared.step.Step.{Step}
 use Rattle.gate_word.specs.declared.step.Step.TheVariants.{Looked}
 use Rattle.gate_word.specs.declared.step.View.{View}
-use Rattle.gate_word.specs.Steps.{Standing, standing_of}
-use Rattle.gate_word.specs.Steps.Standing.{Outside, Inside, Bouncing}
+use Rattle.gate_word.specs.Steps.{SeatState, seat_state}
+use Rattle.gate_word.specs.Steps.SeatState.{Outside, Inside, Bouncing}
 
 -- which gate it is: its word, which no other gate shares with it, and how many seats it was opened with
 pub record GateId : Type 0 where
@@ -61,13 +61,13 @@ abbrev pub stepped : Step → View → View
 stepped step v = record { seats = v.seats; first = v.first; count = v.count; steps = step ∷ v.steps }
 
 -- 1 for a seat that has added 2 to the word and not taken it off
-abbrev pub adds : Standing → ℕ
+abbrev pub adds : SeatState → ℕ
 adds Outside = 0
 adds Inside = 1
 adds Bouncing = 1
 
 abbrev pub away : View → ℕ
-away v = adds (standing_of v.steps)
+away v = adds (seat_state v.steps)
 
 -- 1 where the view has this seat number
 abbrev pub has_number : ℕ → View → ℕ

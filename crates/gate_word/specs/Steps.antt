@@ -13,19 +13,19 @@ abbrev pub is_shut : ℕ → Bool
 is_shut word = shut_bit word == 1
 
 -- where a seat stands: it has added nothing to the word; it was let in; or it was refused, and has still to take off what it added
-pub data Standing : Type 0 where
-  Outside : Standing
-  Inside : Standing
-  Bouncing : Standing
+pub data SeatState : Type 0 where
+  Outside : SeatState
+  Inside : SeatState
+  Bouncing : SeatState
 
-abbrev pub standing_of : List Step → Standing
-standing_of [] = Outside
-standing_of (Entered found ∷ before) = Inside
-standing_of (Bounced found ∷ before) = Bouncing
-standing_of (TakenOff found ∷ before) = Outside
-standing_of (Left found ∷ before) = Outside
-standing_of (Shut found ∷ before) = standing_of before
-standing_of (Looked found ∷ before) = standing_of before
+abbrev pub seat_state : List Step → SeatState
+seat_state [] = Outside
+seat_state (Entered found ∷ before) = Inside
+seat_state (Bounced found ∷ before) = Bouncing
+seat_state (TakenOff found ∷ before) = Outside
+seat_state (Left found ∷ before) = Outside
+seat_state (Shut found ∷ before) = seat_state before
+seat_state (Looked found ∷ before) = seat_state before
 
 abbrev pub found_by : Step → ℕ
 found_by (Entered found) = found

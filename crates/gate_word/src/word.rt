@@ -2,8 +2,8 @@
 //! some schedule leads to what is there, so each step owes the table that it is one of a schedule. It tells which one
 //! it was.
 ghost use Rattle.std.specs.Prelude.{◌≡◌, ◌≤◌, ◌%◌, true, []};
-ghost use Rattle.gate_word.specs.Steps.{standing_of, knows_shut, saw_drained};
-ghost use Rattle.gate_word.specs.Steps.Standing.{Outside, Inside, Bouncing};
+ghost use Rattle.gate_word.specs.Steps.{seat_state, knows_shut, saw_drained};
+ghost use Rattle.gate_word.specs.Steps.SeatState.{Outside, Inside, Bouncing};
 ghost use Rattle.gate_word.specs.Seats.{cut_seat, rest_after_cut, token};
 ghost use Rattle.gate_word.specs.Kinds.Kind.{TakeOff, Leave, SetBit};
 ghost use Rattle.gate_word.specs.Rule.{IsPassOf, IsToken, entry, look, Tells, clash};
@@ -126,7 +126,7 @@ pub const SHUT: u64 = 1;
 /// Adds 2, and answers the number that was there.
 pub fn add(word: &Word, pass: &mut Pass) -> u64
     requires word { IsPassOf word.now.shared.table_id pass.old.table_id }
-    requires seat { (pass.old.me.0.count ≡ 1) × (standing_of pass.old.me.0.steps ≡ Outside) }
+    requires seat { (pass.old.me.0.count ≡ 1) × (seat_state pass.old.me.0.steps ≡ Outside) }
     ensures same { pass.new.table_id ≡ pass.old.table_id }
     ensures told { Tells entry pass.old.me result pass.new.me }
     ensures shut { knows_shut pass.old.me.0.steps ≡ true → result % 2 ≡ 1 }
@@ -137,7 +137,7 @@ pub fn add(word: &Word, pass: &mut Pass) -> u64
 /// Takes 2 off that were added at a shut gate, and answers the number that was there.
 pub fn take_off(word: &Word, pass: &mut Pass) -> u64
     requires word { IsPassOf word.now.shared.table_id pass.old.table_id }
-    requires seat { standing_of pass.old.me.0.steps ≡ Bouncing }
+    requires seat { seat_state pass.old.me.0.steps ≡ Bouncing }
     ensures same { pass.new.table_id ≡ pass.old.table_id }
     ensures told { Tells (λ _. TakeOff) pass.old.me result pass.new.me }
 {
@@ -147,7 +147,7 @@ pub fn take_off(word: &Word, pass: &mut Pass) -> u64
 /// Takes 2 off that were added at an open gate, and answers the number that was there.
 pub fn leave(word: &Word, pass: &mut Pass) -> u64
     requires word { IsPassOf word.now.shared.table_id pass.old.table_id }
-    requires seat { standing_of pass.old.me.0.steps ≡ Inside }
+    requires seat { seat_state pass.old.me.0.steps ≡ Inside }
     ensures same { pass.new.table_id ≡ pass.old.table_id }
     ensures told { Tells (λ _. Leave) pass.old.me result pass.new.me }
 {
@@ -177,7 +177,7 @@ pub fn look_at(word: &Word, pass: &mut Pass) -> u64
 /// Cuts the first seat off.
 pub fn cut(word: &Word, pass: &mut Pass) -> Pass
     requires word { IsPassOf word.now.shared.table_id pass.old.table_id }
-    requires seats { (2 ≤ pass.old.me.0.count) × (standing_of pass.old.me.0.steps ≡ Outside) }
+    requires seats { (2 ≤ pass.old.me.0.count) × (seat_state pass.old.me.0.steps ≡ Outside) }
     ensures same { (pass.new.table_id ≡ pass.old.table_id) × (result.table_id ≡ pass.old.table_id) }
     ensures rest { pass.new.me ≡ (rest_after_cut pass.old.me.0, pass.old.me.1) }
     ensures seat { result.me ≡ (cut_seat pass.old.me.0, []) }
@@ -198,7 +198,7 @@ pub fn witness(word: &Word, pass: &mut Pass) -> Pass
 
 /// A turn and a token are never both there.
 pub fn refute(word: &Word, turn: &mut Pass, drained: Pass)
-    requires turn { IsPassOf word.now.shared.table_id turn.old.table_id × (standing_of turn.old.me.0.steps ≡ Inside) }
+    requires turn { IsPassOf word.now.shared.table_id turn.old.table_id × (seat_state turn.old.me.0.steps ≡ Inside) }
     requires drained { IsPassOf word.now.shared.table_id drained.table_id × IsToken drained.me }
     ensures { ⊥ }
 {

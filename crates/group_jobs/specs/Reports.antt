@@ -17,7 +17,7 @@ fates_of report job =
 abbrev pub times_accepted : List ℕ → Job → ℕ
 times_accepted accepted job = if nat_lt job.number (slice_index_or accepted job.port 0) then 1 else 0
 
--- a count in decimal, behind its label
+-- a count in decimal, after its label
 abbrev pub labelled : List ℕ → ℕ → List ℕ
 labelled label count = label ++ decimal count
 

@@ -9,7 +9,7 @@ use thiserror::Error;
 /// Why a value was not made or got no room. Nothing has changed then.
 #[derive(Clone, Copy, Debug, PartialEq, Eq, Error)]
 pub enum JobError {
-    /// 503: memory was wanted and refused.
+    /// 503: an allocation failed.
     #[error("out of memory")]
     Memory,
 }

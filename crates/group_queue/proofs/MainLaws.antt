@@ -28,7 +28,7 @@ through-longer port front x mid is =
     ap (through port) (sym e) ∙ (filter-append p (front ++ x ∷ []) mid ∙ ap (λ h. h ++ through port mid) (through-push port front x is)) in
     omega (arith, ap length l, length-append (through port front ++ x ∷ []) (through port mid), length-append (through port front) (x ∷ []))
 
--- a message is before all behind it
+-- a message is before all after it
 before_all : (front : List Posted) (x : Posted) (mid rest : List Posted) → AreNumbered ((front ++ x ∷ mid) ++ rest) → x.job.number ≡ length (through x.job.port front) → All (IsBefore x.job) (jobs_in rest)
 before_all front x mid [] numbered at = All-nil (IsBefore x.job)
 before_all front x mid (y ∷ rest) numbered at =
@@ -116,7 +116,7 @@ popped_apart m n ne (a ∷ past) rises job here there =
     apart_step m n ne a past job (λ name. All-popped (IsBefore a.posted.job) name past (first_pairs a.posted.job (jobs_in (posts past)) rises))
     (popped_apart m n ne past (other_pairs a.posted.job (jobs_in (posts past)) rises) job) here there (same_name a.by m) refl (same_name a.by n) refl
 
--- the front of a rising list and what is behind it have nothing alike
+-- the front of a rising list and what is after it have nothing alike
 pub split_apart : (xs ys : List Posted) → RisesByPort (jobs_in (xs ++ ys)) → (job : Job) → Contains (jobs_in xs) job → ¬ Contains (jobs_in ys) job
 split_apart [] ys rises job here there = let less = here.1 in omega arith
 split_apart (x ∷ xs) ys rises job here there = ⊎_elim

@@ -1,5 +1,5 @@
 -- The rule of the main queue: there is a past. What stands in the queue, and what anybody knows, is read off one list of pops
--- and the messages behind it.
+-- and the messages after it.
 use Rattle.std.specs.Prelude.{◌≡◌, ℕ, ◌<◌, ◌≤◌, ◌==◌, true, List, [], ◌∷◌, ◌++◌, length, map, filter, Contains}
 use mathlib.Core.Option.{some}
 use lib.ListN.{get_elem?}

@@ -131,7 +131,7 @@ pub record TakesFront (old : PlaceState) (envelope : Held) (new : PlaceState) : 
   pub front : Takes (one (Place old.number) old.firsts) posted (one (Place new.number) new.firsts)
   pub others : new ≡ record old { docket = new.docket; firsts = old.firsts ++ posted ∷ [] }
 
--- nothing was handed out for want of memory: there was no room in the docket
+-- nothing was handed out for lack of memory: there was no room in the docket
 abbrev pub HasNoRoom : PlaceState → PlaceState → Type 0
 HasNoRoom old new = KeepsPlace old new × (old.docket.room ≡ 0)
 

@@ -50,7 +50,7 @@ ending ports places left es = record { keeps = true; ports = ports; places = pla
 abbrev pub IsEnding : View → Type 0
 IsEnding v = v ≡ ending v.ports v.places (list_in v) (others_in v)
 
--- one view with another's names behind its own, and the view of who has no name
+-- one view with another's names after its own, and the view of who has no name
 abbrev pub joined : View → View → View
 joined v w = record v { entries = v.entries ++ w.entries }
 

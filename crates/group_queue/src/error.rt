@@ -58,7 +58,7 @@ pub enum FinishError {
     /// 507: an envelope is there more often than its message is out.
     #[error("an envelope is not of this group, or is there twice")]
     Stranger(Stamp),
-    /// 506: memory was wanted and refused.
+    /// 506: an allocation failed.
     #[error("out of memory")]
     Memory,
 }

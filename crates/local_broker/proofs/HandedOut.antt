@@ -17,8 +17,8 @@ use Rattle.group_jobs.specs.Stamps.{Held, job_of}
 use Rattle.local_group.specs.Groups.{Group, Adds, Settles, Closes}
 use Rattle.conn_supply.specs.declared.supply.NoMemory.{NoMemory}
 use Rattle.conn_supply.specs.declared.supply.OfferRefusal.{OfferRefusal}
-use Rattle.conn_supply.specs.Facts.{Fact}
-use Rattle.conn_supply.specs.Facts.Fact.{Attach, Withdraw, Kicked, Park, ParkAsIs, Keep, Bury, Sweep, LendPlace, TakePlace, Bind, Find, Match, Offer, MayTake, Take, TakeBack, Settle, GiveBack}
+use Rattle.conn_supply.specs.SupplyCalls.{SupplyCall}
+use Rattle.conn_supply.specs.SupplyCalls.SupplyCall.{Attach, Withdraw, Kicked, Park, ParkAsIs, Keep, Bury, Sweep, LendPlace, TakePlace, Bind, Find, Match, Offer, MayTake, Take, TakeBack, Settle, GiveBack}
 use Rattle.local_broker.specs.Places.{GroupPlace}
 use Rattle.local_broker.specs.Groups.{InGroup, ClosesEach, IsOffered, HandsOut, HandsOutAgain, IsOutAt, IsSettled, IsGivenBack, LetsGo}
 use Rattle.local_broker.specs.Broker.{Broker, IsNewBroker}
@@ -27,7 +27,7 @@ use Rattle.local_broker.specs.Histories.{Happening, Called, Closed, Happens, Hap
 use Rattle.local_broker.specs.HandOuts.{HandOut, handed_by, handed_by_all, handed_in, handed_in_all, seen_by, seen_by_group}
 use Rattle.local_broker.proofs.Closed.{either}
 
--- behind one group stands another, in which these were handed out besides
+-- after one group stands another, in which these were handed out besides
 abbrev Hands : List (ℕ × Job) → Group → Group → Type 0
 Hands given old new = handed_in_all new.events ≡ handed_in_all old.events ++ given
 
@@ -161,8 +161,8 @@ taken_back_seen (Ok (Some envelope)) place place' slot = seen_at place slot enve
 taken_back_seen (Ok None) place place' slot = none_at place.slot slot
 taken_back_seen (Err refusal) place place' slot = none_at place.slot slot
 
-since : (fact : Fact GroupPlace) (old new : Broker) → Calls old fact new → (slot : ℕ) (group : Group) → slice_get new.groups slot ≡ Some group
-    → Since old.groups slot group (seen_in slot (Called fact))
+since : (supply_call : SupplyCall GroupPlace) (old new : Broker) → Calls old supply_call new → (slot : ℕ) (group : Group) → slice_get new.groups slot ≡ Some group
+    → Since old.groups slot group (seen_in slot (Called supply_call))
 since (Attach request answer) old new does slot group there = since_same old.groups new.groups does.groups slot group there
 since (Withdraw connection) old new does slot group there = since_same old.groups new.groups does.groups slot group there
 since (Kicked connection answer) old new does slot group there = since_same old.groups new.groups does.groups slot group there
@@ -200,7 +200,7 @@ since_close old new closes slot group there =
 
 since_next : (happening : Happening) (old new : Broker) → Happens old happening new → (slot : ℕ) (group : Group) → slice_get new.groups slot ≡ Some group
     → Since old.groups slot group (seen_in slot happening)
-since_next (Called fact) old new does slot group there = since fact old new does slot group there
+since_next (Called supply_call) old new does slot group there = since supply_call old new does slot group there
 since_next Closed old new does slot group there = since_close old.groups new.groups does.groups slot group there
 
 -- first this happened, and then those

@@ -16,8 +16,8 @@ use Rattle.session_desk.proofs.OneHand.{law_all}
 use Rattle.local_group.specs.Groups.{Group}
 use Rattle.local_group.proofs.Steps.{goes_on}
 use Rattle.conn_supply.specs.declared.supply.OfferRefusal.{OfferRefusal}
-use Rattle.conn_supply.specs.Facts.{Fact}
-use Rattle.conn_supply.specs.Facts.Fact.{Attach, Withdraw, Kicked, Park, ParkAsIs, Keep, Bury, Sweep, LendPlace, TakePlace, Bind, Find, Match, Offer, MayTake, Take, TakeBack, Settle, GiveBack}
+use Rattle.conn_supply.specs.SupplyCalls.{SupplyCall}
+use Rattle.conn_supply.specs.SupplyCalls.SupplyCall.{Attach, Withdraw, Kicked, Park, ParkAsIs, Keep, Bury, Sweep, LendPlace, TakePlace, Bind, Find, Match, Offer, MayTake, Take, TakeBack, Settle, GiveBack}
 use Rattle.local_broker.specs.Places.{GroupPlace, cell_of}
 use Rattle.local_broker.specs.Groups.{InGroup, ClosesEach}
 use Rattle.local_broker.specs.Broker.{Broker, IsClosed, IsNewBroker}
@@ -33,7 +33,7 @@ same_desk : (old new : Broker) → DeskLaw old.desk.rows old.desk.made → new.d
 same_desk old new law same = subst (λ desk. DeskLaw desk.rows desk.made) (sym same) law
 
 -- the desk law, call by call
-law_next : (old new : Broker) (fact : Fact GroupPlace) → DeskLaw old.desk.rows old.desk.made → Calls old fact new → DeskLaw new.desk.rows new.desk.made
+law_next : (old new : Broker) (supply_call : SupplyCall GroupPlace) → DeskLaw old.desk.rows old.desk.made → Calls old supply_call new → DeskLaw new.desk.rows new.desk.made
 law_next old new (Attach request answer) law does = asks old new _ law does
 law_next old new (Withdraw connection) law does = asks old new _ law does
 law_next old new (Kicked connection answer) law does = asks old new _ law does
@@ -57,7 +57,7 @@ law_next old new (GiveBack place place' envelope (Err back)) law does = absurd d
 
 pub law_all_along : (happenings : List Happening) (old new : Broker) → DeskLaw old.desk.rows old.desk.made → HappensAll old happenings new → DeskLaw new.desk.rows new.desk.made
 law_all_along [] old new law all = subst (λ (b : Broker). DeskLaw b.desk.rows b.desk.made) (sym all) law
-law_all_along (Called fact ∷ others) old new law all = law_all_along others all.0 new (law_next old all.0 fact law all.1) all.2
+law_all_along (Called supply_call ∷ others) old new law all = law_all_along others all.0 new (law_next old all.0 supply_call law all.1) all.2
 law_all_along (Closed ∷ others) old new law all = law_all_along others all.0 new (same_desk old all.0 law all.1.desk) all.2
 
 -- the group of this slot was this one before, and one event more happened in it at most
@@ -96,7 +96,7 @@ came_offer old new at connection message answer does slot group there =
     with_port)
     does
 
-came : (old new : Broker) (fact : Fact GroupPlace) → Calls old fact new → (slot : ℕ) (group : Group) → slice_get new.groups slot ≡ Some group → Came old.groups slot group
+came : (old new : Broker) (supply_call : SupplyCall GroupPlace) → Calls old supply_call new → (slot : ℕ) (group : Group) → slice_get new.groups slot ≡ Some group → Came old.groups slot group
 came old new (Attach request answer) does = came_same old.groups new.groups does.groups
 came old new (Withdraw connection) does = came_same old.groups new.groups does.groups
 came old new (Kicked connection answer) does = came_same old.groups new.groups does.groups
@@ -131,7 +131,7 @@ came_close old new closes slot group there =
     }
 
 pub came_next : (old new : Broker) (happening : Happening) → Happens old happening new → (slot : ℕ) (group : Group) → slice_get new.groups slot ≡ Some group → Came old.groups slot group
-came_next old new (Called fact) does = came old new fact does
+came_next old new (Called supply_call) does = came old new supply_call does
 came_next old new Closed does = came_close old.groups new.groups does.groups
 
 -- events are a run
@@ -160,7 +160,7 @@ running_first capacity shares b new slot group there =
     let is = new.groups slot group there in
     record { numbered = is.numbered; run = subst (λ events. IsRun events group.state) (sym is.fresh.events) (record { start = group.state; empty = is.fresh.state; steps = refl }) }
 
--- behind the close
+-- after the close
 closed_next : (old new : Broker) (happening : Happening) → IsClosed old → Happens old happening new → IsClosed new
 closed_next old new happening shut does slot group there =
     let c = came_next old new happening does slot group there in

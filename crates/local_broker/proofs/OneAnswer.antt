@@ -20,8 +20,8 @@ use Rattle.conn_supply.specs.declared.supply.BindRefusal.{BindRefusal}
 use Rattle.conn_supply.specs.declared.supply.BindRefusal.TheVariants as bind
 use Rattle.conn_supply.specs.declared.supply.OfferRefusal.{OfferRefusal}
 use Rattle.conn_supply.specs.declared.supply.OfferRefusal.TheVariants as refusal
-use Rattle.conn_supply.specs.Facts.{Fact}
-use Rattle.conn_supply.specs.Facts.Fact.{Attach, Withdraw, Kicked, Park, ParkAsIs, Keep, Bury, Sweep, LendPlace, TakePlace, Bind, Find, Match, Offer, MayTake, Take, TakeBack, Settle, GiveBack}
+use Rattle.conn_supply.specs.SupplyCalls.{SupplyCall}
+use Rattle.conn_supply.specs.SupplyCalls.SupplyCall.{Attach, Withdraw, Kicked, Park, ParkAsIs, Keep, Bury, Sweep, LendPlace, TakePlace, Bind, Find, Match, Offer, MayTake, Take, TakeBack, Settle, GiveBack}
 use Rattle.conn_laws.specs.Asking.{IsSameQuestion, HadMemory}
 use Rattle.local_broker.specs.Places.{GroupPlace, cell_of}
 use Rattle.local_broker.specs.Groups.{IsOffered, HandsOut, HandsOutAgain, IsSettled, IsGivenBack}
@@ -103,15 +103,15 @@ module _ (one other one' other' : Broker) (alike : AreAlike one other) where
       )
 
   -- the same call, by its answer
-  told : {A : Type 0} (say : A → Fact GroupPlace) (x y : A) (its : Fact GroupPlace) → its ≡ say y → (x ≡ y) × AreAlike one' other' → (say x ≡ its) × AreAlike one' other'
+  told : {A : Type 0} (say : A → SupplyCall GroupPlace) (x y : A) (its : SupplyCall GroupPlace) → its ≡ say y → (x ≡ y) × AreAlike one' other' → (say x ≡ its) × AreAlike one' other'
   told say x y its is both = (ap say both.0 ∙ sym is, both.1)
 
   -- the same place, and the same answer
-  placed : {A : Type 0} (say : GroupPlace → A → Fact GroupPlace) (place after behind : GroupPlace) (x y : A) (its : Fact GroupPlace) → its ≡ say behind y → after ≡ place → behind ≡ place
+  placed : {A : Type 0} (say : GroupPlace → A → SupplyCall GroupPlace) (place after behind : GroupPlace) (x y : A) (its : SupplyCall GroupPlace) → its ≡ say behind y → after ≡ place → behind ≡ place
       → (x ≡ y) × AreAlike one' other' → (say after x ≡ its) × AreAlike one' other'
   placed say place after behind x y its is here also both = ((λ i. say ((here ∙ sym also) i) (both.0 i)) ∙ sym is, both.1)
 
-  given_back : (place after : GroupPlace) (envelope : Held) (its : Fact GroupPlace) (behind : GroupPlace) (done : Unit {0}) (y : Result (Unit {0}) Held) → its ≡ GiveBack place behind envelope y
+  given_back : (place after : GroupPlace) (envelope : Held) (its : SupplyCall GroupPlace) (behind : GroupPlace) (done : Unit {0}) (y : Result (Unit {0}) Held) → its ≡ GiveBack place behind envelope y
       → Calls one (GiveBack place after envelope (Ok done)) one' → Calls other (GiveBack place behind envelope y) other' → (GiveBack place after envelope (Ok done) ≡ its) × AreAlike one' other'
   given_back place after envelope its behind done (Ok also) is a b =
       let both = in_group {X = Unit {0}} one.groups other.groups one'.groups other'.groups place.slot (λ g h. IsGivenBack g place.number envelope h) (λ g h. IsGivenBack g place.number envelope h) alike.groups
@@ -119,8 +119,8 @@ module _ (one other one' other' : Broker) (alike : AreAlike one other) where
       (ap (λ p. GiveBack place p envelope (Ok done)) (a.1 ∙ sym b.1) ∙ sym is, groups_alike a.2 b.2 both.1)
   given_back place after envelope its behind done (Err back) is a b = absurd b
 
-  pub one_answer : (fact its : Fact GroupPlace) → DeskLaw one.desk.rows one.desk.made → IsSameQuestion fact its → HadMemory fact → HadMemory its → Calls one fact one' → Calls other its other'
-      → (fact ≡ its) × AreAlike one' other'
+  pub one_answer : (supply_call its : SupplyCall GroupPlace) → DeskLaw one.desk.rows one.desk.made → IsSameQuestion supply_call its → HadMemory supply_call → HadMemory its → Calls one supply_call one' → Calls other its other'
+      → (supply_call ≡ its) × AreAlike one' other'
   one_answer (Attach request x) its law asks had also a b =
       let d = asks_desk (desk.Attach request x) (desk.Attach request asks.0) law (asks.0, refl) had (rw asks.1 at also) a (rw asks.1 at b) in
       told (Attach request) x asks.0 its asks.1 (attach_is request x asks.0 d.0, d.1)

@@ -19,7 +19,7 @@ use Rattle.local_group.proofs.Alike as groups
 use Rattle.conn_supply.specs.declared.supply.NoMemory.{NoMemory}
 use Rattle.conn_supply.specs.declared.supply.OfferRefusal.{OfferRefusal}
 use Rattle.conn_supply.specs.declared.supply.OfferRefusal.TheVariants as refusal
-use Rattle.conn_laws.specs.Asking.{IsTold}
+use Rattle.conn_laws.specs.Asking.{IsOkResult}
 use Rattle.local_broker.specs.Groups.{told_as, IsOffered, HandsOut, HandsOutAgain, IsOutAt, IsSettled, IsGivenBack, InGroup, ClosesEach}
 use Rattle.local_broker.specs.Alike.{AreAlikeInEachSlot}
 
@@ -61,7 +61,7 @@ one_reason group port why.Full why.Full h k had also = refl
 one_reason group port why.Memory y h k had also = absurd (had refl)
 one_reason group port x why.Memory h k had also = absurd (also refl)
 
--- a reason that a connection is not told of as want of memory is none
+-- a reason that a connection is not told of as lack of memory is none
 not_memory : (reason : OfferError) (told : OfferRefusal) → told ≡ told_as reason → ◌≢◌ {A = Result Stamp OfferRefusal} (Err told) (Err refusal.Memory) → reason ≢ why.Memory
 not_memory reason told is had same = had (ap Err (is ∙ ap told_as same))
 
@@ -83,7 +83,7 @@ module _ (one other one' other' : Group) (alike : AreAlike one other) where
   nothing_there group list first rest open_still is none =
       ⊎_elim (λ (was : group.state.closed ≡ true). not_both group open_still was) (λ (empty : list ≡ []). none_cons first rest (sym empty ∙ is)) none
 
-  pub one_take : (place : ℕ) (x y : Result (Option Held) NoMemory) → IsTold x → IsTold y → HandsOut one place x one' → HandsOut other place y other' → (x ≡ y) × AreAlike one' other'
+  pub one_take : (place : ℕ) (x y : Result (Option Held) NoMemory) → IsOkResult x → IsOkResult y → HandsOut one place x one' → HandsOut other place y other' → (x ≡ y) × AreAlike one' other'
   one_take place (Ok (Some a)) (Ok (Some b)) had also h k = let same = groups.takes one other one' other' alike place a b h k in (ap (λ e. Ok (Some e)) same.0, same.1)
   one_take place (Ok (Some a)) (Ok None) had also h k =
       absurd (nothing_there other other.queue h.0 one'.queue (alike.state.mark ∙ h.4.step.may.not_closed tt) (sym alike.queue ∙ h.1) k.0)
@@ -93,7 +93,7 @@ module _ (one other one' other' : Group) (alike : AreAlike one other) where
   one_take place (Err error) y had also h k = absurd had
   one_take place x (Err error) had also h k = absurd also
 
-  pub one_take_back : (place : ℕ) (x y : Result (Option Held) NoMemory) → IsTold x → IsTold y → HandsOutAgain one place x one' → HandsOutAgain other place y other' → (x ≡ y) × AreAlike one' other'
+  pub one_take_back : (place : ℕ) (x y : Result (Option Held) NoMemory) → IsOkResult x → IsOkResult y → HandsOutAgain one place x one' → HandsOutAgain other place y other' → (x ≡ y) × AreAlike one' other'
   one_take_back place (Ok (Some a)) (Ok (Some b)) had also h k = let same = groups.takes_back one other one' other' alike place a b h k in (ap (λ e. Ok (Some e)) same.0, same.1)
   one_take_back place (Ok (Some a)) (Ok None) had also h k =
       absurd (nothing_there other other.returned h.0 one'.returned (alike.state.mark ∙ h.4.step.may.not_closed tt) (sym alike.returned ∙ h.1) k.0)

@@ -29,9 +29,9 @@ abbrev pub AreLawful : Broker → Broker → Type 0
 AreLawful one other = DeskLaw one.desk.rows one.desk.made × AreAlike one other
 
 pub answers : OneAnswer Calls AreLawful
-answers a b a' b' fact its alike asks had also h k =
-    let one = one_answer a b a' b' alike.1 fact its alike.0 asks had also h k in
-    (one.0, (law_all_along (Called fact ∷ []) a a' alike.0 (a', h, refl), one.1))
+answers a b a' b' supply_call its alike asks had also h k =
+    let one = one_answer a b a' b' alike.1 supply_call its alike.0 asks had also h k in
+    (one.0, (law_all_along (Called supply_call ∷ []) a a' alike.0 (a', h, refl), one.1))
 
 pub closes : (a b a' b' : Broker) → AreLawful a b → Closes a a' → Closes b b' → AreLawful a' b'
 closes a b a' b' alike h k = (law_all_along (Closed ∷ []) a a' alike.0 (a', h, refl), one_close_of_all a b a' b' alike.1 h k)

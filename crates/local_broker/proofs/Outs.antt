@@ -8,8 +8,8 @@ use Rattle.group_jobs.specs.declared.stamp.Stamp.{Stamp}
 use Rattle.group_jobs.specs.Stamps.{Held}
 use Rattle.local_group.specs.Groups.{Group}
 use Rattle.conn_supply.specs.declared.supply.OfferRefusal.{OfferRefusal}
-use Rattle.conn_supply.specs.Facts.{Fact}
-use Rattle.conn_supply.specs.Facts.Fact.{Attach, Withdraw, Kicked, Park, ParkAsIs, Keep, Bury, Sweep, LendPlace, TakePlace, Bind, Find, Match, Offer, MayTake, Take, TakeBack, Settle, GiveBack}
+use Rattle.conn_supply.specs.SupplyCalls.{SupplyCall}
+use Rattle.conn_supply.specs.SupplyCalls.SupplyCall.{Attach, Withdraw, Kicked, Park, ParkAsIs, Keep, Bury, Sweep, LendPlace, TakePlace, Bind, Find, Match, Offer, MayTake, Take, TakeBack, Settle, GiveBack}
 use Rattle.local_broker.specs.Places.{GroupPlace}
 use Rattle.local_broker.specs.Groups.{InGroup, HasGroup, IsOutAt, ClosesEach}
 use Rattle.local_broker.specs.Broker.{Broker}
@@ -60,7 +60,7 @@ along_offer old new at connection message answer place envelope does has =
     with_port)
     does
 
-stays_out : (old new : Broker) (fact : Fact GroupPlace) (place : GroupPlace) (envelope : Held) → HasOut old place envelope → Calls old fact new → ¬ Spends envelope.stamp (Called fact) → HasOut new place envelope
+stays_out : (old new : Broker) (supply_call : SupplyCall GroupPlace) (place : GroupPlace) (envelope : Held) → HasOut old place envelope → Calls old supply_call new → ¬ Spends envelope.stamp (Called supply_call) → HasOut new place envelope
 stays_out old new (Attach request answer) place envelope has does other = same old.groups new.groups place.slot _ does.groups has
 stays_out old new (Withdraw connection) place envelope has does other = same old.groups new.groups place.slot _ does.groups has
 stays_out old new (Kicked connection answer) place envelope has does other = same old.groups new.groups place.slot _ does.groups has
@@ -92,7 +92,7 @@ stays_closed old new place envelope has closes =
     record { group = now.group; there = now.there; is_so = closed has.group now.group place.number envelope now.is_so has.is_so }
 
 stays_next : (old new : Broker) (happening : Happening) (place : GroupPlace) (envelope : Held) → HasOut old place envelope → Happens old happening new → ¬ Spends envelope.stamp happening → HasOut new place envelope
-stays_next old new (Called fact) place envelope has does other = stays_out old new fact place envelope has does other
+stays_next old new (Called supply_call) place envelope has does other = stays_out old new supply_call place envelope has does other
 stays_next old new Closed place envelope has does other = stays_closed old new place envelope has does.groups
 
 pub stays_all : (happenings : List Happening) (old new : Broker) (place : GroupPlace) (envelope : Held) → HasOut old place envelope → HappensAll old happenings new → NoneSpends envelope.stamp happenings → HasOut new place envelope

@@ -15,8 +15,8 @@ use Rattle.group_jobs.specs.Stamps.{Held}
 use Rattle.local_group.specs.Groups.{Group, Adds, Settles, Closes}
 use Rattle.conn_supply.specs.declared.supply.NoMemory.{NoMemory}
 use Rattle.conn_supply.specs.declared.supply.OfferRefusal.{OfferRefusal}
-use Rattle.conn_supply.specs.Facts.{Fact}
-use Rattle.conn_supply.specs.Facts.Fact.{Attach, Withdraw, Kicked, Park, ParkAsIs, Keep, Bury, Sweep, LendPlace, TakePlace, Bind, Find, Match, Offer, MayTake, Take, TakeBack, Settle, GiveBack}
+use Rattle.conn_supply.specs.SupplyCalls.{SupplyCall}
+use Rattle.conn_supply.specs.SupplyCalls.SupplyCall.{Attach, Withdraw, Kicked, Park, ParkAsIs, Keep, Bury, Sweep, LendPlace, TakePlace, Bind, Find, Match, Offer, MayTake, Take, TakeBack, Settle, GiveBack}
 use Rattle.conn_laws.specs.Calls.{offer_of, offered, MakesAll}
 use Rattle.conn_laws.specs.Publishers.{AreFrom, CallsFrom}
 use Rattle.local_broker.specs.Places.{GroupPlace}
@@ -36,7 +36,7 @@ each : (IsSo IsAlso : Event → Type 0) → ((event : Event) → IsSo event → 
 each IsSo IsAlso so [] all = tt
 each IsSo IsAlso so (event ∷ events) all = (so event all.0, each IsSo IsAlso so events all.1)
 
--- behind one group stands another, in which only such events happened besides
+-- after one group stands another, in which only such events happened besides
 record Grows (IsSo : Event → Type 0) (old new : Group) : Type 0 where
   added : List Event
   events : new.events ≡ old.events ++ added
@@ -134,7 +134,7 @@ first_from : (number : ℕ) (offer : Option (ℕ × ℕ × Message)) (others : L
 first_from number None others all = (tt, all)
 first_from number (Some offer) others all = (all.0, all.1)
 
-called : (fact : Fact GroupPlace) (port : ℕ) (old new : Broker) → IsFrom port (offer_of fact) → Calls old fact new → AllAddOnly (AcceptsThrough port) old new
+called : (supply_call : SupplyCall GroupPlace) (port : ℕ) (old new : Broker) → IsFrom port (offer_of supply_call) → Calls old supply_call new → AllAddOnly (AcceptsThrough port) old new
 called (Attach request answer) port old new from does = still (AcceptsThrough port) old new does.groups
 called (Withdraw connection) port old new from does = still (AcceptsThrough port) old new does.groups
 called (Kicked connection answer) port old new from does = still (AcceptsThrough port) old new does.groups
@@ -174,16 +174,16 @@ then IsSo old mid new these those slot group there =
       are = both IsSo first.added later.added first.are later.are;
     }
 
-all_called : (facts : List (Fact GroupPlace)) (port : ℕ) (old new : Broker) → AreFrom port facts → MakesAll Calls old facts new → AllAddOnly (AcceptsThrough port) old new
+all_called : (supply_calls : List (SupplyCall GroupPlace)) (port : ℕ) (old new : Broker) → AreFrom port supply_calls → MakesAll Calls old supply_calls new → AllAddOnly (AcceptsThrough port) old new
 all_called [] port old new from made = still (AcceptsThrough port) old new (ap (λ b. b.groups) made)
-all_called (fact ∷ facts) port old new from made =
-    let is = first_from port (offer_of fact) (offered facts) from in
-    then (AcceptsThrough port) old made.0 new (called fact port old made.0 is.0 made.1) (all_called facts port made.0 new is.1 made.2)
+all_called (supply_call ∷ supply_calls) port old new from made =
+    let is = first_from port (offer_of supply_call) (offered supply_calls) from in
+    then (AcceptsThrough port) old made.0 new (called supply_call port old made.0 is.0 made.1) (all_called supply_calls port made.0 new is.1 made.2)
 
 pub published : (number : ℕ) (old new : Broker) → CallsFrom Calls number old new → AllAddOnly (AcceptsThrough number) old new
-published number old new calls = all_called calls.facts number old new calls.from calls.made
+published number old new calls = all_called calls.supply_calls number old new calls.from calls.made
 
--- the close, and what happens behind it
+-- the close, and what happens after it
 closed_each : (old new : Broker) → ClosesEach old.groups new.groups → AllAddOnly AcceptsNothing old new
 closed_each old new closes slot group there =
     let within = slice_get_within new.groups slot group there in

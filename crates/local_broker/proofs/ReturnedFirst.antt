@@ -10,8 +10,8 @@ use Rattle.group_jobs.specs.Stamps.{Held}
 use Rattle.local_group.specs.Groups.{Group}
 use Rattle.conn_supply.specs.declared.supply.NoMemory.{NoMemory}
 use Rattle.conn_supply.specs.declared.supply.OfferRefusal.{OfferRefusal}
-use Rattle.conn_supply.specs.Facts.{Fact}
-use Rattle.conn_supply.specs.Facts.Fact.{Attach, Withdraw, Kicked, Park, ParkAsIs, Keep, Bury, Sweep, LendPlace, TakePlace, Bind, Find, Match, Offer, MayTake, Take, TakeBack, Settle, GiveBack}
+use Rattle.conn_supply.specs.SupplyCalls.{SupplyCall}
+use Rattle.conn_supply.specs.SupplyCalls.SupplyCall.{Attach, Withdraw, Kicked, Park, ParkAsIs, Keep, Bury, Sweep, LendPlace, TakePlace, Bind, Find, Match, Offer, MayTake, Take, TakeBack, Settle, GiveBack}
 use Rattle.conn_laws.specs.Calls.{MakesAll}
 use Rattle.conn_laws.specs.ReturnedFirst.{FoundNone, MayFollow, FollowInOrder, CallsReturnedFirst}
 use Rattle.local_broker.specs.Places.{GroupPlace}
@@ -52,7 +52,7 @@ offers old new at connection message answer does all =
     does
 
 -- the call before, if any was, found none that was given back: so its group's list is empty, or the group is closed
-abbrev IsBehind : Option (Fact GroupPlace) → Broker → Type 0
+abbrev IsBehind : Option (SupplyCall GroupPlace) → Broker → Type 0
 IsBehind last b = (place : GroupPlace) (group : Group) → FoundNone last place → slice_get b.groups place.slot ≡ Some group → (group.state.closed ≡ true) ⊎ (group.returned ≡ [])
 
 behind_none : (b : Broker) → IsBehind None b
@@ -68,12 +68,12 @@ found_none before place old new group does there =
     sym it.does.1 ∙ same_Some it.after group (sym at ∙ ap (λ (p : GroupPlace). slice_get new.groups p.slot) (sym does.1) ∙ there) in
     subst (λ (g : Group). (g.state.closed ≡ true) ⊎ (g.returned ≡ [])) same it.does.0
 
-behind : (fact : Fact GroupPlace) (old new : Broker) → Calls old fact new → IsBehind (Some fact) new
-behind fact old new does place group found there =
-    let is : fact ≡ TakeBack found.0 place (Ok None) = same_Some fact (TakeBack found.0 place (Ok None)) found.1 in
-    found_none found.0 place old new group (subst (λ (f : Fact GroupPlace). Calls old f new) is does) there
+behind : (supply_call : SupplyCall GroupPlace) (old new : Broker) → Calls old supply_call new → IsBehind (Some supply_call) new
+behind supply_call old new does place group found there =
+    let is : supply_call ≡ TakeBack found.0 place (Ok None) = same_Some supply_call (TakeBack found.0 place (Ok None)) found.1 in
+    found_none found.0 place old new group (subst (λ (f : SupplyCall GroupPlace). Calls old f new) is does) there
 
-taken : (answer : Result (Option Held) NoMemory) (last : Option (Fact GroupPlace)) (place place' : GroupPlace) (old new : Broker) → IsBehind last old
+taken : (answer : Result (Option Held) NoMemory) (last : Option (SupplyCall GroupPlace)) (place place' : GroupPlace) (old new : Broker) → IsBehind last old
     → MayFollow last (Take place place' answer)
     → Calls old (Take place place' answer) new → AllServeReturnedFirst old → AllServeReturnedFirst new
 taken (Ok (Some envelope)) last place place' old new is may does all =
@@ -83,7 +83,7 @@ taken (Ok None) last place place' old new is may does all =
 taken (Err error) last place place' old new is may does all =
     in_one old new place.slot _ (λ before after there call. groups.handed (Err error) before after place.number call (λ e same. absurd (cc))) does.0 all
 
-called : (fact : Fact GroupPlace) (last : Option (Fact GroupPlace)) (old new : Broker) → IsBehind last old → MayFollow last fact → Calls old fact new → AllServeReturnedFirst old
+called : (supply_call : SupplyCall GroupPlace) (last : Option (SupplyCall GroupPlace)) (old new : Broker) → IsBehind last old → MayFollow last supply_call → Calls old supply_call new → AllServeReturnedFirst old
     → AllServeReturnedFirst new
 called (Attach request answer) last old new is may does all = same_groups old new does.groups all
 called (Withdraw connection) last old new is may does all = same_groups old new does.groups all
@@ -109,14 +109,14 @@ called (GiveBack place place' envelope (Ok done)) last old new is may does all =
     in_one old new place.slot _ (λ before after there call. groups.given_back before after place.number envelope call) does.0 all
 called (GiveBack place place' envelope (Err back)) last old new is may does all = absurd does
 
-all_called : (facts : List (Fact GroupPlace)) (last : Option (Fact GroupPlace)) (old new : Broker) → IsBehind last old → FollowInOrder last facts → MakesAll Calls old facts new
+all_called : (supply_calls : List (SupplyCall GroupPlace)) (last : Option (SupplyCall GroupPlace)) (old new : Broker) → IsBehind last old → FollowInOrder last supply_calls → MakesAll Calls old supply_calls new
     → AllServeReturnedFirst old → AllServeReturnedFirst new
 all_called [] last old new is order made all = subst AllServeReturnedFirst (sym made) all
-all_called (fact ∷ facts) last old new is order made all =
-    all_called facts (Some fact) made.0 new (behind fact old made.0 made.1) order.1 made.2 (called fact last old made.0 is order.0 made.1 all)
+all_called (supply_call ∷ supply_calls) last old new is order made all =
+    all_called supply_calls (Some supply_call) made.0 new (behind supply_call old made.0 made.1) order.1 made.2 (called supply_call last old made.0 is order.0 made.1 all)
 
 pub stays_first : (old new : Broker) → CallsReturnedFirst Calls old new → AllServeReturnedFirst old → AllServeReturnedFirst new
-stays_first old new calls all = all_called calls.facts None old new (behind_none old) calls.order calls.made all
+stays_first old new calls all = all_called calls.supply_calls None old new (behind_none old) calls.order calls.made all
 
 -- the close
 pub stays_first_closed : (old new : Broker) → Closes old new → AllServeReturnedFirst old → AllServeReturnedFirst new

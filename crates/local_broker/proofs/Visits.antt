@@ -1,4 +1,4 @@
--- No call of a connection closes a group: the broker is as open behind it as it was before.
+-- No call of a connection closes a group: the broker is as open after it as it was before.
 use Rattle.std.proofs.Common.{◌≡◌, ℕ, zero, suc, Bool, not, ◌&&◌, List, [], ◌∷◌, Option, Some, None, Result, Ok, Err, slice_get, slice_set, sym, ap, ◌∙◌, ⊎_elim}
 use Rattle.std.specs.List.{list_all}
 use Rattle.std.proofs.lemmas.Option.{same_Some}

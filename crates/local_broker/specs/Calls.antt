@@ -13,8 +13,8 @@ use Rattle.conn_supply.specs.declared.supply.BindRefusal.{BindRefusal}
 use Rattle.conn_supply.specs.declared.supply.BindRefusal.TheVariants as bind
 use Rattle.conn_supply.specs.declared.supply.OfferRefusal.{OfferRefusal}
 use Rattle.conn_supply.specs.declared.supply.OfferRefusal.TheVariants as refusal
-use Rattle.conn_supply.specs.Facts.{Fact}
-use Rattle.conn_supply.specs.Facts.Fact.{Attach, Withdraw, Kicked, Park, ParkAsIs, Keep, Bury, Sweep, LendPlace, TakePlace, Bind, Find, Match, Offer, MayTake, Take, TakeBack, Settle, GiveBack}
+use Rattle.conn_supply.specs.SupplyCalls.{SupplyCall}
+use Rattle.conn_supply.specs.SupplyCalls.SupplyCall.{Attach, Withdraw, Kicked, Park, ParkAsIs, Keep, Bury, Sweep, LendPlace, TakePlace, Bind, Find, Match, Offer, MayTake, Take, TakeBack, Settle, GiveBack}
 use Rattle.local_group.specs.Groups.{Group}
 use Rattle.local_broker.specs.Places.{GroupPlace, cell_of}
 use Rattle.local_broker.specs.Groups.{IsOffered, HandsOut, HandsOutAgain, IsSettled, IsGivenBack, InGroup, ClosesEach}
@@ -60,7 +60,7 @@ OffersFrom old slot connection message answer new =
     ⊎ ((connection < 64) × (slot < 8) × InGroup old slot (λ before after. IsOffered before connection message answer after) new))
 
 -- what each call makes, with its answer
-abbrev pub Calls : Broker → Fact GroupPlace → Broker → Type 0
+abbrev pub Calls : Broker → SupplyCall GroupPlace → Broker → Type 0
 Calls old (Attach request answer) new = AsksDesk old (desk.Attach request answer) new
 Calls old (Withdraw connection) new = AsksDesk old (desk.Withdraw connection) new
 Calls old (Kicked connection answer) new = AsksDesk old (desk.Kicked connection answer) new

@@ -13,7 +13,7 @@ abbrev pub HandOut : Type 0
 HandOut = GroupPlace × Held
 
 abbrev pub handed_by : Happening → Option HandOut
-handed_by (Called fact) = hand_out_of fact
+handed_by (Called supply_call) = hand_out_of supply_call
 handed_by Closed = None
 
 -- what places are handed by these calls, one after the other

@@ -7,8 +7,8 @@ use Rattle.dispatch_core.specs.History.{IsRun}
 use Rattle.group_jobs.specs.declared.stamp.Stamp.{Stamp}
 use Rattle.group_jobs.specs.Stamps.{Held}
 use Rattle.local_group.specs.Groups.{Group}
-use Rattle.conn_supply.specs.Facts.{Fact}
-use Rattle.conn_supply.specs.Facts.Fact.{Settle, GiveBack}
+use Rattle.conn_supply.specs.SupplyCalls.{SupplyCall}
+use Rattle.conn_supply.specs.SupplyCalls.SupplyCall.{Settle, GiveBack}
 use Rattle.local_broker.specs.Places.{GroupPlace}
 use Rattle.local_broker.specs.Groups.{HasGroup, IsOutAt}
 use Rattle.local_broker.specs.Broker.{Broker}
@@ -16,11 +16,11 @@ use Rattle.local_broker.specs.Calls.{Calls, Closes}
 
 -- a call of a connection, or the close
 pub data Happening : Type 0 where
-  Called : (fact : Fact GroupPlace) → Happening
+  Called : (supply_call : SupplyCall GroupPlace) → Happening
   Closed : Happening
 
 abbrev pub Happens : Broker → Happening → Broker → Type 0
-Happens old (Called fact) new = Calls old fact new
+Happens old (Called supply_call) new = Calls old supply_call new
 Happens old Closed new = Closes old new
 
 -- one after the other
@@ -46,7 +46,7 @@ EndsHandOut (event.Back member job) = Unit {0}
 EndsHandOut (event.Again member job) = ⊥
 EndsHandOut event.Close = ⊥
 
--- the group of this slot has its earlier events, and behind them only such as end hand-outs
+-- the group of this slot has its earlier events, and after them only such as end hand-outs
 pub record OnlyEnds (old : Broker) (slot : ℕ) (group : Group) : Type 0 where
   pub before : Group
   pub was : slice_get old.groups slot ≡ Some before

@@ -26,7 +26,7 @@ AcceptsNothing (Back member job) = ⊤
 AcceptsNothing (Again member job) = ⊤
 AcceptsNothing Close = ⊤
 
--- the group of this slot has its earlier events, and behind them only such as these
+-- the group of this slot has its earlier events, and after them only such as these
 pub record AddsOnly (IsSo : Event → Type 0) (old : Broker) (slot : ℕ) (group : Group) : Type 0 where
   pub before : Group
   pub was : slice_get old.groups slot ≡ Some before

@@ -11,7 +11,7 @@ use Rattle.local_group.specs.Groups.{Group}
 use Rattle.local_group.specs.Spots.{jobs_in}
 use Rattle.local_broker.specs.Broker.{Broker}
 
--- behind these events no message waits that was given back
+-- after these events no message waits that was given back
 abbrev pub NoneReturned : List Event → Type 0
 NoneReturned events = (state : GroupState) (job : Job) → IsRun events state → spot_of state job ≢ Some Returned
 

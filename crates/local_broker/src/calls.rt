@@ -1,15 +1,15 @@
 //! The calls of connections.
 ghost use Rattle.std.specs.Prelude.{◌≡◌, ◌≤◌, ◌<◌, [], length, IfOk, IfErr, IfSome};
 ghost use Rattle.member_window.specs.Contents.{held_of};
-ghost use Rattle.conn_supply.specs.Facts.Fact.{Park, ParkAsIs, Keep, Bury};
+ghost use Rattle.conn_supply.specs.SupplyCalls.SupplyCall.{Park, ParkAsIs, Keep, Bury};
 ghost use Rattle.conn_supply.specs.Holding.{IsOutAtPlace};
 ghost use Rattle.conn_supply.specs.Ready.{IsSoundSession};
 ghost use Rattle.local_broker.specs.Broker.{is_open};
 ghost use Rattle.local_broker.specs.Calls.{Calls};
 ghost use Rattle.local_broker.specs.Places.{has_out};
 
+use crate::discarding::release;
 use crate::groups;
-use crate::letting_go::dissolve;
 use crate::opening::SLOTS;
 use crate::place::LocalPlace;
 use crate::supply::LocalSupply;
@@ -84,7 +84,7 @@ impl Supply<LocalPlace> for LocalSupply {
         ensures called { Calls self.old (ParkAsIs session) self.new }
         ensures visiting { is_open self.new ≡ is_open self.old }
     {
-        dissolve(self.desk.park_as_is(session));
+        release(self.desk.park_as_is(session));
     }
 
     fn keep(&mut self, session: Session<Envelope, LocalPlace>)
@@ -92,7 +92,7 @@ impl Supply<LocalPlace> for LocalSupply {
         ensures called { Calls self.old (Keep session) self.new }
         ensures visiting { is_open self.new ≡ is_open self.old }
     {
-        dissolve(self.desk.keep(session));
+        release(self.desk.keep(session));
     }
 
     fn bury(&mut self, session: Session<Envelope, LocalPlace>)
@@ -101,7 +101,7 @@ impl Supply<LocalPlace> for LocalSupply {
         ensures called { Calls self.old (Bury session) self.new }
         ensures visiting { is_open self.new ≡ is_open self.old }
     {
-        dissolve(self.desk.bury(session));
+        release(self.desk.bury(session));
     }
 
     fn sweep(&mut self, now: u64) -> Option<Session<Envelope, LocalPlace>> {

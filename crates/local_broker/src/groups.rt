@@ -2,7 +2,7 @@
 ghost use Rattle.std.specs.Prelude.{◌≡◌, ◌<◌, ◌↔◌, IsTrue};
 ghost use Rattle.local_broker.specs.Groups.{ClosesEach, told_as, IsOffered, HandsOut, HandsOutAgain, IsOutAt, IsSettled, IsGivenBack};
 
-use crate::letting_go::let_go;
+use crate::discarding::discard;
 use conn_supply::{NoMemory, OfferRefusal};
 use group_jobs::{Envelope, Fate, SharedMessage, Stamp};
 use local_group::{LocalGroup, NotTaken, OfferError, TakeError};
@@ -72,7 +72,7 @@ pub(crate) fn settle(group: &mut LocalGroup, place: u8, envelope: Envelope, fate
     if is_out_at(group, place, &envelope) {
         group.settle(envelope, fate);
     } else {
-        let_go(envelope);
+        discard(envelope);
     }
 }
 
@@ -83,7 +83,7 @@ pub(crate) fn give_back(group: &mut LocalGroup, place: u8, envelope: Envelope)
     if is_out_at(group, place, &envelope) {
         group.give_back(envelope);
     } else {
-        let_go(envelope);
+        discard(envelope);
     }
 }
 

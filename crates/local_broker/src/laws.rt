@@ -8,8 +8,8 @@ ghost use Rattle.local_group.specs.Groups.{Group};
 ghost use Rattle.local_broker.specs.Broker.{Broker, IsClosed, IsNewBroker};
 ghost use Rattle.local_broker.specs.HandOuts.{handed_by_all, handed_in_all, seen_by_group};
 ghost use Rattle.local_broker.specs.Histories.{Happening, HappensAll, AreRunning, OnlyEnds, HasOut, NoneSpends};
-ghost use Rattle.conn_supply.specs.Facts.{Fact};
-ghost use Rattle.conn_supply.specs.Facts.Fact.{Take, TakeBack};
+ghost use Rattle.conn_supply.specs.SupplyCalls.{SupplyCall};
+ghost use Rattle.conn_supply.specs.SupplyCalls.SupplyCall.{Take, TakeBack};
 ghost use Rattle.conn_laws.specs.Asking.{IsSameQuestion, HadMemory};
 ghost use Rattle.conn_laws.specs.Publishers.{CallsFrom};
 ghost use Rattle.conn_laws.specs.ReturnedFirst.{CallsReturnedFirst};
@@ -34,7 +34,7 @@ pub fn running_law()
         IsNewBroker capacity shares first → HappensAll first happenings b → AreRunning b }
 {}
 
-/// **Behind the close** nothing is accepted and handed out: a closed broker stays closed, and all that is added to the events of a
+/// **After the close** nothing is accepted and handed out: a closed broker stays closed, and all that is added to the events of a
 /// group ends a hand-out.
 pub fn closing_law()
     ensures closed { (happenings : List Happening) (old b : Broker) →
@@ -65,7 +65,7 @@ pub fn hand_out_law()
 {}
 
 /// **A connection publishes through the port of its number**: whatever a group accepts by the calls of a connection, it accepts through that port. And
-/// nothing is accepted by the close, nor behind it (`close`).
+/// nothing is accepted by the close, nor after it (`close`).
 pub fn publisher_law()
     ensures calls { (number : ℕ) (old new : Broker) → CallsFrom Calls number old new → AllAddOnly (AcceptsThrough number) old new }
     ensures close { (happenings : List Happening) (old closed new : Broker) →
@@ -74,7 +74,7 @@ pub fn publisher_law()
 
 /// **What was given back is handed out first** (profile): in each group, whenever a message is first handed out, none waits that was given back. It is
 /// so in a new broker (`new`); and it stays so, whatever is called of it, where each call that hands a place a message of the queue stands
-/// directly behind one that asked for a message that was given back, and found none (`calls`); and in the close (`close`).
+/// directly after one that asked for a message that was given back, and found none (`calls`); and in the close (`close`).
 pub fn returned_first_law()
     ensures new { (capacity : ℕ) (shares : List Share) (b : Broker) → IsNewBroker capacity shares b → AllServeReturnedFirst b }
     ensures calls { (old new : Broker) → CallsReturnedFirst Calls old new → AllServeReturnedFirst old → AllServeReturnedFirst new }
@@ -82,14 +82,14 @@ pub fn returned_first_law()
 {}
 
 /// **A broker answers each question in one way**, memory aside: of two brokers that are alike and keep the desk law, each answers a call
-/// with the same arguments as the other does, and they are alike behind it (`one`), and behind the close (`closed`). New ones of the
+/// with the same arguments as the other does, and they are alike after it (`one`), and after the close (`closed`). New ones of the
 /// same shares are alike (`new`), and of brokers that are alike each share's line is the same (`told`).
 pub fn one_answer_law()
     ensures new { (capacity : ℕ) (shares : List Share) (a b : Broker) →
         IsNewBroker capacity shares a → IsNewBroker capacity shares b → AreAlike a b }
-    ensures one { (a b a' b' : Broker) (fact its : Fact GroupPlace) →
-        AreAlike a b → DeskLaw a.desk.rows a.desk.made → IsSameQuestion fact its → HadMemory fact → HadMemory its →
-        Calls a fact a' → Calls b its b' → (fact ≡ its) × AreAlike a' b' }
+    ensures one { (a b a' b' : Broker) (supply_call its : SupplyCall GroupPlace) →
+        AreAlike a b → DeskLaw a.desk.rows a.desk.made → IsSameQuestion supply_call its → HadMemory supply_call → HadMemory its →
+        Calls a supply_call a' → Calls b its b' → (supply_call ≡ its) × AreAlike a' b' }
     ensures closed { (a b a' b' : Broker) → AreAlike a b → Closes a a' → Closes b b' → AreAlike a' b' }
     ensures told { (a b : Broker) (slot : ℕ) (line line' : List ℕ) →
         AreAlike a b → TellsLine a slot line → TellsLine b slot line' → line ≡ line' }

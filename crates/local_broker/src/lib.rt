@@ -12,9 +12,9 @@
 #![tactic(auto)]
 
 mod calls;
+mod discarding;
 mod groups;
 pub mod laws;
-mod letting_go;
 mod opening;
 mod place;
 mod supply;

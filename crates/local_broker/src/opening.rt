@@ -34,7 +34,7 @@ pub(crate) fn open_desk(alloc: Global) -> Result<Desk<Envelope, LocalPlace>, NoM
 {
     match Desk::new(alloc) {
         Ok(mut desk) => {
-            furnish(&mut desk);
+            add_places(&mut desk);
             Ok(desk)
         }
         Err(_) => Err(NoMemory),
@@ -42,7 +42,7 @@ pub(crate) fn open_desk(alloc: Global) -> Result<Desk<Envelope, LocalPlace>, NoM
 }
 
 /// Gives all places to a new desk.
-fn furnish(desk: &mut Desk<Envelope, LocalPlace>)
+fn add_places(desk: &mut Desk<Envelope, LocalPlace>)
     requires { desk.old ≡ new_books }
     ensures { HasAllPlaces desk.new }
 {

@@ -5,8 +5,8 @@ ghost use Rattle.local_broker.specs.Broker.{IsNewBroker, IsClosed, is_open};
 ghost use Rattle.local_broker.specs.Calls.{Closes};
 ghost use Rattle.local_broker.specs.Reporting.{IsLineOf, TellsLine};
 
+use crate::discarding::discard;
 use crate::groups::close_each;
-use crate::letting_go::let_go;
 use crate::opening::{open_desk, open_groups};
 use crate::place::LocalPlace;
 use conn_supply::NoMemory;
@@ -48,7 +48,7 @@ impl LocalSupply {
     ///
     /// # Errors
     ///
-    /// Want of memory.
+    /// Out of memory.
     pub fn open(alloc: Global, capacity: usize, routes: Routes) -> Result<LocalSupply, NoMemory>
         ensures { IfOk result (IsNewBroker capacity routes) }
     {
@@ -78,7 +78,7 @@ impl LocalSupply {
             routes: _,
             groups: _,
         } = self;
-        desk.abandon_with(&let_go);
+        desk.abandon_with(&discard);
     }
 
     /// The shares that are bound, the one of slot n at place n.
@@ -102,7 +102,7 @@ impl LocalSupply {
     ///
     /// # Errors
     ///
-    /// Want of memory.
+    /// Out of memory.
     pub fn line(&self, alloc: Global, slot: u8) -> Result<Option<Vec<u8>>, NoMemory>
         ensures { IfOk result (λ told. MatchOption told (slice_get self.now.routes slot ≡ None) (λ line. TellsLine self.now slot line.items)) }
     {

@@ -19,7 +19,7 @@ pub enum OfferError {
     /// 501: as many messages wait as the group's capacity allows.
     #[error("the queue is full")]
     Full,
-    /// 503: memory was wanted and refused.
+    /// 503: an allocation failed.
     #[error("out of memory")]
     Memory,
 }
@@ -30,7 +30,7 @@ pub enum TakeError {
     /// 401: the group is closed.
     #[error("the group is closed")]
     Shut,
-    /// 503: memory was wanted and refused.
+    /// 503: an allocation failed.
     #[error("out of memory")]
     Memory,
 }

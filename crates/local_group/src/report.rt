@@ -107,7 +107,7 @@ fn jobs_in(alloc: Global, waiting: &VecDeque<Waiting>) -> Result<Vec<Job>, JobEr
     Ok(jobs)
 }
 
-/// Puts the jobs of the messages behind others.
+/// Puts the jobs of the messages after others.
 fn push_jobs(jobs: &mut Vec<Job>, waiting: &[Waiting]) -> Result<(), JobError>
     ensures { OnOk result (jobs.new.items ≡ jobs.old.items ++ jobs_in waiting.now) }
 {

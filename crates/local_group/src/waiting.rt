@@ -49,7 +49,7 @@ pub(crate) fn take_front(waiting: &mut VecDeque<Waiting>) -> Waiting
     }
 }
 
-/// Puts a message behind the others. There is room for it.
+/// Puts a message after the others. There is room for it.
 pub(crate) fn put_behind(waiting: &mut VecDeque<Waiting>, job: Job, message: SharedMessage)
     requires { deque_len waiting.old < deque_capacity waiting.old }
     ensures items { waiting.new.items ≡ waiting.old.items ++ waits job message ∷ [] }

@@ -1,22 +1,22 @@
--- What is accepted in the turns of a run, and in one more.
+-- What is accepted in the steps of a run, and in one more.
 use Rattle.std.proofs.Common.{◌≡◌, List, [], ◌∷◌, ◌++◌, filter_map, refl, sym, ap, ◌∙◌, append_assoc, append-nil}
 use Rattle.std.proofs.lemmas.Grind.{flat_map-append}
 use Rattle.group_jobs.specs.Stamps.{Held}
-use Rattle.local_server.specs.Turns.{Turn}
+use Rattle.local_server.specs.ConnSteps.{ConnStep}
 use Rattle.local_server.specs.Messages.{Accepted, IsBrought, AllAccept, sent_in, all_sent}
 
-pub accept_on : (turns : List Turn) (turn : Turn) (accepted more : List Accepted) → AllAccept turns accepted → IsBrought turn.connection turn.input more
-    → AllAccept (turns ++ turn ∷ []) (accepted ++ more)
-accept_on [] turn accepted more none brought = (more, [], brought, refl, ap (λ (l : List Accepted). l ++ more) none ∙ sym (append-nil more))
-accept_on (first ∷ others) turn accepted more all brought = (
+pub accept_on : (conn_steps : List ConnStep) (conn_step : ConnStep) (accepted more : List Accepted) → AllAccept conn_steps accepted → IsBrought conn_step.connection conn_step.input more
+    → AllAccept (conn_steps ++ conn_step ∷ []) (accepted ++ more)
+accept_on [] conn_step accepted more none brought = (more, [], brought, refl, ap (λ (l : List Accepted). l ++ more) none ∙ sym (append-nil more))
+accept_on (first ∷ others) conn_step accepted more all brought = (
   all.0,
   all.1 ++ more,
   all.2,
-  accept_on others turn all.1 more all.3 brought,
+  accept_on others conn_step all.1 more all.3 brought,
   ap (λ (l : List Accepted). l ++ more) all.4 ∙ append_assoc all.0 all.1 more,
 )
 
-pub more_sent : (turns : List Turn) (turn : Turn) → all_sent (turns ++ turn ∷ []) ≡ all_sent turns ++ filter_map sent_in turn.marks
-more_sent turns turn =
-    flat_map-append (λ (t : Turn). filter_map sent_in t.marks) turns (turn ∷ [])
-    ∙ ap (λ (m : List Held). all_sent turns ++ m) (append-nil (filter_map sent_in turn.marks))
+pub more_sent : (conn_steps : List ConnStep) (conn_step : ConnStep) → all_sent (conn_steps ++ conn_step ∷ []) ≡ all_sent conn_steps ++ filter_map sent_in conn_step.marks
+more_sent conn_steps conn_step =
+    flat_map-append (λ (t : ConnStep). filter_map sent_in t.marks) conn_steps (conn_step ∷ [])
+    ∙ ap (λ (m : List Held). all_sent conn_steps ++ m) (append-nil (filter_map sent_in conn_step.marks))

@@ -11,8 +11,8 @@ use Rattle.group_jobs.specs.declared.stamp.Stamp.{Stamp}
 use Rattle.group_jobs.specs.Stamps.{Held}
 use Rattle.conn_supply.specs.declared.supply.OfferRefusal.{OfferRefusal}
 use Rattle.conn_supply.specs.Publishing.{Offers}
-use Rattle.conn_supply.specs.Facts.{Fact}
-use Rattle.conn_supply.specs.Facts.Fact.{Attach, Withdraw, Kicked, Park, ParkAsIs, Keep, Bury, Sweep, LendPlace, TakePlace, Bind, Find, Match, Offer, MayTake, Take, TakeBack, Settle, GiveBack}
+use Rattle.conn_supply.specs.SupplyCalls.{SupplyCall}
+use Rattle.conn_supply.specs.SupplyCalls.SupplyCall.{Attach, Withdraw, Kicked, Park, ParkAsIs, Keep, Bury, Sweep, LendPlace, TakePlace, Bind, Find, Match, Offer, MayTake, Take, TakeBack, Settle, GiveBack}
 use Rattle.local_broker.specs.Places.{GroupPlace}
 use Rattle.local_broker.specs.Broker.{Broker}
 use Rattle.local_broker.specs.Calls.{Calls, OffersFrom}
@@ -22,14 +22,14 @@ use Rattle.local_server.specs.Messages.{Accepted, IsAcceptedAs}
 use Rattle.local_server.proofs.Known.{Log, IsKnown, AllKnow, as_accepted, handed, handed_again, settled, given_back, taken_known, taken_back_known, in_group, accepted_in_group, same_group, known_on}
 
 -- a call by which no message is offered
-abbrev pub IsNoOffer : Fact GroupPlace → Type 0
+abbrev pub IsNoOffer : SupplyCall GroupPlace → Type 0
 IsNoOffer (Offer slot connection message answer) = ⊥
 IsNoOffer other = ⊤
 
 same_groups : (log : Log) (old new : Broker) → new.groups ≡ old.groups → AllKnow log old.groups → AllKnow log new.groups
 same_groups log old new same was = subst (AllKnow log) (sym same) was
 
-pub called_known : (fact : Fact GroupPlace) (log : Log) (old new : Broker) → ((stamp : Stamp) → ¬ Spends stamp (Called fact)) → IsNoOffer fact → Calls old fact new
+pub called_known : (supply_call : SupplyCall GroupPlace) (log : Log) (old new : Broker) → ((stamp : Stamp) → ¬ Spends stamp (Called supply_call)) → IsNoOffer supply_call → Calls old supply_call new
     → AllKnow log old.groups → AllKnow log new.groups
 called_known (Attach request answer) log old new spends is does was = same_groups log old new does.groups was
 called_known (Withdraw connection) log old new spends is does was = same_groups log old new does.groups was

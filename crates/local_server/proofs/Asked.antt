@@ -13,8 +13,8 @@ use Rattle.session_desk.specs.Books.{Books}
 use Rattle.session_desk.specs.Attaching.{Request, attaches_by}
 use Rattle.session_desk.specs.Sweeping.{Sweeps}
 use Rattle.session_desk.specs.Hands.{DeskLaw}
-use Rattle.conn_supply.specs.Facts.{Fact}
-use Rattle.conn_supply.specs.Facts.Fact.{Attach, Withdraw, Kicked, Park, ParkAsIs, Keep, Bury, Sweep, LendPlace, TakePlace, Bind, Find, Match, Offer, MayTake, Take, TakeBack, Settle, GiveBack}
+use Rattle.conn_supply.specs.SupplyCalls.{SupplyCall}
+use Rattle.conn_supply.specs.SupplyCalls.SupplyCall.{Attach, Withdraw, Kicked, Park, ParkAsIs, Keep, Bury, Sweep, LendPlace, TakePlace, Bind, Find, Match, Offer, MayTake, Take, TakeBack, Settle, GiveBack}
 use Rattle.conn_laws.specs.Calls.{MakesAll}
 use Rattle.conn_laws.specs.Transcripts.{IsAside, session_given, LeadsAside, HandsIn}
 use Rattle.local_broker.specs.Places.{GroupPlace, cell_of}
@@ -28,14 +28,14 @@ use Rattle.local_server.proofs.Given.{IsGiven, IsHandedIn, given_new, given_back
 abbrev pub Lawful : Broker → Type 0
 Lawful b = DeskLaw b.desk.rows b.desk.made
 
-pub lawful : (fact : Fact GroupPlace) (old new : Broker) → Calls old fact new → Lawful old → Lawful new
-lawful fact old new does law = law_all_along (Called fact ∷ []) old new law (new, does, refl)
+pub lawful : (supply_call : SupplyCall GroupPlace) (old new : Broker) → Calls old supply_call new → Lawful old → Lawful new
+lawful supply_call old new does law = law_all_along (Called supply_call ∷ []) old new law (new, does, refl)
 
 -- one call by which no session is asked for, and none handed in
 same_desk : (old new : Broker) → new.desk ≡ old.desk → KeepsRows old.desk new.desk
 same_desk old new same = same_books old.desk new.desk same
 
-one_aside : (fact : Fact GroupPlace) (old new : Broker) → IsAside fact → Calls old fact new → KeepsRows old.desk new.desk
+one_aside : (supply_call : SupplyCall GroupPlace) (old new : Broker) → IsAside supply_call → Calls old supply_call new → KeepsRows old.desk new.desk
 one_aside (Attach request answer) old new aside does = absurd aside
 one_aside (Withdraw connection) old new aside does = same_rows old.desk new.desk (ap (λ b. b.rows) does.makes) (ap (λ b. b.made) does.makes)
 one_aside (Kicked connection answer) old new aside does = same_desk old new does.makes.1
@@ -59,15 +59,15 @@ one_aside (Settle place place' envelope fate) old new aside does = same_desk old
 one_aside (GiveBack place place' envelope (Ok done)) old new aside does = same_desk old new does.2.desk
 one_aside (GiveBack place place' envelope (Err back)) old new aside does = absurd does
 
-all_aside : (facts : List (Fact GroupPlace)) (old new : Broker) → AllByRecursion IsAside facts → MakesAll Calls old facts new → Lawful old
+all_aside : (supply_calls : List (SupplyCall GroupPlace)) (old new : Broker) → AllByRecursion IsAside supply_calls → MakesAll Calls old supply_calls new → Lawful old
     → KeepsRows old.desk new.desk × Lawful new
 all_aside [] old new aside made law = (same_desk old new (ap (λ b. b.desk) made), subst Lawful (sym made) law)
-all_aside (fact ∷ facts) old new aside made law =
-    let rest = all_aside facts made.0 new aside.1 made.2 (lawful fact old made.0 made.1 law) in
-    (then_keeps old.desk made.0.desk new.desk (one_aside fact old made.0 aside.0 made.1) rest.0, rest.1)
+all_aside (supply_call ∷ supply_calls) old new aside made law =
+    let rest = all_aside supply_calls made.0 new aside.1 made.2 (lawful supply_call old made.0 made.1 law) in
+    (then_keeps old.desk made.0.desk new.desk (one_aside supply_call old made.0 aside.0 made.1) rest.0, rest.1)
 
 pub led_aside : (old new : Broker) → LeadsAside Calls old new → Lawful old → KeepsRows old.desk new.desk × Lawful new
-led_aside old new leads law = all_aside leads.facts old new leads.aside leads.made law
+led_aside old new leads law = all_aside leads.supply_calls old new leads.aside leads.made law
 
 -- a session is given
 gives_by : (client : List ℕ) (answer : Result (Attached Held GroupPlace) DeskError) (old new : Books Held GroupPlace) (request : Request) (session : Session Held GroupPlace)

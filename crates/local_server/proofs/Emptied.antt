@@ -5,11 +5,11 @@ use Rattle.std.proofs.lemmas.Option.{slice_get_within}
 use Rattle.dispatch_core.proofs.Spots.{slice_get-set_same, slice_get-set_other}
 use Rattle.conn_supply.specs.declared.supply.NoMemory.{NoMemory}
 use Rattle.conn_engine.specs.declared.input.Input.TheVariants as inputs
-use Rattle.conn_engine.specs.declared.standing.Standing.{Standing}
-use Rattle.conn_engine.specs.declared.standing.Standing.TheVariants.{Ended}
+use Rattle.conn_engine.specs.declared.phase.ConnPhase.{ConnPhase}
+use Rattle.conn_engine.specs.declared.phase.ConnPhase.TheVariants.{Ended}
 use Rattle.conn_laws.proofs.Ended.{ends_by}
 use Rattle.client_table.specs.Cells.{kept_as, EndsFor}
-use Rattle.client_table.specs.Clients.{ClientState, moment_of, Said, Moves, FailsToMove, IsGivenUp}
+use Rattle.client_table.specs.Clients.{ClientState, moment_of, StepOutput, ClientSteps, ClientFailsToStep, IsGivenUp}
 use Rattle.local_broker.specs.Places.{GroupPlace}
 use Rattle.local_broker.specs.Broker.{Broker, is_open}
 use Rattle.local_broker.specs.Calls.{Calls}
@@ -17,29 +17,29 @@ use Rattle.local_server.specs.declared.event.Event.TheVariants as events
 use Rattle.local_server.specs.Servers.{Clients, ServerState, HasNoneBelow}
 use Rattle.local_server.specs.Happening.{slot_of, EndsFirst, DoesIf, Happens}
 
-gone_as : (standing : Standing GroupPlace) (client : ClientState GroupPlace) → standing ≡ Ended → kept_as standing client ≡ None
-gone_as standing client over = ap (λ s. kept_as s client) over
+gone_as : (phase : ConnPhase GroupPlace) (client : ClientState GroupPlace) → phase ≡ Ended → kept_as phase client ≡ None
+gone_as phase client over = ap (λ s. kept_as s client) over
 
 -- a connection that is told of the close has ended
-has_ended : (client client' : ClientState GroupPlace) (old new : Broker) (now : ℕ) (said : Said) → Moves Calls slot_of old client now inputs.Closing said client' new
-    → client'.conn.standing ≡ Ended
+has_ended : (client client' : ClientState GroupPlace) (old new : Broker) (now : ℕ) (said : StepOutput) → ClientSteps Calls slot_of old client now inputs.Closing said client' new
+    → client'.conn.phase ≡ Ended
 has_ended client client' old new now said moved =
-    ends_by Calls slot_of old new client.conn.number (moment_of client now) client.conn.standing client'.conn.standing inputs.Closing said.packets said.next moved.stepped tt
+    ends_by Calls slot_of old new client.conn.number (moment_of client now) client.conn.phase client'.conn.phase inputs.Closing said.packets said.next moved.stepped tt
 
 was_given_up : (client client' : ClientState GroupPlace) (old new : Broker) (now : ℕ) → IsGivenUp Calls slot_of old client now inputs.Closing client' new
-    → client'.conn.standing ≡ Ended
+    → client'.conn.phase ≡ Ended
 was_given_up client client' old new now is =
     ⊎_elim
-    (λ (moved : (said : Said) × Moves Calls slot_of old client now inputs.Closing said client' new). has_ended client client' old new now moved.0 moved.1)
-    (λ (failed : FailsToMove Calls slot_of old client now inputs.Closing client' new). failed.over)
+    (λ (moved : (said : StepOutput) × ClientSteps Calls slot_of old client now inputs.Closing said client' new). has_ended client client' old new now moved.0 moved.1)
+    (λ (failed : ClientFailsToStep Calls slot_of old client now inputs.Closing client' new). failed.over)
     is
 
-gone : (before : Option (ClientState GroupPlace)) (old new : Broker) (now : ℕ) (said : List Said) (result : Result (Unit {0}) NoMemory) (after : Option (ClientState GroupPlace))
+gone : (before : Option (ClientState GroupPlace)) (old new : Broker) (now : ℕ) (said : List StepOutput) (result : Result (Unit {0}) NoMemory) (after : Option (ClientState GroupPlace))
     → EndsFor Calls slot_of old before now inputs.Closing said result after new → after ≡ None
 gone None old new now said (Ok done) after ends = ends.1
-gone (Some client) old new now said (Ok done) after ends = ends.2 ∙ gone_as ends.0.conn.standing ends.0 (has_ended client ends.0 old new now ends.1.0 ends.1.2)
+gone (Some client) old new now said (Ok done) after ends = ends.2 ∙ gone_as ends.0.conn.phase ends.0 (has_ended client ends.0 old new now ends.1.0 ends.1.2)
 gone None old new now said (Err error) after ends = absurd ends
-gone (Some client) old new now said (Err error) after ends = ends.2 ∙ gone_as ends.0.conn.standing ends.0 (was_given_up client ends.0 old new now ends.1.1)
+gone (Some client) old new now said (Err error) after ends = ends.2 ∙ gone_as ends.0.conn.phase ends.0 (was_given_up client ends.0 old new now ends.1.1)
 
 one_more_gone : (number : ℕ) (clients : Clients) (before : Option (ClientState GroupPlace)) → slice_get clients number ≡ Some before → HasNoneBelow number clients
     → HasNoneBelow (suc number) (slice_set clients number None)
@@ -49,7 +49,7 @@ one_more_gone number clients before there below each less =
     (λ (other : each ≢ number). slice_get-set_other clients number each None other ∙ below each (omega arith))
     (cases_eq each number)
 
-gone_below : (number : ℕ) (old new : Broker) (clients clients' : Clients) (now : ℕ) (said : List Said) (result : Result (Unit {0}) NoMemory)
+gone_below : (number : ℕ) (old new : Broker) (clients clients' : Clients) (now : ℕ) (said : List StepOutput) (result : Result (Unit {0}) NoMemory)
     → EndsFirst number old clients now said result clients' new → HasNoneBelow number clients'
 gone_below zero old new clients clients' now said result ends = λ each less. absurd (omega (arith, less))
 gone_below (suc number) old new clients clients' now said result ends =
@@ -58,11 +58,11 @@ gone_below (suc number) old new clients clients' now said result ends =
     subst (HasNoneBelow (suc number)) (sym (cell.is ∙ ap (slice_set ends.1 number) none))
     (one_more_gone number ends.1 cell.before cell.has (gone_below number old ends.0 clients ends.1 now ends.2 ends.4 ends.6))
 
-emptied_if : (going : Bool) (old new : ServerState) (said : List Said) (result : Result (Unit {0}) NoMemory) → going ≡ true
+emptied_if : (going : Bool) (old new : ServerState) (said : List StepOutput) (result : Result (Unit {0}) NoMemory) → going ≡ true
     → DoesIf going events.Close old.max_inflight old.broker old.clients new.clock said result new.clients new.broker → HasNoneBelow 64 new.clients
 emptied_if true old new said result is closes = subst (λ n. HasNoneBelow n new.clients) closes.3 (gone_below closes.2 closes.0 new.broker old.clients new.clients new.clock said result closes.4)
 emptied_if false old new said result is closes = absurd (cc)
 
-pub emptied : (moment : ℕ) (said : List Said) (result : Result (Unit {0}) NoMemory) (old new : ServerState)
+pub emptied : (moment : ℕ) (said : List StepOutput) (result : Result (Unit {0}) NoMemory) (old new : ServerState)
     → is_open old.broker ≡ true → Happens old moment events.Close said result new → HasNoneBelow 64 new.clients
 emptied moment said result old new opens happens = emptied_if (is_open old.broker) old new said result opens happens.does

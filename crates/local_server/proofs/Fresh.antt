@@ -1,4 +1,4 @@
--- What is handed out behind a reply was held by nobody, and is out at the session's place.
+-- What is handed out after a reply was held by nobody, and is out at the session's place.
 use Rattle.std.proofs.Common.{◌≡◌, ◌≢◌, ◌⊎◌, ℕ, List, [], ◌∷◌, ◌++◌, drop, slice_get, Option, Some, None, Ok, Contains, refl, sym, ap, subst, ◌∙◌, inl, inr, ⊎_elim, append_assoc}
 use Rattle.std.proofs.lemmas.List.Elements.{Contains-append_left, Contains-append_right, Contains-append_cases}
 use Rattle.std.proofs.lemmas.Option.{same_Some}
@@ -13,7 +13,7 @@ use Rattle.member_window.proofs.Lists.{contains_nil, contains_cons_cases}
 use Rattle.session_desk.specs.declared.session.Membership.{Membership}
 use Rattle.session_desk.specs.declared.session.Membership.TheVariants.{NotMember, Member, Leaving}
 use Rattle.conn_supply.specs.HandOuts.{SendsAgain, AsksFor, SendsNone, SendsFresh, LeavesWith, HandsFresh, HandsOut}
-use Rattle.conn_supply.specs.Facts.Fact.{Take, TakeBack, TakePlace}
+use Rattle.conn_supply.specs.SupplyCalls.SupplyCall.{Take, TakeBack, TakePlace}
 use Rattle.local_group.specs.declared.waiting.Waiting.{Waiting}
 use Rattle.local_group.specs.Groups.{Group, held_by}
 use Rattle.local_broker.specs.Places.{GroupPlace}
@@ -129,7 +129,7 @@ module _ (ledger : Ledger) (old new : Broker) (place : GroupPlace) (window : Con
   now_out i e (inl had_it) = goes.runs.out place e (was.mine.owned i e had_it) (λ j f c. absurd (contains_nil {X = ℕ × Held} (j, f) c))
   now_out i e (inr is) = subst (λ (x : ℕ × Held). HasOut new place x.1) is out
 
-  now_apart : (keeper : Keeper) (t : Kept) → Has ledger.links old.desk.rows keeper t → (i j : ℕ) (e f : Held) → Contains (held_of window) (i, e) ⊎ IsEntry (k, envelope) (i, e)
+  now_apart : (keeper : Keeper) (t : Kept) → Has ledger.all_connected old.desk.rows keeper t → (i j : ℕ) (e f : Held) → Contains (held_of window) (i, e) ⊎ IsEntry (k, envelope) (i, e)
       → Contains (held_of t.window) (j, f) → e.stamp ≢ f.stamp
   now_apart keeper t has i j e f (inl had_it) d = was.mine.apart keeper t has i j e f had_it d
   now_apart keeper t has i j e f (inr is) d = λ same.
@@ -149,12 +149,12 @@ module _ (ledger : Ledger) (old new : Broker) (place : GroupPlace) (window : Con
         mine = record {
           owned = λ i e c. now_out i e (put_cases window k envelope i e c);
           known = λ i e c. now_known i e (put_cases window k envelope i e c);
-          apart = λ keeper t has i j e f c d. now_apart keeper t (had keeper ledger.links old new t goes.runs.desk has) i j e f (put_cases window k envelope i e c) d;
+          apart = λ keeper t has i j e f c d. now_apart keeper t (had keeper ledger.all_connected old new t goes.runs.desk has) i j e f (put_cases window k envelope i e c) d;
           once = λ i j e f c d same. now_once i j e f (put_cases window k envelope i e c) (put_cases window k envelope j f d) same;
         };
       }
 
--- what a session holds behind calls that settle nothing
+-- what a session holds after calls that settle nothing
 abbrev pub Handed : Ledger → Broker → Membership GroupPlace → Contents Held → Broker → Type 0
 Handed ledger old membership window new = Holds ledger new membership (held_of window) × Goes [] old new
 

@@ -6,8 +6,8 @@ use Rattle.member_window.specs.Contents.{new_contents}
 use Rattle.session_desk.specs.declared.attached.Attached.TheVariants.{New, Resumed, Replace}
 use Rattle.session_desk.specs.declared.session.Session.{Session}
 use Rattle.session_desk.specs.declared.row.Row.{Row}
-use Rattle.session_desk.specs.declared.row.Standing.TheVariants.{Lent, Parked}
-use Rattle.session_desk.specs.Rows.{Rows, HasRow, session_in, away, with_standing, with_wait, new_row}
+use Rattle.session_desk.specs.declared.row.Holder.TheVariants.{Lent, Parked}
+use Rattle.session_desk.specs.Rows.{Rows, HasRow, session_in, away, with_holder, with_wait, new_row}
 use Rattle.session_desk.specs.Names.{assigned_name}
 use Rattle.session_desk.specs.Books.{Books, new_session, after_end}
 use Rattle.session_desk.specs.Attaching.{Request, AttachesClient, AttachesUnnamed, BeginsOver}
@@ -59,8 +59,8 @@ began {E} {P} old new client connection session below is_new is made =
 
 -- one that was parked
 resumed : {E P : Type 0} (old new : Books E P) (k connection : ℕ) (row : Row E P) (session : Session E P) → DeskLaw old.rows old.made → HasRow old.rows k row
-    → row.standing ≡ Parked session
-    → new.rows ≡ map.insert old.rows k (with_standing row (Lent connection)) → new.made ≡ old.made → IsGiven old session connection new
+    → row.held_by ≡ Parked session
+    → new.rows ≡ map.insert old.rows k (with_holder row (Lent connection)) → new.made ≡ old.made → IsGiven old session connection new
 resumed {E} {P} old new k connection row session law has stands is made =
     let its : session.identity.number ≡ k = ap (λ w. w.number) (law.own k row session has (ap session_in stands)) in
     let parked_at_k : IsParkedAs old.rows k session = record { row = row; has = has; parked = stands } in
@@ -68,15 +68,15 @@ resumed {E} {P} old new k connection row session law has stands is made =
       holds =
           subst (λ (r : Rows E P). IsLentTo r session.identity.number connection) (sym is)
           (record {
-            row = with_standing row (Lent connection);
-            has = ap (map.get (map.insert old.rows k (with_standing row (Lent connection)))) its ∙ insert_here old.rows k (with_standing row (Lent connection));
+            row = with_holder row (Lent connection);
+            has = ap (map.get (map.insert old.rows k (with_holder row (Lent connection)))) its ∙ insert_here old.rows k (with_holder row (Lent connection));
             lent = refl;
           });
       lent = λ number other lent.
           subst (λ (r : Rows E P). IsLentTo r number other) (sym is)
-          (lent_beside old.rows k number other (with_standing row (Lent connection)) (λ same. (let a = lent.has in let b = lent.lent in cc)) lent);
+          (lent_beside old.rows k number other (with_holder row (Lent connection)) (λ same. (let a = lent.has in let b = lent.lent in cc)) lent);
       parked = λ number theirs parked.
-          let was = not_parked old.rows k number (with_standing row (Lent connection)) theirs (λ e. cc) (subst (λ (r : Rows E P). IsParkedAs r number theirs) is parked) in
+          let was = not_parked old.rows k number (with_holder row (Lent connection)) theirs (λ e. cc) (subst (λ (r : Rows E P). IsParkedAs r number theirs) is parked) in
           ((λ same. was.0 (same ∙ its)), was.1);
       made = (let e = made in omega arith);
       from = inr (subst (λ (n : ℕ). IsParkedAs old.rows n session) (sym its) parked_at_k);
@@ -159,7 +159,7 @@ pub record IsHandedIn {E P : Type 0} (old : Books E P) (session : Session E P) (
       → IsParkedAs old.rows number its ⊎ ((number ≡ session.identity.number) × (its.window ≡ session.window))
   pub made : new.made ≡ old.made
 
-written : {E P : Type 0} (old new : Books E P) (session : Session E P) (row : Row E P) → ((its : Session E P) → row.standing ≡ Parked its → its.window ≡ session.window)
+written : {E P : Type 0} (old new : Books E P) (session : Session E P) (row : Row E P) → ((its : Session E P) → row.held_by ≡ Parked its → its.window ≡ session.window)
     → new.rows ≡ map.insert old.rows session.identity.number row → new.made ≡ old.made → IsHandedIn old session new
 written {E} {P} old new session row window is made =
     record {
@@ -168,7 +168,7 @@ written {E} {P} old new session row window is made =
       parked = λ number its parked.
           let there = subst (λ (r : Rows E P). IsParkedAs r number its) is parked in
           ⊎_elim
-          (λ (here : (number ≡ session.identity.number) × (row ≡ there.row)). inr (here.0, window its (ap (λ (r : Row E P). r.standing) here.1 ∙ there.parked)))
+          (λ (here : (number ≡ session.identity.number) × (row ≡ there.row)). inr (here.0, window its (ap (λ (r : Row E P). r.held_by) here.1 ∙ there.parked)))
           (λ (other : (number ≢ session.identity.number) × HasRow old.rows number there.row). inl (record { row = there.row; has = other.1; parked = there.parked }))
           (after_insert old.rows session.identity.number number row there.row there.has);
       made = made;
@@ -184,7 +184,7 @@ same_window session its e = cc
 
 pub parks : {E P : Type 0} (old new : Books E P) (session : Session E P) (now : ℕ) (answer : Option (Session E P)) → Parks old session now answer new → IsHandedIn old session new
 parks old new session now None does =
-    written old new session (with_standing does.lent.row (Parked (parked_at session now))) (λ its e. same_window (parked_at session now) its e)
+    written old new session (with_holder does.lent.row (Parked (parked_at session now))) (λ its e. same_window (parked_at session now) its e)
     (ap (λ b. b.rows) does.after) (ap (λ b. b.made) does.after)
 parks old new session now (Some back) does =
     ⊎_elim
@@ -194,5 +194,5 @@ parks old new session now (Some back) does =
 
 pub parks_as_is : {E P : Type 0} (old new : Books E P) (session : Session E P) (answer : Option (Session E P)) → ParksAsIs old session answer new → IsHandedIn old session new
 parks_as_is old new session None does =
-    written old new session (with_standing does.lent.row (Parked session)) (λ its e. same_window session its e) (ap (λ b. b.rows) does.after) (ap (λ b. b.made) does.after)
+    written old new session (with_holder does.lent.row (Parked session)) (λ its e. same_window session its e) (ap (λ b. b.rows) does.after) (ap (λ b. b.made) does.after)
 parks_as_is old new session (Some back) does = unmoved old new session does.2

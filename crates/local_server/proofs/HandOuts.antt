@@ -6,8 +6,8 @@ use Rattle.mqtt_topic.specs.Names.{Share}
 use Rattle.group_jobs.specs.Stamps.{Held, job_of}
 use Rattle.local_group.specs.Groups.{Group}
 use Rattle.conn_supply.specs.declared.supply.NoMemory.{NoMemory}
-use Rattle.conn_supply.specs.Facts.{Fact}
-use Rattle.conn_supply.specs.Facts.Fact.{Attach, Withdraw, Kicked, Park, ParkAsIs, Keep, Bury, Sweep, LendPlace, TakePlace, Bind, Find, Match, Offer, MayTake, Take, TakeBack, Settle, GiveBack}
+use Rattle.conn_supply.specs.SupplyCalls.{SupplyCall}
+use Rattle.conn_supply.specs.SupplyCalls.SupplyCall.{Attach, Withdraw, Kicked, Park, ParkAsIs, Keep, Bury, Sweep, LendPlace, TakePlace, Bind, Find, Match, Offer, MayTake, Take, TakeBack, Settle, GiveBack}
 use Rattle.conn_laws.specs.Calls.{hand_out_of}
 use Rattle.local_broker.specs.Places.{GroupPlace}
 use Rattle.local_broker.specs.Broker.{Broker, IsNewBroker}
@@ -43,7 +43,7 @@ taken_back (Ok (Some envelope)) place place' old new running does =
 taken_back (Ok None) place place' old new running does = tt
 taken_back (Err error) place place' old new running does = tt
 
-belongs : (fact : Fact GroupPlace) (old new : Broker) → AreRunning old → Calls old fact new → IfAny (hand_out_of fact)
+belongs : (supply_call : SupplyCall GroupPlace) (old new : Broker) → AreRunning old → Calls old supply_call new → IfAny (hand_out_of supply_call)
 belongs (Attach request answer) old new running does = tt
 belongs (Withdraw connection) old new running does = tt
 belongs (Kicked connection answer) old new running does = tt
@@ -65,7 +65,7 @@ belongs (Settle place place' envelope fate) old new running does = tt
 belongs (GiveBack place place' envelope answer) old new running does = tt
 
 belongs_next : (happening : Happening) (old new : Broker) → AreRunning old → Happens old happening new → IfAny (handed_by happening)
-belongs_next (Called fact) old new running does = belongs fact old new running does
+belongs_next (Called supply_call) old new running does = belongs supply_call old new running does
 belongs_next Closed old new running does = tt
 
 one_more : (hand_out : Option HandOut) (others : List HandOut) → IfAny hand_out → AllByRecursion Belongs others → AllByRecursion Belongs (cons_option hand_out others)

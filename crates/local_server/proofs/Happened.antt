@@ -8,14 +8,14 @@ use Rattle.std.proofs.lemmas.List.Elements.{filter_map-append}
 use Rattle.dispatch_core.proofs.RunLaws.{lawful_run}
 use Rattle.session_desk.specs.Hands.{DeskLaw}
 use Rattle.conn_supply.specs.declared.supply.NoMemory.{NoMemory}
-use Rattle.conn_supply.specs.Facts.{Fact}
+use Rattle.conn_supply.specs.SupplyCalls.{SupplyCall}
 use Rattle.conn_engine.specs.declared.input.Input.{Input}
 use Rattle.conn_engine.specs.declared.input.Input.TheVariants as inputs
 use Rattle.conn_laws.specs.Calls.{hand_out_of, handed, messages_of, MakesAll, CallsLead}
-use Rattle.client_table.specs.Clients.{ClientState, Said}
+use Rattle.client_table.specs.Clients.{ClientState, StepOutput}
 use Rattle.client_table.specs.Cells.{Receives, TicksFor, EndsFor}
-use Rattle.client_table.specs.Deliveries.{fresh_said, Delivers}
-use Rattle.client_table.proofs.Calling.{fresh_said-append, receives_told, ticks_told, ends_told, receives, ticks_for, ends_for}
+use Rattle.client_table.specs.Deliveries.{fresh_sent, Delivers}
+use Rattle.client_table.proofs.Calling.{fresh_sent-append, receives_told, ticks_told, ends_told, receives, ticks_for, ends_for}
 use Rattle.local_broker.specs.Places.{GroupPlace}
 use Rattle.local_broker.specs.Broker.{Broker, is_open}
 use Rattle.local_broker.specs.Calls.{Calls, Closes}
@@ -30,28 +30,28 @@ use Rattle.local_server.specs.declared.event.TimedEvent.{TimedEvent}
 use Rattle.local_server.specs.declared.setup.Setup.{Setup}
 use Rattle.local_server.specs.Servers.{Clients, ServerState, IsNewServer}
 use Rattle.local_server.specs.Happening.{slot_of, EndsAt, EndsFirst, ClosesAll, Does, DoesIf, Happens, HappensAll}
-use Rattle.local_server.specs.Undergoing.{Undergoes}
-use Rattle.local_server.specs.Deliveries.{HandsOutWhatIsSaid}
-use Rattle.local_server.specs.Runs.{HaveLed, AllRunLawfully}
+use Rattle.local_server.specs.GoingThrough.{GoesThrough}
+use Rattle.local_server.specs.Deliveries.{HandsOutWhatIsSent}
+use Rattle.local_server.specs.Runs.{IsReachedBy, AllRunLawfully}
 
--- what happened to a broker in an event by which this was said; what was said is what was handed out, where memory was not wanted
-record Ran (result : Result (Unit {0}) NoMemory) (old : Broker) (said : List Said) (new : Broker) : Type 0 where
+-- what happened to a broker in an event by which this was said; what was said is what was handed out, where no allocation failed
+record Ran (result : Result (Unit {0}) NoMemory) (old : Broker) (said : List StepOutput) (new : Broker) : Type 0 where
   happenings : List Happening
   led : HappensToBroker old happenings new
-  told : IsOk result → fresh_said said ≡ messages_of (handed_by_all happenings)
+  told : IsOk result → fresh_sent said ≡ messages_of (handed_by_all happenings)
 
-still : (result : Result (Unit {0}) NoMemory) (old new : Broker) (said : List Said) → said ≡ [] → new ≡ old → Ran result old said new
-still result old new said none same = record { happenings = []; led = same; told = λ ok. ap fresh_said none }
+still : (result : Result (Unit {0}) NoMemory) (old new : Broker) (said : List StepOutput) → said ≡ [] → new ≡ old → Ran result old said new
+still result old new said none same = record { happenings = []; led = same; told = λ ok. ap fresh_sent none }
 
 pub joins : (happenings others : List Happening) (old mid new : Broker) → HappensToBroker old happenings mid → HappensToBroker mid others new → HappensToBroker old (happenings ++ others) new
 joins [] others old mid new these those = subst (λ b. HappensToBroker b others new) these those
 joins (happening ∷ happenings) others old mid new these those = (these.0, these.1, joins happenings others these.0 mid new these.2 those)
 
 -- what is said first and then, and what is handed out first and then
-told_behind : (said more : List Said) (happenings others : List Happening) → fresh_said said ≡ messages_of (handed_by_all happenings) → fresh_said more ≡ messages_of (handed_by_all others)
-    → fresh_said (said ++ more) ≡ messages_of (handed_by_all (happenings ++ others))
+told_behind : (said more : List StepOutput) (happenings others : List Happening) → fresh_sent said ≡ messages_of (handed_by_all happenings) → fresh_sent more ≡ messages_of (handed_by_all others)
+    → fresh_sent (said ++ more) ≡ messages_of (handed_by_all (happenings ++ others))
 told_behind said more happenings others these those =
-    fresh_said-append said more ∙ (λ i. these i ++ those i)
+    fresh_sent-append said more ∙ (λ i. these i ++ those i)
     ∙ sym (ap messages_of (filter_map-append handed_by happenings others) ∙ map-append (λ (h : HandOut). h.1.message) (handed_by_all happenings) (handed_by_all others))
 
 pub first_ok : (first then : Result (Unit {0}) NoMemory) → IsOk (result_and first then) → IsOk first
@@ -62,72 +62,72 @@ pub then_ok : (first then : Result (Unit {0}) NoMemory) → IsOk (result_and fir
 then_ok (Ok done) then ok = ok
 then_ok (Err error) then ok = absurd (false≢true ok)
 
-behind : (first then : Result (Unit {0}) NoMemory) (old mid new : Broker) (said more all : List Said) → all ≡ said ++ more → Ran first old said mid → Ran then mid more new
+behind : (first then : Result (Unit {0}) NoMemory) (old mid new : Broker) (said more all : List StepOutput) → all ≡ said ++ more → Ran first old said mid → Ran then mid more new
     → Ran (result_and first then) old all new
 behind first then old mid new said more all is these those =
     record {
       happenings = these.happenings ++ those.happenings;
       led = joins these.happenings those.happenings old mid new these.led those.led;
-      told = λ ok. ap fresh_said is ∙ told_behind said more these.happenings those.happenings (these.told (first_ok first then ok)) (those.told (then_ok first then ok));
+      told = λ ok. ap fresh_sent is ∙ told_behind said more these.happenings those.happenings (these.told (first_ok first then ok)) (those.told (then_ok first then ok));
     }
 
 -- calls of connections
-pub called : (facts : List (Fact GroupPlace)) (old new : Broker) → MakesAll Calls old facts new → HappensToBroker old (map Called facts) new
+pub called : (supply_calls : List (SupplyCall GroupPlace)) (old new : Broker) → MakesAll Calls old supply_calls new → HappensToBroker old (map Called supply_calls) new
 called [] old new same = same
-called (fact ∷ facts) old new made = (made.0, made.1, called facts made.0 new made.2)
+called (supply_call ∷ supply_calls) old new made = (made.0, made.1, called supply_calls made.0 new made.2)
 
-pub handed_by_calls : (facts : List (Fact GroupPlace)) → handed_by_all (map Called facts) ≡ handed facts
+pub handed_by_calls : (supply_calls : List (SupplyCall GroupPlace)) → handed_by_all (map Called supply_calls) ≡ handed supply_calls
 handed_by_calls [] = refl
-handed_by_calls (fact ∷ facts) = ap (cons_option (hand_out_of fact)) (handed_by_calls facts)
+handed_by_calls (supply_call ∷ supply_calls) = ap (cons_option (hand_out_of supply_call)) (handed_by_calls supply_calls)
 
-by_calls : (result : Result (Unit {0}) NoMemory) (old new : Broker) (said : List Said) → Delivers Calls old said new → Ran result old said new
+by_calls : (result : Result (Unit {0}) NoMemory) (old new : Broker) (said : List StepOutput) → Delivers Calls old said new → Ran result old said new
 by_calls result old new said calls =
-    record { happenings = map Called calls.facts; led = called calls.facts old new calls.made; told = λ ok. calls.told ∙ ap messages_of (sym (handed_by_calls calls.facts)) }
+    record { happenings = map Called calls.supply_calls; led = called calls.supply_calls old new calls.made; told = λ ok. calls.told ∙ ap messages_of (sym (handed_by_calls calls.supply_calls)) }
 
-cut_short : (error : NoMemory) (old new : Broker) (said : List Said) → CallsLead Calls old new → Ran (Err error) old said new
+cut_short : (error : NoMemory) (old new : Broker) (said : List StepOutput) → CallsLead Calls old new → Ran (Err error) old said new
 cut_short error old new said calls = record { happenings = map Called calls.0; led = called calls.0 old new calls.1; told = λ ok. absurd (false≢true ok) }
 
 -- what happens to the client of a number
-received : (result : Result (Unit {0}) NoMemory) (old new : Broker) (before after : Option (ClientState GroupPlace)) (now : ℕ) (piece : List ℕ) (said : List Said)
+received : (result : Result (Unit {0}) NoMemory) (old new : Broker) (before after : Option (ClientState GroupPlace)) (now : ℕ) (piece : List ℕ) (said : List StepOutput)
     → Receives Calls slot_of old before now piece said result after new → Ran result old said new
 received (Ok done) old new before after now piece said does = by_calls (Ok done) old new said (receives_told Calls slot_of before old new now piece said after does)
 received (Err error) old new before after now piece said does = cut_short error old new said (receives Calls slot_of (Err error) before old new now piece said after does)
 
-ticked : (result : Result (Unit {0}) NoMemory) (old new : Broker) (before after : Option (ClientState GroupPlace)) (now : ℕ) (said : List Said)
+ticked : (result : Result (Unit {0}) NoMemory) (old new : Broker) (before after : Option (ClientState GroupPlace)) (now : ℕ) (said : List StepOutput)
     → TicksFor Calls slot_of old before now said result after new → Ran result old said new
 ticked (Ok done) old new before after now said does = by_calls (Ok done) old new said (ticks_told Calls slot_of before old new now said after does)
 ticked (Err error) old new before after now said does = cut_short error old new said (ticks_for Calls slot_of (Err error) before old new now said after does)
 
-ended : (result : Result (Unit {0}) NoMemory) (old new : Broker) (before after : Option (ClientState GroupPlace)) (now : ℕ) (input : Input) (said : List Said)
+ended : (result : Result (Unit {0}) NoMemory) (old new : Broker) (before after : Option (ClientState GroupPlace)) (now : ℕ) (input : Input) (said : List StepOutput)
     → EndsFor Calls slot_of old before now input said result after new → Ran result old said new
 ended (Ok done) old new before after now input said does = by_calls (Ok done) old new said (ends_told Calls slot_of before old new now input said after does)
 ended (Err error) old new before after now input said does = cut_short error old new said (ends_for Calls slot_of (Err error) before old new now input said after does)
 
 -- the close
-ended_at : (number : ℕ) (result : Result (Unit {0}) NoMemory) (old new : Broker) (clients clients' : Clients) (now : ℕ) (said : List Said)
+ended_at : (number : ℕ) (result : Result (Unit {0}) NoMemory) (old new : Broker) (clients clients' : Clients) (now : ℕ) (said : List StepOutput)
     → EndsAt number old clients now said result clients' new → Ran result old said new
 ended_at number result old new clients clients' now said ends = ended result old new ends.before ends.after now inputs.Closing said ends.becomes
 
-first_ended : (number : ℕ) (old new : Broker) (clients clients' : Clients) (now : ℕ) (said : List Said) (result : Result (Unit {0}) NoMemory)
+first_ended : (number : ℕ) (old new : Broker) (clients clients' : Clients) (now : ℕ) (said : List StepOutput) (result : Result (Unit {0}) NoMemory)
     → EndsFirst number old clients now said result clients' new → Ran result old said new
 first_ended zero old new clients clients' now said result ends = still result old new said ends.0 ends.3
 first_ended (suc number) old new clients clients' now said result ends =
     subst (λ r. Ran r old said new) (sym ends.9)
     (behind ends.4 ends.5 old ends.0 new ends.2 ends.3 said ends.8 (first_ended number old ends.0 clients ends.1 now ends.2 ends.4 ends.6) (ended_at number ends.5 ends.0 new ends.1 clients' now ends.3 ends.7))
 
-pub each_ended : (number : ℕ) (old new : Broker) (clients clients' : Clients) (now : ℕ) (said : List Said) (result : Result (Unit {0}) NoMemory)
-    → EndsFirst number old clients now said result clients' new → HaveLed old new
+pub each_ended : (number : ℕ) (old new : Broker) (clients clients' : Clients) (now : ℕ) (said : List StepOutput) (result : Result (Unit {0}) NoMemory)
+    → EndsFirst number old clients now said result clients' new → IsReachedBy old new
 each_ended number old new clients clients' now said result ends = let run = first_ended number old new clients clients' now said result ends in (run.happenings, run.led)
 
 all_closed : (old closed : Broker) → Closes old closed → Ran (Ok tt) old [] closed
 all_closed old closed closes = record { happenings = Closed ∷ []; led = (closed, closes, refl); told = λ ok. refl }
 
-closed : (result : Result (Unit {0}) NoMemory) (old new : Broker) (clients clients' : Clients) (now : ℕ) (said : List Said)
+closed : (result : Result (Unit {0}) NoMemory) (old new : Broker) (clients clients' : Clients) (now : ℕ) (said : List StepOutput)
     → ClosesAll old clients now said result clients' new → Ran result old said new
 closed result old new clients clients' now said closes =
     behind (Ok tt) result old closes.0 new [] said said refl (all_closed old closes.0 closes.1) (first_ended closes.2 closes.0 new clients clients' now said result closes.4)
 
-does : (max_inflight : ℕ) (event : Event) (old new : Broker) (clients clients' : Clients) (now : ℕ) (said : List Said) (result : Result (Unit {0}) NoMemory)
+does : (max_inflight : ℕ) (event : Event) (old new : Broker) (clients clients' : Clients) (now : ℕ) (said : List StepOutput) (result : Result (Unit {0}) NoMemory)
     → Does event max_inflight old clients now said result clients' new → Ran result old said new
 does max_inflight (events.Open number) old new clients clients' now said result done = still result old new said done.2 done.1
 does max_inflight (events.Bytes number piece) old new clients clients' now said result done = received result old new done.before done.after now piece said done.becomes
@@ -135,39 +135,39 @@ does max_inflight (events.Tick number) old new clients clients' now said result 
 does max_inflight (events.End number) old new clients clients' now said result done = ended result old new done.before done.after now inputs.EndOfInput said done.becomes
 does max_inflight events.Close old new clients clients' now said result done = closed result old new clients clients' now said done
 
-does_if : (max_inflight : ℕ) (open? : Bool) (event : Event) (old new : Broker) (clients clients' : Clients) (now : ℕ) (said : List Said) (result : Result (Unit {0}) NoMemory)
+does_if : (max_inflight : ℕ) (open? : Bool) (event : Event) (old new : Broker) (clients clients' : Clients) (now : ℕ) (said : List StepOutput) (result : Result (Unit {0}) NoMemory)
     → DoesIf open? event max_inflight old clients now said result clients' new → Ran result old said new
 does_if max_inflight true event old new clients clients' now said result done = does max_inflight event old new clients clients' now said result done
 does_if max_inflight false event old new clients clients' now said result done = still result old new said done.0 done.3
 
-ran : (moment : ℕ) (event : Event) (said : List Said) (result : Result (Unit {0}) NoMemory) (old new : ServerState) → Happens old moment event said result new → Ran result old.broker said new.broker
+ran : (moment : ℕ) (event : Event) (said : List StepOutput) (result : Result (Unit {0}) NoMemory) (old new : ServerState) → Happens old moment event said result new → Ran result old.broker said new.broker
 ran moment event said result old new happens = does_if _ (is_open old.broker) event old.broker new.broker old.clients new.clients new.clock said result happens.does
 
-pub happened : (moment : ℕ) (event : Event) (said : List Said) (result : Result (Unit {0}) NoMemory) (old new : ServerState) → Happens old moment event said result new → HaveLed old.broker new.broker
+pub happened : (moment : ℕ) (event : Event) (said : List StepOutput) (result : Result (Unit {0}) NoMemory) (old new : ServerState) → Happens old moment event said result new → IsReachedBy old.broker new.broker
 happened moment event said result old new happens = let run = ran moment event said result old new happens in (run.happenings, run.led)
 
-all_ran : (events : List TimedEvent) (said : List Said) (old new : ServerState) → HappensAll old events said new → Ran (Ok tt) old.broker said new.broker
+all_ran : (events : List TimedEvent) (said : List StepOutput) (old new : ServerState) → HappensAll old events said new → Ran (Ok tt) old.broker said new.broker
 all_ran [] said old new all = still (Ok tt) old.broker new.broker said all.0 (ap (λ s. s.broker) all.1)
 all_ran (first ∷ others) said old new all =
     behind (Ok tt) (Ok tt) old.broker all.0.broker new.broker all.1 all.2 said all.5 (ran first.moment first.event all.1 (Ok tt) old all.0 all.3) (all_ran others all.2 all.0 new all.4)
 
-pub all_happened : (events : List TimedEvent) (said : List Said) (old new : ServerState) → HappensAll old events said new → HaveLed old.broker new.broker
+pub all_happened : (events : List TimedEvent) (said : List StepOutput) (old new : ServerState) → HappensAll old events said new → IsReachedBy old.broker new.broker
 all_happened events said old new all = let run = all_ran events said old new all in (run.happenings, run.led)
 
--- the same, whether memory was wanted or not
-pub undergone : (events : List TimedEvent) (old new : ServerState) → Undergoes old events new → HaveLed old.broker new.broker
+-- the same, whether an allocation failed or not
+pub undergone : (events : List TimedEvent) (old new : ServerState) → GoesThrough old events new → IsReachedBy old.broker new.broker
 undergone [] old new same = ([], ap (λ s. s.broker) same)
 undergone (first ∷ others) old new all =
     let one = happened first.moment first.event all.1 all.2 old all.0 all.3 in
     let rest = undergone others all.0 new all.4 in
     (one.0 ++ rest.0, joins one.0 rest.0 old.broker all.0.broker new.broker one.1 rest.1)
 
-pub undergoes : (events : List TimedEvent) (said : List Said) (old new : ServerState) → HappensAll old events said new → Undergoes old events new
+pub undergoes : (events : List TimedEvent) (said : List StepOutput) (old new : ServerState) → HappensAll old events said new → GoesThrough old events new
 undergoes [] said old new all = all.1
 undergoes (first ∷ others) said old new all = (all.0, all.1, Ok tt, all.3, undergoes others all.2 all.0 new all.4)
 
 -- what is handed out in a run is what is said
-pub hands : (setup : Setup) (events : List TimedEvent) (said : List Said) (first last : ServerState) → IsNewServer setup first → HappensAll first events said last → HandsOutWhatIsSaid last said
+pub hands : (setup : Setup) (events : List TimedEvent) (said : List StepOutput) (first last : ServerState) → IsNewServer setup first → HappensAll first events said last → HandsOutWhatIsSent last said
 hands setup events said first last new all =
     let run = all_ran events said first last all in
     record {
@@ -176,26 +176,26 @@ hands setup events said first last new all =
       handed = handed_all setup.capacity setup.groups run.happenings first.broker last.broker new.broker run.led;
     }
 
-pub runs : (setup : Setup) (events : List TimedEvent) (first last : ServerState) → IsNewServer setup first → Undergoes first events last → AllRunLawfully last.broker
+pub runs : (setup : Setup) (events : List TimedEvent) (first last : ServerState) → IsNewServer setup first → GoesThrough first events last → AllRunLawfully last.broker
 runs setup events first last new all slot group there =
     let led = undergone events first last all in
     let running = running_all led.0 first.broker last.broker (running_first setup.capacity setup.groups first.broker new.broker) led.1 slot group there in
     record { run = running.run; lawful = lawful_run group.events group.state running.run }
 
-pub desk : (setup : Setup) (events : List TimedEvent) (first last : ServerState) → IsNewServer setup first → Undergoes first events last → DeskLaw last.broker.desk.rows last.broker.desk.made
+pub desk : (setup : Setup) (events : List TimedEvent) (first last : ServerState) → IsNewServer setup first → GoesThrough first events last → DeskLaw last.broker.desk.rows last.broker.desk.made
 desk setup events first last new all =
     let led = undergone events first last all in
     law_all_along led.0 first.broker last.broker (new_desk setup.capacity setup.groups first.broker new.broker) led.1
 
--- behind the close
-passed : (moment : ℕ) (event : Event) (said : List Said) (old new : ServerState) → is_open old.broker ≡ false → Happens old moment event said (Ok tt) new
+-- after the close
+passed : (moment : ℕ) (event : Event) (said : List StepOutput) (old new : ServerState) → is_open old.broker ≡ false → Happens old moment event said (Ok tt) new
     → (said ≡ []) × (new.broker ≡ old.broker) × (new.clients ≡ old.clients)
 passed moment event said old new shut happens =
     let done : DoesIf false event old.max_inflight old.broker old.clients new.clock said (Ok tt) new.clients new.broker =
     subst (λ b. DoesIf b event old.max_inflight old.broker old.clients new.clock said (Ok tt) new.clients new.broker) shut happens.does in
     (done.0, done.3, done.2)
 
-pub all_passed : (events : List TimedEvent) (said : List Said) (old new : ServerState) → is_open old.broker ≡ false → HappensAll old events said new
+pub all_passed : (events : List TimedEvent) (said : List StepOutput) (old new : ServerState) → is_open old.broker ≡ false → HappensAll old events said new
     → (said ≡ []) × (new.broker ≡ old.broker) × (new.clients ≡ old.clients)
 all_passed [] said old new shut all = (all.0, ap (λ s. s.broker) all.1, ap (λ s. s.clients) all.1)
 all_passed (first ∷ others) said old new shut all =

@@ -14,7 +14,7 @@ use Rattle.local_group.proofs.Fates.{one_fate}
 use Rattle.local_server.specs.declared.event.TimedEvent.{TimedEvent}
 use Rattle.local_server.specs.declared.setup.Setup.{Setup}
 use Rattle.local_server.specs.Servers.{ServerState, IsNewServer}
-use Rattle.local_server.specs.Undergoing.{Undergoes}
+use Rattle.local_server.specs.GoingThrough.{GoesThrough}
 use Rattle.local_server.specs.Headline.{IsOneFirst, KeepsPromises, HoldsTheHeadline}
 use Rattle.local_server.specs.Runs.{RunsLawfully}
 use Rattle.local_server.proofs.Happened.{runs}
@@ -41,7 +41,7 @@ keeps group lawfully = record {
   one_fate = λ report reports job. one_fate group report lawfully.lawful reports job;
 }
 
-pub headline : (setup : Setup) (events : List TimedEvent) (first last : ServerState) → IsNewServer setup first → Undergoes first events last → HoldsTheHeadline last
+pub headline : (setup : Setup) (events : List TimedEvent) (first last : ServerState) → IsNewServer setup first → GoesThrough first events last → HoldsTheHeadline last
 headline setup events first last new all = record {
   groups = λ slot group there. keeps group (runs setup events first last new all slot group there);
   quota = within setup events first last new all;

@@ -1,4 +1,4 @@
--- What came to a connection, by the cells of the clients; and the turns of a close, one for each connection that is open.
+-- What came to a connection, by the cells of the clients; and the steps of a close, one for each connection that is open.
 use Rattle.std.proofs.Common.{◌≡◌, ◌≢◌, ℕ, ◌<◌, ◌≤◌, zero, suc, nat_eq, Bool, if◌then◌else◌, List, [], ◌∷◌, ◌++◌, Option, Some, None, Result, slice_get, refl, sym, ap, subst, ◌∙◌, ⊎_elim, append-nil, arith}
 use Rattle.std.proofs.lemmas.Bool.{cases_eq, eq-eqb, ne_eqb}
 use Rattle.std.proofs.lemmas.List.Elements.{filter-append}
@@ -7,14 +7,14 @@ use Rattle.dispatch_core.proofs.Spots.{slice_get-set_same, slice_get-set_other}
 use Rattle.conn_supply.specs.declared.supply.NoMemory.{NoMemory}
 use Rattle.conn_engine.specs.declared.input.Input.TheVariants as inputs
 use Rattle.client_table.specs.Cells.{InCell}
-use Rattle.client_table.specs.Clients.{ClientState, Said}
+use Rattle.client_table.specs.Clients.{ClientState, StepOutput}
 use Rattle.local_broker.specs.Places.{GroupPlace}
 use Rattle.local_broker.specs.Broker.{Broker}
 use Rattle.local_server.specs.Happening.{EndsFirst}
 use Rattle.local_server.specs.Servers.{Clients}
-use Rattle.local_server.specs.Turns.{Turn, turns_of}
+use Rattle.local_server.specs.ConnSteps.{ConnStep, conn_steps_of}
 use Rattle.local_server.specs.Streams.{open_in, client_at}
-use Rattle.local_server.proofs.Reading.{EndsTurns}
+use Rattle.local_server.proofs.Reading.{EndsSteps}
 
 -- who is in a cell
 pub client_in : (clients : Clients) (number : ℕ) (cell : Option (ClientState GroupPlace)) → slice_get clients number ≡ Some cell → client_at clients number ≡ cell
@@ -32,51 +32,51 @@ cell_heard clients clients' number Becomes cell IsSo so =
     subst (λ (c : Option (ClientState GroupPlace)). IsSo c (client_at clients' number)) (sym before)
     (subst (λ (c : Option (ClientState GroupPlace)). IsSo cell.before c) (sym after) so)
 
--- the connections below this number ended, each by one turn, and no other has one
-abbrev pub EndsBelow : ℕ → Clients → List Turn → Type 0
-EndsBelow count clients turns =
-    (number : ℕ) → (number < count → EndsTurns number inputs.Closing (client_at clients number) (turns_of number turns)) × (count ≤ number → turns_of number turns ≡ [])
+-- the connections below this number ended, each by one step, and no other has one
+abbrev pub EndsBelow : ℕ → Clients → List ConnStep → Type 0
+EndsBelow count clients conn_steps =
+    (number : ℕ) → (number < count → EndsSteps number inputs.Closing (client_at clients number) (conn_steps_of number conn_steps)) × (count ≤ number → conn_steps_of number conn_steps ≡ [])
 
 pub none_below : (clients : Clients) → EndsBelow 0 clients []
 none_below clients number = (λ less. absurd (omega (arith, less)), λ more. refl)
 
--- the turns of a connection among those of one
-its_own : (count : ℕ) (client : Option (ClientState GroupPlace)) (turns : List Turn) → EndsTurns count inputs.Closing client turns → turns_of count turns ≡ turns
-its_own count None turns ends = ap (turns_of count) ends ∙ sym ends
-its_own count (Some client) turns ends =
-    ap (turns_of count) ends.1 ∙ ap (λ (b : Bool). if b then ends.0 ∷ [] else []) (eq-eqb ends.0.connection count ends.2) ∙ sym ends.1
+-- the steps of a connection among those of one
+its_own : (count : ℕ) (client : Option (ClientState GroupPlace)) (conn_steps : List ConnStep) → EndsSteps count inputs.Closing client conn_steps → conn_steps_of count conn_steps ≡ conn_steps
+its_own count None conn_steps ends = ap (conn_steps_of count) ends ∙ sym ends
+its_own count (Some client) conn_steps ends =
+    ap (conn_steps_of count) ends.1 ∙ ap (λ (b : Bool). if b then ends.0 ∷ [] else []) (eq-eqb ends.0.connection count ends.2) ∙ sym ends.1
 
-no_other : (count number : ℕ) (client : Option (ClientState GroupPlace)) (turns : List Turn) → EndsTurns count inputs.Closing client turns → number ≢ count → turns_of number turns ≡ []
-no_other count number None turns ends other = ap (turns_of number) ends
-no_other count number (Some client) turns ends other =
-    ap (turns_of number) ends.1 ∙ ap (λ (b : Bool). if b then ends.0 ∷ [] else []) (ne_eqb ends.0.connection number (λ same. other (sym same ∙ ends.2)))
+no_other : (count number : ℕ) (client : Option (ClientState GroupPlace)) (conn_steps : List ConnStep) → EndsSteps count inputs.Closing client conn_steps → number ≢ count → conn_steps_of number conn_steps ≡ []
+no_other count number None conn_steps ends other = ap (conn_steps_of number) ends
+no_other count number (Some client) conn_steps ends other =
+    ap (conn_steps_of number) ends.1 ∙ ap (λ (b : Bool). if b then ends.0 ∷ [] else []) (ne_eqb ends.0.connection number (λ same. other (sym same ∙ ends.2)))
 
-pub one_more_below : (count : ℕ) (clients : Clients) (these those : List Turn) → EndsBelow count clients these
-    → EndsTurns count inputs.Closing (client_at clients count) those
+pub one_more_below : (count : ℕ) (clients : Clients) (these those : List ConnStep) → EndsBelow count clients these
+    → EndsSteps count inputs.Closing (client_at clients count) those
     → EndsBelow (suc count) clients (these ++ those)
 one_more_below count clients these those below last number =
-    let both : turns_of number (these ++ those) ≡ turns_of number these ++ turns_of number those =
-    filter-append (λ (turn : Turn). nat_eq turn.connection number) these those in
+    let both : conn_steps_of number (these ++ those) ≡ conn_steps_of number these ++ conn_steps_of number those =
+    filter-append (λ (conn_step : ConnStep). nat_eq conn_step.connection number) these those in
     ⊎_elim
     (λ (same : number ≡ count).
-    let own : turns_of number (these ++ those) ≡ those =
-    both ∙ ap (λ (ts : List Turn). ts ++ turns_of number those) ((below number).1 (omega (arith, same)))
-    ∙ ap (λ (n : ℕ). turns_of n those) same ∙ its_own count (client_at clients count) those last in (
+    let own : conn_steps_of number (these ++ those) ≡ those =
+    both ∙ ap (λ (ts : List ConnStep). ts ++ conn_steps_of number those) ((below number).1 (omega (arith, same)))
+    ∙ ap (λ (n : ℕ). conn_steps_of n those) same ∙ its_own count (client_at clients count) those last in (
       λ less.
-          subst (EndsTurns number inputs.Closing (client_at clients number)) (sym own)
-          (subst (λ (n : ℕ). EndsTurns n inputs.Closing (client_at clients n) those) (sym same) last),
+          subst (EndsSteps number inputs.Closing (client_at clients number)) (sym own)
+          (subst (λ (n : ℕ). EndsSteps n inputs.Closing (client_at clients n) those) (sym same) last),
       λ more. absurd (omega (arith, same, more)),
     ))
     (λ (other : number ≢ count).
-    let same : turns_of number (these ++ those) ≡ turns_of number these =
-    both ∙ ap (λ (ts : List Turn). turns_of number these ++ ts) (no_other count number (client_at clients count) those last other) ∙ append-nil (turns_of number these) in (
-      λ less. subst (EndsTurns number inputs.Closing (client_at clients number)) (sym same) ((below number).0 (omega (arith, less, other))),
+    let same : conn_steps_of number (these ++ those) ≡ conn_steps_of number these =
+    both ∙ ap (λ (ts : List ConnStep). conn_steps_of number these ++ ts) (no_other count number (client_at clients count) those last other) ∙ append-nil (conn_steps_of number these) in (
+      λ less. subst (EndsSteps number inputs.Closing (client_at clients number)) (sym same) ((below number).0 (omega (arith, less, other))),
       λ more. same ∙ (below number).1 (omega (arith, more)),
     ))
     (cases_eq number count)
 
 -- those from this number on are as they were
-pub untouched : (count number : ℕ) (old new : Broker) (clients clients' : Clients) (now : ℕ) (said : List Said) (result : Result (Unit {0}) NoMemory) → count ≤ number
+pub untouched : (count number : ℕ) (old new : Broker) (clients clients' : Clients) (now : ℕ) (said : List StepOutput) (result : Result (Unit {0}) NoMemory) → count ≤ number
     → EndsFirst count old clients now said result clients' new → client_at clients' number ≡ client_at clients number
 untouched zero number old new clients clients' now said result from ends = ap (λ (c : Clients). client_at c number) ends.2
 untouched (suc count) number old new clients clients' now said result from ends =

@@ -155,7 +155,7 @@ module _ (log : Log) (slot : ℕ) where
       })
       (either old.state.closed)
 
--- behind one more accepted message
+-- after one more accepted message
 module _ (log : Log) (accepted : Accepted) where
   abbrev pub more : Log
   more = log ++ accepted ∷ []

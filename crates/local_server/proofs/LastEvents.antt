@@ -9,11 +9,11 @@ use Rattle.local_group.specs.Groups.{Group}
 use Rattle.conn_supply.specs.declared.reply.Reply.{Reply}
 use Rattle.conn_supply.specs.declared.supply.NoMemory.{NoMemory}
 use Rattle.conn_engine.specs.declared.input.Input.TheVariants as inputs
-use Rattle.conn_engine.specs.declared.standing.Standing.{Standing}
-use Rattle.conn_engine.specs.declared.standing.Standing.TheVariants.{Unconnected, Waiting, Connected, Ended}
+use Rattle.conn_engine.specs.declared.phase.ConnPhase.{ConnPhase}
+use Rattle.conn_engine.specs.declared.phase.ConnPhase.TheVariants.{Unconnected, Waiting, Connected, Ended}
 use Rattle.conn_engine.specs.Step.{Reacts, Hands}
 use Rattle.client_table.specs.Cells.{EndsFor}
-use Rattle.client_table.specs.Clients.{ClientState, moment_of, Said, Moves}
+use Rattle.client_table.specs.Clients.{ClientState, moment_of, StepOutput, ClientSteps}
 use Rattle.local_broker.specs.Places.{GroupPlace}
 use Rattle.local_broker.specs.Groups.{ClosesEach}
 use Rattle.local_broker.specs.Broker.{Broker, is_open}
@@ -29,28 +29,28 @@ abbrev Keep : Broker → Broker → Type 0
 Keep old new = new.groups ≡ old.groups
 
 -- told of the close, a connection ends, and hands its session in or withdraws its wait
-reacts : (standing between : Standing GroupPlace) (old new : Broker) (number now : ℕ) (reply : Reply)
-    → Reacts Calls slot_of old number standing now inputs.Closing between reply new → (between ≡ Ended) × Keep old new
+reacts : (phase between : ConnPhase GroupPlace) (old new : Broker) (number now : ℕ) (reply : Reply)
+    → Reacts Calls slot_of old number phase now inputs.Closing between reply new → (between ≡ Ended) × Keep old new
 reacts (Unconnected opened) between old new number now reply is = (is.0.over, ap (λ b. b.groups) is.1)
 reacts (Waiting request ticks) between old new number now reply is = (is.1.over, is.0.groups)
-reacts (Connected link) between old new number now reply is = (is.2, is.1.1.groups)
+reacts (Connected connected) between old new number now reply is = (is.2, is.1.1.groups)
 reacts Ended between old new number now reply is = (is.0.over, ap (λ b. b.groups) is.1)
 
-moves : (client client' : ClientState GroupPlace) (old new : Broker) (now : ℕ) (said : Said) → Moves Calls slot_of old client now inputs.Closing said client' new → Keep old new
+moves : (client client' : ClientState GroupPlace) (old new : Broker) (now : ℕ) (said : StepOutput) → ClientSteps Calls slot_of old client now inputs.Closing said client' new → Keep old new
 moves client client' old new now said moved =
     let steps = moved.stepped in
-    let told = reacts client.conn.standing steps.between old steps.mid client.conn.number (moment_of client now) steps.reply steps.reacts in
-    let none : Hands Calls slot_of steps.mid Ended steps.sent client'.conn.standing new =
-    subst (λ s. Hands Calls slot_of steps.mid s steps.sent client'.conn.standing new) told.0 steps.hands in
+    let told = reacts client.conn.phase steps.between old steps.mid client.conn.number (moment_of client now) steps.reply steps.reacts in
+    let none : Hands Calls slot_of steps.mid Ended steps.sent client'.conn.phase new =
+    subst (λ s. Hands Calls slot_of steps.mid s steps.sent client'.conn.phase new) told.0 steps.hands in
     ap (λ b. b.groups) none.2 ∙ told.1
 
-ends : (result : Result (Unit {0}) NoMemory) (before : Option (ClientState GroupPlace)) (old new : Broker) (now : ℕ) (said : List Said) (after : Option (ClientState GroupPlace))
+ends : (result : Result (Unit {0}) NoMemory) (before : Option (ClientState GroupPlace)) (old new : Broker) (now : ℕ) (said : List StepOutput) (after : Option (ClientState GroupPlace))
     → IsOk result → EndsFor Calls slot_of old before now inputs.Closing said result after new → Keep old new
 ends (Ok done) None old new now said after ok does = ap (λ b. b.groups) does.2
 ends (Ok done) (Some client) old new now said after ok does = moves client does.0 old new now does.1.0 does.1.2
 ends (Err error) before old new now said after ok does = absurd (false≢true ok)
 
-all_end : (number : ℕ) (old new : Broker) (clients clients' : Clients) (now : ℕ) (said : List Said) (result : Result (Unit {0}) NoMemory)
+all_end : (number : ℕ) (old new : Broker) (clients clients' : Clients) (now : ℕ) (said : List StepOutput) (result : Result (Unit {0}) NoMemory)
     → IsOk result → EndsFirst number old clients now said result clients' new → Keep old new
 all_end zero old new clients clients' now said result ok all = ap (λ b. b.groups) all.3
 all_end (suc number) old new clients clients' now said result ok all =
@@ -94,12 +94,12 @@ added old mid new adds keeps =
       each = λ slot group there. adds.each slot group (ap (λ (l : List Group). slice_get l slot) (sym keeps) ∙ there);
     }
 
-closes_if : (going : Bool) (old new : ServerState) (said : List Said) → going ≡ true → is_open old.broker ≡ true
+closes_if : (going : Bool) (old new : ServerState) (said : List StepOutput) → going ≡ true → is_open old.broker ≡ true
     → DoesIf going events.Close old.max_inflight old.broker old.clients new.clock said (Ok tt) new.clients new.broker → AllAddTheClose old.broker new.broker
 closes_if true old new said going opens does =
     added old.broker does.0 new.broker (closed_once old.broker does.0 opens does.1.groups) (all_end does.2 does.0 new.broker old.clients new.clients new.clock said (Ok tt) refl does.4)
 closes_if false old new said going opens does = absurd (cc)
 
-pub closed_last : (moment : ℕ) (said : List Said) (old new : ServerState)
+pub closed_last : (moment : ℕ) (said : List StepOutput) (old new : ServerState)
     → is_open old.broker ≡ true → Happens old moment events.Close said (Ok tt) new → AllAddTheClose old.broker new.broker
 closed_last moment said old new opens happens = closes_if (is_open old.broker) old new said opens opens happens.does

@@ -13,13 +13,13 @@ use Rattle.conn_rules.specs.declared.terms.Terms.{Terms}
 use Rattle.conn_rules.specs.Subscribing.{entry_answer}
 use Rattle.session_desk.specs.declared.session.Membership.{Membership}
 use Rattle.session_desk.specs.declared.session.Membership.TheVariants.{NotMember, Member, Leaving}
-use Rattle.session_desk.specs.declared.row.Standing.TheVariants.{Parked}
-use Rattle.session_desk.specs.Rows.{away, with_standing}
+use Rattle.session_desk.specs.declared.row.Holder.TheVariants.{Parked}
+use Rattle.session_desk.specs.Rows.{away, with_holder}
 use Rattle.session_desk.specs.Keeping.{Parks, ParksAsIs, EndsLent, parked_at}
 use Rattle.conn_supply.specs.declared.supply.BindRefusal.{BindRefusal}
 use Rattle.conn_supply.specs.declared.supply.BindRefusal.TheVariants as refusal
-use Rattle.conn_supply.specs.Facts.{Fact}
-use Rattle.conn_supply.specs.Facts.Fact.{Park, ParkAsIs, LendPlace, Bind, Find}
+use Rattle.conn_supply.specs.SupplyCalls.{SupplyCall}
+use Rattle.conn_supply.specs.SupplyCalls.SupplyCall.{Park, ParkAsIs, LendPlace, Bind, Find}
 use Rattle.conn_supply.specs.Subscribing.{IsLent, EntersAs, Joins, AnswersEntry, AnswersEntries, LeavesBy, LeavesByAll}
 use Rattle.conn_engine.specs.Ending.{down, PartsAs, Parts}
 use Rattle.local_broker.specs.Places.{GroupPlace}
@@ -34,7 +34,7 @@ use Rattle.local_server.proofs.Settled.{none_settled}
 use Rattle.local_server.proofs.Known.{AllKnown}
 use Rattle.local_server.proofs.Accepting.{IsNoOffer, called_known}
 use Rattle.local_server.proofs.Owning.{Ledger, Entries, Kept, Keeper, AtDesk, InHand, IsAtDesk, Has, Owns, Holds, Goes, Shrinks, still, calm_then, one, same_rows, written, put_in, owns_calm, calm}
-use Rattle.local_server.proofs.Retiring.{Went, went, went_then, retired}
+use Rattle.local_server.proofs.Retiring.{KeepsOut, went, went_then, retired}
 
 -- the desk has the session then
 abbrev Comes : Broker → ℕ → Kept → Broker → Type 0
@@ -42,9 +42,9 @@ Comes old k its new = (number : ℕ) (t : Kept) → IsAtDesk new.desk.rows numbe
 
 -- a session has what the step had in its hands, or was there before
 abbrev Whose : Ledger → Broker → ℕ → Kept → Keeper → Kept → Type 0
-Whose ledger old k its keeper t = ((keeper ≡ AtDesk k) × (t ≡ its)) ⊎ Has ledger.links old.desk.rows keeper t
+Whose ledger old k its keeper t = ((keeper ≡ AtDesk k) × (t ≡ its)) ⊎ Has ledger.all_connected old.desk.rows keeper t
 
-whose : (keeper : Keeper) (ledger : Ledger) (old new : Broker) (k : ℕ) (its t : Kept) → Comes old k its new → Has ledger.links new.desk.rows keeper t → Whose ledger old k its keeper t
+whose : (keeper : Keeper) (ledger : Ledger) (old new : Broker) (k : ℕ) (its t : Kept) → Comes old k its new → Has ledger.all_connected new.desk.rows keeper t → Whose ledger old k its keeper t
 whose (AtDesk number) ledger old new k its t comes has =
     ⊎_elim (λ (is : (number ≡ k) × (t ≡ its)). inl (ap AtDesk is.0, is.1)) (λ (was : IsAtDesk old.desk.rows number t). inr was) (comes number t has)
 whose (InHand connection) ledger old new k its t comes has = inr has
@@ -71,23 +71,23 @@ module _ (ledger : Ledger) (old : Broker) (k : ℕ) (its : Kept) (was : Holds le
   once_then one other s t i j e f (inr had) (inr has) c d same = was.others.once one other s t i j e f had has c d same
 
 -- a session is shelved: the desk has it from then on
-owned_later : (membership : Membership GroupPlace) (entries : Entries) (old new : Broker) (fact : Fact GroupPlace) → Calls old fact new
-    → ((stamp : Stamp) → ¬ Spends stamp (Called fact))
+owned_later : (membership : Membership GroupPlace) (entries : Entries) (old new : Broker) (supply_call : SupplyCall GroupPlace) → Calls old supply_call new
+    → ((stamp : Stamp) → ¬ Spends stamp (Called supply_call))
     → AreOutFor old membership entries → AreOutFor new membership entries
-owned_later NotMember entries old new fact does spends owned = owned
-owned_later (Member place) entries old new fact does spends owned = λ i e c. stays_all (Called fact ∷ []) old new place e (owned i e c) (new, does, refl) (spends e.stamp, tt)
-owned_later (Leaving place) entries old new fact does spends owned = λ i e c. stays_all (Called fact ∷ []) old new place e (owned i e c) (new, does, refl) (spends e.stamp, tt)
+owned_later NotMember entries old new supply_call does spends owned = owned
+owned_later (Member place) entries old new supply_call does spends owned = λ i e c. stays_all (Called supply_call ∷ []) old new place e (owned i e c) (new, does, refl) (spends e.stamp, tt)
+owned_later (Leaving place) entries old new supply_call does spends owned = λ i e c. stays_all (Called supply_call ∷ []) old new place e (owned i e c) (new, does, refl) (spends e.stamp, tt)
 
-shelved : (ledger : Ledger) (old new : Broker) (k : ℕ) (its : Kept) (fact : Fact GroupPlace) → Calls old fact new → ((stamp : Stamp) → ¬ Spends stamp (Called fact)) → IsNoOffer fact
+shelved : (ledger : Ledger) (old new : Broker) (k : ℕ) (its : Kept) (supply_call : SupplyCall GroupPlace) → Calls old supply_call new → ((stamp : Stamp) → ¬ Spends stamp (Called supply_call)) → IsNoOffer supply_call
     → Comes old k its new
     → Holds ledger old its.membership (held_of its.window) → Owns ledger new
-shelved ledger old new k its fact does spends no_offer comes was =
+shelved ledger old new k its supply_call does spends no_offer comes was =
     record {
-      running = running_all (Called fact ∷ []) old new was.others.running (new, does, refl);
-      know = called_known fact ledger.log old new spends no_offer does was.others.know;
+      running = running_all (Called supply_call ∷ []) old new was.others.running (new, does, refl);
+      know = called_known supply_call ledger.log old new spends no_offer does was.others.know;
       known = λ keeper t has. known_then ledger old k its was keeper t (whose keeper ledger old new k its t comes has);
       owned = λ keeper t has.
-          owned_later t.membership (held_of t.window) old new fact does spends (owned_then ledger old k its was keeper t (whose keeper ledger old new k its t comes has));
+          owned_later t.membership (held_of t.window) old new supply_call does spends (owned_then ledger old k its was keeper t (whose keeper ledger old new k its t comes has));
       once = λ one other s t i j e f has had c d same.
           once_then ledger old k its was one other s t i j e f (whose one ledger old new k its s comes has) (whose other ledger old new k its t comes had) c d same;
     }
@@ -98,24 +98,24 @@ parked_back : (back : Option Kept) (ledger : Ledger) (old new : Broker) (session
 parked_back None ledger old new session does parks was =
     let k = session.identity.number in
     shelved ledger old new k session (ParkAsIs session) does (λ stamp spends. spends) tt
-    (put_in old.desk.rows new.desk.rows k (with_standing parks.lent.row (Parked session)) session (ap (λ b. b.rows) parks.after) refl) was
+    (put_in old.desk.rows new.desk.rows k (with_holder parks.lent.row (Parked session)) session (ap (λ b. b.rows) parks.after) refl) was
 parked_back (Some back) ledger old new session does parks was =
     owns_calm ledger old new (one (ParkAsIs session) old new (λ stamp spends. spends) refl tt does (same_rows old new (ap (λ b. b.rows) parks.2))) was.others
 
 pub parked_as_is : (ledger : Ledger) (old new : Broker) (session : Kept) → Calls old (ParkAsIs session) new → Holds ledger old session.membership (held_of session.window)
-    → Went ledger old new
+    → KeepsOut ledger old new
 parked_as_is ledger old new session does was =
     record { owns = parked_back does.0 ledger old new session does does.1.makes was; adds = none_settled (ParkAsIs session) old new refl does }
 
 -- the connection has ended: its session is parked, or retired
 parted_as : (answer : Option Kept) (ledger : Ledger) (old mid new : Broker) (session : Kept) (now : ℕ) → Calls old (Park session now answer) mid
     → Parks old.desk session now answer mid.desk
-    → PartsAs Calls mid answer new → Holds ledger old session.membership (held_of session.window) → Went ledger mid new
+    → PartsAs Calls mid answer new → Holds ledger old session.membership (held_of session.window) → KeepsOut ledger mid new
 parted_as None ledger old mid new session now does parks parts was =
     let k = session.identity.number in
     went ledger mid new (still mid new parts)
     (shelved ledger old mid k (parked_at session now) (Park session now None) does (λ stamp spends. spends) tt
-    (put_in old.desk.rows mid.desk.rows k (with_standing parks.lent.row (Parked (parked_at session now))) (parked_at session now) (ap (λ b. b.rows) parks.after) refl) was)
+    (put_in old.desk.rows mid.desk.rows k (with_holder parks.lent.row (Parked (parked_at session now))) (parked_at session now) (ap (λ b. b.rows) parks.after) refl) was)
 parted_as (Some back) ledger old mid new session now does parks parts was =
     let shrinks : Shrinks old mid =
     ⊎_elim
@@ -128,7 +128,7 @@ parted_as (Some back) ledger old mid new session now does parks parts was =
     (subst (λ (s : Kept). Holds ledger mid s.membership (held_of s.window)) (sym parks.0) (calm ledger old mid session.membership (held_of session.window) goes was))
 
 pub parted : (ledger : Ledger) (old new : Broker) (session : Kept) (now : ℕ) → Parts Calls old session now new → Holds ledger old session.membership (held_of session.window)
-    → Went ledger old new
+    → KeepsOut ledger old new
 parted ledger old new session now parts was =
     went_then ledger old parts.1 new (none_settled (Park (down session) now parts.0) old parts.1 refl parts.2)
     (parted_as parts.0 ledger old parts.1 new (down session) now parts.2 parts.2.makes parts.3 was)

@@ -1,10 +1,10 @@
--- In whose hands the sessions of a desk are, before and behind its calls.
+-- In whose hands the sessions of a desk are, before and after its calls.
 use Rattle.std.proofs.Common.{◌≡◌, ◌≢◌, ℕ, Option, Some, None, sym, ap, subst, ◌∙◌, ⊎_elim}
 use Rattle.std.specs.FinMap as map
 use Rattle.session_desk.specs.declared.session.Session.{Session}
 use Rattle.session_desk.specs.declared.row.Row.{Row}
-use Rattle.session_desk.specs.declared.row.Standing.TheVariants.{Lent, Parked, Kept, Away}
-use Rattle.session_desk.specs.Rows.{Rows, HasRow, IsKept, away, with_standing}
+use Rattle.session_desk.specs.declared.row.Holder.TheVariants.{Lent, Parked, Kept, Away}
+use Rattle.session_desk.specs.Rows.{Rows, HasRow, IsKept, away, with_holder}
 use Rattle.session_desk.specs.Books.{Books}
 use Rattle.session_desk.specs.Keeping.{Keeps, Buries}
 use Rattle.session_desk.specs.Sweeping.{Sweeps, HandsOut}
@@ -14,13 +14,13 @@ use Rattle.session_desk.proofs.Seen.{after_insert, insert_other, after_remove, r
 pub record IsLentTo {E P : Type 0} (rows : Rows E P) (number connection : ℕ) : Type 0 where
   pub row : Row E P
   pub has : HasRow rows number row
-  pub lent : row.standing ≡ Lent connection
+  pub lent : row.held_by ≡ Lent connection
 
 -- the session with this number is parked
 pub record IsParkedAs {E P : Type 0} (rows : Rows E P) (number : ℕ) (session : Session E P) : Type 0 where
   pub row : Row E P
   pub has : HasRow rows number row
-  pub parked : row.standing ≡ Parked session
+  pub parked : row.held_by ≡ Parked session
 
 pub one_holder : {E P : Type 0} (rows : Rows E P) (number one other : ℕ) → IsLentTo rows number one → IsLentTo rows number other → one ≡ other
 one_holder rows number one other these those = (let a = these.has in let b = those.has in let c = these.lent in let d = those.lent in cc)
@@ -58,18 +58,18 @@ pub lent_beside : {E P : Type 0} (rows : Rows E P) (k number connection : ℕ) (
     → IsLentTo (map.insert rows k row) number connection
 lent_beside rows k number connection row other is = record { row = is.row; has = insert_other rows k number row other ∙ is.has; lent = is.lent }
 
-pub not_parked : {E P : Type 0} (rows : Rows E P) (k number : ℕ) (row : Row E P) (session : Session E P) → (row.standing ≡ Parked session → ⊥)
+pub not_parked : {E P : Type 0} (rows : Rows E P) (k number : ℕ) (row : Row E P) (session : Session E P) → (row.held_by ≡ Parked session → ⊥)
     → IsParkedAs (map.insert rows k row) number session
     → (number ≢ k) × IsParkedAs rows number session
 not_parked {E} {P} rows k number row session isnt is =
     ⊎_elim
-    (λ (here : (number ≡ k) × (row ≡ is.row)). absurd (isnt (ap (λ (r : Row E P). r.standing) here.1 ∙ is.parked)))
+    (λ (here : (number ≡ k) × (row ≡ is.row)). absurd (isnt (ap (λ (r : Row E P). r.held_by) here.1 ∙ is.parked)))
     (λ (other : (number ≢ k) × HasRow rows number is.row). (other.0, record { row = is.row; has = other.1; parked = is.parked }))
     (after_insert rows k number row is.row is.has)
 
 -- a row that is not lent becomes one that is not parked
-pub replaces : {E P : Type 0} (old new : Books E P) (k : ℕ) (before after : Row E P) → HasRow old.rows k before → ((connection : ℕ) → before.standing ≡ Lent connection → ⊥)
-    → ((session : Session E P) → after.standing ≡ Parked session → ⊥) → new.rows ≡ map.insert old.rows k after → new.made ≡ old.made → KeepsRows old new
+pub replaces : {E P : Type 0} (old new : Books E P) (k : ℕ) (before after : Row E P) → HasRow old.rows k before → ((connection : ℕ) → before.held_by ≡ Lent connection → ⊥)
+    → ((session : Session E P) → after.held_by ≡ Parked session → ⊥) → new.rows ≡ map.insert old.rows k after → new.made ≡ old.made → KeepsRows old new
 replaces {E} {P} old new k before after has not_lent isnt is made =
     record {
       lent = λ number connection lent.
@@ -80,7 +80,7 @@ replaces {E} {P} old new k before after has not_lent isnt is made =
     }
 
 -- a row that is not lent is no more
-pub removes : {E P : Type 0} (old new : Books E P) (k : ℕ) (before : Row E P) → HasRow old.rows k before → ((connection : ℕ) → before.standing ≡ Lent connection → ⊥)
+pub removes : {E P : Type 0} (old new : Books E P) (k : ℕ) (before : Row E P) → HasRow old.rows k before → ((connection : ℕ) → before.held_by ≡ Lent connection → ⊥)
     → new.rows ≡ map.remove old.rows k → new.made ≡ old.made → KeepsRows old new
 removes {E} {P} old new k before has not_lent is made =
     record {
@@ -98,13 +98,13 @@ removes {E} {P} old new k before has not_lent is made =
     }
 
 -- calls of a desk that ask for no session, and hand none in that may be asked for again
-away_not_lent : {E P : Type 0} (row : Row E P) → row.standing ≡ Away → (connection : ℕ) → row.standing ≡ Lent connection → ⊥
+away_not_lent : {E P : Type 0} (row : Row E P) → row.held_by ≡ Away → (connection : ℕ) → row.held_by ≡ Lent connection → ⊥
 away_not_lent row gone connection lent = cc
 
 pub keeps : {E P : Type 0} (old new : Books E P) (session : Session E P) (answer : Option (Session E P)) → Keeps old session answer new → KeepsRows old new
 keeps old new session None does =
     let gone = does.gone in
-    replaces old new session.identity.number gone.row (with_standing gone.row (Kept session)) gone.is_row.has (away_not_lent gone.row gone.is_row.stands) (λ s is. cc)
+    replaces old new session.identity.number gone.row (with_holder gone.row (Kept session)) gone.is_row.has (away_not_lent gone.row gone.is_row.stands) (λ s is. cc)
     (ap (λ b. b.rows) does.after) (ap (λ b. b.made) does.after)
 keeps old new session (Some back) does = same_books old new does.2
 
@@ -114,7 +114,7 @@ buries cell old new session None does =
     removes old new session.identity.number gone.row gone.is_row.has (away_not_lent gone.row gone.is_row.stands) (ap (λ b. b.rows) does.1) (ap (λ b. b.made) does.1)
 buries cell old new session (Some back) does = same_books old new does.2
 
-swept : {E P : Type 0} (old new : Books E P) (number : ℕ) (row : Row E P) → HasRow old.rows number row → ((connection : ℕ) → row.standing ≡ Lent connection → ⊥)
+swept : {E P : Type 0} (old new : Books E P) (number : ℕ) (row : Row E P) → HasRow old.rows number row → ((connection : ℕ) → row.held_by ≡ Lent connection → ⊥)
     → new.rows ≡ map.insert old.rows number (away row.client) → new.made ≡ old.made → KeepsRows old new
 swept old new number row has not_lent is made = replaces old new number row (away row.client) has not_lent (λ s gone. cc) is made
 

@@ -14,7 +14,7 @@ pub mod Reading
 pub mod Unfaulted
 pub mod Heard
 pub mod Windows
-pub mod Turns
+pub mod ConnSteps
 pub mod Lent
 pub mod Given
 pub mod Sessions

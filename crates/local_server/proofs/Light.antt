@@ -14,10 +14,10 @@ use Rattle.conn_rules.specs.Packets.{job}
 use Rattle.conn_engine.specs.declared.input.Input.{Input}
 use Rattle.conn_engine.specs.declared.input.Input.TheVariants as inputs
 use Rattle.conn_laws.specs.Marks.{as_publish, publishes_in, publishes_of}
-use Rattle.packet_sizes.specs.Sizes.{IsShort, IsLight, IsShortUnlessHandedOn}
-use Rattle.packet_sizes.proofs.Forwarding.{light}
-use Rattle.packet_sizes.proofs.Lengths.{said}
-use Rattle.client_table.specs.Clients.{Said}
+use Rattle.conn_laws.specs.Sizes.{IsShort, IsLight, IsShortUnlessHandedOn}
+use Rattle.conn_laws.proofs.Forwarding.{light}
+use Rattle.conn_laws.proofs.Lengths.{said}
+use Rattle.client_table.specs.Clients.{StepOutput}
 use Rattle.local_server.specs.Messages.{Accepted, messages_through, IsBroughtBy, sent_in}
 use Rattle.local_server.specs.Sizes.{AllShort, IsWritable, AllWritable}
 use Rattle.local_server.proofs.Known.{Log, IsKnown}
@@ -91,6 +91,6 @@ all_writable : (sent : List Packet) → AllByRecursion IsShort sent → AllByRec
 all_writable [] all = tt
 all_writable (packet ∷ others) all = (said packet all.0, all_writable others all.1)
 
-pub writable : (told : List Said) → AllShort told → AllWritable told
+pub writable : (told : List StepOutput) → AllShort told → AllWritable told
 writable [] all = tt
 writable (one ∷ others) all = (all_writable one.packets all.0, writable others all.1)

@@ -1,12 +1,12 @@
--- A server has as many groups behind whatever happens.
+-- A server has as many groups after whatever happens.
 use Rattle.std.proofs.Common.{◌≡◌, ℕ, List, [], ◌∷◌, length, Result, Ok, Err, ap, ◌∙◌, inl, inr}
 use Rattle.std.proofs.lemmas.List.{length-set}
 use Rattle.group_jobs.specs.declared.message.Message.{Message}
 use Rattle.group_jobs.specs.declared.stamp.Stamp.{Stamp}
 use Rattle.local_group.specs.Groups.{Group}
 use Rattle.conn_supply.specs.declared.supply.OfferRefusal.{OfferRefusal}
-use Rattle.conn_supply.specs.Facts.{Fact}
-use Rattle.conn_supply.specs.Facts.Fact.{Attach, Withdraw, Kicked, Park, ParkAsIs, Keep, Bury, Sweep, LendPlace, TakePlace, Bind, Find, Match, Offer, MayTake, Take, TakeBack, Settle, GiveBack}
+use Rattle.conn_supply.specs.SupplyCalls.{SupplyCall}
+use Rattle.conn_supply.specs.SupplyCalls.SupplyCall.{Attach, Withdraw, Kicked, Park, ParkAsIs, Keep, Bury, Sweep, LendPlace, TakePlace, Bind, Find, Match, Offer, MayTake, Take, TakeBack, Settle, GiveBack}
 use Rattle.local_broker.specs.Places.{GroupPlace}
 use Rattle.local_broker.specs.Groups.{InGroup}
 use Rattle.local_broker.specs.Broker.{Broker}
@@ -22,7 +22,7 @@ offered old new slot connection message answer (inl no_port) = ap length no_port
 offered old new slot connection message answer (inr (inl no_group)) = ap length no_group.3
 offered old new slot connection message answer (inr (inr one)) = in_one old new slot _ one.2
 
-called : (fact : Fact GroupPlace) (old new : Broker) → Calls old fact new → length new.groups ≡ length old.groups
+called : (supply_call : SupplyCall GroupPlace) (old new : Broker) → Calls old supply_call new → length new.groups ≡ length old.groups
 called (Attach request answer) old new does = ap length does.groups
 called (Withdraw connection) old new does = ap length does.groups
 called (Kicked connection answer) old new does = ap length does.groups
@@ -46,5 +46,5 @@ called (GiveBack place place' envelope (Err back)) old new does = absurd does
 
 pub as_many : (happenings : List Happening) (old new : Broker) → HappensAll old happenings new → length new.groups ≡ length old.groups
 as_many [] old new all = ap (λ (b : Broker). length b.groups) all
-as_many (Called fact ∷ others) old new all = as_many others all.0 new all.2 ∙ called fact old all.0 all.1
+as_many (Called supply_call ∷ others) old new all = as_many others all.0 new all.2 ∙ called supply_call old all.0 all.1
 as_many (Closed ∷ others) old new all = as_many others all.0 new all.2 ∙ all.1.groups.as_many

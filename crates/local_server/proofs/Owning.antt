@@ -17,10 +17,10 @@ use Rattle.session_desk.specs.declared.session.Membership.TheVariants.{NotMember
 use Rattle.session_desk.specs.declared.row.Row.{Row}
 use Rattle.session_desk.specs.Rows.{Rows, HasRow, session_in}
 use Rattle.session_desk.proofs.Seen.{after_insert, after_remove}
-use Rattle.conn_supply.specs.Facts.{Fact}
-use Rattle.conn_supply.specs.Facts.Fact.{Offer}
+use Rattle.conn_supply.specs.SupplyCalls.{SupplyCall}
+use Rattle.conn_supply.specs.SupplyCalls.SupplyCall.{Offer}
 use Rattle.conn_supply.specs.Publishing.{Offers}
-use Rattle.conn_engine.specs.declared.standing.Link.{Link}
+use Rattle.conn_engine.specs.declared.phase.ConnectedClient.{ConnectedClient}
 use Rattle.conn_laws.specs.Calls.{settlement_of}
 use Rattle.local_broker.specs.Places.{GroupPlace}
 use Rattle.local_broker.specs.Broker.{Broker, IsNewBroker}
@@ -31,7 +31,7 @@ use Rattle.local_broker.proofs.Outs.{stays_all}
 use Rattle.local_server.specs.Settling.{AreOutFor}
 use Rattle.local_server.proofs.Stepping.{Links}
 use Rattle.local_server.proofs.Settled.{AddsIn, adds_nothing, adds_then, none_settled}
-use Rattle.local_server.proofs.Sessions.{with_link}
+use Rattle.local_server.proofs.Sessions.{with_connected}
 use Rattle.local_server.proofs.Known.{Log, AllKnown, AllKnow, StaysKnown, same_log, closed_each, new_known}
 use Rattle.local_server.proofs.Accepting.{IsNoOffer, called_known}
 
@@ -46,15 +46,15 @@ Kept = Session Held GroupPlace
 
 -- what the connections have, and what was accepted till now
 pub record Ledger : Type 0 where
-  pub links : Links
+  pub all_connected : Links
   pub log : Log
 
 -- a connection has this session then, or none
-abbrev pub with_hand : Ledger → ℕ → Option (Link GroupPlace) → Ledger
-with_hand ledger number link = record { links = with_link ledger.links number link; log = ledger.log }
+abbrev pub with_hand : Ledger → ℕ → Option (ConnectedClient GroupPlace) → Ledger
+with_hand ledger number connected = record { all_connected = with_connected ledger.all_connected number connected; log = ledger.log }
 
 abbrev pub with_log : Ledger → Log → Ledger
-with_log ledger log = record { links = ledger.links; log = log }
+with_log ledger log = record { all_connected = ledger.all_connected; log = log }
 
 -- who has a session: the desk, by the number of its row, or a connection
 pub data Keeper : Type 0 where
@@ -64,16 +64,16 @@ pub data Keeper : Type 0 where
 pub record IsAtDesk (rows : Rows Held GroupPlace) (number : ℕ) (session : Kept) : Type 0 where
   pub row : Row Held GroupPlace
   pub has : HasRow rows number row
-  pub stands : session_in row.standing ≡ Some session
+  pub stands : session_in row.held_by ≡ Some session
 
-pub record IsLinkOf (links : Links) (connection : ℕ) (session : Kept) : Type 0 where
-  pub link : Link GroupPlace
-  pub has : links connection ≡ Some link
-  pub its : link.session ≡ session
+pub record IsClientOf (all_connected : Links) (connection : ℕ) (session : Kept) : Type 0 where
+  pub connected : ConnectedClient GroupPlace
+  pub has : all_connected connection ≡ Some connected
+  pub its : connected.session ≡ session
 
 abbrev pub Has : Links → Rows Held GroupPlace → Keeper → Kept → Type 0
-Has links rows (AtDesk number) session = IsAtDesk rows number session
-Has links rows (InHand connection) session = IsLinkOf links connection session
+Has all_connected rows (AtDesk number) session = IsAtDesk rows number session
+Has all_connected rows (InHand connection) session = IsClientOf all_connected connection session
 
 -- no message of the ones is one of the others
 abbrev pub AreApart : Entries → Entries → Type 0
@@ -83,16 +83,16 @@ AreApart these those = (i j : ℕ) (e f : Held) → Contains these (i, e) → Co
 pub record Owns (ledger : Ledger) (b : Broker) : Type 0 where
   pub running : AreRunning b
   pub know : AllKnow ledger.log b.groups
-  pub known : (keeper : Keeper) (session : Kept) → Has ledger.links b.desk.rows keeper session → AllKnown ledger.log (held_of session.window)
-  pub owned : (keeper : Keeper) (session : Kept) → Has ledger.links b.desk.rows keeper session → AreOutFor b session.membership (held_of session.window)
-  pub once : (one other : Keeper) (s t : Kept) (i j : ℕ) (e f : Held) → Has ledger.links b.desk.rows one s → Has ledger.links b.desk.rows other t
+  pub known : (keeper : Keeper) (session : Kept) → Has ledger.all_connected b.desk.rows keeper session → AllKnown ledger.log (held_of session.window)
+  pub owned : (keeper : Keeper) (session : Kept) → Has ledger.all_connected b.desk.rows keeper session → AreOutFor b session.membership (held_of session.window)
+  pub once : (one other : Keeper) (s t : Kept) (i j : ℕ) (e f : Held) → Has ledger.all_connected b.desk.rows one s → Has ledger.all_connected b.desk.rows other t
       → Contains (held_of s.window) (i, e) → Contains (held_of t.window) (j, f) → e.stamp ≡ f.stamp → (one ≡ other) × (i ≡ j)
 
 -- a session in the hands of a step, with these messages
 pub record Mine (ledger : Ledger) (b : Broker) (membership : Membership GroupPlace) (entries : Entries) : Type 0 where
   pub owned : AreOutFor b membership entries
   pub known : AllKnown ledger.log entries
-  pub apart : (keeper : Keeper) (t : Kept) → Has ledger.links b.desk.rows keeper t → AreApart entries (held_of t.window)
+  pub apart : (keeper : Keeper) (t : Kept) → Has ledger.all_connected b.desk.rows keeper t → AreApart entries (held_of t.window)
   pub once : (i j : ℕ) (e f : Held) → Contains entries (i, e) → Contains entries (j, f) → e.stamp ≡ f.stamp → i ≡ j
 
 pub record Holds (ledger : Ledger) (b : Broker) (membership : Membership GroupPlace) (entries : Entries) : Type 0 where
@@ -153,21 +153,21 @@ pub same_rows : (old new : Broker) → new.desk.rows ≡ old.desk.rows → Shrin
 same_rows old new same number session is = subst (λ (r : Rows Held GroupPlace). IsAtDesk r number session) same is
 
 -- one call
-pub one_runs : (fact : Fact GroupPlace) (old new : Broker) → ((stamp : Stamp) → ¬ Spends stamp (Called fact)) → Calls old fact new → Shrinks old new → Runs [] old new
-one_runs fact old new spends does shrinks =
+pub one_runs : (supply_call : SupplyCall GroupPlace) (old new : Broker) → ((stamp : Stamp) → ¬ Spends stamp (Called supply_call)) → Calls old supply_call new → Shrinks old new → Runs [] old new
+one_runs supply_call old new spends does shrinks =
     record {
-      running = λ is. running_all (Called fact ∷ []) old new is (new, does, refl);
-      out = λ place envelope has apart. stays_all (Called fact ∷ []) old new place envelope has (new, does, refl) (spends envelope.stamp, tt);
+      running = λ is. running_all (Called supply_call ∷ []) old new is (new, does, refl);
+      out = λ place envelope has apart. stays_all (Called supply_call ∷ []) old new place envelope has (new, does, refl) (spends envelope.stamp, tt);
       desk = shrinks;
     }
 
-pub one : (fact : Fact GroupPlace) (old new : Broker) → ((stamp : Stamp) → ¬ Spends stamp (Called fact)) → settlement_of fact ≡ None → IsNoOffer fact → Calls old fact new
+pub one : (supply_call : SupplyCall GroupPlace) (old new : Broker) → ((stamp : Stamp) → ¬ Spends stamp (Called supply_call)) → settlement_of supply_call ≡ None → IsNoOffer supply_call → Calls old supply_call new
     → Shrinks old new → Goes [] old new
-one fact old new spends none no_offer does shrinks =
+one supply_call old new spends none no_offer does shrinks =
     record {
-      runs = one_runs fact old new spends does shrinks;
-      know = λ log running all was. called_known fact log old new spends no_offer does was;
-      adds = none_settled fact old new none does;
+      runs = one_runs supply_call old new spends does shrinks;
+      know = λ log running all was. called_known supply_call log old new spends no_offer does was;
+      adds = none_settled supply_call old new none does;
     }
 
 -- a message is offered to groups
@@ -175,18 +175,18 @@ pub offers_run : (slots : List ℕ) (old new : Broker) (connection : ℕ) (messa
     → Runs [] old new × AddsIn old.groups [] new.groups
 offers_run [] old new connection message taken does = let goes = still old new does.1 in (goes.runs, goes.adds)
 offers_run (slot ∷ slots) old new connection message taken does =
-    let offer : Fact GroupPlace = Offer slot connection message does.0 in
+    let offer : SupplyCall GroupPlace = Offer slot connection message does.0 in
     let rest = offers_run slots does.1 new connection message does.3 does.6 in (
       runs_then [] [] old does.1 new (one_runs offer old does.1 (λ stamp spends. spends) does.4 (same_rows old does.1 (ap (λ d. d.rows) does.4.1.desk))) rest.0,
       adds_then [] [] old.groups does.1.groups new.groups (none_settled offer old does.1 refl does.4) rest.1,
     )
 
 -- a row is written of which the desk has no session, or is no more
-pub written : (old new : Rows Held GroupPlace) (k : ℕ) (row : Row Held GroupPlace) → new ≡ map.insert old k row → session_in row.standing ≡ None
+pub written : (old new : Rows Held GroupPlace) (k : ℕ) (row : Row Held GroupPlace) → new ≡ map.insert old k row → session_in row.held_by ≡ None
     → (number : ℕ) (session : Kept) → IsAtDesk new number session → (number ≢ k) × IsAtDesk old number session
 written old new k row is none number session at =
     ⊎_elim
-    (λ (here : (number ≡ k) × (row ≡ at.row)). absurd (let a = ap (λ (r : Row Held GroupPlace). session_in r.standing) here.1 in let b = at.stands in cc))
+    (λ (here : (number ≡ k) × (row ≡ at.row)). absurd (let a = ap (λ (r : Row Held GroupPlace). session_in r.held_by) here.1 in let b = at.stands in cc))
     (λ (other : (number ≢ k) × HasRow old number at.row). (other.0, record { row = at.row; has = other.1; stands = at.stands }))
     (after_insert old k number row at.row (subst (λ (r : Rows Held GroupPlace). HasRow r number at.row) is at.has))
 
@@ -197,12 +197,12 @@ removed old new k is number session at =
     (other.0, record { row = at.row; has = other.1; stands = at.stands })
 
 -- a row is written with a session
-pub put_in : (old new : Rows Held GroupPlace) (k : ℕ) (row : Row Held GroupPlace) (its : Kept) → new ≡ map.insert old k row → session_in row.standing ≡ Some its
+pub put_in : (old new : Rows Held GroupPlace) (k : ℕ) (row : Row Held GroupPlace) (its : Kept) → new ≡ map.insert old k row → session_in row.held_by ≡ Some its
     → (number : ℕ) (session : Kept) → IsAtDesk new number session → ((number ≡ k) × (session ≡ its)) ⊎ IsAtDesk old number session
 put_in old new k row its is stands number session at =
     ⊎_elim
     (λ (here : (number ≡ k) × (row ≡ at.row)).
-    inl (here.0, same_Some session its (sym at.stands ∙ ap (λ (r : Row Held GroupPlace). session_in r.standing) (sym here.1) ∙ stands)))
+    inl (here.0, same_Some session its (sym at.stands ∙ ap (λ (r : Row Held GroupPlace). session_in r.held_by) (sym here.1) ∙ stands)))
     (λ (other : (number ≢ k) × HasRow old number at.row). inr (record { row = at.row; has = other.1; stands = at.stands }))
     (after_insert old k number row at.row (subst (λ (r : Rows Held GroupPlace). HasRow r number at.row) is at.has))
 
@@ -213,9 +213,9 @@ owned_on NotMember spent entries old new goes apart owned = owned
 owned_on (Member place) spent entries old new goes apart owned = λ i e c. goes.out place e (owned i e c) (λ j f d. apart j i f e d c)
 owned_on (Leaving place) spent entries old new goes apart owned = λ i e c. goes.out place e (owned i e c) (λ j f d. apart j i f e d c)
 
-pub had : (keeper : Keeper) (links : Links) (old new : Broker) (session : Kept) → Shrinks old new → Has links new.desk.rows keeper session → Has links old.desk.rows keeper session
-had (AtDesk number) links old new session shrinks has = shrinks number session has
-had (InHand connection) links old new session shrinks has = has
+pub had : (keeper : Keeper) (all_connected : Links) (old new : Broker) (session : Kept) → Shrinks old new → Has all_connected new.desk.rows keeper session → Has all_connected old.desk.rows keeper session
+had (AtDesk number) all_connected old new session shrinks has = shrinks number session has
+had (InHand connection) all_connected old new session shrinks has = has
 
 pub none_apart : (entries : Entries) → AreApart [] entries
 none_apart entries i j e f c d = absurd (contains_nil (i, e) c)
@@ -224,18 +224,18 @@ pub none_known : (log : Log) → AllKnown log []
 none_known log i e c = absurd (contains_nil {X = ℕ × Held} (i, e) c)
 
 pub owns_on : (spent : Entries) (ledger : Ledger) (log' : Log) (old new : Broker) → Runs spent old new → AllKnow log' new.groups → StaysKnown ledger.log log'
-    → ((keeper : Keeper) (t : Kept) → Has ledger.links new.desk.rows keeper t → AreApart spent (held_of t.window))
+    → ((keeper : Keeper) (t : Kept) → Has ledger.all_connected new.desk.rows keeper t → AreApart spent (held_of t.window))
     → Owns ledger old → Owns (with_log ledger log') new
 owns_on spent ledger log' old new goes know stays apart was =
     record {
       running = goes.running was.running;
       know = know;
-      known = λ keeper session has i e c. stays e.stamp e.message (was.known keeper session (had keeper ledger.links old new session goes.desk has) i e c);
+      known = λ keeper session has i e c. stays e.stamp e.message (was.known keeper session (had keeper ledger.all_connected old new session goes.desk has) i e c);
       owned = λ keeper session has.
           owned_on session.membership spent (held_of session.window) old new goes (apart keeper session has)
-          (was.owned keeper session (had keeper ledger.links old new session goes.desk has));
+          (was.owned keeper session (had keeper ledger.all_connected old new session goes.desk has));
       once = λ one other s t i j e f has its c d same.
-          was.once one other s t i j e f (had one ledger.links old new s goes.desk has) (had other ledger.links old new t goes.desk its) c d same;
+          was.once one other s t i j e f (had one ledger.all_connected old new s goes.desk has) (had other ledger.all_connected old new t goes.desk its) c d same;
     }
 
 pub owns_calm : (ledger : Ledger) (old new : Broker) → Goes [] old new → Owns ledger old → Owns ledger new
@@ -250,7 +250,7 @@ mine_on spent ledger log' old new membership entries goes stays apart was =
     record {
       owned = owned_on membership spent entries old new goes apart was.owned;
       known = λ i e c. stays e.stamp e.message (was.known i e c);
-      apart = λ keeper t has. was.apart keeper t (had keeper ledger.links old new t goes.desk has);
+      apart = λ keeper t has. was.apart keeper t (had keeper ledger.all_connected old new t goes.desk has);
       once = was.once;
     }
 
@@ -284,12 +284,12 @@ taken ledger old new k session at goes gone was =
         owned = owned_on session.membership [] (held_of session.window) old new goes.runs (none_apart (held_of session.window)) (was.owned (AtDesk k) session at);
         known = was.known (AtDesk k) session at;
         apart = λ keeper t has i j e f c d same.
-            other_keeper keeper t has (was.once (AtDesk k) keeper session t i j e f at (had keeper ledger.links old new t goes.runs.desk has) c d same).0;
+            other_keeper keeper t has (was.once (AtDesk k) keeper session t i j e f at (had keeper ledger.all_connected old new t goes.runs.desk has) c d same).0;
         once = λ i j e f c d same. (was.once (AtDesk k) (AtDesk k) session session i j e f at at c d same).1;
       };
     }
   where
-    other_keeper : (keeper : Keeper) (t : Kept) → Has ledger.links new.desk.rows keeper t → AtDesk k ≡ keeper → ⊥
+    other_keeper : (keeper : Keeper) (t : Kept) → Has ledger.all_connected new.desk.rows keeper t → AtDesk k ≡ keeper → ⊥
     other_keeper (AtDesk number) t has same = gone number t has (let e = same in cc)
     other_keeper (InHand connection) t has same = cc
 
@@ -305,20 +305,20 @@ owns_closed ledger old closed closes was =
     (closed_each ledger.log old.groups closed.groups closes.groups was.know) (same_log ledger.log) (λ keeper t has. none_apart (held_of t.window)) was
 
 -- a new broker: there is no session
-nobody : (keeper : Keeper) (links : Links) (capacity : ℕ) (shares : List Share) (b : Broker) (t : Kept) → IsNewBroker capacity shares b
-    → ((connection : ℕ) → links connection ≡ None) → Has links b.desk.rows keeper t → ⊥
-nobody (AtDesk number) links capacity shares b t new none has =
+nobody : (keeper : Keeper) (all_connected : Links) (capacity : ℕ) (shares : List Share) (b : Broker) (t : Kept) → IsNewBroker capacity shares b
+    → ((connection : ℕ) → all_connected connection ≡ None) → Has all_connected b.desk.rows keeper t → ⊥
+nobody (AtDesk number) all_connected capacity shares b t new none has =
     let empty = ap (λ d. map.get d.rows number) new.desk.books ∙ get-empty {X = Row Held GroupPlace} nat_cmp number in let there = has.has in cc
-nobody (InHand connection) links capacity shares b t new none has = let nothing = none connection in let some = has.has in cc
+nobody (InHand connection) all_connected capacity shares b t new none has = let nothing = none connection in let some = has.has in cc
 
 abbrev pub first_ledger : Links → Ledger
-first_ledger links = record { links = links; log = [] }
+first_ledger all_connected = record { all_connected = all_connected; log = [] }
 
-pub owns_new : (links : Links) (capacity : ℕ) (shares : List Share) (b : Broker) → IsNewBroker capacity shares b → ((connection : ℕ) → links connection ≡ None)
-    → Owns (first_ledger links) b
-owns_new links capacity shares b new none =
-    let nobodys : (keeper : Keeper) (t : Kept) → Has links b.desk.rows keeper t → ⊥ = λ keeper t has.
-    nobody keeper links capacity shares b t new none has in
+pub owns_new : (all_connected : Links) (capacity : ℕ) (shares : List Share) (b : Broker) → IsNewBroker capacity shares b → ((connection : ℕ) → all_connected connection ≡ None)
+    → Owns (first_ledger all_connected) b
+owns_new all_connected capacity shares b new none =
+    let nobodys : (keeper : Keeper) (t : Kept) → Has all_connected b.desk.rows keeper t → ⊥ = λ keeper t has.
+    nobody keeper all_connected capacity shares b t new none has in
     record {
       running = running_first capacity shares b new;
       know = new_known capacity b.groups new.groups;

@@ -3,9 +3,9 @@ use Rattle.std.proofs.Common.{◌≡◌, ◌≢◌, ℕ, List, [], ◌∷◌, �
 use Rattle.std.specs.List.{AllByRecursion, cons_option}
 use Rattle.std.proofs.lemmas.Bool.{cases_eq}
 use Rattle.group_jobs.specs.Stamps.{Held}
-use Rattle.conn_supply.specs.Facts.{Fact}
-use Rattle.conn_supply.specs.Facts.Fact.{Take, TakeBack}
-use Rattle.conn_engine.specs.declared.standing.Link.{Link}
+use Rattle.conn_supply.specs.SupplyCalls.{SupplyCall}
+use Rattle.conn_supply.specs.SupplyCalls.SupplyCall.{Take, TakeBack}
+use Rattle.conn_engine.specs.declared.phase.ConnectedClient.{ConnectedClient}
 use Rattle.conn_laws.specs.Calls.{hand_out_of, handed, MakesAll}
 use Rattle.conn_laws.specs.Transcripts.{IsMemberAt, KeepsNumbers}
 use Rattle.local_group.specs.declared.waiting.Waiting.{Waiting}
@@ -18,10 +18,10 @@ use Rattle.local_broker.specs.Histories.{Called, AreRunning, IsRunning}
 use Rattle.local_broker.proofs.Happened.{running_all}
 use Rattle.session_desk.specs.declared.session.Membership.{Membership}
 use Rattle.session_desk.specs.declared.session.Membership.TheVariants.{Member}
-use Rattle.local_server.specs.Turns.{Turn, turns_of}
+use Rattle.local_server.specs.ConnSteps.{ConnStep, conn_steps_of}
 use Rattle.local_server.specs.Transcripts.{place_in, place_of, last_place, IsAt}
-use Rattle.local_server.proofs.Turns.{own_place, other_turns}
-use Rattle.local_server.proofs.Sessions.{with_link, link_here, link_beside}
+use Rattle.local_server.proofs.ConnSteps.{own_place, other_steps}
+use Rattle.local_server.proofs.Sessions.{with_connected, connected_here, connected_beside}
 use Rattle.local_server.proofs.Stepping.{Links}
 
 -- the group of a place, and its number there
@@ -45,7 +45,7 @@ held_at : (group : Group) (front : Waiting) (place : GroupPlace) (envelope : Hel
     → IsAt (Some place) envelope
 held_at group front place envelope running is = (ap (λ (e : Held). e.stamp.group) is ∙ running.numbered, ap (λ (e : Held). e.place) is)
 
-one_handed : (fact : Fact GroupPlace) (old new : Broker) → AreRunning old → Calls old fact new → AllByRecursion IsItsOwn (cons_option (hand_out_of fact) [])
+one_handed : (supply_call : SupplyCall GroupPlace) (old new : Broker) → AreRunning old → Calls old supply_call new → AllByRecursion IsItsOwn (cons_option (hand_out_of supply_call) [])
 one_handed (Take place place' (Ok (Some envelope))) old new running does =
     let call = does.0 in (held_at call.before call.does.0 place envelope (running place.slot call.before call.there) call.does.2, tt)
 one_handed (TakeBack place place' (Ok (Some envelope))) old new running does =
@@ -57,45 +57,45 @@ first_and : (found : Option HandOut) (others : List HandOut) → AllByRecursion 
 first_and None others one all = all
 first_and (Some hand_out) others one all = (one.0, all)
 
-all_handed : (facts : List (Fact GroupPlace)) (old new : Broker) → AreRunning old → MakesAll Calls old facts new → AllByRecursion IsItsOwn (handed facts)
+all_handed : (supply_calls : List (SupplyCall GroupPlace)) (old new : Broker) → AreRunning old → MakesAll Calls old supply_calls new → AllByRecursion IsItsOwn (handed supply_calls)
 all_handed [] old new running made = tt
-all_handed (fact ∷ facts) old new running made =
-    first_and (hand_out_of fact) (handed facts) (one_handed fact old made.0 running made.1)
-    (all_handed facts made.0 new (running_all (Called fact ∷ []) old made.0 running (made.0, made.1, refl)) made.2)
+all_handed (supply_call ∷ supply_calls) old new running made =
+    first_and (hand_out_of supply_call) (handed supply_calls) (one_handed supply_call old made.0 running made.1)
+    (all_handed supply_calls made.0 new (running_all (Called supply_call ∷ []) old made.0 running (made.0, made.1, refl)) made.2)
 
 -- and it is the place of the session, by its group and its number there
-abbrev pub AreMembers : (GroupPlace → ℕ) → Option (Link GroupPlace) → List HandOut → Type 0
-AreMembers of link hand_outs = AllByRecursion (λ (h : HandOut). IsMemberAt of link h.0) hand_outs
+abbrev pub AreMembers : (GroupPlace → ℕ) → Option (ConnectedClient GroupPlace) → List HandOut → Type 0
+AreMembers of connected hand_outs = AllByRecursion (λ (h : HandOut). IsMemberAt of connected h.0) hand_outs
 
 same_Member : (one other : GroupPlace) → (let whole : Membership GroupPlace = Member one in whole ≡ Member other) → one ≡ other
 same_Member one other is = cc
 
-of_session : (link : Option (Link GroupPlace)) (hand_outs : List HandOut) → AreMembers slot_in link hand_outs → AreMembers number_in link hand_outs
-    → AllByRecursion IsItsOwn hand_outs → AllByRecursion (IsAt (place_of link)) (map (λ (h : HandOut). h.1) hand_outs)
-of_session link [] slots numbers own = tt
+of_session : (connected : Option (ConnectedClient GroupPlace)) (hand_outs : List HandOut) → AreMembers slot_in connected hand_outs → AreMembers number_in connected hand_outs
+    → AllByRecursion IsItsOwn hand_outs → AllByRecursion (IsAt (place_of connected)) (map (λ (h : HandOut). h.1) hand_outs)
+of_session connected [] slots numbers own = tt
 of_session None (hand_out ∷ others) slots numbers own = absurd slots.0
-of_session (Some link) (hand_out ∷ others) slots numbers own =
+of_session (Some connected) (hand_out ∷ others) slots numbers own =
     let one = slots.0 in
     let other = numbers.0 in
     let numbered : one.0.number ≡ hand_out.0.number = ap number_in (same_Member one.0 other.0 (sym one.1 ∙ other.1)) ∙ other.2 in (
       subst (λ (o : Option GroupPlace). IsAt o hand_out.1) (sym (ap place_in one.1)) (own.0.0 ∙ sym one.2, own.0.1 ∙ sym numbered),
-      of_session (Some link) others slots.1 numbers.1 own.1,
+      of_session (Some connected) others slots.1 numbers.1 own.1,
     )
 
-pub sends_own : (facts : List (Fact GroupPlace)) (old new : Broker) (link : Option (Link GroupPlace)) → AreRunning old → MakesAll Calls old facts new
-    → ((of : GroupPlace → ℕ) → KeepsNumbers Calls of → AreMembers of link (handed facts)) → AllByRecursion (IsAt (place_of link)) (map (λ (h : HandOut). h.1) (handed facts))
-sends_own facts old new link running made members =
-    of_session link (handed facts) (members slot_in (keeps_numbers slot_in)) (members number_in (keeps_numbers number_in)) (all_handed facts old new running made)
+pub sends_own : (supply_calls : List (SupplyCall GroupPlace)) (old new : Broker) (connected : Option (ConnectedClient GroupPlace)) → AreRunning old → MakesAll Calls old supply_calls new
+    → ((of : GroupPlace → ℕ) → KeepsNumbers Calls of → AreMembers of connected (handed supply_calls)) → AllByRecursion (IsAt (place_of connected)) (map (λ (h : HandOut). h.1) (handed supply_calls))
+sends_own supply_calls old new connected running made members =
+    of_session connected (handed supply_calls) (members slot_in (keeps_numbers slot_in)) (members number_in (keeps_numbers number_in)) (all_handed supply_calls old new running made)
 
--- where the turns of each connection lead, behind one more turn
-pub leads_to : (turns : List Turn) (turn : Turn) (links : Links) (number : ℕ) (after : Option (Link GroupPlace)) → turn.connection ≡ number → turn.place ≡ place_of after
-    → ((connection : ℕ) → last_place (turns_of connection turns) ≡ place_of (links connection))
-    → (connection : ℕ) → last_place (turns_of connection (turns ++ turn ∷ [])) ≡ place_of (with_link links number after connection)
-leads_to turns turn links number after its place was connection =
+-- where the steps of each connection lead, after one more step
+pub leads_to : (conn_steps : List ConnStep) (conn_step : ConnStep) (all_connected : Links) (number : ℕ) (after : Option (ConnectedClient GroupPlace)) → conn_step.connection ≡ number → conn_step.place ≡ place_of after
+    → ((connection : ℕ) → last_place (conn_steps_of connection conn_steps) ≡ place_of (all_connected connection))
+    → (connection : ℕ) → last_place (conn_steps_of connection (conn_steps ++ conn_step ∷ [])) ≡ place_of (with_connected all_connected number after connection)
+leads_to conn_steps conn_step all_connected number after its place was connection =
     ⊎_elim
     (λ (same : connection ≡ number).
-    own_place connection turns turn (its ∙ sym same) ∙ place
-    ∙ ap place_of (sym (link_here links number after) ∙ ap (with_link links number after) (sym same)))
+    own_place connection conn_steps conn_step (its ∙ sym same) ∙ place
+    ∙ ap place_of (sym (connected_here all_connected number after) ∙ ap (with_connected all_connected number after) (sym same)))
     (λ (other : connection ≢ number).
-    ap last_place (other_turns connection turns turn (λ e. other (e ∙ its))) ∙ was connection ∙ ap place_of (sym (link_beside links number connection after other)))
+    ap last_place (other_steps connection conn_steps conn_step (λ e. other (e ∙ its))) ∙ was connection ∙ ap place_of (sym (connected_beside all_connected number connection after other)))
     (cases_eq connection number)

@@ -4,14 +4,14 @@ use Rattle.std.proofs.lemmas.Option.{same_Some}
 use Rattle.std.specs.List.{AllByRecursion}
 use Rattle.conn_supply.specs.declared.supply.NoMemory.{NoMemory}
 use Rattle.conn_engine.specs.declared.input.Input.TheVariants as inputs
-use Rattle.conn_engine.specs.declared.standing.Link.{Link}
-use Rattle.conn_engine.specs.declared.standing.Standing.{Standing}
-use Rattle.conn_engine.specs.declared.standing.Standing.TheVariants.{Unconnected, Waiting, Connected, Ended}
+use Rattle.conn_engine.specs.declared.phase.ConnectedClient.{ConnectedClient}
+use Rattle.conn_engine.specs.declared.phase.ConnPhase.{ConnPhase}
+use Rattle.conn_engine.specs.declared.phase.ConnPhase.TheVariants.{Unconnected, Waiting, Connected, Ended}
 use Rattle.conn_laws.specs.Quotas.{quota_of, KeepsQuota, IsWithinQuota}
 use Rattle.conn_laws.proofs.Quotas as steps
-use Rattle.conn_laws.specs.Transcripts.{link_of}
+use Rattle.conn_laws.specs.Transcripts.{connected_of}
 use Rattle.client_table.specs.Cells.{InCell}
-use Rattle.client_table.specs.Clients.{ClientState, Said}
+use Rattle.client_table.specs.Clients.{ClientState, StepOutput}
 use Rattle.client_table.specs.Quotas.{IsCellWithinQuota}
 use Rattle.client_table.proofs.Quotas.{opens, receives, ticks_for, ends_for}
 use Rattle.local_broker.specs.Places.{GroupPlace}
@@ -23,9 +23,9 @@ use Rattle.local_server.specs.declared.event.TimedEvent.{TimedEvent}
 use Rattle.local_server.specs.declared.setup.Setup.{Setup}
 use Rattle.local_server.specs.Servers.{Clients, ServerState, IsNewServer}
 use Rattle.local_server.specs.Happening.{slot_of, EndsAt, EndsFirst, ClosesAll, Does, DoesIf, Happens}
-use Rattle.local_server.specs.Undergoing.{Undergoes}
+use Rattle.local_server.specs.GoingThrough.{GoesThrough}
 use Rattle.local_server.specs.Quotas.{AllWithinQuota}
-use Rattle.local_server.specs.Transcripts.{link_in, link_at}
+use Rattle.local_server.specs.Transcripts.{connected_in, connected_at}
 
 -- one cell of a row
 cell_of : {X : Type 0} (IsSo : X → Type 0) (cells : List X) (number : ℕ) (cell : X) → slice_get cells number ≡ Some cell → AllByRecursion IsSo cells → IsSo cell
@@ -50,22 +50,22 @@ in_cell old new number Becomes keeps cell all =
     let before = cell_of IsCellWithinQuota old number cell.before cell.has all in
     subst AllWithinQuota (sym cell.is) (set_of IsCellWithinQuota old number cell.after (keeps cell.before cell.after cell.becomes before) all)
 
-ended : (number : ℕ) (old new : Broker) (clients clients' : Clients) (now : ℕ) (said : List Said) (result : Result (Unit {0}) NoMemory)
+ended : (number : ℕ) (old new : Broker) (clients clients' : Clients) (now : ℕ) (said : List StepOutput) (result : Result (Unit {0}) NoMemory)
     → EndsAt number old clients now said result clients' new → AllWithinQuota clients → AllWithinQuota clients'
 ended number old new clients clients' now said result ends all =
     in_cell clients clients' number _ (λ before after is within. ends_for Calls slot_of IsWithinQuota tt (steps.within Calls slot_of) result before old new now inputs.Closing said after is within) ends all
 
-first_ended : (number : ℕ) (old new : Broker) (clients clients' : Clients) (now : ℕ) (said : List Said) (result : Result (Unit {0}) NoMemory)
+first_ended : (number : ℕ) (old new : Broker) (clients clients' : Clients) (now : ℕ) (said : List StepOutput) (result : Result (Unit {0}) NoMemory)
     → EndsFirst number old clients now said result clients' new → AllWithinQuota clients → AllWithinQuota clients'
 first_ended zero old new clients clients' now said result ends all = subst AllWithinQuota (sym ends.2) all
 first_ended (suc number) old new clients clients' now said result ends all =
     ended number ends.0 new ends.1 clients' now ends.3 ends.5 ends.7 (first_ended number old ends.0 clients ends.1 now ends.2 ends.4 ends.6 all)
 
-closed : (old new : Broker) (clients clients' : Clients) (now : ℕ) (said : List Said) (result : Result (Unit {0}) NoMemory) → ClosesAll old clients now said result clients' new
+closed : (old new : Broker) (clients clients' : Clients) (now : ℕ) (said : List StepOutput) (result : Result (Unit {0}) NoMemory) → ClosesAll old clients now said result clients' new
     → AllWithinQuota clients → AllWithinQuota clients'
 closed old new clients clients' now said result closes all = first_ended closes.2 closes.0 new clients clients' now said result closes.4 all
 
-does : (max_inflight : ℕ) (event : Event) (old new : Broker) (clients clients' : Clients) (now : ℕ) (said : List Said) (result : Result (Unit {0}) NoMemory)
+does : (max_inflight : ℕ) (event : Event) (old new : Broker) (clients clients' : Clients) (now : ℕ) (said : List StepOutput) (result : Result (Unit {0}) NoMemory)
     → Does event max_inflight old clients now said result clients' new → AllWithinQuota clients → AllWithinQuota clients'
 does max_inflight (events.Open number) old new clients clients' now said result done all =
     in_cell clients clients' number _ (λ before after is within. opens number _ before after is within) done.0 all
@@ -77,40 +77,40 @@ does max_inflight (events.End number) old new clients clients' now said result d
     in_cell clients clients' number _ (λ before after is within. ends_for Calls slot_of IsWithinQuota tt (steps.within Calls slot_of) result before old new now inputs.EndOfInput said after is within) done all
 does max_inflight events.Close old new clients clients' now said result done all = closed old new clients clients' now said result done all
 
-does_if : (max_inflight : ℕ) (going : Bool) (event : Event) (old new : Broker) (clients clients' : Clients) (now : ℕ) (said : List Said) (result : Result (Unit {0}) NoMemory)
+does_if : (max_inflight : ℕ) (going : Bool) (event : Event) (old new : Broker) (clients clients' : Clients) (now : ℕ) (said : List StepOutput) (result : Result (Unit {0}) NoMemory)
     → DoesIf going event max_inflight old clients now said result clients' new → AllWithinQuota clients → AllWithinQuota clients'
 does_if max_inflight true event old new clients clients' now said result done all = does max_inflight event old new clients clients' now said result done all
 does_if max_inflight false event old new clients clients' now said result done all = subst AllWithinQuota (sym done.2) all
 
-pub happened : (moment : ℕ) (event : Event) (said : List Said) (result : Result (Unit {0}) NoMemory) (old new : ServerState) → Happens old moment event said result new
+pub happened : (moment : ℕ) (event : Event) (said : List StepOutput) (result : Result (Unit {0}) NoMemory) (old new : ServerState) → Happens old moment event said result new
     → AllWithinQuota old.clients → AllWithinQuota new.clients
 happened moment event said result old new happens all = does_if _ (is_open old.broker) event old.broker new.broker old.clients new.clients new.clock said result happens.does all
 
-undergone : (events : List TimedEvent) (old new : ServerState) → Undergoes old events new → AllWithinQuota old.clients → AllWithinQuota new.clients
+undergone : (events : List TimedEvent) (old new : ServerState) → GoesThrough old events new → AllWithinQuota old.clients → AllWithinQuota new.clients
 undergone [] old new same all = subst AllWithinQuota (sym (ap (λ s. s.clients) same)) all
 undergone (first ∷ others) old new run all = undergone others run.0 new run.4 (happened first.moment first.event run.1 run.2 old run.0 run.3 all)
 
 pub new_within : (setup : Setup) (first : ServerState) → IsNewServer setup first → AllWithinQuota first.clients
 new_within setup first new = subst AllWithinQuota (sym new.clients) (all_of (IsCellWithinQuota {P = GroupPlace}) 64 None tt)
 
-pub within : (setup : Setup) (events : List TimedEvent) (first last : ServerState) → IsNewServer setup first → Undergoes first events last → AllWithinQuota last.clients
+pub within : (setup : Setup) (events : List TimedEvent) (first last : ServerState) → IsNewServer setup first → GoesThrough first events last → AllWithinQuota last.clients
 within setup events first last new run = undergone events first last run (new_within setup first new)
 
 -- so what a connection has keeps the quota of its CONNECT
-link_of_standing : (standing : Standing GroupPlace) (link : Link GroupPlace) → link_of standing ≡ Some link → IsWithinQuota standing
-    → KeepsQuota (quota_of link.terms) link.session.window
-link_of_standing (Unconnected opened) link is within = absurd (cc)
-link_of_standing (Waiting request ticks) link is within = absurd (cc)
-link_of_standing (Connected its) link is within = subst (λ (l : Link GroupPlace). KeepsQuota (quota_of l.terms) l.session.window) (same_Some its link is) within
-link_of_standing Ended link is within = absurd (cc)
+client_in_phase : (phase : ConnPhase GroupPlace) (connected : ConnectedClient GroupPlace) → connected_of phase ≡ Some connected → IsWithinQuota phase
+    → KeepsQuota (quota_of connected.terms) connected.session.window
+client_in_phase (Unconnected opened) connected is within = absurd (cc)
+client_in_phase (Waiting request ticks) connected is within = absurd (cc)
+client_in_phase (Connected its) connected is within = subst (λ (l : ConnectedClient GroupPlace). KeepsQuota (quota_of l.terms) l.session.window) (same_Some its connected is) within
+client_in_phase Ended connected is within = absurd (cc)
 
-link_in_cell : (cell : Option (Option (ClientState GroupPlace))) (clients : Clients) (number : ℕ) (link : Link GroupPlace) → slice_get clients number ≡ cell
-    → link_in cell ≡ Some link → AllWithinQuota clients → KeepsQuota (quota_of link.terms) link.session.window
-link_in_cell None clients number link there is all = absurd (cc)
-link_in_cell (Some None) clients number link there is all = absurd (cc)
-link_in_cell (Some (Some client)) clients number link there is all =
-    link_of_standing client.conn.standing link is (cell_of IsCellWithinQuota clients number (Some client) there all)
+connected_in_cell : (cell : Option (Option (ClientState GroupPlace))) (clients : Clients) (number : ℕ) (connected : ConnectedClient GroupPlace) → slice_get clients number ≡ cell
+    → connected_in cell ≡ Some connected → AllWithinQuota clients → KeepsQuota (quota_of connected.terms) connected.session.window
+connected_in_cell None clients number connected there is all = absurd (cc)
+connected_in_cell (Some None) clients number connected there is all = absurd (cc)
+connected_in_cell (Some (Some client)) clients number connected there is all =
+    client_in_phase client.conn.phase connected is (cell_of IsCellWithinQuota clients number (Some client) there all)
 
-pub keeps_quota : (clients : Clients) (number : ℕ) (link : Link GroupPlace) → AllWithinQuota clients → link_at clients number ≡ Some link
-    → KeepsQuota (quota_of link.terms) link.session.window
-keeps_quota clients number link all is = link_in_cell (slice_get clients number) clients number link refl is all
+pub keeps_quota : (clients : Clients) (number : ℕ) (connected : ConnectedClient GroupPlace) → AllWithinQuota clients → connected_at clients number ≡ Some connected
+    → KeepsQuota (quota_of connected.terms) connected.session.window
+keeps_quota clients number connected all is = connected_in_cell (slice_get clients number) clients number connected refl is all

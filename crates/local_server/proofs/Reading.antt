@@ -1,4 +1,4 @@
--- The turns that answer what is read of a client's stream.
+-- The steps that answer what is read of a client's stream.
 use Rattle.std.proofs.Common.{◌≡◌, ℕ, List, [], ◌∷◌, ◌++◌, Option, Some, None, refl, sym, ap, subst, ◌∙◌, ⊎_elim}
 use Rattle.std.specs.Prelude.{⊤}
 use Rattle.mqtt_fields.specs.declared.fault.StreamFault.{StreamFault}
@@ -8,43 +8,43 @@ use Rattle.conn_supply.specs.declared.reply.Then.{Then}
 use Rattle.conn_supply.specs.declared.reply.Then.TheVariants.{Go}
 use Rattle.conn_engine.specs.declared.input.Input.{Input}
 use Rattle.conn_engine.specs.declared.input.Input.TheVariants as inputs
-use Rattle.conn_engine.specs.declared.standing.Standing.{Standing}
-use Rattle.conn_engine.specs.declared.standing.Standing.TheVariants.{Unconnected, Waiting, Connected, Ended}
+use Rattle.conn_engine.specs.declared.phase.ConnPhase.{ConnPhase}
+use Rattle.conn_engine.specs.declared.phase.ConnPhase.TheVariants.{Unconnected, Waiting, Connected, Ended}
 use Rattle.client_table.specs.Cells.{kept_as}
 use Rattle.client_table.specs.Clients.{ClientState}
 use Rattle.client_table.specs.Streams.{longer, fed, IsRead, IsInFront}
 use Rattle.local_broker.specs.Places.{GroupPlace}
-use Rattle.local_server.specs.Turns.{Turn}
-use Rattle.local_server.specs.Streams.{StandsInFront, IsLeftTo, ReadsFrom, HearsTick, HearsLast}
+use Rattle.local_server.specs.ConnSteps.{ConnStep}
+use Rattle.local_server.specs.Streams.{StandsInFront, IsLeftTo, ReadsFrom, TickIsAnswered, LastIsAnswered}
 
--- a turn of this connection, which answers this input
-pub record Answers (number : ℕ) (input : Input) (next : Then) (turn : Turn) : Type 0 where
-  pub whose : turn.connection ≡ number
-  pub input_is : turn.input ≡ input
-  pub next_is : turn.next ≡ next
+-- a step of this connection, which answers this input
+pub record Answers (number : ℕ) (input : Input) (next : Then) (conn_step : ConnStep) : Type 0 where
+  pub whose : conn_step.connection ≡ number
+  pub input_is : conn_step.input ≡ input
+  pub next_is : conn_step.next ≡ next
 
-abbrev pub IsTurn : ℕ → Input → Then → List Turn → Type 0
-IsTurn number input next turns = (turn : Turn) × (turns ≡ turn ∷ []) × Answers number input next turn
+abbrev pub IsStep : ℕ → Input → Then → List ConnStep → Type 0
+IsStep number input next conn_steps = (conn_step : ConnStep) × (conn_steps ≡ conn_step ∷ []) × Answers number input next conn_step
 
--- the last turn of a connection, where it is open
-abbrev pub EndsTurns : ℕ → Input → Option (ClientState GroupPlace) → List Turn → Type 0
-EndsTurns number input None turns = turns ≡ []
-EndsTurns number input (Some client) turns = (turn : Turn) × (turns ≡ turn ∷ []) × (turn.connection ≡ number) × (turn.input ≡ input)
+-- the last step of a connection, where it is open
+abbrev pub EndsSteps : ℕ → Input → Option (ClientState GroupPlace) → List ConnStep → Type 0
+EndsSteps number input None conn_steps = conn_steps ≡ []
+EndsSteps number input (Some client) conn_steps = (conn_step : ConnStep) × (conn_steps ≡ conn_step ∷ []) × (conn_step.connection ≡ number) × (conn_step.input ≡ input)
 
-pub one_ends : (number : ℕ) (input : Input) (next : Then) (client : ClientState GroupPlace) (turns : List Turn) → IsTurn number input next turns
-    → EndsTurns number input (Some client) turns
-one_ends number input next client turns one = (one.0, one.1, one.2.whose, one.2.input_is)
+pub one_ends : (number : ℕ) (input : Input) (next : Then) (client : ClientState GroupPlace) (conn_steps : List ConnStep) → IsStep number input next conn_steps
+    → EndsSteps number input (Some client) conn_steps
+one_ends number input next client conn_steps one = (one.0, one.1, one.2.whose, one.2.input_is)
 
-pub ends_heard : (number : ℕ) (input : Input) (client : Option (ClientState GroupPlace)) (turns : List Turn) → EndsTurns number input client turns → HearsLast input client turns
-ends_heard number input None turns ends = ends
-ends_heard number input (Some client) turns ends = (ends.0, ends.1, ends.3)
+pub ends_heard : (number : ℕ) (input : Input) (client : Option (ClientState GroupPlace)) (conn_steps : List ConnStep) → EndsSteps number input client conn_steps → LastIsAnswered input client conn_steps
+ends_heard number input None conn_steps ends = ends
+ends_heard number input (Some client) conn_steps ends = (ends.0, ends.1, ends.3)
 
 -- no fault was met in the stream of the client that is here, where one is
 abbrev pub IsUnfaulted : Option (ClientState GroupPlace) → Type 0
 IsUnfaulted None = ⊤
 IsUnfaulted (Some client) = client.unread.fault ≡ None
 
--- what is unread, with a further piece behind it
+-- what is unread, with a further piece after it
 longer_none : (fault : Option StreamFault) (bytes piece : List ℕ) → fault ≡ None → longer fault bytes piece ≡ record { bytes = bytes ++ piece; fault = None }
 longer_none None bytes piece is = refl
 longer_none (Some fault) bytes piece is = absurd (cc)
@@ -54,10 +54,10 @@ pub fed_unread : (client : ClientState GroupPlace) (piece : List ℕ) → client
 fed_unread client piece sound = longer_none client.unread.fault client.unread.bytes piece sound
 
 -- a client that has read what is whole
-pub left_to : (standing : Standing GroupPlace) (client : ClientState GroupPlace) → IsRead client → IsLeftTo (kept_as standing client) client.unread.bytes
+pub left_to : (phase : ConnPhase GroupPlace) (client : ClientState GroupPlace) → IsRead client → IsLeftTo (kept_as phase client) client.unread.bytes
 left_to (Unconnected opened) client read = (refl, read)
 left_to (Waiting request ticks) client read = (refl, read)
-left_to (Connected link) client read = (refl, read)
+left_to (Connected connected) client read = (refl, read)
 left_to Ended client read = tt
 
 -- what stood in front
@@ -81,13 +81,13 @@ in_front inputs.Closing unread unread' sound none = absurd none
 ended : (after : Option (ClientState GroupPlace)) (rest : List ℕ) → after ≡ None → IsLeftTo after rest
 ended after rest is = subst (λ (c : Option (ClientState GroupPlace)). IsLeftTo c rest) (sym is) tt
 
--- a packet is read, and then what is behind it
-pub read_first : (number : ℕ) (packet : Packet) (next : Then) (unread between : Unread) (after : Option (ClientState GroupPlace)) (these those : List Turn)
-    → Takes unread packet between → next ≡ Go → IsTurn number (inputs.Packet packet) next these → ReadsFrom between.bytes those after → ReadsFrom unread.bytes (these ++ those) after
+-- a packet is read, and then what is after it
+pub read_first : (number : ℕ) (packet : Packet) (next : Then) (unread between : Unread) (after : Option (ClientState GroupPlace)) (these those : List ConnStep)
+    → Takes unread packet between → next ≡ Go → IsStep number (inputs.Packet packet) next these → ReadsFrom between.bytes those after → ReadsFrom unread.bytes (these ++ those) after
 read_first number packet next unread between after these those takes goes one from =
-    let turn = one.0 in
+    let conn_step = one.0 in
     let is = one.2 in
-    subst (λ (ts : List Turn). ReadsFrom unread.bytes (ts ++ those) after) (sym one.1) (
+    subst (λ (ts : List ConnStep). ReadsFrom unread.bytes (ts ++ those) after) (sym one.1) (
       from.0,
       (
         between.bytes,
@@ -99,26 +99,26 @@ read_first number packet next unread between after these those takes goes one fr
     )
 
 -- it is read, and the connection ends by it
-pub read_last : (number : ℕ) (input : Input) (next : Then) (unread unread' : Unread) (after : Option (ClientState GroupPlace)) (these : List Turn) → unread.fault ≡ None
-    → IsInFront unread input unread' → after ≡ None → IsTurn number input next these → ReadsFrom unread.bytes these after
+pub read_last : (number : ℕ) (input : Input) (next : Then) (unread unread' : Unread) (after : Option (ClientState GroupPlace)) (these : List ConnStep) → unread.fault ≡ None
+    → IsInFront unread input unread' → after ≡ None → IsStep number input next these → ReadsFrom unread.bytes these after
 read_last number input next unread unread' after these sound front over one =
-    subst (λ (ts : List Turn). ReadsFrom unread.bytes ts after) (sym one.1) (
+    subst (λ (ts : List ConnStep). ReadsFrom unread.bytes ts after) (sym one.1) (
       unread'.bytes,
       (unread'.bytes, subst (λ (i : Input). StandsInFront i unread.bytes unread'.bytes) (sym one.2.input_is) (in_front input unread unread' sound front), λ stops. refl, refl),
       ended after unread'.bytes over,
     )
 
 -- a Tick, by which the connection ends
-pub tick_last : (number : ℕ) (next : Then) (client : ClientState GroupPlace) (after : Option (ClientState GroupPlace)) (these : List Turn) → after ≡ None
-    → IsTurn number inputs.Tick next these → HearsTick (Some client) these after
+pub tick_last : (number : ℕ) (next : Then) (client : ClientState GroupPlace) (after : Option (ClientState GroupPlace)) (these : List ConnStep) → after ≡ None
+    → IsStep number inputs.Tick next these → TickIsAnswered (Some client) these after
 tick_last number next client after these over one =
-    subst (λ (ts : List Turn). HearsTick (Some client) ts after) (sym one.1)
+    subst (λ (ts : List ConnStep). TickIsAnswered (Some client) ts after) (sym one.1)
     (one.2.input_is, λ stops. refl, (client.unread.bytes, refl, ended after client.unread.bytes over))
 
 -- a Tick, and then what is read
-pub tick_first : (number : ℕ) (next : Then) (client between : ClientState GroupPlace) (after : Option (ClientState GroupPlace)) (these those : List Turn)
-    → between.unread ≡ client.unread → next ≡ Go → IsTurn number inputs.Tick next these → ReadsFrom between.unread.bytes those after
-    → HearsTick (Some client) (these ++ those) after
+pub tick_first : (number : ℕ) (next : Then) (client between : ClientState GroupPlace) (after : Option (ClientState GroupPlace)) (these those : List ConnStep)
+    → between.unread ≡ client.unread → next ≡ Go → IsStep number inputs.Tick next these → ReadsFrom between.unread.bytes those after
+    → TickIsAnswered (Some client) (these ++ those) after
 tick_first number next client between after these those same goes one from =
-    subst (λ (ts : List Turn). HearsTick (Some client) (ts ++ those) after) (sym one.1)
+    subst (λ (ts : List ConnStep). TickIsAnswered (Some client) (ts ++ those) after) (sym one.1)
     (one.2.input_is, λ stops. absurd (stops (one.2.next_is ∙ goes)), subst (λ (u : Unread). ReadsFrom u.bytes those after) same from)

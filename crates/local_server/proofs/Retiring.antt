@@ -11,13 +11,13 @@ use Rattle.session_desk.specs.declared.error.DeskError.TheVariants as errors
 use Rattle.session_desk.specs.declared.session.Membership.{Membership}
 use Rattle.session_desk.specs.declared.session.Membership.TheVariants.{NotMember, Member, Leaving}
 use Rattle.session_desk.specs.declared.row.Row.{Row}
-use Rattle.session_desk.specs.declared.row.Standing.{Standing}
-use Rattle.session_desk.specs.declared.row.Standing.TheVariants.{Lent, Parked, Kept as KeptIn}
-use Rattle.session_desk.specs.Rows.{Rows, IsKept, IsOverdue, session_in, away, with_standing, with_wait, new_row}
+use Rattle.session_desk.specs.declared.row.Holder.{Holder}
+use Rattle.session_desk.specs.declared.row.Holder.TheVariants.{Lent, Parked, Kept as KeptIn}
+use Rattle.session_desk.specs.Rows.{Rows, IsKept, IsOverdue, session_in, away, with_holder, with_wait, new_row}
 use Rattle.session_desk.specs.Attaching.{Request, AttachesClient, attaches_by}
 use Rattle.session_desk.specs.Keeping.{Buries}
 use Rattle.session_desk.specs.Sweeping.{HandsOut}
-use Rattle.conn_supply.specs.Facts.Fact.{Attach, Bury, Sweep, GiveBack}
+use Rattle.conn_supply.specs.SupplyCalls.SupplyCall.{Attach, Bury, Sweep, GiveBack}
 use Rattle.conn_engine.specs.Ending.{down, ending_session, GivesBack, Ends, RetiresFrom, RetiresAs, Retires, Sweeps}
 use Rattle.local_broker.specs.Places.{GroupPlace, cell_of}
 use Rattle.local_broker.specs.Broker.{Broker}
@@ -31,14 +31,14 @@ use Rattle.local_server.proofs.Accepting.{given_known}
 use Rattle.local_server.proofs.Owning.{Ledger, Entries, Kept, IsAtDesk, Owns, Holds, Goes, Shrinks, still, goes_then, one, same_rows, written, removed, had, owns_on, owns_calm, taken}
 
 -- what is held stays out, and nothing is settled
-pub record Went (ledger : Ledger) (old new : Broker) : Type 0 where
+pub record KeepsOut (ledger : Ledger) (old new : Broker) : Type 0 where
   pub owns : Owns ledger new
   pub adds : AddsIn old.groups [] new.groups
 
-pub went : (ledger : Ledger) (old new : Broker) → Goes [] old new → Owns ledger old → Went ledger old new
+pub went : (ledger : Ledger) (old new : Broker) → Goes [] old new → Owns ledger old → KeepsOut ledger old new
 went ledger old new goes was = record { owns = owns_calm ledger old new goes was; adds = goes.adds }
 
-pub went_then : (ledger : Ledger) (old mid new : Broker) → AddsIn old.groups [] mid.groups → Went ledger mid new → Went ledger old new
+pub went_then : (ledger : Ledger) (old mid new : Broker) → AddsIn old.groups [] mid.groups → KeepsOut ledger mid new → KeepsOut ledger old new
 went_then ledger old mid new adds those = record { owns = those.owns; adds = adds_then [] [] old.groups mid.groups new.groups adds those.adds }
 
 -- messages are given back
@@ -74,33 +74,33 @@ buried_rows (Some back) old new session does = same_rows old new (ap (λ b. b.ro
 buried : (old new : Broker) (session : Kept) → Calls old (Bury session) new → Goes [] old new
 buried old new session does = one (Bury session) old new (λ stamp spends. spends) refl tt does (buried_rows does.0 old new session does.1.makes)
 
-ends : (ledger : Ledger) (old new : Broker) (session : Kept) (gone : Bool) → held_of session.window ≡ [] → Ends Calls old session gone new → Owns ledger old → Went ledger old new
+ends : (ledger : Ledger) (old new : Broker) (session : Kept) (gone : Bool) → held_of session.window ≡ [] → Ends Calls old session gone new → Owns ledger old → KeepsOut ledger old new
 ends ledger old new session gone none (inl bury) was = went ledger old new (buried old new session bury.2) was
 ends ledger old new session gone none (inr keep) was = absurd (keep.0 none)
 
 retired_from : (ledger : Ledger) (old new : Broker) (session : Kept) (membership : Membership GroupPlace) (place : GroupPlace) (again : GroupPlace → Membership GroupPlace)
     (gone : Bool)
-    → RetiresFrom Calls old session place again gone new → Holds ledger old membership (held_of session.window) → Went ledger old new
+    → RetiresFrom Calls old session place again gone new → Holds ledger old membership (held_of session.window) → KeepsOut ledger old new
 retired_from ledger old new session membership place again gone retires was =
     let entries = held_of session.window in
     let given = given_back entries old retires.mid place retires.place' retires.left retires.given in
     let goes = given.0 in
     let know = goes.know ledger.log was.others.running was.mine.known was.others.know in
-    let others = owns_on entries ledger ledger.log old retires.mid goes.runs know (same_log ledger.log) (λ keeper t has. was.mine.apart keeper t (had keeper ledger.links old retires.mid t goes.runs.desk has)) was.others in
+    let others = owns_on entries ledger ledger.log old retires.mid goes.runs know (same_log ledger.log) (λ keeper t has. was.mine.apart keeper t (had keeper ledger.all_connected old retires.mid t goes.runs.desk has)) was.others in
     went_then ledger old retires.mid new goes.adds (ends ledger retires.mid new (ending_session session (again retires.place') retires.left) gone given.1 retires.ended others)
 
 retired_as : (membership : Membership GroupPlace) (ledger : Ledger) (old new : Broker) (session : Kept) (gone : Bool) → RetiresAs Calls old session membership gone new
-    → Holds ledger old membership (held_of session.window) → Went ledger old new
+    → Holds ledger old membership (held_of session.window) → KeepsOut ledger old new
 retired_as NotMember ledger old new session gone retires was = ends ledger old new (down session) gone was.mine.owned retires was.others
 retired_as (Member place) ledger old new session gone retires was = retired_from ledger old new session (Member place) place Member gone retires was
 retired_as (Leaving place) ledger old new session gone retires was = retired_from ledger old new session (Leaving place) place Leaving gone retires was
 
 pub retired : (ledger : Ledger) (old new : Broker) (session : Kept) (gone : Bool) → Retires Calls old session gone new → Holds ledger old session.membership (held_of session.window)
-    → Went ledger old new
+    → KeepsOut ledger old new
 retired ledger old new session gone retires was = retired_as session.membership ledger old new session gone retires was
 
 -- what is due is swept
-swept_row : (ledger : Ledger) (old mid : Broker) (now : ℕ) (session : Kept) (rows : Rows Held GroupPlace) (IsSo : Row Held GroupPlace → Type 0) (hands : Standing Held GroupPlace)
+swept_row : (ledger : Ledger) (old mid : Broker) (now : ℕ) (session : Kept) (rows : Rows Held GroupPlace) (IsSo : Row Held GroupPlace → Type 0) (hands : Holder Held GroupPlace)
     → session_in hands ≡ Some session → HandsOut old.desk.rows IsSo hands rows → mid.desk.rows ≡ rows → Calls old (Sweep now (Some session)) mid → Owns ledger old
     → Holds ledger mid session.membership (held_of session.window) × AddsIn old.groups [] mid.groups
 swept_row ledger old mid now session rows IsSo hands its out same does was =
@@ -119,7 +119,7 @@ swept_one ledger old mid now session does was =
     (λ parked. swept_row ledger old mid now session rows (IsOverdue now) (Parked session) refl parked.1 same does was)
     does.makes.1
 
-pub swept : (most : ℕ) (ledger : Ledger) (old new : Broker) (now : ℕ) → Sweeps Calls old now most new → Owns ledger old → Went ledger old new
+pub swept : (most : ℕ) (ledger : Ledger) (old new : Broker) (now : ℕ) → Sweeps Calls old now most new → Owns ledger old → KeepsOut ledger old new
 swept zero ledger old new now sweeps was = went ledger old new (still old new sweeps) was
 swept (suc most) ledger old new now (inl none) was =
     went ledger old new
@@ -170,7 +170,7 @@ module _ (ledger : Ledger) (old new : Broker) (request : Request) (goes : Shrink
       )
   client_gives client (Ok (Resumed session)) does =
       let k = does.number in
-      let rest = written old.desk.rows new.desk.rows k (with_standing does.row (Lent request.connection)) (ap (λ b. b.rows) does.after) refl in
+      let rest = written old.desk.rows new.desk.rows k (with_holder does.row (Lent request.connection)) (ap (λ b. b.rows) does.after) refl in
       taken ledger old new k session (record { row = does.row; has = does.its.has; stands = ap session_in does.its.stands }) (goes (λ number t at. (rest number t at).1))
       (λ number t at. (rest number t at).0) was
   client_gives client (Ok (Replace holder)) does =

@@ -1,11 +1,11 @@
 -- One event more.
 use Rattle.std.proofs.Common.{List, [], ◌∷◌, ◌++◌, refl, ap, sym, subst, ◌∙◌, append_assoc, append-nil, Ok}
-use Rattle.client_table.specs.Clients.{Said}
+use Rattle.client_table.specs.Clients.{StepOutput}
 use Rattle.local_server.specs.declared.event.TimedEvent.{TimedEvent}
 use Rattle.local_server.specs.Servers.{ServerState}
 use Rattle.local_server.specs.Happening.{Happens, HappensAll}
 
-pub more_happens : (events : List TimedEvent) (event : TimedEvent) (old mid new : ServerState) (said more : List Said)
+pub more_happens : (events : List TimedEvent) (event : TimedEvent) (old mid new : ServerState) (said more : List StepOutput)
     → HappensAll old events said mid → Happens mid event.moment event.event more (Ok tt) new → HappensAll old (events ++ event ∷ []) (said ++ more) new
 more_happens [] event old mid new said more run happens =
     (new, more, [], subst (λ s. Happens s event.moment event.event more (Ok tt) new) run.1 happens, (refl, refl), ap (λ xs. xs ++ more) run.0 ∙ sym (append-nil more))

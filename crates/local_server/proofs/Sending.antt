@@ -12,7 +12,7 @@ use Rattle.session_desk.specs.declared.session.Membership.{Membership}
 use Rattle.session_desk.specs.declared.session.Membership.TheVariants.{NotMember, Member, Leaving}
 use Rattle.conn_rules.specs.Acknowledging.{fate_of}
 use Rattle.conn_supply.specs.Acknowledging.{Settles, AcknowledgesFor}
-use Rattle.conn_supply.specs.Facts.Fact.{Settle}
+use Rattle.conn_supply.specs.SupplyCalls.SupplyCall.{Settle}
 use Rattle.local_group.specs.Groups.{Group}
 use Rattle.local_broker.specs.Places.{GroupPlace}
 use Rattle.local_broker.specs.Groups.{IsOutAt}
@@ -120,7 +120,7 @@ module _ (ledger : Ledger) (old new : Broker) (membership : Membership GroupPlac
       record {
         holds = record {
           others = owns_on spent ledger ledger.log old new runs (settled_known place place' envelope (fate_of code) ledger.log old new does was.others.know) (same_log ledger.log)
-              (λ keeper t there i j e f c d. was.mine.apart keeper t (had keeper ledger.links old new t runs.desk there) i j e f
+              (λ keeper t there i j e f c d. was.mine.apart keeper t (had keeper ledger.all_connected old new t runs.desk there) i j e f
               (subst (λ (x : ℕ × Held). Contains entries x) (only k i envelope e c) has) d)
               was.others;
           mine = mine_on spent ledger ledger.log old new membership (held_of (after_ack window k)) runs (same_log ledger.log) apart rest.mine;

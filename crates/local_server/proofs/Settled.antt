@@ -16,8 +16,8 @@ use Rattle.group_jobs.specs.Stamps.{Held, job_of}
 use Rattle.local_group.specs.Groups.{Group, Adds, Settles, Closes}
 use Rattle.conn_supply.specs.declared.supply.NoMemory.{NoMemory}
 use Rattle.conn_supply.specs.declared.supply.OfferRefusal.{OfferRefusal}
-use Rattle.conn_supply.specs.Facts.{Fact}
-use Rattle.conn_supply.specs.Facts.Fact.{Attach, Withdraw, Kicked, Park, ParkAsIs, Keep, Bury, Sweep, LendPlace, TakePlace, Bind, Find, Match, Offer, MayTake, Take, TakeBack, Settle, GiveBack}
+use Rattle.conn_supply.specs.SupplyCalls.{SupplyCall}
+use Rattle.conn_supply.specs.SupplyCalls.SupplyCall.{Attach, Withdraw, Kicked, Park, ParkAsIs, Keep, Bury, Sweep, LendPlace, TakePlace, Bind, Find, Match, Offer, MayTake, Take, TakeBack, Settle, GiveBack}
 use Rattle.conn_laws.specs.Calls.{settlement_of, settled, MakesAll}
 use Rattle.local_broker.specs.Places.{GroupPlace}
 use Rattle.local_broker.specs.Groups.{InGroup, IsOffered, HandsOut, HandsOutAgain, IsOutAt, IsSettled, IsGivenBack, LetsGo, ClosesEach}
@@ -26,7 +26,7 @@ use Rattle.local_broker.specs.Calls.{Calls, OffersFrom}
 use Rattle.local_broker.proofs.Closed.{either}
 use Rattle.local_server.specs.Settling.{Settlement, settled_in, settled_in_all, settled_seen_by}
 
--- behind one group stands another, in which these were settled besides
+-- after one group stands another, in which these were settled besides
 abbrev Ends : List (ℕ × Job × Fate) → Group → Group → Type 0
 Ends given old new = settled_in_all new.events ≡ settled_in_all old.events ++ given
 
@@ -114,7 +114,7 @@ none_offered old new at connection message answer does =
     does
 
 -- a call that settles nothing
-pub none_settled : (fact : Fact GroupPlace) (old new : Broker) → settlement_of fact ≡ None → Calls old fact new → AddsIn old.groups [] new.groups
+pub none_settled : (supply_call : SupplyCall GroupPlace) (old new : Broker) → settlement_of supply_call ≡ None → Calls old supply_call new → AddsIn old.groups [] new.groups
 none_settled (Attach request answer) old new none does = same_in old.groups new.groups does.groups
 none_settled (Withdraw connection) old new none does = same_in old.groups new.groups does.groups
 none_settled (Kicked connection answer) old new none does = same_in old.groups new.groups does.groups
@@ -170,11 +170,11 @@ cut None others none = (refl, none)
 cut (Some settlement) others none = absurd (cc)
 
 -- calls that settle nothing
-pub none_of_all : (facts : List (Fact GroupPlace)) (old new : Broker) → settled facts ≡ [] → MakesAll Calls old facts new → AddsIn old.groups [] new.groups
+pub none_of_all : (supply_calls : List (SupplyCall GroupPlace)) (old new : Broker) → settled supply_calls ≡ [] → MakesAll Calls old supply_calls new → AddsIn old.groups [] new.groups
 none_of_all [] old new none made = adds_nothing old new made
-none_of_all (fact ∷ facts) old new none made =
-    let parts = cut (settlement_of fact) (settled facts) none in
-    adds_then [] [] old.groups made.0.groups new.groups (none_settled fact old made.0 parts.0 made.1) (none_of_all facts made.0 new parts.1 made.2)
+none_of_all (supply_call ∷ supply_calls) old new none made =
+    let parts = cut (settlement_of supply_call) (settled supply_calls) none in
+    adds_then [] [] old.groups made.0.groups new.groups (none_settled supply_call old made.0 parts.0 made.1) (none_of_all supply_calls made.0 new parts.1 made.2)
 
 -- a message that a place has is settled
 pub one_settled : (place place' : GroupPlace) (envelope : Held) (how : Fate) (old new : Broker) → envelope.stamp.group ≡ place.slot

@@ -10,20 +10,20 @@ use Rattle.std.proofs.lemmas.List.Elements.{filter_map-append}
 use Rattle.dispatch_core.proofs.Spots.{slice_get-set_same, slice_get-set_other}
 use Rattle.group_jobs.specs.Stamps.{Held}
 use Rattle.local_group.specs.Groups.{Group}
-use Rattle.member_window.specs.Marks.{standing_down, standing_after_all}
-use Rattle.member_window.specs.Runs.{standing_of}
+use Rattle.member_window.specs.Marks.{window_down, window_after_all}
+use Rattle.member_window.specs.Runs.{window_state}
 use Rattle.member_window.proofs.Lists.{contains_nil}
 use Rattle.session_desk.specs.declared.row.Row.{Row}
-use Rattle.session_desk.specs.declared.row.Standing.TheVariants.{Parked}
+use Rattle.session_desk.specs.declared.row.Holder.TheVariants.{Parked}
 use Rattle.session_desk.specs.declared.session.Session.{Session}
 use Rattle.session_desk.specs.Rows.{HasRow, session_in}
 use Rattle.session_desk.specs.Books.{Books}
 use Rattle.conn_supply.specs.declared.supply.NoMemory.{NoMemory}
 use Rattle.conn_engine.specs.declared.input.Input.TheVariants as inputs
-use Rattle.conn_engine.specs.declared.standing.Link.{Link}
-use Rattle.conn_engine.specs.declared.standing.Opening.{Opening}
+use Rattle.conn_engine.specs.declared.phase.ConnectedClient.{ConnectedClient}
+use Rattle.conn_engine.specs.declared.phase.Opening.{Opening}
 use Rattle.client_table.specs.Cells.{InCell, Opens}
-use Rattle.client_table.specs.Clients.{ClientState, Said}
+use Rattle.client_table.specs.Clients.{ClientState, StepOutput}
 use Rattle.local_broker.specs.Places.{GroupPlace}
 use Rattle.local_broker.specs.Broker.{Broker, is_open}
 use Rattle.local_broker.specs.Calls.{Closes}
@@ -38,9 +38,9 @@ use Rattle.local_server.specs.Servers.{Clients, ServerState, IsNewServer}
 use Rattle.local_server.specs.Addressed.{AreNumbered}
 use Rattle.local_server.specs.Happening.{EndsAt, EndsFirst, Does, DoesIf, HappensAll}
 use Rattle.local_server.specs.Quotas.{AllWithinQuota}
-use Rattle.local_server.specs.Turns.{Turn, AllTell}
-use Rattle.local_server.specs.Streams.{HearsPiece, HearsTick, HearsLast, client_at, Came, CameIf, AllCame}
-use Rattle.local_server.specs.Transcripts.{transcript_of, link_in, link_at, session_of, place_of, StandsAsTold, AccountFor, KeepsTranscripts, AccountAlong}
+use Rattle.local_server.specs.ConnSteps.{ConnStep, AllTell}
+use Rattle.local_server.specs.Streams.{PieceIsAnswered, TickIsAnswered, LastIsAnswered, client_at, EventIsAnswered, EventIsAnsweredIf, AllAreAnswered}
+use Rattle.local_server.specs.Transcripts.{transcript_of, connected_in, connected_at, session_of, place_of, StandsAsTold, AccountFor, KeepsTranscripts, AccountAlong}
 use Rattle.local_server.specs.Settling.{Settlement, settled_in_all, settled_seen_by, HeldIsOut, SettlesWhatIsAcknowledged}
 use Rattle.local_server.proofs.Settled.{AddsIn, adds_nothing, adds_then, none_closed}
 use Rattle.local_server.specs.Messages.{SendsWhatWasAccepted}
@@ -55,94 +55,94 @@ use Rattle.local_server.proofs.HandOuts.{handed}
 use Rattle.local_server.proofs.Quotas as quotas
 use Rattle.local_server.proofs.Quotas.{keeps_quota}
 use Rattle.local_server.proofs.Lent.{IsLentTo, one_holder}
-use Rattle.local_server.proofs.Sessions.{with_link, link_here, link_beside, with_same, KeepsSessions}
+use Rattle.local_server.proofs.Sessions.{with_connected, connected_here, connected_beside, with_same, KeepsSessions}
 use Rattle.local_server.proofs.Stepping.{Links}
 use Rattle.local_server.proofs.Turning.{Keeps, Says, silent, then_says, says_so, receives, ticks_for, ends_for}
-use Rattle.local_server.proofs.Reading.{EndsTurns, ends_heard}
+use Rattle.local_server.proofs.Reading.{EndsSteps, ends_heard}
 use Rattle.local_server.proofs.Unfaulted.{AreUnfaulted, unfaulted_at, still_unfaulted, new_unfaulted}
 use Rattle.local_server.proofs.Heard.{client_in, cell_heard, EndsBelow, none_below, one_more_below, untouched}
 
 -- what the clients in these cells have
-abbrev links_at : Clients → Links
-links_at clients = λ connection. link_at clients connection
+abbrev all_connected_at : Clients → Links
+all_connected_at clients = λ connection. connected_at clients connection
 
 -- one cell is written
 written_at : (clients clients' : Clients) (number : ℕ) (before after : Option (ClientState GroupPlace)) → slice_get clients number ≡ Some before
     → clients' ≡ slice_set clients number after
-    → (each : ℕ) → with_link (links_at clients) number (link_in (Some after)) each ≡ links_at clients' each
+    → (each : ℕ) → with_connected (all_connected_at clients) number (connected_in (Some after)) each ≡ all_connected_at clients' each
 written_at clients clients' number before after has is each =
     ⊎_elim
     (λ (same : each ≡ number).
-    ap (with_link (links_at clients) number (link_in (Some after))) same ∙ link_here (links_at clients) number (link_in (Some after))
+    ap (with_connected (all_connected_at clients) number (connected_in (Some after))) same ∙ connected_here (all_connected_at clients) number (connected_in (Some after))
     ∙ sym
-    (ap (links_at clients') same ∙ ap (λ (l : Clients). link_at l number) is
-    ∙ ap link_in (slice_get-set_same clients number after (slice_get_within clients number before has))))
+    (ap (all_connected_at clients') same ∙ ap (λ (l : Clients). connected_at l number) is
+    ∙ ap connected_in (slice_get-set_same clients number after (slice_get_within clients number before has))))
     (λ (other : each ≢ number).
-    link_beside (links_at clients) number each (link_in (Some after)) other
-    ∙ sym (ap (λ (l : Clients). link_at l each) is ∙ ap link_in (slice_get-set_other clients number each after other)))
+    connected_beside (all_connected_at clients) number each (connected_in (Some after)) other
+    ∙ sym (ap (λ (l : Clients). connected_at l each) is ∙ ap connected_in (slice_get-set_other clients number each after other)))
     (cases_eq each number)
 
-in_cell : (first : Broker) (turns : List Turn) (said : List Said) (clients clients' : Clients) (number : ℕ) (old new : Broker)
-    (Becomes : Option (ClientState GroupPlace) → Option (ClientState GroupPlace) → Type 0) (Answers : List Turn → Type 0)
-    (cell : InCell clients number Becomes clients') → Keeps first turns (links_at clients) old
-    → (Keeps first turns (with_link (links_at clients) number (link_in (Some cell.before))) old
-    → Says first turns said Answers (with_link (links_at clients) number (link_in (Some cell.after))) new)
-    → Says first turns said Answers (links_at clients') new
-in_cell first turns said clients clients' number old new Becomes Answers cell keeps does =
-    subst (λ (l : Links). Says first turns said Answers l new) (λ i each. written_at clients clients' number cell.before cell.after cell.has cell.is each i)
-    (does (subst (λ (l : Links). Keeps first turns l old) (sym (with_same (links_at clients) number (link_in (Some cell.before)) (ap link_in cell.has))) keeps))
+in_cell : (first : Broker) (conn_steps : List ConnStep) (said : List StepOutput) (clients clients' : Clients) (number : ℕ) (old new : Broker)
+    (Becomes : Option (ClientState GroupPlace) → Option (ClientState GroupPlace) → Type 0) (Answers : List ConnStep → Type 0)
+    (cell : InCell clients number Becomes clients') → Keeps first conn_steps (all_connected_at clients) old
+    → (Keeps first conn_steps (with_connected (all_connected_at clients) number (connected_in (Some cell.before))) old
+    → Says first conn_steps said Answers (with_connected (all_connected_at clients) number (connected_in (Some cell.after))) new)
+    → Says first conn_steps said Answers (all_connected_at clients') new
+in_cell first conn_steps said clients clients' number old new Becomes Answers cell keeps does =
+    subst (λ (l : Links). Says first conn_steps said Answers l new) (λ i each. written_at clients clients' number cell.before cell.after cell.has cell.is each i)
+    (does (subst (λ (l : Links). Keeps first conn_steps l old) (sym (with_same (all_connected_at clients) number (connected_in (Some cell.before)) (ap connected_in cell.has))) keeps))
 
 -- a connection is opened: it has no session
-opened : (number : ℕ) (opening : Opening) (before after : Option (ClientState GroupPlace)) → Opens number opening before after → link_in (Some before) ≡ link_in (Some after)
-opened number opening None after does = ap (λ (c : Option (ClientState GroupPlace)). link_in (Some c)) (sym does)
-opened number opening (Some client) after does = ap (λ (c : Option (ClientState GroupPlace)). link_in (Some c)) (sym does)
+opened : (number : ℕ) (opening : Opening) (before after : Option (ClientState GroupPlace)) → Opens number opening before after → connected_in (Some before) ≡ connected_in (Some after)
+opened number opening None after does = ap (λ (c : Option (ClientState GroupPlace)). connected_in (Some c)) (sym does)
+opened number opening (Some client) after does = ap (λ (c : Option (ClientState GroupPlace)). connected_in (Some c)) (sym does)
 
 -- the close
-ended : (number : ℕ) (first : Broker) (turns : List Turn) (old new : Broker) (clients clients' : Clients) (now : ℕ) (said : List Said) (result : Result (Unit {0}) NoMemory)
-    → IsOk result → AreNumbered clients → Keeps first turns (links_at clients) old → (ends : EndsAt number old clients now said result clients' new)
-    → Says first turns said (EndsTurns number inputs.Closing (client_at clients number)) (links_at clients') new
-ended number first turns old new clients clients' now said result ok all keeps ends =
-    subst (λ (c : Option (ClientState GroupPlace)). Says first turns said (EndsTurns number inputs.Closing c) (links_at clients') new) (sym (client_in clients number ends.before ends.has))
-    (in_cell first turns said clients clients' number old new _ (EndsTurns number inputs.Closing ends.before) ends keeps
+ended : (number : ℕ) (first : Broker) (conn_steps : List ConnStep) (old new : Broker) (clients clients' : Clients) (now : ℕ) (said : List StepOutput) (result : Result (Unit {0}) NoMemory)
+    → IsOk result → AreNumbered clients → Keeps first conn_steps (all_connected_at clients) old → (ends : EndsAt number old clients now said result clients' new)
+    → Says first conn_steps said (EndsSteps number inputs.Closing (client_at clients number)) (all_connected_at clients') new
+ended number first conn_steps old new clients clients' now said result ok all keeps ends =
+    subst (λ (c : Option (ClientState GroupPlace)). Says first conn_steps said (EndsSteps number inputs.Closing c) (all_connected_at clients') new) (sym (client_in clients number ends.before ends.has))
+    (in_cell first conn_steps said clients clients' number old new _ (EndsSteps number inputs.Closing ends.before) ends keeps
     (λ has.
-    ends_for result ends.before ends.after first turns (links_at clients) number old new now inputs.Closing said ok tt (at ends.before clients number all ends.has) has ends.becomes))
+    ends_for result ends.before ends.after first conn_steps (all_connected_at clients) number old new now inputs.Closing said ok tt (at ends.before clients number all ends.has) has ends.becomes))
 
-first_ended : (number : ℕ) (first : Broker) (turns : List Turn) (old new : Broker) (clients clients' : Clients) (now : ℕ) (said : List Said) (result : Result (Unit {0}) NoMemory)
-    → IsOk result → AreNumbered clients → Keeps first turns (links_at clients) old → EndsFirst number old clients now said result clients' new
-    → Says first turns said (EndsBelow number clients) (links_at clients') new
-first_ended zero first turns old new clients clients' now said result ok all keeps ends =
-    subst (λ (c : Clients). Says first turns said (EndsBelow 0 clients) (links_at c) new) (sym ends.2)
-    (silent first turns (EndsBelow 0 clients) (links_at clients) old new said (none_below clients) ends.0 ends.3 keeps)
-first_ended (suc number) first turns old new clients clients' now said result ok all keeps ends =
+first_ended : (number : ℕ) (first : Broker) (conn_steps : List ConnStep) (old new : Broker) (clients clients' : Clients) (now : ℕ) (said : List StepOutput) (result : Result (Unit {0}) NoMemory)
+    → IsOk result → AreNumbered clients → Keeps first conn_steps (all_connected_at clients) old → EndsFirst number old clients now said result clients' new
+    → Says first conn_steps said (EndsBelow number clients) (all_connected_at clients') new
+first_ended zero first conn_steps old new clients clients' now said result ok all keeps ends =
+    subst (λ (c : Clients). Says first conn_steps said (EndsBelow 0 clients) (all_connected_at c) new) (sym ends.2)
+    (silent first conn_steps (EndsBelow 0 clients) (all_connected_at clients) old new said (none_below clients) ends.0 ends.3 keeps)
+first_ended (suc number) first conn_steps old new clients clients' now said result ok all keeps ends =
     let both : IsOk (result_and ends.4 ends.5) = subst IsOk ends.9 ok in
-    subst (λ (s : List Said). Says first turns s (EndsBelow (suc number) clients) (links_at clients') new) (sym ends.8)
-    (then_says first turns ends.2 ends.3 (EndsBelow number clients) (EndsTurns number inputs.Closing (client_at ends.1 number)) (EndsBelow (suc number) clients)
-    (links_at ends.1) (links_at clients') ends.0 new
+    subst (λ (s : List StepOutput). Says first conn_steps s (EndsBelow (suc number) clients) (all_connected_at clients') new) (sym ends.8)
+    (then_says first conn_steps ends.2 ends.3 (EndsBelow number clients) (EndsSteps number inputs.Closing (client_at ends.1 number)) (EndsBelow (suc number) clients)
+    (all_connected_at ends.1) (all_connected_at clients') ends.0 new
     (λ these those below last.
     one_more_below number clients these those below
-    (subst (λ (c : Option (ClientState GroupPlace)). EndsTurns number inputs.Closing c those)
+    (subst (λ (c : Option (ClientState GroupPlace)). EndsSteps number inputs.Closing c those)
     (untouched number number old ends.0 clients ends.1 now ends.2 ends.4 (omega arith) ends.6) last))
-    (first_ended number first turns old ends.0 clients ends.1 now ends.2 ends.4 (first_ok ends.4 ends.5 both) all keeps ends.6)
+    (first_ended number first conn_steps old ends.0 clients ends.1 now ends.2 ends.4 (first_ok ends.4 ends.5 both) all keeps ends.6)
     (λ before kept.
     ended number first before ends.0 new ends.1 clients' now ends.3 ends.5 (then_ok ends.4 ends.5 both)
     (addressed.first_ended number old ends.0 clients ends.1 now ends.2 ends.4 all ends.6) kept ends.7))
 
-shut : (first : Broker) (turns : List Turn) (links : Links) (old closed : Broker) → Closes old closed → Keeps first turns links old → Keeps first turns links closed
-shut first turns links old closed closes keeps =
+shut : (first : Broker) (conn_steps : List ConnStep) (all_connected : Links) (old closed : Broker) → Closes old closed → Keeps first conn_steps all_connected old → Keeps first conn_steps all_connected closed
+shut first conn_steps all_connected old closed closes keeps =
     record {
       happenings = keeps.happenings ++ Closed ∷ [];
       led = joins keeps.happenings (Closed ∷ []) first old closed keeps.led (closed, closes, refl);
       fresh =
           keeps.fresh
           ∙ ap (map (λ (h : HandOut). h.1)) (sym (filter_map-append handed_by keeps.happenings (Closed ∷ []) ∙ append-nil (handed_by_all keeps.happenings)));
-      sessions = subst (λ (desk : Books Held GroupPlace). KeepsSessions turns desk links) (sym closes.desk) keeps.sessions;
+      sessions = subst (λ (desk : Books Held GroupPlace). KeepsSessions conn_steps desk all_connected) (sym closes.desk) keeps.sessions;
       accepted = keeps.accepted;
       accepts = keeps.accepts;
       sent = keeps.sent;
       light = keeps.light;
       placed = keeps.placed;
       at = keeps.at;
-      owns = owns_closed (record { links = links; log = keeps.accepted }) old closed closes keeps.owns;
+      owns = owns_closed (record { all_connected = all_connected; log = keeps.accepted }) old closed closes keeps.owns;
       settled = keeps.settled;
       acknowledged = keeps.acknowledged;
       adds =
@@ -150,91 +150,91 @@ shut first turns links old closed closes keeps =
           (adds_then keeps.settled [] first.groups old.groups closed.groups keeps.adds (none_closed old.groups closed.groups closes.groups));
     }
 
--- an event, where memory was not wanted
-does : (max_inflight : ℕ) (event : Event) (first : Broker) (turns : List Turn) (old new : Broker) (clients clients' : Clients) (now : ℕ) (said : List Said) (result : Result (Unit {0}) NoMemory)
-    → IsOk result → AreNumbered clients → AreUnfaulted clients → Keeps first turns (links_at clients) old → Does event max_inflight old clients now said result clients' new
-    → Says first turns said (λ more. Came event clients more clients') (links_at clients') new
-does max_inflight (events.Open number) first turns old new clients clients' now said result ok all sound keeps done =
+-- an event, where no allocation failed
+does : (max_inflight : ℕ) (event : Event) (first : Broker) (conn_steps : List ConnStep) (old new : Broker) (clients clients' : Clients) (now : ℕ) (said : List StepOutput) (result : Result (Unit {0}) NoMemory)
+    → IsOk result → AreNumbered clients → AreUnfaulted clients → Keeps first conn_steps (all_connected_at clients) old → Does event max_inflight old clients now said result clients' new
+    → Says first conn_steps said (λ more. EventIsAnswered event clients more clients') (all_connected_at clients') new
+does max_inflight (events.Open number) first conn_steps old new clients clients' now said result ok all sound keeps done =
     let cell = done.0 in
-    let Silent : List Turn → Type 0 = λ more. more ≡ [] in
-    in_cell first turns said clients clients' number old new _ Silent cell keeps
+    let Silent : List ConnStep → Type 0 = λ more. more ≡ [] in
+    in_cell first conn_steps said clients clients' number old new _ Silent cell keeps
     (λ has.
-    subst (λ (l : Option (Link GroupPlace)). Says first turns said Silent (with_link (links_at clients) number l) new) (opened number _ cell.before cell.after cell.becomes)
-    (silent first turns Silent (with_link (links_at clients) number (link_in (Some cell.before))) old new said refl done.2 done.1 has))
-does max_inflight (events.Bytes number piece) first turns old new clients clients' now said result ok all sound keeps cell =
-    cell_heard clients clients' number _ cell (λ before after. Says first turns said (λ more. HearsPiece before piece more after) (links_at clients') new)
-    (in_cell first turns said clients clients' number old new _ (λ more. HearsPiece cell.before piece more cell.after) cell keeps
+    subst (λ (l : Option (ConnectedClient GroupPlace)). Says first conn_steps said Silent (with_connected (all_connected_at clients) number l) new) (opened number _ cell.before cell.after cell.becomes)
+    (silent first conn_steps Silent (with_connected (all_connected_at clients) number (connected_in (Some cell.before))) old new said refl done.2 done.1 has))
+does max_inflight (events.Bytes number piece) first conn_steps old new clients clients' now said result ok all sound keeps cell =
+    cell_heard clients clients' number _ cell (λ before after. Says first conn_steps said (λ more. PieceIsAnswered before piece more after) (all_connected_at clients') new)
+    (in_cell first conn_steps said clients clients' number old new _ (λ more. PieceIsAnswered cell.before piece more cell.after) cell keeps
     (λ has.
-    receives result cell.before cell.after first turns (links_at clients) number old new now piece said ok (at cell.before clients number all cell.has)
+    receives result cell.before cell.after first conn_steps (all_connected_at clients) number old new now piece said ok (at cell.before clients number all cell.has)
     (unfaulted_at cell.before clients number sound cell.has) has cell.becomes))
-does max_inflight (events.Tick number) first turns old new clients clients' now said result ok all sound keeps cell =
-    cell_heard clients clients' number _ cell (λ before after. Says first turns said (λ more. HearsTick before more after) (links_at clients') new)
-    (in_cell first turns said clients clients' number old new _ (λ more. HearsTick cell.before more cell.after) cell keeps
+does max_inflight (events.Tick number) first conn_steps old new clients clients' now said result ok all sound keeps cell =
+    cell_heard clients clients' number _ cell (λ before after. Says first conn_steps said (λ more. TickIsAnswered before more after) (all_connected_at clients') new)
+    (in_cell first conn_steps said clients clients' number old new _ (λ more. TickIsAnswered cell.before more cell.after) cell keeps
     (λ has.
-    ticks_for result cell.before cell.after first turns (links_at clients) number old new now said ok (at cell.before clients number all cell.has)
+    ticks_for result cell.before cell.after first conn_steps (all_connected_at clients) number old new now said ok (at cell.before clients number all cell.has)
     (unfaulted_at cell.before clients number sound cell.has) has cell.becomes))
-does max_inflight (events.End number) first turns old new clients clients' now said result ok all sound keeps cell =
-    cell_heard clients clients' number _ cell (λ before after. Says first turns said (HearsLast inputs.EndOfInput before) (links_at clients') new)
-    (says_so first turns said (EndsTurns number inputs.EndOfInput cell.before) (HearsLast inputs.EndOfInput cell.before) (links_at clients') new
+does max_inflight (events.End number) first conn_steps old new clients clients' now said result ok all sound keeps cell =
+    cell_heard clients clients' number _ cell (λ before after. Says first conn_steps said (LastIsAnswered inputs.EndOfInput before) (all_connected_at clients') new)
+    (says_so first conn_steps said (EndsSteps number inputs.EndOfInput cell.before) (LastIsAnswered inputs.EndOfInput cell.before) (all_connected_at clients') new
     (λ these ends. ends_heard number inputs.EndOfInput cell.before these ends)
-    (in_cell first turns said clients clients' number old new _ (EndsTurns number inputs.EndOfInput cell.before) cell keeps
+    (in_cell first conn_steps said clients clients' number old new _ (EndsSteps number inputs.EndOfInput cell.before) cell keeps
     (λ has.
-    ends_for result cell.before cell.after first turns (links_at clients) number old new now inputs.EndOfInput said ok tt
+    ends_for result cell.before cell.after first conn_steps (all_connected_at clients) number old new now inputs.EndOfInput said ok tt
     (at cell.before clients number all cell.has) has cell.becomes)))
-does max_inflight events.Close first turns old new clients clients' now said result ok all sound keeps closes =
-    says_so first turns said (EndsBelow closes.2 clients) (λ more. Came events.Close clients more clients') (links_at clients') new
+does max_inflight events.Close first conn_steps old new clients clients' now said result ok all sound keeps closes =
+    says_so first conn_steps said (EndsBelow closes.2 clients) (λ more. EventIsAnswered events.Close clients more clients') (all_connected_at clients') new
     (λ these below number less. ends_heard number inputs.Closing (client_at clients number) _ ((below number).0 (let is = closes.3 in omega arith)))
-    (first_ended closes.2 first turns closes.0 new clients clients' now said result ok all (shut first turns (links_at clients) old closes.0 closes.1 keeps) closes.4)
+    (first_ended closes.2 first conn_steps closes.0 new clients clients' now said result ok all (shut first conn_steps (all_connected_at clients) old closes.0 closes.1 keeps) closes.4)
 
-does_if : (max_inflight : ℕ) (open? : Bool) (event : Event) (first : Broker) (turns : List Turn) (old new : Broker) (clients clients' : Clients) (now : ℕ) (said : List Said)
+does_if : (max_inflight : ℕ) (open? : Bool) (event : Event) (first : Broker) (conn_steps : List ConnStep) (old new : Broker) (clients clients' : Clients) (now : ℕ) (said : List StepOutput)
     (result : Result (Unit {0}) NoMemory)
-    → IsOk result → AreNumbered clients → AreUnfaulted clients → Keeps first turns (links_at clients) old → DoesIf open? event max_inflight old clients now said result clients' new
-    → Says first turns said (λ more. CameIf open? event clients more clients') (links_at clients') new
-does_if max_inflight true event first turns old new clients clients' now said result ok all sound keeps done =
-    does max_inflight event first turns old new clients clients' now said result ok all sound keeps done
-does_if max_inflight false event first turns old new clients clients' now said result ok all sound keeps done =
-    subst (λ (c : Clients). Says first turns said (λ more. more ≡ []) (links_at c) new) (sym done.2)
-    (silent first turns (λ more. more ≡ []) (links_at clients) old new said refl done.0 done.3 keeps)
+    → IsOk result → AreNumbered clients → AreUnfaulted clients → Keeps first conn_steps (all_connected_at clients) old → DoesIf open? event max_inflight old clients now said result clients' new
+    → Says first conn_steps said (λ more. EventIsAnsweredIf open? event clients more clients') (all_connected_at clients') new
+does_if max_inflight true event first conn_steps old new clients clients' now said result ok all sound keeps done =
+    does max_inflight event first conn_steps old new clients clients' now said result ok all sound keeps done
+does_if max_inflight false event first conn_steps old new clients clients' now said result ok all sound keeps done =
+    subst (λ (c : Clients). Says first conn_steps said (λ more. more ≡ []) (all_connected_at c) new) (sym done.2)
+    (silent first conn_steps (λ more. more ≡ []) (all_connected_at clients) old new said refl done.0 done.3 keeps)
 
--- what is said is told by the turns
-and_told : (first : Broker) (turns : List Turn) (said : List Said) (Answers : List Turn → Type 0) (links : Links) (new : Broker) → Says first turns said Answers links new
-    → Says first turns said (λ more. AllTell said more × Answers more) links new
-and_told first turns said Answers links new says =
+-- what is said is told by the steps
+and_told : (first : Broker) (conn_steps : List ConnStep) (said : List StepOutput) (Answers : List ConnStep → Type 0) (all_connected : Links) (new : Broker) → Says first conn_steps said Answers all_connected new
+    → Says first conn_steps said (λ more. AllTell said more × Answers more) all_connected new
+and_told first conn_steps said Answers all_connected new says =
     record { more = says.more; told = says.told; short = says.short; answers = (says.told, says.answers); keeps = says.keeps }
 
-happened : (events : List TimedEvent) (first : Broker) (turns : List Turn) (said : List Said) (old new : ServerState) → AreNumbered old.clients → AreUnfaulted old.clients
-    → Keeps first turns (links_at old.clients) old.broker
-    → (run : HappensAll old events said new) → Says first turns said (λ more. AllCame old events said new run more) (links_at new.clients) new.broker
-happened [] first turns said old new all sound keeps run =
-    subst (λ (s : ServerState). Says first turns said (λ more. more ≡ []) (links_at s.clients) s.broker) (sym run.1)
-    (silent first turns (λ more. more ≡ []) (links_at old.clients) old.broker old.broker said refl run.0 refl keeps)
-happened (event ∷ others) first turns said old new all sound keeps run =
+happened : (events : List TimedEvent) (first : Broker) (conn_steps : List ConnStep) (said : List StepOutput) (old new : ServerState) → AreNumbered old.clients → AreUnfaulted old.clients
+    → Keeps first conn_steps (all_connected_at old.clients) old.broker
+    → (run : HappensAll old events said new) → Says first conn_steps said (λ more. AllAreAnswered old events said new run more) (all_connected_at new.clients) new.broker
+happened [] first conn_steps said old new all sound keeps run =
+    subst (λ (s : ServerState). Says first conn_steps said (λ more. more ≡ []) (all_connected_at s.clients) s.broker) (sym run.1)
+    (silent first conn_steps (λ more. more ≡ []) (all_connected_at old.clients) old.broker old.broker said refl run.0 refl keeps)
+happened (event ∷ others) first conn_steps said old new all sound keeps run =
     let mid = run.0 in
-    subst (λ (s : List Said). Says first turns s (λ more. AllCame old (event ∷ others) said new run more) (links_at new.clients) new.broker) (sym run.5)
-    (then_says first turns run.1 run.2 (λ more. AllTell run.1 more × CameIf (is_open old.broker) event.event old.clients more mid.clients)
-    (λ more. AllCame mid others run.2 new run.4 more) (λ more. AllCame old (event ∷ others) said new run more) (links_at mid.clients) (links_at new.clients)
+    subst (λ (s : List StepOutput). Says first conn_steps s (λ more. AllAreAnswered old (event ∷ others) said new run more) (all_connected_at new.clients) new.broker) (sym run.5)
+    (then_says first conn_steps run.1 run.2 (λ more. AllTell run.1 more × EventIsAnsweredIf (is_open old.broker) event.event old.clients more mid.clients)
+    (λ more. AllAreAnswered mid others run.2 new run.4 more) (λ more. AllAreAnswered old (event ∷ others) said new run more) (all_connected_at mid.clients) (all_connected_at new.clients)
     mid.broker new.broker (λ these those one other. (these, those, one.0, one.1, other, refl))
-    (and_told first turns run.1 (λ more. CameIf (is_open old.broker) event.event old.clients more mid.clients) (links_at mid.clients) mid.broker
-    (does_if _ (is_open old.broker) event.event first turns old.broker mid.broker old.clients mid.clients mid.clock run.1 (Ok tt) refl all sound keeps run.3.does))
+    (and_told first conn_steps run.1 (λ more. EventIsAnsweredIf (is_open old.broker) event.event old.clients more mid.clients) (all_connected_at mid.clients) mid.broker
+    (does_if _ (is_open old.broker) event.event first conn_steps old.broker mid.broker old.clients mid.clients mid.clock run.1 (Ok tt) refl all sound keeps run.3.does))
     (λ before kept.
     happened others first before run.2 mid new (answered event.moment event.event run.1 (Ok tt) old mid all run.3).0
     (still_unfaulted _ (is_open old.broker) event.event old.broker mid.broker old.clients mid.clients mid.clock run.1 (Ok tt) refl sound run.3.does) kept run.4))
 
 -- a new server: no session, and nobody has one
-none_at : (count connection : ℕ) → link_in (slice_get (replicate {A = Option (ClientState GroupPlace)} count None) connection) ≡ None
+none_at : (count connection : ℕ) → connected_in (slice_get (replicate {A = Option (ClientState GroupPlace)} count None) connection) ≡ None
 none_at zero connection = refl
 none_at (suc count) zero = refl
 none_at (suc count) (suc connection) = none_at count connection
 
-nobody : (setup : Setup) (server : ServerState) → IsNewServer setup server → (connection : ℕ) → link_at server.clients connection ≡ None
-nobody setup server new connection = ap (λ (l : Clients). link_at l connection) new.clients ∙ none_at 64 connection
+nobody : (setup : Setup) (server : ServerState) → IsNewServer setup server → (connection : ℕ) → connected_at server.clients connection ≡ None
+nobody setup server new connection = ap (λ (l : Clients). connected_at l connection) new.clients ∙ none_at 64 connection
 
-new_sessions : (setup : Setup) (server : ServerState) → IsNewServer setup server → KeepsSessions [] server.broker.desk (links_at server.clients)
+new_sessions : (setup : Setup) (server : ServerState) → IsNewServer setup server → KeepsSessions [] server.broker.desk (all_connected_at server.clients)
 new_sessions setup server new =
     let none = nobody setup server new in
     record {
       law = new_desk setup.capacity setup.groups server.broker new.broker;
-      linked = λ connection link is. absurd (let e = none connection in cc);
+      has_connected = λ connection connected is. absurd (let e = none connection in cc);
       parked = λ number session is.
           absurd
           (let empty = ap (λ (b : Books Held GroupPlace). map.get b.rows number) new.broker.desk.books
@@ -245,12 +245,12 @@ new_sessions setup server new =
     }
 
 -- each open connection's session stands where it was told to
-stands : (turns : List Turn) (link : Option (Link GroupPlace)) (b : Broker) (clients : Clients) (connection : ℕ) → KeepsSessions turns b.desk (links_at clients)
-    → AllWithinQuota clients → link_at clients connection ≡ link → StandsAsTold turns link
-stands turns None b clients connection keeps within is = tt
-stands turns (Some link) b clients connection keeps within is = ((keeps.linked connection link is).leads.stands, keeps_quota clients connection link within is)
+stands : (conn_steps : List ConnStep) (connected : Option (ConnectedClient GroupPlace)) (b : Broker) (clients : Clients) (connection : ℕ) → KeepsSessions conn_steps b.desk (all_connected_at clients)
+    → AllWithinQuota clients → connected_at clients connection ≡ connected → StandsAsTold conn_steps connected
+stands conn_steps None b clients connection keeps within is = tt
+stands conn_steps (Some connected) b clients connection keeps within is = ((keeps.has_connected connection connected is).leads.stands, keeps_quota clients connection connected within is)
 
-starts : (setup : Setup) (first : ServerState) → IsNewServer setup first → Keeps first.broker [] (links_at first.clients) first.broker
+starts : (setup : Setup) (first : ServerState) → IsNewServer setup first → Keeps first.broker [] (all_connected_at first.clients) first.broker
 starts setup first new =
     record {
       happenings = [];
@@ -263,79 +263,79 @@ starts setup first new =
       light = tt;
       placed = tt;
       at = λ connection. ap place_of (sym (nobody setup first new connection));
-      owns = owns_new (links_at first.clients) setup.capacity setup.groups first.broker new.broker (nobody setup first new);
+      owns = owns_new (all_connected_at first.clients) setup.capacity setup.groups first.broker new.broker (nobody setup first new);
       settled = [];
       acknowledged = refl;
       adds = adds_nothing first.broker first.broker refl;
     }
 
-whole : (setup : Setup) (events : List TimedEvent) (said : List Said) (first last : ServerState) → IsNewServer setup first → (run : HappensAll first events said last)
-    → Says first.broker [] said (λ more. AllCame first events said last run more) (links_at last.clients) last.broker
+whole : (setup : Setup) (events : List TimedEvent) (said : List StepOutput) (first last : ServerState) → IsNewServer setup first → (run : HappensAll first events said last)
+    → Says first.broker [] said (λ more. AllAreAnswered first events said last run more) (all_connected_at last.clients) last.broker
 whole setup events said first last new run =
     happened events first.broker [] said first last (new_numbered setup first new) (new_unfaulted setup first new) (starts setup first new) run
 
 -- two connections that have one session are one
-alone : (turns : List Turn) (b : Broker) (links : Links) (one other : ℕ) (these those : Link GroupPlace) → KeepsSessions turns b.desk links
-    → links one ≡ Some these → links other ≡ Some those → these.session.identity.number ≡ those.session.identity.number → one ≡ other
-alone turns b links one other these those keeps is is' same =
+alone : (conn_steps : List ConnStep) (b : Broker) (all_connected : Links) (one other : ℕ) (these those : ConnectedClient GroupPlace) → KeepsSessions conn_steps b.desk all_connected
+    → all_connected one ≡ Some these → all_connected other ≡ Some those → these.session.identity.number ≡ those.session.identity.number → one ≡ other
+alone conn_steps b all_connected one other these those keeps is is' same =
     one_holder b.desk.rows those.session.identity.number one other
-    (subst (λ (n : ℕ). IsLentTo b.desk.rows n one) same (keeps.linked one these is).holds)
-    (keeps.linked other those is').holds
+    (subst (λ (n : ℕ). IsLentTo b.desk.rows n one) same (keeps.has_connected one these is).holds)
+    (keeps.has_connected other those is').holds
 
 -- so does a session that the desk keeps parked
-parked : (turns : List Turn) (b : Broker) (links : Links) (number : ℕ) (row : Row Held GroupPlace) (session : Session Held GroupPlace) → KeepsSessions turns b.desk links
-    → HasRow b.desk.rows number row → row.standing ≡ Parked session
-    → standing_after_all (standing_down []) (transcript_of session.identity.number turns) ≡ standing_of session.window
-parked turns b links number row session keeps has is =
+parked : (conn_steps : List ConnStep) (b : Broker) (all_connected : Links) (number : ℕ) (row : Row Held GroupPlace) (session : Session Held GroupPlace) → KeepsSessions conn_steps b.desk all_connected
+    → HasRow b.desk.rows number row → row.held_by ≡ Parked session
+    → window_after_all (window_down []) (transcript_of session.identity.number conn_steps) ≡ window_state session.window
+parked conn_steps b all_connected number row session keeps has is =
     let its : session.identity.number ≡ number = ap (λ w. w.number) (keeps.law.own number row session has (ap session_in is)) in
-    ap (λ (n : ℕ). standing_after_all (standing_down []) (transcript_of n turns)) its
+    ap (λ (n : ℕ). window_after_all (window_down []) (transcript_of n conn_steps)) its
     ∙ (keeps.parked number session (record { row = row; has = has; parked = is })).leads.stands
 
-account : (setup : Setup) (first : ServerState) (turns : List Turn) (server : ServerState) → IsNewServer setup first
-    → Keeps first.broker turns (links_at server.clients) server.broker → AllWithinQuota server.clients → AccountFor turns server
-account setup first turns server new keeps within =
+account : (setup : Setup) (first : ServerState) (conn_steps : List ConnStep) (server : ServerState) → IsNewServer setup first
+    → Keeps first.broker conn_steps (all_connected_at server.clients) server.broker → AllWithinQuota server.clients → AccountFor conn_steps server
+account setup first conn_steps server new keeps within =
     let sessions = keeps.sessions in
-    let links = links_at server.clients in
+    let all_connected = all_connected_at server.clients in
     record {
       legal = sessions.legal;
       own = sessions.own;
-      alone = λ one other these those is is' same. alone turns server.broker links one other these those sessions is is' same;
-      stands = λ connection. stands turns (link_at server.clients connection) server.broker server.clients connection sessions within refl;
-      parked = λ number row session has is. parked turns server.broker links number row session sessions has is;
+      alone = λ one other these those is is' same. alone conn_steps server.broker all_connected one other these those sessions is is' same;
+      stands = λ connection. stands conn_steps (connected_at server.clients connection) server.broker server.clients connection sessions within refl;
+      parked = λ number row session has is. parked conn_steps server.broker all_connected number row session sessions has is;
       placed = keeps.placed;
       at = keeps.at;
       handed = handed setup.capacity setup.groups keeps.happenings first.broker server.broker _ new.broker keeps.led keeps.fresh;
     }
 
-told_in : (setup : Setup) (events : List TimedEvent) (said : List Said) (first last : ServerState) → IsNewServer setup first → (run : HappensAll first events said last)
-    → Says first.broker [] said (λ more. AllCame first events said last run more) (links_at last.clients) last.broker → AllWithinQuota last.clients
+told_in : (setup : Setup) (events : List TimedEvent) (said : List StepOutput) (first last : ServerState) → IsNewServer setup first → (run : HappensAll first events said last)
+    → Says first.broker [] said (λ more. AllAreAnswered first events said last run more) (all_connected_at last.clients) last.broker → AllWithinQuota last.clients
     → KeepsTranscripts first events said last run
 told_in setup events said first last new run says within =
-    record { turns = says.more; told = says.told; came = says.answers; account = account setup first says.more last new says.keeps within }
+    record { conn_steps = says.more; told = says.told; came = says.answers; account = account setup first says.more last new says.keeps within }
 
-pub transcripts : (setup : Setup) (events : List TimedEvent) (said : List Said) (first last : ServerState) → IsNewServer setup first → (run : HappensAll first events said last)
+pub transcripts : (setup : Setup) (events : List TimedEvent) (said : List StepOutput) (first last : ServerState) → IsNewServer setup first → (run : HappensAll first events said last)
     → KeepsTranscripts first events said last run
 transcripts setup events said first last new run =
     told_in setup events said first last new run (whole setup events said first last new run) (quotas.within setup events first last new (undergoes events said first last run))
 
 -- at each moment of the run
-moments : (setup : Setup) (first : ServerState) (events : List TimedEvent) (turns : List Turn) (said : List Said) (old new : ServerState) → IsNewServer setup first
-    → AreNumbered old.clients → AreUnfaulted old.clients → Keeps first.broker turns (links_at old.clients) old.broker → AllWithinQuota old.clients
-    → (run : HappensAll old events said new) → AccountAlong turns old events said new run
-moments setup first [] turns said old new is all sound keeps within run = account setup first turns old is keeps within
-moments setup first (event ∷ others) turns said old new is all sound keeps within run =
+moments : (setup : Setup) (first : ServerState) (events : List TimedEvent) (conn_steps : List ConnStep) (said : List StepOutput) (old new : ServerState) → IsNewServer setup first
+    → AreNumbered old.clients → AreUnfaulted old.clients → Keeps first.broker conn_steps (all_connected_at old.clients) old.broker → AllWithinQuota old.clients
+    → (run : HappensAll old events said new) → AccountAlong conn_steps old events said new run
+moments setup first [] conn_steps said old new is all sound keeps within run = account setup first conn_steps old is keeps within
+moments setup first (event ∷ others) conn_steps said old new is all sound keeps within run =
     let mid = run.0 in
-    let says = does_if _ (is_open old.broker) event.event first.broker turns old.broker mid.broker old.clients mid.clients mid.clock run.1 (Ok tt) refl all sound keeps run.3.does in (
-      account setup first turns old is keeps within,
+    let says = does_if _ (is_open old.broker) event.event first.broker conn_steps old.broker mid.broker old.clients mid.clients mid.clock run.1 (Ok tt) refl all sound keeps run.3.does in (
+      account setup first conn_steps old is keeps within,
       says.more,
       says.told,
       says.answers,
-      moments setup first others (turns ++ says.more) run.2 mid new is (answered event.moment event.event run.1 (Ok tt) old mid all run.3).0
+      moments setup first others (conn_steps ++ says.more) run.2 mid new is (answered event.moment event.event run.1 (Ok tt) old mid all run.3).0
           (still_unfaulted _ (is_open old.broker) event.event old.broker mid.broker old.clients mid.clients mid.clock run.1 (Ok tt) refl sound run.3.does) says.keeps
           (quotas.happened event.moment event.event run.1 (Ok tt) old mid run.3 within) run.4,
     )
 
-pub along : (setup : Setup) (events : List TimedEvent) (said : List Said) (first last : ServerState) → IsNewServer setup first → (run : HappensAll first events said last)
+pub along : (setup : Setup) (events : List TimedEvent) (said : List StepOutput) (first last : ServerState) → IsNewServer setup first → (run : HappensAll first events said last)
     → AccountAlong [] first events said last run
 along setup events said first last new run =
     moments setup first events [] said first last new (new_numbered setup first new) (new_unfaulted setup first new) (starts setup first new) (quotas.new_within setup first new) run
@@ -348,13 +348,13 @@ settled_since setup first settled last new adds slot group there =
     since.ends ∙ ap (λ events. settled_in_all events ++ filter_map (settled_seen_by slot) settled) (new.broker.groups slot since.before since.was).fresh.events
 
 -- what each open connection's session holds is out at its place
-held_out : (link : Option (Link GroupPlace)) (b : Broker) (links : Links) (log : Log) (connection : ℕ) → Owns (record { links = links; log = log }) b → links connection ≡ link
-    → HeldIsOut b link
-held_out None b links log connection owns is = tt
-held_out (Some link) b links log connection owns is = owns.owned (InHand connection) link.session (record { link = link; has = is; its = refl })
+held_out : (connected : Option (ConnectedClient GroupPlace)) (b : Broker) (all_connected : Links) (log : Log) (connection : ℕ) → Owns (record { all_connected = all_connected; log = log }) b → all_connected connection ≡ connected
+    → HeldIsOut b connected
+held_out None b all_connected log connection owns is = tt
+held_out (Some connected) b all_connected log connection owns is = owns.owned (InHand connection) connected.session (record { connected = connected; has = is; its = refl })
 
-settled_in_run : (setup : Setup) (events : List TimedEvent) (said : List Said) (first last : ServerState) → IsNewServer setup first → (run : HappensAll first events said last)
-    → Says first.broker [] said (λ more. AllCame first events said last run more) (links_at last.clients) last.broker → AllWithinQuota last.clients
+settled_in_run : (setup : Setup) (events : List TimedEvent) (said : List StepOutput) (first last : ServerState) → IsNewServer setup first → (run : HappensAll first events said last)
+    → Says first.broker [] said (λ more. AllAreAnswered first events said last run more) (all_connected_at last.clients) last.broker → AllWithinQuota last.clients
     → SettlesWhatIsAcknowledged first events said last run
 unfolding told_in
 settled_in_run setup events said first last new run says within =
@@ -363,17 +363,17 @@ settled_in_run setup events said first last new run says within =
       settled = says.keeps.settled;
       acknowledged = says.keeps.acknowledged;
       fates = settled_since setup first says.keeps.settled last.broker new says.keeps.adds;
-      held_out = λ connection. held_out (link_at last.clients connection) last.broker (links_at last.clients) says.keeps.accepted connection says.keeps.owns refl;
+      held_out = λ connection. held_out (connected_at last.clients connection) last.broker (all_connected_at last.clients) says.keeps.accepted connection says.keeps.owns refl;
       parked_out = λ number row session has stands. says.keeps.owns.owned (AtDesk number) session (record { row = row; has = has; stands = stands });
     }
 
-pub settlings : (setup : Setup) (events : List TimedEvent) (said : List Said) (first last : ServerState) → IsNewServer setup first → (run : HappensAll first events said last)
+pub settlings : (setup : Setup) (events : List TimedEvent) (said : List StepOutput) (first last : ServerState) → IsNewServer setup first → (run : HappensAll first events said last)
     → SettlesWhatIsAcknowledged first events said last run
 settlings setup events said first last new run =
     settled_in_run setup events said first last new run (whole setup events said first last new run) (quotas.within setup events first last new (undergoes events said first last run))
 
 -- what is sent was accepted
-pub messages : (setup : Setup) (events : List TimedEvent) (said : List Said) (first last : ServerState) → IsNewServer setup first → (run : HappensAll first events said last)
+pub messages : (setup : Setup) (events : List TimedEvent) (said : List StepOutput) (first last : ServerState) → IsNewServer setup first → (run : HappensAll first events said last)
     → SendsWhatWasAccepted first events said last run
 unfolding settled_in_run told_in
 messages setup events said first last new run =
@@ -388,5 +388,5 @@ messages setup events said first last new run =
     }
 
 -- what is said is short
-pub shortness : (setup : Setup) (events : List TimedEvent) (said : List Said) (first last : ServerState) → IsNewServer setup first → HappensAll first events said last → AllShort said
+pub shortness : (setup : Setup) (events : List TimedEvent) (said : List StepOutput) (first last : ServerState) → IsNewServer setup first → HappensAll first events said last → AllShort said
 shortness setup events said first last new run = (whole setup events said first last new run).short

@@ -6,20 +6,20 @@ use Rattle.std.proofs.lemmas.Bool.{false≢true}
 use Rattle.group_jobs.specs.Stamps.{Held}
 use Rattle.member_window.specs.Contents.{Contents, new_contents, held_of, after_up, after_down, IsDown, IsSound}
 use Rattle.member_window.specs.Identifiers.{identifiers}
-use Rattle.member_window.specs.Marks.{Mark, Standing, standing_down, standing_after, standing_after_all}
+use Rattle.member_window.specs.Marks.{Mark, WindowState, window_down, window_after, window_after_all}
 use Rattle.member_window.specs.Marks as marks
 use Rattle.member_window.specs.Transcript.{IsLegal, IsLegalFrom}
 use Rattle.member_window.specs.Calls.{Call, Up, Down, Put, NextResend, Ack, TakeFirst, Restore, IsAllowed, Makes}
-use Rattle.member_window.specs.Runs.{MakesAll, marks_of, transcript_of, standing_of}
+use Rattle.member_window.specs.Runs.{MakesAll, marks_of, transcript_of, window_state}
 use Rattle.member_window.proofs.Sound.{sound_new}
 use Rattle.member_window.proofs.Legality.{legal_append}
-use Rattle.member_window.proofs.Law.{sound_after_all, legal_calls, standing_after_calls}
+use Rattle.member_window.proofs.Law.{sound_after_all, legal_calls, window_after_calls}
 use Rattle.conn_laws.specs.Marks.{IsWithin}
 
 -- a transcript is legal, and the window of its session stands where it leads
 pub record Leads (told : List (Mark Held)) (w : Contents Held) : Type 0 where
   pub legal : IsLegal [] told
-  pub stands : standing_after_all (standing_down []) told ≡ standing_of w
+  pub stands : window_after_all (window_down []) told ≡ window_state w
   pub sound : IsSound w
   pub goes_on : w.retired ≡ false
 
@@ -30,9 +30,9 @@ IsUp w = IsSome w.quota × (w.retired ≡ false)
 pub leads_new : Leads [] new_contents
 leads_new = record { legal = tt; stands = refl; sound = sound_new; goes_on = refl }
 
-pub standing_after_append : (s : Standing Held) (before behind : List (Mark Held)) → standing_after_all s (before ++ behind) ≡ standing_after_all (standing_after_all s before) behind
-standing_after_append s [] behind = refl
-standing_after_append s (mark ∷ before) behind = standing_after_append (standing_after s mark) before behind
+pub window_after_append : (s : WindowState Held) (before behind : List (Mark Held)) → window_after_all s (before ++ behind) ≡ window_after_all (window_after_all s before) behind
+window_after_append s [] behind = refl
+window_after_append s (mark ∷ before) behind = window_after_append (window_after s mark) before behind
 
 -- the calls of its window add their marks
 pub leads_on : (told : List (Mark Held)) (w w' : Contents Held) (calls : List (Call Held)) → Leads told w → MakesAll w calls w' → w'.retired ≡ false
@@ -40,11 +40,11 @@ pub leads_on : (told : List (Mark Held)) (w w' : Contents Held) (calls : List (C
 leads_on told w w' calls leads made stays =
     record {
       legal =
-          legal_append (standing_down []) told (transcript_of calls) leads.legal
-          (subst (λ (s : Standing Held). IsLegalFrom s (transcript_of calls)) (sym leads.stands) (legal_calls w w' calls leads.sound leads.goes_on made));
+          legal_append (window_down []) told (transcript_of calls) leads.legal
+          (subst (λ (s : WindowState Held). IsLegalFrom s (transcript_of calls)) (sym leads.stands) (legal_calls w w' calls leads.sound leads.goes_on made));
       stands =
-          standing_after_append (standing_down []) told (transcript_of calls) ∙ ap (λ (s : Standing Held). standing_after_all s (transcript_of calls)) leads.stands
-          ∙ standing_after_calls w w' calls stays made;
+          window_after_append (window_down []) told (transcript_of calls) ∙ ap (λ (s : WindowState Held). window_after_all s (transcript_of calls)) leads.stands
+          ∙ window_after_calls w w' calls stays made;
       sound = sound_after_all w w' calls leads.sound made;
       goes_on = stays;
     }

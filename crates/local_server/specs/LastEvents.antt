@@ -4,7 +4,7 @@ use Rattle.dispatch_core.specs.declared.event.Event.TheVariants.{Close}
 use Rattle.local_group.specs.Groups.{Group}
 use Rattle.local_broker.specs.Broker.{Broker}
 
--- the group of this slot has its earlier events, and behind them the close alone
+-- the group of this slot has its earlier events, and after them the close alone
 pub record AddsTheClose (old : Broker) (slot : ℕ) (group : Group) : Type 0 where
   pub before : Group
   pub was : slice_get old.groups slot ≡ Some before

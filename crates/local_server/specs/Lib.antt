@@ -1,7 +1,7 @@
 pub mod Servers
 pub mod Alike
 pub mod Happening
-pub mod Undergoing
+pub mod GoingThrough
 pub mod Deliveries
 pub mod Runs
 pub mod Quotas
@@ -10,7 +10,7 @@ pub mod LastEvents
 pub mod Eager
 pub mod Addressed
 pub mod Publishers
-pub mod Turns
+pub mod ConnSteps
 pub mod Streams
 pub mod Transcripts
 pub mod Settling

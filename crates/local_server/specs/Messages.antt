@@ -13,11 +13,11 @@ use Rattle.member_window.specs.Marks.{Mark, Up, Sent, Acked, Down}
 use Rattle.conn_rules.specs.Publishing.{message_of}
 use Rattle.conn_engine.specs.declared.input.Input.{Input}
 use Rattle.conn_engine.specs.declared.input.Input.TheVariants as inputs
-use Rattle.client_table.specs.Clients.{Said}
+use Rattle.client_table.specs.Clients.{StepOutput}
 use Rattle.local_server.specs.declared.event.TimedEvent.{TimedEvent}
 use Rattle.local_server.specs.Servers.{ServerState}
 use Rattle.local_server.specs.Happening.{HappensAll}
-use Rattle.local_server.specs.Turns.{Turn}
+use Rattle.local_server.specs.ConnSteps.{ConnStep}
 use Rattle.local_server.specs.Settling.{SettlesWhatIsAcknowledged}
 
 -- a message that the group of this slot accepted, and the port through which it did
@@ -62,36 +62,36 @@ pub record IsBroughtBy (connection : ℕ) (input : Input) (accepted : Accepted) 
   pub port : accepted.port ≡ connection
   pub group : accepted.group < 8
 
--- these were accepted in one turn: the message that came, once by each of some groups, in the order of their slots
+-- these were accepted in one step: the message that came, once by each of some groups, in the order of their slots
 pub record IsBrought (connection : ℕ) (input : Input) (accepted : List Accepted) : Type 0 where
   pub each : AllByRecursion (IsBroughtBy connection input) accepted
   pub ordered : AllPairs (λ one other. one.group < other.group) accepted
 
--- what is accepted in these turns, in their order
-abbrev pub AllAccept : List Turn → List Accepted → Type 0
+-- what is accepted in these steps, in their order
+abbrev pub AllAccept : List ConnStep → List Accepted → Type 0
 AllAccept [] accepted = accepted ≡ []
-AllAccept (turn ∷ turns) accepted =
-    (now later : List Accepted) × IsBrought turn.connection turn.input now × AllAccept turns later × (accepted ≡ now ++ later)
+AllAccept (conn_step ∷ conn_steps) accepted =
+    (now later : List Accepted) × IsBrought conn_step.connection conn_step.input now × AllAccept conn_steps later × (accepted ≡ now ++ later)
 
--- what turns send, for the first time and again
+-- what steps send, for the first time and again
 abbrev pub sent_in : Mark Held → Option Held
 sent_in (Up receive_maximum) = None
 sent_in (Sent identifier dup envelope) = Some envelope
 sent_in (Acked identifier code) = None
 sent_in Down = None
 
-abbrev pub all_sent : List Turn → List Held
-all_sent turns = flat_map (λ turn. filter_map sent_in turn.marks) turns
+abbrev pub all_sent : List ConnStep → List Held
+all_sent conn_steps = flat_map (λ conn_step. filter_map sent_in conn_step.marks) conn_steps
 
 -- what holds of a run: what is sent is what was accepted
-pub record SendsWhatWasAccepted (first : ServerState) (events : List TimedEvent) (said : List Said) (last : ServerState) (run : HappensAll first events said last) : Type 0 where
+pub record SendsWhatWasAccepted (first : ServerState) (events : List TimedEvent) (said : List StepOutput) (last : ServerState) (run : HappensAll first events said last) : Type 0 where
   -- the transcripts of the sessions, and what is settled in them
   pub settling : SettlesWhatIsAcknowledged first events said last run
   -- what the eight groups accepted, in its order, each the message of a PUBLISH that came
   pub eight : length last.broker.groups ≡ 8
   pub accepted : List Accepted
-  pub brought : AllAccept settling.transcripts.turns accepted
+  pub brought : AllAccept settling.transcripts.conn_steps accepted
   -- the events of each group tell which of these are its own, in that order
   pub accepts : (slot : ℕ) (group : Group) → slice_get last.broker.groups slot ≡ Some group → accepted_in_all group.events ≡ filter_map (accepted_seen_by slot) accepted
   -- and whatever is sent under a stamp, with DUP 0 or 1, is the message that was accepted under it
-  pub sent : (envelope : Held) → Contains (all_sent settling.transcripts.turns) envelope → IsAcceptedAs accepted envelope.stamp envelope.message
+  pub sent : (envelope : Held) → Contains (all_sent settling.transcripts.conn_steps) envelope → IsAcceptedAs accepted envelope.stamp envelope.message

@@ -7,8 +7,8 @@ use Rattle.local_broker.specs.Broker.{Broker}
 use Rattle.local_broker.specs.Histories.{Happening, HappensAll as HappensToBroker}
 
 -- calls of connections and closes led from one broker to the other
-abbrev pub HaveLed : Broker → Broker → Type 0
-HaveLed old new = (happenings : List Happening) × HappensToBroker old happenings new
+abbrev pub IsReachedBy : Broker → Broker → Type 0
+IsReachedBy old new = (happenings : List Happening) × HappensToBroker old happenings new
 
 -- the events of a group are a run to where its jobs are, which is lawful
 pub record RunsLawfully (group : Group) : Type 0 where

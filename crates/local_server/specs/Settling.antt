@@ -20,17 +20,17 @@ use Rattle.conn_rules.specs.Acknowledging.{fate_of}
 use Rattle.conn_supply.specs.declared.reply.Then.TheVariants.{Go}
 use Rattle.conn_engine.specs.declared.input.Input.{Input}
 use Rattle.conn_engine.specs.declared.input.Input.TheVariants as inputs
-use Rattle.conn_engine.specs.declared.standing.Link.{Link}
+use Rattle.conn_engine.specs.declared.phase.ConnectedClient.{ConnectedClient}
 use Rattle.conn_laws.specs.Marks.{acknowledged_of}
-use Rattle.client_table.specs.Clients.{Said}
+use Rattle.client_table.specs.Clients.{StepOutput}
 use Rattle.local_broker.specs.Places.{GroupPlace}
 use Rattle.local_broker.specs.Broker.{Broker}
 use Rattle.local_broker.specs.Histories.{HasOut}
 use Rattle.local_server.specs.declared.event.TimedEvent.{TimedEvent}
 use Rattle.local_server.specs.Servers.{ServerState}
 use Rattle.local_server.specs.Happening.{HappensAll}
-use Rattle.local_server.specs.Turns.{Turn}
-use Rattle.local_server.specs.Transcripts.{transcript_of, link_at, KeepsTranscripts}
+use Rattle.local_server.specs.ConnSteps.{ConnStep}
+use Rattle.local_server.specs.Transcripts.{transcript_of, connected_at, KeepsTranscripts}
 
 -- what is settled, and how
 abbrev pub Settlement : Type 0
@@ -66,19 +66,19 @@ confirmed_by entries (inputs.Packet (packets.Puback puback)) =
     if list_any (λ entry. nat_eq entry.0 puback.packet_identifier) entries then (puback.packet_identifier, puback.reason_code) ∷ [] else []
 confirmed_by entries input = []
 
--- what a turn acknowledges is the PUBACK that comes in it for a message that its session holds, and nothing else; where the connection does not go
--- on behind that turn, nothing
-pub record Hears (turn : Turn) (entries : List (ℕ × Held)) : Type 0 where
-  pub goes_on : turn.next ≡ Go → acknowledged_of turn.marks ≡ confirmed_by entries turn.input
-  pub ends : turn.next ≢ Go → acknowledged_of turn.marks ≡ []
+-- what a step acknowledges is the PUBACK that comes in it for a message that its session holds, and nothing else; where the connection does not go
+-- on after that step, nothing
+pub record AcknowledgesWhatCame (conn_step : ConnStep) (entries : List (ℕ × Held)) : Type 0 where
+  pub goes_on : conn_step.next ≡ Go → acknowledged_of conn_step.marks ≡ confirmed_by entries conn_step.input
+  pub ends : conn_step.next ≢ Go → acknowledged_of conn_step.marks ≡ []
 
--- what each of these turns acknowledges and settles, behind those before, in their order
-abbrev pub AllSettle : List Turn → List Turn → List Settlement → Type 0
+-- what each of these steps acknowledges and settles, after those before, in their order
+abbrev pub AllSettle : List ConnStep → List ConnStep → List Settlement → Type 0
 AllSettle before [] settled = settled ≡ []
-AllSettle before (turn ∷ turns) settled =
-    let entries = held [] (transcript_of turn.session before) in
-    (now later : List Settlement) × Hears turn entries × AreSettled entries (acknowledged_of turn.marks) now
-    × AllSettle (before ++ turn ∷ []) turns later × (settled ≡ now ++ later)
+AllSettle before (conn_step ∷ conn_steps) settled =
+    let entries = held [] (transcript_of conn_step.session before) in
+    (now later : List Settlement) × AcknowledgesWhatCame conn_step entries × AreSettled entries (acknowledged_of conn_step.marks) now
+    × AllSettle (before ++ conn_step ∷ []) conn_steps later × (settled ≡ now ++ later)
 
 -- these messages are out at a place: it was handed each, and has neither settled it nor given it back
 abbrev pub AreOut : Broker → GroupPlace → List (ℕ × Held) → Type 0
@@ -91,21 +91,21 @@ AreOutFor b (Member place) entries = AreOut b place entries
 AreOutFor b (Leaving place) entries = AreOut b place entries
 
 -- so it is with the session of a connection
-abbrev pub HeldIsOut : Broker → Option (Link GroupPlace) → Type 0
+abbrev pub HeldIsOut : Broker → Option (ConnectedClient GroupPlace) → Type 0
 HeldIsOut b None = ⊤
-HeldIsOut b (Some link) = AreOutFor b link.session.membership (held_of link.session.window)
+HeldIsOut b (Some connected) = AreOutFor b connected.session.membership (held_of connected.session.window)
 
 -- what holds of a run: what is acknowledged is settled
-pub record SettlesWhatIsAcknowledged (first : ServerState) (events : List TimedEvent) (said : List Said) (last : ServerState) (run : HappensAll first events said last) : Type 0 where
-  -- the transcripts of the sessions, with a turn for each step
+pub record SettlesWhatIsAcknowledged (first : ServerState) (events : List TimedEvent) (said : List StepOutput) (last : ServerState) (run : HappensAll first events said last) : Type 0 where
+  -- the transcripts of the sessions, with one for each step of a connection
   pub transcripts : KeepsTranscripts first events said last run
-  -- what the turns acknowledge, in their order: the PUBACKs that came for what their sessions held, each for the message under its identifier, with
+  -- what the steps acknowledge, in their order: the PUBACKs that came for what their sessions held, each for the message under its identifier, with
   -- the fate of its Reason Code
   pub settled : List Settlement
-  pub acknowledged : AllSettle [] transcripts.turns settled
+  pub acknowledged : AllSettle [] transcripts.conn_steps settled
   -- and the events of each group that end a hand-out by a fate are those, in that order
   pub fates : (slot : ℕ) (group : Group) → slice_get last.broker.groups slot ≡ Some group → settled_in_all group.events ≡ filter_map (settled_seen_by slot) settled
   -- what a session holds is out at the place of its session, whose connection is open or has ended
-  pub held_out : (connection : ℕ) → HeldIsOut last.broker (link_at last.clients connection)
+  pub held_out : (connection : ℕ) → HeldIsOut last.broker (connected_at last.clients connection)
   pub parked_out : (number : ℕ) (row : Row Held GroupPlace) (session : Session Held GroupPlace) → HasRow last.broker.desk.rows number row
-      → session_in row.standing ≡ Some session → AreOutFor last.broker session.membership (held_of session.window)
+      → session_in row.held_by ≡ Some session → AreOutFor last.broker session.membership (held_of session.window)

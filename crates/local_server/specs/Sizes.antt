@@ -3,19 +3,19 @@ use Rattle.std.specs.Prelude.{◌≤◌, List}
 use Rattle.std.specs.List.{AllByRecursion}
 use Rattle.mqtt_packet.specs.declared.packet.Packet.{Packet}
 use Rattle.mqtt_wire.specs.Writing.{remaining_length}
-use Rattle.packet_sizes.specs.Sizes.{IsShort}
-use Rattle.client_table.specs.Clients.{Said}
+use Rattle.conn_laws.specs.Sizes.{IsShort}
+use Rattle.client_table.specs.Clients.{StepOutput}
 
 -- each packet that is said is so
-abbrev pub AllSaid : (Packet → Type 0) → List Said → Type 0
-AllSaid IsSo said = AllByRecursion (λ one. AllByRecursion IsSo one.packets) said
+abbrev pub AllSent : (Packet → Type 0) → List StepOutput → Type 0
+AllSent IsSo said = AllByRecursion (λ one. AllByRecursion IsSo one.packets) said
 
-abbrev pub AllShort : List Said → Type 0
-AllShort said = AllSaid IsShort said
+abbrev pub AllShort : List StepOutput → Type 0
+AllShort said = AllSent IsShort said
 
 -- a packet that can be written: its Remaining Length can be said (2.1.4)
 abbrev pub IsWritable : Packet → Type 0
 IsWritable packet = remaining_length packet ≤ 268435455
 
-abbrev pub AllWritable : List Said → Type 0
-AllWritable said = AllSaid IsWritable said
+abbrev pub AllWritable : List StepOutput → Type 0
+AllWritable said = AllSent IsWritable said

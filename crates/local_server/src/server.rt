@@ -1,6 +1,6 @@
 //! A server on one thread.
 ghost use Rattle.std.specs.Prelude.{◌≡◌, ◌≤◌, ◌++◌, length, List, MatchOption, IfOk, None, true, slice_get};
-ghost use Rattle.client_table.specs.Clients.{Said as Words};
+ghost use Rattle.client_table.specs.Clients.{StepOutput as Output};
 ghost use Rattle.local_broker.specs.Broker.{is_open};
 ghost use Rattle.local_broker.specs.Reporting.{TellsLine};
 ghost use Rattle.local_server.specs.Servers.{IsNewServer};
@@ -8,7 +8,7 @@ ghost use Rattle.local_server.specs.Happening.{ClosesAll, Does, Happens};
 
 use crate::event::Event;
 use crate::setup::Setup;
-use client_table::{CLIENTS, ClientTable, Said};
+use client_table::{CLIENTS, ClientTable, StepOutput};
 use conn_engine::Opening;
 use conn_rules::MaxInflight;
 use conn_supply::{NoMemory, Supply};
@@ -43,7 +43,7 @@ impl Server {
     ///
     /// # Errors
     ///
-    /// Want of memory.
+    /// Out of memory.
     pub fn open(alloc: Global, setup: Setup) -> Result<Server, NoMemory>
         ensures { IfOk result (IsNewServer setup) }
     {
@@ -68,10 +68,10 @@ impl Server {
     }
 
     /// An event, at this moment in milliseconds; where that is less than an earlier one, the earlier one stands. What each step
-    /// of a connection wrote goes behind what was said before.
+    /// of a connection wrote goes after what was said before.
     ///
     /// What happens to a connection that is not open is passed over, and so is the opening of one that is, and all that happens
-    /// behind [`Event::Close`].
+    /// after [`Event::Close`].
     ///
     /// # Errors
     ///
@@ -81,9 +81,9 @@ impl Server {
         &mut self,
         moment: u64,
         event: &Event,
-        said: &mut Vec<Said>,
+        said: &mut Vec<StepOutput>,
     ) -> Result<(), NoMemory>
-        ensures { (more : List Words) × (said.new.items ≡ said.old.items ++ more) × Happens self.old moment event.now more result self.new }
+        ensures { (more : List Output) × (said.new.items ≡ said.old.items ++ more) × Happens self.old moment event.now more result self.new }
     {
         self.clock = self.clock.max(moment);
         if !self.supply.begin() {
@@ -110,7 +110,7 @@ impl Server {
     ///
     /// # Errors
     ///
-    /// Want of memory.
+    /// Out of memory.
     pub fn line(&self, alloc: Global, slot: u8) -> Result<Option<Vec<u8>>, NoMemory>
         ensures { IfOk result (λ told. MatchOption told (slice_get self.now.broker.routes slot ≡ None) (λ line. TellsLine self.now.broker slot line.items)) }
     {
@@ -136,10 +136,10 @@ fn serve(
     clients: &mut ClientTable<LocalPlace>,
     opening: Opening,
     event: &Event,
-    said: &mut Vec<Said>,
+    said: &mut Vec<StepOutput>,
 ) -> Result<(), NoMemory>
     requires { is_open supply.old ≡ true }
-    ensures { (more : List Words) × (said.new.items ≡ said.old.items ++ more)
+    ensures { (more : List Output) × (said.new.items ≡ said.old.items ++ more)
         × Does event.now opening.max_inflight supply.old clients.old opening.at more result clients.new supply.new }
 {
     let now = opening.at;
@@ -162,9 +162,9 @@ fn close(
     supply: &mut LocalSupply,
     clients: &mut ClientTable<LocalPlace>,
     now: u64,
-    said: &mut Vec<Said>,
+    said: &mut Vec<StepOutput>,
 ) -> Result<(), NoMemory>
-    ensures { (more : List Words) × (said.new.items ≡ said.old.items ++ more)
+    ensures { (more : List Output) × (said.new.items ≡ said.old.items ++ more)
         × ClosesAll supply.old clients.old now more result clients.new supply.new }
 {
     supply.close();

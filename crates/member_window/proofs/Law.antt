@@ -4,11 +4,11 @@ use Rattle.std.specs.List.{list_any}
 use Rattle.std.proofs.lemmas.Bool.{false≢true, cases_Bool}
 use Rattle.std.proofs.lemmas.List.{length-map, map_push, map-append}
 use Rattle.member_window.specs.Identifiers.{identifiers, IsLeastFree, AreDistinct}
-use Rattle.member_window.specs.Marks.{Mark, Standing, standing_after, standing_after_all}
+use Rattle.member_window.specs.Marks.{Mark, WindowState, window_after, window_after_all}
 use Rattle.member_window.specs.Transcript.{IsWithinQuota, MaySend, MayResend, IsLegalFrom, IsLegal}
 use Rattle.member_window.specs.Contents.{Contents, held_of, new_contents, HasQuota, HasRoom, after_up, IsSound}
 use Rattle.member_window.specs.Calls.{Call, Up, Down, Put, NextResend, Ack, TakeFirst, Restore, IsAllowed, Makes}
-use Rattle.member_window.specs.Runs.{MakesAll, marks_of, transcript_of, standing_of, is_take_first}
+use Rattle.member_window.specs.Runs.{MakesAll, marks_of, transcript_of, window_state, is_take_first}
 use Rattle.member_window.proofs.Lists.{distinct_apart, identifiers-without, own_identifiers, contains_identifier}
 use Rattle.member_window.proofs.Legality.{legal_append, legal_within}
 use Rattle.member_window.proofs.Sound.{no_quota_while_down, sound_new, sound_up, sound_down, put_held, sound_put, resend_held, first_waiting, sound_resend, ack_held, sound_ack, sound_take_none, sound_take, sound_restore}
@@ -69,7 +69,7 @@ within : {T : Type 0} (quota : Option ℕ) (owed : List (ℕ × T)) → MatchOpt
 within None owed kept = tt
 within {T} (Some q) owed kept = let f : ℕ × T → ℕ = λ e. e.0 in omega (arith, length-map owed f)
 
-within_quota : {T : Type 0} (w : Contents T) → IsSound w → IsWithinQuota (standing_of w)
+within_quota : {T : Type 0} (w : Contents T) → IsSound w → IsWithinQuota (window_state w)
 within_quota w sound = within w.quota w.owed sound.kept
 
 -- what an item needs to be sent
@@ -77,7 +77,7 @@ has_up : (quota : Option ℕ) (n : ℕ) → IsSomeAnd quota (λ q. n < q) → Is
 has_up None n has = absurd has
 has_up (Some q) n has = refl
 
-may_send : {T : Type 0} (w : Contents T) (identifier : ℕ) → HasRoom w → IsLeastFree (identifiers (held_of w)) identifier → MaySend (standing_of w) identifier
+may_send : {T : Type 0} (w : Contents T) (identifier : ℕ) → HasRoom w → IsLeastFree (identifiers (held_of w)) identifier → MaySend (window_state w) identifier
 may_send w identifier room least =
     record {
       up = has_up w.quota (length w.owed) room.0;
@@ -85,7 +85,7 @@ may_send w identifier room least =
       none_waits = subst (All (λ entry. Contains (identifiers w.owed) entry.0)) (sym (ap (λ es. w.owed ++ es) room.1 ∙ append-nil w.owed)) (own_identifiers w.owed);
     }
 
-may_resend : {T : Type 0} (w : Contents T) (entry : ℕ × T) (rest : List (ℕ × T)) → IsSound w → HasQuota w → w.waiting ≡ entry ∷ rest → MayResend (standing_of w) entry.0 entry.1
+may_resend : {T : Type 0} (w : Contents T) (entry : ℕ × T) (rest : List (ℕ × T)) → IsSound w → HasQuota w → w.waiting ≡ entry ∷ rest → MayResend (window_state w) entry.0 entry.1
 may_resend {T} w entry rest sound has first =
     let all = ap (λ es. w.owed ++ es) first in
     let f : ℕ × T → ℕ = λ e. e.0 in
@@ -99,54 +99,54 @@ may_resend {T} w entry rest sound has first =
     }
 
 -- where a mark leads, the window is
-abbrev standing : {T : Type 0} → Option ℕ → List (ℕ × T) → List ℕ → Standing T
-standing quota held owed = record { held = held; owed = owed; quota = quota }
+abbrev state : {T : Type 0} → Option ℕ → List (ℕ × T) → List ℕ → WindowState T
+state quota held owed = record { held = held; owed = owed; quota = quota }
 
-same_standing : {T : Type 0} (quota : Option ℕ) (held other_held : List (ℕ × T)) (owed other_owed : List ℕ) → held ≡ other_held → owed ≡ other_owed → standing quota held owed ≡ standing quota other_held other_owed
-same_standing quota held other_held owed other_owed e f = λ i. standing quota (e i) (f i)
+same_window_state : {T : Type 0} (quota : Option ℕ) (held other_held : List (ℕ × T)) (owed other_owed : List ℕ) → held ≡ other_held → owed ≡ other_owed → state quota held owed ≡ state quota other_held other_owed
+same_window_state quota held other_held owed other_owed e f = λ i. state quota (e i) (f i)
 
-standing_follows : {T : Type 0} (w mid : Contents T) (call : Call T) → w.retired ≡ false → mid.retired ≡ false → IsAllowed w call → Makes w call mid → standing_of mid ≡ standing_after_all (standing_of w) (marks_of call)
-standing_follows w mid (Up receive_maximum) was stays may made = ap standing_of made
-standing_follows w mid Down was stays may made = ap standing_of made
-standing_follows {T} w mid (Put item (Ok identifier)) was stays may made =
+window_follows : {T : Type 0} (w mid : Contents T) (call : Call T) → w.retired ≡ false → mid.retired ≡ false → IsAllowed w call → Makes w call mid → window_state mid ≡ window_after_all (window_state w) (marks_of call)
+window_follows w mid (Up receive_maximum) was stays may made = ap window_state made
+window_follows w mid Down was stays may made = ap window_state made
+window_follows {T} w mid (Put item (Ok identifier)) was stays may made =
     let f : ℕ × T → ℕ = λ e. e.0 in
-    ap standing_of made.2 ∙ same_standing w.quota _ _ _ _ (put_held w.owed w.waiting (identifier, item) made.0.1) (map_push f w.owed (identifier, item))
-standing_follows w mid (Put item (Err back)) was stays may made = ap standing_of made.2
-standing_follows {T} w mid (NextResend (Some entry)) was stays may made =
+    ap window_state made.2 ∙ same_window_state w.quota _ _ _ _ (put_held w.owed w.waiting (identifier, item) made.0.1) (map_push f w.owed (identifier, item))
+window_follows w mid (Put item (Err back)) was stays may made = ap window_state made.2
+window_follows {T} w mid (NextResend (Some entry)) was stays may made =
     let f : ℕ × T → ℕ = λ e. e.0 in
-    ap standing_of made.1 ∙ same_standing w.quota _ _ _ _ (resend_held w.owed w.waiting entry (drop 1 w.waiting) (first_waiting w entry made.0.1.0 made.0.1.1)) (map_push f w.owed entry)
-standing_follows w mid (NextResend None) was stays may made = ap standing_of made.1
-standing_follows w mid (Ack identifier code (Some item)) was stays may made =
-    ap standing_of made.1 ∙ same_standing w.quota _ _ _ _ (ack_held identifier w.owed w.waiting) (identifiers-without identifier w.owed)
-standing_follows w mid (Ack identifier code None) was stays may made = ap standing_of made.1
-standing_follows w mid (TakeFirst (Some entry)) was stays may made = absurd (false≢true (sym stays ∙ ap (λ m. m.retired) made.2))
-standing_follows w mid (TakeFirst None) was stays may made = absurd (false≢true (sym stays ∙ ap (λ m. m.retired) made.1))
-standing_follows w mid (Restore identifier item) was stays may made = absurd (false≢true (sym was ∙ may.retired))
+    ap window_state made.1 ∙ same_window_state w.quota _ _ _ _ (resend_held w.owed w.waiting entry (drop 1 w.waiting) (first_waiting w entry made.0.1.0 made.0.1.1)) (map_push f w.owed entry)
+window_follows w mid (NextResend None) was stays may made = ap window_state made.1
+window_follows w mid (Ack identifier code (Some item)) was stays may made =
+    ap window_state made.1 ∙ same_window_state w.quota _ _ _ _ (ack_held identifier w.owed w.waiting) (identifiers-without identifier w.owed)
+window_follows w mid (Ack identifier code None) was stays may made = ap window_state made.1
+window_follows w mid (TakeFirst (Some entry)) was stays may made = absurd (false≢true (sym stays ∙ ap (λ m. m.retired) made.2))
+window_follows w mid (TakeFirst None) was stays may made = absurd (false≢true (sym stays ∙ ap (λ m. m.retired) made.1))
+window_follows w mid (Restore identifier item) was stays may made = absurd (false≢true (sym was ∙ may.retired))
 
 -- the mark of a call may come next
-legal_call : {T : Type 0} (w mid : Contents T) (call : Call T) → IsSound w → IsAllowed w call → Makes w call mid → w.retired ≡ false → IsLegalFrom (standing_of w) (marks_of call)
+legal_call : {T : Type 0} (w mid : Contents T) (call : Call T) → IsSound w → IsAllowed w call → Makes w call mid → w.retired ≡ false → IsLegalFrom (window_state w) (marks_of call)
 legal_call w mid (Up receive_maximum) sound may made was = (within_quota w sound, tt, within_quota (after_up w receive_maximum) (sound_up w receive_maximum sound may))
 legal_call w mid Down sound may made was = (within_quota w sound, tt, tt)
 legal_call w mid (Put item (Ok identifier)) sound may made was =
     let after = sound_after w mid (Put item (Ok identifier)) sound may made in
-    let there = standing_follows w mid (Put item (Ok identifier)) was (ap (λ m. m.retired) made.2 ∙ was) may made in
+    let there = window_follows w mid (Put item (Ok identifier)) was (ap (λ m. m.retired) made.2 ∙ was) may made in
     (within_quota w sound, may_send w identifier made.0 made.1, subst IsWithinQuota there (within_quota mid after))
 legal_call w mid (Put item (Err back)) sound may made was = within_quota w sound
 legal_call w mid (NextResend (Some entry)) sound may made was =
     let after = sound_after w mid (NextResend (Some entry)) sound may made in
-    let there = standing_follows w mid (NextResend (Some entry)) was (ap (λ m. m.retired) made.1 ∙ was) may made in
+    let there = window_follows w mid (NextResend (Some entry)) was (ap (λ m. m.retired) made.1 ∙ was) may made in
     (within_quota w sound, may_resend w entry made.0.1.0 sound made.0.0 made.0.1.1, subst IsWithinQuota there (within_quota mid after))
 legal_call w mid (NextResend None) sound may made was = within_quota w sound
 legal_call w mid (Ack identifier code (Some item)) sound may made was =
     let after = sound_after w mid (Ack identifier code (Some item)) sound may made in
-    let there = standing_follows w mid (Ack identifier code (Some item)) was (ap (λ m. m.retired) made.1 ∙ was) may made in
+    let there = window_follows w mid (Ack identifier code (Some item)) was (ap (λ m. m.retired) made.1 ∙ was) may made in
     (within_quota w sound, contains_identifier (held_of w) identifier item made.0, subst IsWithinQuota there (within_quota mid after))
 legal_call w mid (Ack identifier code None) sound may made was = within_quota w sound
 legal_call w mid (TakeFirst answer) sound may made was = within_quota w sound
 legal_call w mid (Restore identifier item) sound may made was = within_quota w sound
 
 -- of a session that is ending no call adds a mark but `down`
-quiet_call : {T : Type 0} (s : Standing T) (w mid : Contents T) (call : Call T) → IsSound w → w.retired ≡ true → IsWithinQuota s → IsAllowed w call → Makes w call mid → IsLegalFrom s (marks_of call)
+quiet_call : {T : Type 0} (s : WindowState T) (w mid : Contents T) (call : Call T) → IsSound w → w.retired ≡ true → IsWithinQuota s → IsAllowed w call → Makes w call mid → IsLegalFrom s (marks_of call)
 quiet_call s w mid (Up receive_maximum) sound gone kept may made = absurd (false≢true (sym may ∙ gone))
 quiet_call s w mid Down sound gone kept may made = (kept, tt, tt)
 quiet_call s w mid (Put item (Ok identifier)) sound gone kept may made = absurd (no_quota_while_down w (sound.ending gone) made.0.0)
@@ -157,27 +157,27 @@ quiet_call s w mid (Ack identifier code answer) sound gone kept may made = absur
 quiet_call s w mid (TakeFirst answer) sound gone kept may made = kept
 quiet_call s w mid (Restore identifier item) sound gone kept may made = kept
 
-quiet_calls : {T : Type 0} (s : Standing T) (old new : Contents T) (calls : List (Call T)) → IsSound old → old.retired ≡ true → IsWithinQuota s → MakesAll old calls new → IsLegalFrom s (transcript_of calls)
+quiet_calls : {T : Type 0} (s : WindowState T) (old new : Contents T) (calls : List (Call T)) → IsSound old → old.retired ≡ true → IsWithinQuota s → MakesAll old calls new → IsLegalFrom s (transcript_of calls)
 quiet_calls s old new [] sound gone kept made = kept
 quiet_calls s old new (call ∷ calls) sound gone kept made =
     let mid = made.1.0 in
     let one = quiet_call s old mid call sound gone kept made.0 made.1.1 in
     let gone_on = retired_after old mid call made.1.1 ∙ ap (λ b. b || is_take_first call) gone in
     legal_append s (marks_of call) (transcript_of calls) one
-    (quiet_calls (standing_after_all s (marks_of call)) mid new calls (sound_after old mid call sound made.0 made.1.1) gone_on (legal_within s (marks_of call) one) made.1.2)
+    (quiet_calls (window_after_all s (marks_of call)) mid new calls (sound_after old mid call sound made.0 made.1.1) gone_on (legal_within s (marks_of call) one) made.1.2)
 
 -- one call after the other
-pub legal_calls : {T : Type 0} (old new : Contents T) (calls : List (Call T)) → IsSound old → old.retired ≡ false → MakesAll old calls new → IsLegalFrom (standing_of old) (transcript_of calls)
+pub legal_calls : {T : Type 0} (old new : Contents T) (calls : List (Call T)) → IsSound old → old.retired ≡ false → MakesAll old calls new → IsLegalFrom (window_state old) (transcript_of calls)
 legal_calls old new [] sound was made = within_quota old sound
 legal_calls {T} old new (call ∷ calls) sound was made =
     let mid = made.1.0 in
     let after = sound_after old mid call sound made.0 made.1.1 in
     let one = legal_call old mid call sound made.0 made.1.1 was in
-    legal_append (standing_of old) (marks_of call) (transcript_of calls) one
+    legal_append (window_state old) (marks_of call) (transcript_of calls) one
     (
     ⊎_elim
-    (λ (gone : mid.retired ≡ true). quiet_calls (standing_after_all (standing_of old) (marks_of call)) mid new calls after gone (legal_within (standing_of old) (marks_of call) one) made.1.2)
-    (λ (stays : mid.retired ≡ false). subst (λ (s : Standing T). IsLegalFrom s (transcript_of calls)) (standing_follows old mid call was stays made.0 made.1.1) (legal_calls mid new calls after stays made.1.2))
+    (λ (gone : mid.retired ≡ true). quiet_calls (window_after_all (window_state old) (marks_of call)) mid new calls after gone (legal_within (window_state old) (marks_of call) one) made.1.2)
+    (λ (stays : mid.retired ≡ false). subst (λ (s : WindowState T). IsLegalFrom s (transcript_of calls)) (window_follows old mid call was stays made.0 made.1.1) (legal_calls mid new calls after stays made.1.2))
     (cases_Bool mid.retired)
     )
 
@@ -189,25 +189,25 @@ or_parts : (a b : Bool) → (a || b) ≡ false → a ≡ false
 or_parts true b e = e
 or_parts false b e = refl
 
-standing_after_append : {T : Type 0} (s : Standing T) (before behind : List (Mark T)) → standing_after_all s (before ++ behind) ≡ standing_after_all (standing_after_all s before) behind
-standing_after_append s [] behind = refl
-standing_after_append s (mark ∷ before) behind = standing_after_append (standing_after s mark) before behind
+window_after_append : {T : Type 0} (s : WindowState T) (before behind : List (Mark T)) → window_after_all s (before ++ behind) ≡ window_after_all (window_after_all s before) behind
+window_after_append s [] behind = refl
+window_after_append s (mark ∷ before) behind = window_after_append (window_after s mark) before behind
 
-pub standing_after_calls : {T : Type 0} (old new : Contents T) (calls : List (Call T)) → new.retired ≡ false → MakesAll old calls new → standing_after_all (standing_of old) (transcript_of calls) ≡ standing_of new
-standing_after_calls old new [] stays made = sym (ap standing_of made)
-standing_after_calls old new (call ∷ calls) stays made =
+pub window_after_calls : {T : Type 0} (old new : Contents T) (calls : List (Call T)) → new.retired ≡ false → MakesAll old calls new → window_after_all (window_state old) (transcript_of calls) ≡ window_state new
+window_after_calls old new [] stays made = sym (ap window_state made)
+window_after_calls old new (call ∷ calls) stays made =
     let mid = made.1.0 in
     let stayed = or_parts mid.retired (list_any is_take_first calls) (sym (retired_after_all mid new calls made.1.2) ∙ stays) in
     let was = or_parts old.retired (is_take_first call) (sym (retired_after old mid call made.1.1) ∙ stayed) in
-    standing_after_append (standing_of old) (marks_of call) (transcript_of calls)
-    ∙ ap (λ s. standing_after_all s (transcript_of calls)) (sym (standing_follows old mid call was stayed made.0 made.1.1))
-    ∙ standing_after_calls mid new calls stays made.1.2
+    window_after_append (window_state old) (marks_of call) (transcript_of calls)
+    ∙ ap (λ s. window_after_all s (transcript_of calls)) (sym (window_follows old mid call was stayed made.0 made.1.1))
+    ∙ window_after_calls mid new calls stays made.1.2
 
 -- from a window that is down
 pub legal_from_down : {T : Type 0} (old new : Contents T) (calls : List (Call T)) → IsSound old → old.retired ≡ false → old.quota ≡ None → MakesAll old calls new → IsLegal (held_of old) (transcript_of calls)
 legal_from_down {T} old new calls sound was down made =
     let none : old.owed ≡ [] = subst (λ (o : Option ℕ). MatchOption o (old.owed ≡ []) (λ q. (length old.owed ≤ q) × (q ≤ 256))) down sound.kept in
-    subst (λ (s : Standing T). IsLegalFrom s (transcript_of calls)) (λ i. standing (down i) (held_of old) (identifiers (none i))) (legal_calls old new calls sound was made)
+    subst (λ (s : WindowState T). IsLegalFrom s (transcript_of calls)) (λ i. state (down i) (held_of old) (identifiers (none i))) (legal_calls old new calls sound was made)
 
 -- lists of calls, joined
 pub made_append : {T : Type 0} (old mid new : Contents T) (before behind : List (Call T)) → MakesAll old before mid → MakesAll mid behind new → MakesAll old (before ++ behind) new

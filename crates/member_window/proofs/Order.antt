@@ -153,7 +153,7 @@ found {T} k es answer is =
     (λ (le : length es ≤ n). subst Says (sym (is ∙ ap (λ b. cond b (Some n) None) (le-ltb n (length es) le))) (absent k es le))
     (cases_lt n (length es))
 
--- the same of two lists, one behind the other
+-- the same of two lists, one after the other
 module _ {T : Type 0} (k : ℕ) (front back : List (ℕ × T)) where
   pub found_in_front : (place : ℕ) → Some place ≡ position (λ e. e.0 == k) front → (place < length (front ++ back)) × HoldsAt (λ entry. entry.0 ≡ k) (front ++ back) place
   found_in_front place is =

@@ -14,7 +14,7 @@ pub data Mark (T : Type 0) : Type 0 where
   Down : Mark T
 
 -- where a transcript leaves its session
-pub record Standing (T : Type 0) : Type 0 where
+pub record WindowState (T : Type 0) : Type 0 where
   -- what was sent fresh, with DUP 0, and not acknowledged since, in order of first sending (4.4)
   pub held : List (ℕ × T)
   -- the identifiers that were sent since the last `Up` and not acknowledged since; none after `Down` (4.9)
@@ -23,8 +23,8 @@ pub record Standing (T : Type 0) : Type 0 where
   pub quota : Option ℕ
 
 -- no connection is up, and these entries are held
-abbrev pub standing_down : {T : Type 0} → List (ℕ × T) → Standing T
-standing_down entries = record { held = entries; owed = []; quota = None }
+abbrev pub window_down : {T : Type 0} → List (ℕ × T) → WindowState T
+window_down entries = record { held = entries; owed = []; quota = None }
 
 -- what is held after a PUBLISH packet: one that is sent again, with DUP 1, is held already (3.3.1.1)
 abbrev pub held_after_sent : {T : Type 0} → List (ℕ × T) → ℕ → Bool → T → List (ℕ × T)
@@ -32,23 +32,23 @@ held_after_sent entries identifier false item = entries ++ (identifier, item) �
 held_after_sent entries identifier true item = entries
 
 -- where one mark leads
-abbrev pub standing_after : {T : Type 0} → Standing T → Mark T → Standing T
-standing_after s (Up receive_maximum) = record { held = s.held; owed = []; quota = Some (min receive_maximum 256) }
-standing_after s (Sent identifier dup item) =
+abbrev pub window_after : {T : Type 0} → WindowState T → Mark T → WindowState T
+window_after s (Up receive_maximum) = record { held = s.held; owed = []; quota = Some (min receive_maximum 256) }
+window_after s (Sent identifier dup item) =
     record { held = held_after_sent s.held identifier dup item; owed = s.owed ++ identifier ∷ []; quota = s.quota }
-standing_after s (Acked identifier code) =
+window_after s (Acked identifier code) =
     record { held = entries_without identifier s.held; owed = identifiers_without identifier s.owed; quota = s.quota }
-standing_after s Down = standing_down s.held
+window_after s Down = window_down s.held
 
 -- where all these marks lead
-abbrev pub standing_after_all : {T : Type 0} → Standing T → List (Mark T) → Standing T
-standing_after_all s [] = s
-standing_after_all s (mark ∷ marks) = standing_after_all (standing_after s mark) marks
+abbrev pub window_after_all : {T : Type 0} → WindowState T → List (Mark T) → WindowState T
+window_after_all s [] = s
+window_after_all s (mark ∷ marks) = window_after_all (window_after s mark) marks
 
 -- what is held after a transcript that begins with these entries, no connection being up
 abbrev pub held : {T : Type 0} → List (ℕ × T) → List (Mark T) → List (ℕ × T)
-held entries marks = (standing_after_all (standing_down entries) marks).held
+held entries marks = (window_after_all (window_down entries) marks).held
 
 -- what is owed after it
 abbrev pub owed : {T : Type 0} → List (ℕ × T) → List (Mark T) → List ℕ
-owed entries marks = (standing_after_all (standing_down entries) marks).owed
+owed entries marks = (window_after_all (window_down entries) marks).owed

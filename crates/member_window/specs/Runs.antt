@@ -1,7 +1,7 @@
 -- Lists of calls of one window: the transcript that they make, and where it leaves the session.
 use Rattle.std.specs.Prelude.{◌≡◌, Bool, true, false, List, [], ◌∷◌, ◌++◌, Some, None, Ok, Err}
 use Rattle.member_window.specs.Identifiers.{identifiers}
-use Rattle.member_window.specs.Marks.{Mark, Standing}
+use Rattle.member_window.specs.Marks.{Mark, WindowState}
 use Rattle.member_window.specs.Marks as marks
 use Rattle.member_window.specs.Contents.{Contents, held_of}
 use Rattle.member_window.specs.Calls.{Call, Up, Down, Put, NextResend, Ack, TakeFirst, Restore, IsAllowed, Makes}
@@ -30,8 +30,8 @@ transcript_of [] = []
 transcript_of (call ∷ calls) = marks_of call ++ transcript_of calls
 
 -- where a transcript has left the session that has this window
-abbrev pub standing_of : {T : Type 0} → Contents T → Standing T
-standing_of w = record { held = held_of w; owed = identifiers w.owed; quota = w.quota }
+abbrev pub window_state : {T : Type 0} → Contents T → WindowState T
+window_state w = record { held = held_of w; owed = identifiers w.owed; quota = w.quota }
 
 -- with this call its session is ending
 abbrev pub is_take_first : {T : Type 0} → Call T → Bool

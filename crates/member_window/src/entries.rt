@@ -77,7 +77,7 @@ impl<T> Entries<T> {
         Some(front.len() + place)
     }
 
-    /// Puts an item behind the others, which are all owed, under the least free identifier, and owes it.
+    /// Puts an item after the others, which are all owed, under the least free identifier, and owes it.
     pub(crate) fn push(&mut self, item: T) -> u16
         requires few { length self.old.all < 256 }
         requires owed { self.old.owed ≡ length self.old.all }

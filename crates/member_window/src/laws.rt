@@ -3,11 +3,11 @@
 //! [`Window`](crate::Window) cite, so they are about what its methods do.
 ghost use Rattle.std.specs.Prelude.{◌≡◌, ◌↔◌, ℕ, false, List, [], ◌++◌};
 ghost use Rattle.std.specs.List.{list_any};
-ghost use Rattle.member_window.specs.Marks.{Mark, Standing, held, standing_down, standing_after_all};
+ghost use Rattle.member_window.specs.Marks.{Mark, WindowState, held, window_down, window_after_all};
 ghost use Rattle.member_window.specs.Transcript.{IsWithinQuota, IsLegal, IsLegalFrom, IsLegalAtEachPrefix};
 ghost use Rattle.member_window.specs.Contents.{Contents, new_contents, held_of, IsDown, IsSound};
 ghost use Rattle.member_window.specs.Calls.{Call};
-ghost use Rattle.member_window.specs.Runs.{MakesAll, transcript_of, standing_of, is_take_first};
+ghost use Rattle.member_window.specs.Runs.{MakesAll, transcript_of, window_state, is_take_first};
 
 /// **The window law.** Whatever calls are made of a new window, each where its condition on the
 /// caller holds and with the answer that its contract gives, the transcript that they make is legal:
@@ -25,7 +25,7 @@ pub fn window_law<T>()
         MakesAll new_contents calls w → IsLegal [] (transcript_of calls) }
     ensures within_quota { (calls : List (Call T)) (w : Contents T) →
         MakesAll new_contents calls w →
-        IsWithinQuota (standing_after_all (standing_down []) (transcript_of calls)) }
+        IsWithinQuota (window_after_all (window_down []) (transcript_of calls)) }
     ensures ending { (calls : List (Call T)) (w : Contents T) →
         MakesAll new_contents calls w → w.retired ≡ list_any is_take_first calls }
 {}
@@ -40,13 +40,13 @@ pub fn window_law_onward<T>()
         IsSound old → MakesAll old calls new → IsSound new }
     ensures legal { (old new : Contents T) (calls : List (Call T)) →
         IsSound old → old.retired ≡ false → MakesAll old calls new →
-        IsLegalFrom (standing_of old) (transcript_of calls) }
+        IsLegalFrom (window_state old) (transcript_of calls) }
     ensures legal_from_down { (old new : Contents T) (calls : List (Call T)) →
         IsSound old → old.retired ≡ false → IsDown old → MakesAll old calls new →
         IsLegal (held_of old) (transcript_of calls) }
-    ensures standing { (old new : Contents T) (calls : List (Call T)) →
+    ensures window { (old new : Contents T) (calls : List (Call T)) →
         new.retired ≡ false → MakesAll old calls new →
-        standing_after_all (standing_of old) (transcript_of calls) ≡ standing_of new }
+        window_after_all (window_state old) (transcript_of calls) ≡ window_state new }
 {}
 
 /// `IsLegal` goes along the marks. It says the same as: at every prefix of the transcript, the whole
@@ -62,8 +62,8 @@ pub fn legality_law<T>()
 /// not the connection was ended by a `Down` (`from_held`): it begins with an `Up` of its own before it
 /// sends anything.
 pub fn continuation_law<T>()
-    ensures onward { (s : Standing T) (before behind : List (Mark T)) →
-        IsLegalFrom s before → IsLegalFrom (standing_after_all s before) behind →
+    ensures onward { (s : WindowState T) (before behind : List (Mark T)) →
+        IsLegalFrom s before → IsLegalFrom (window_after_all s before) behind →
         IsLegalFrom s (before ++ behind) }
     ensures from_held { (entries : List (ℕ × T)) (before behind : List (Mark T)) →
         IsLegal entries before → IsLegal (held entries before) behind →

@@ -1,4 +1,4 @@
--- Steps of writing behind a buffer's bytes.
+-- Steps of writing after a buffer's bytes.
 use Rattle.std.proofs.Common.{◌≡◌, ℕ, zero, suc, ◌+◌, ◌-◌, ◌/◌, ◌%◌, ◌<◌, ◌≤◌, List, ◌∷◌, ◌++◌, refl, ap, ◌∙◌, append_assoc, arith, le-ltb, length-append}
 use Rattle.std.specs.Prelude.{Vec}
 use Rattle.std.specs.declared.alloc.Global.{Global}
@@ -13,7 +13,7 @@ next_byte (suc more) n large h =
     let less : suc more - 1 ≡ more = omega arith in
     rw (le-ltb n 128 large, less) refl
 
--- what is written behind what was written
+-- what is written after what was written
 pub appends_both : (old middle new : Vec ℕ Global) (first others : List ℕ) →
     Appends old first middle → Appends middle others new → Appends old (first ++ others) new
 appends_both old middle new first others a b = record {

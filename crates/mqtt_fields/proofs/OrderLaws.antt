@@ -75,7 +75,7 @@ pairs_rise (pair ∷ others) = (omega arith, pairs_rise others)
 user : (pairs : List Pair) → Segment 0x26 (user_bytes pairs) 0x26
 user pairs = record { list = made pairs; spelled = pairs_spelled pairs; rises = pairs_rise pairs }
 
--- one section behind another
+-- one section after another
 followed : {a b : List ℕ} (least middle next greatest : ℕ) → Segment least a middle → middle ≤ next → Segment next b greatest → Segment least (a ++ b) greatest
 followed {a} {b} least middle next greatest x le y = record {
   list = x.list ++ y.list;

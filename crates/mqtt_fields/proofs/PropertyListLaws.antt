@@ -26,7 +26,7 @@ use Rattle.mqtt_fields.proofs.SectionLaws.{Gathered}
 ended : (section : Section) (all : Properties) → Gathered section all [] all
 ended section all = record { list = []; parts = refl; adds = refl }
 
--- nothing behind the bytes
+-- nothing after the bytes
 last : (section : Section) (so_far : Properties) (bytes : List ℕ) (all : Properties) → Gathered section so_far (bytes ++ []) all → Gathered section so_far bytes all
 last section so_far bytes all g = subst (λ (b : List ℕ). Gathered section so_far b all) (append-nil bytes) g
 

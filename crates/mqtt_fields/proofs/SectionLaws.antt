@@ -92,7 +92,7 @@ not_true : (b : Bool) → not b ≡ true → b ≡ false
 not_true false e = refl
 not_true true e = absurd cc
 
--- a property in front of the rest, which may come behind those that are there
+-- a property in front of the rest, which may come after those that are there
 pub record IsNext (section : Section) (so_far : Properties) (bytes : List ℕ) (property : Property) (rest : List ℕ) : Type 0 where
   pub front : Front bytes (property_bytes property) rest
   pub value : IsProperty property

@@ -197,7 +197,7 @@ rest_of front rest bytes e =
     let size : length bytes - length rest ≡ length front = omega (arith, ap length e, length-append front rest) in
     ap (λ (n : ℕ). drop n bytes) size ∙ ap (drop (length front)) e ∙ drop_at front rest (length front) refl
 
--- what is behind the number is what is left where its bytes are dropped
+-- what is after the number is what is left where its bytes are dropped
 pub variable_rest : (more : ℕ) (bytes : List ℕ) (x : ℕ × List ℕ) → variable_at more bytes ≡ Ok (Some x) → drop (length bytes - length x.1) bytes ≡ x.1
 variable_rest more bytes x e =
     let parts = variable_end more bytes x e in

@@ -1,4 +1,4 @@
--- What writing behind a buffer's bytes needs, and what it leaves.
+-- What writing after a buffer's bytes needs, and what it leaves.
 use Rattle.std.specs.Prelude.{◌≡◌, ℕ, ◌+◌, ◌≤◌, List, ◌++◌, length, vec_len, vec_capacity, Vec}
 use Rattle.std.specs.declared.alloc.Global.{Global}
 

@@ -29,7 +29,7 @@ abbrev pub Gives : {X Y : Type 0} → (X → Y) → Result X Fault → Result Y 
 Gives view (Ok x) read = read ≡ Ok (view x)
 Gives view (Err e) read = Fails e read
 
--- a reader gives the value in front and leaves the bytes behind it, or gives the fault
+-- a reader gives the value in front and leaves the bytes after it, or gives the fault
 abbrev pub ReadsField : {A : Type 0} → Result A StreamFault → List ℕ → Result (A × List ℕ) StreamFault → Type 0
 ReadsField (Ok value) rest field = field ≡ Ok (value, rest)
 ReadsField (Err fault) rest field = field ≡ Err fault

@@ -1,11 +1,11 @@
--- Fields read from left to right (section 1.5): each gives its value and the bytes behind it, or the first fault.
+-- Fields read from left to right (section 1.5): each gives its value and the bytes after it, or the first fault.
 use Rattle.std.specs.Prelude.{ℕ, zero, suc, ◌+◌, ◌-◌, ◌*◌, ◌==◌, nat_lt, Bool, true, false, if◌then◌else◌, List, [], ◌∷◌, length, take, drop, Option, Some, None, Result, Ok, Err}
 use Rattle.mqtt_fields.specs.declared.fault.StreamFault.{StreamFault}
 use Rattle.mqtt_fields.specs.declared.fault.StreamFault.TheVariants.{Malformed, Protocol}
 use Rattle.mqtt_fields.specs.Faults.{◌>>=◌}
 use Rattle.mqtt_packet.specs.Texts.{is_text}
 
--- a field's value and the bytes behind it
+-- a field's value and the bytes after it
 abbrev pub Field : Type 0 → Type 0
 Field A = Result (A × List ℕ) StreamFault
 
@@ -78,7 +78,7 @@ abbrev pub field_if : {A : Type 0} → Bool → (List ℕ → Field A) → List 
 field_if true field bytes = field bytes >>= λ value. Ok (Some value.0, value.1)
 field_if false field bytes = Ok (None, bytes)
 
--- nothing is left over behind the last field
+-- nothing is left over after the last field
 abbrev pub at_end : {A : Type 0} → A → List ℕ → Result A StreamFault
 at_end value [] = Ok value
 at_end value (byte ∷ rest) = Err Malformed

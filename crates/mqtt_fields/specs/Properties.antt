@@ -154,6 +154,6 @@ is_there names.TopicAlias all = is_some all.topic_alias
 is_there names.UserProperty all = false
 is_there names.MaximumPacketSize all = is_some all.maximum_packet_size
 
--- a property of that name may come in the section, behind those that are there
+-- a property of that name may come in the section, after those that are there
 abbrev pub may_come : Section → Properties → PropertyName → Bool
 may_come section so_far name = is_some (name_in section (identifier_of name)) && not (is_forbidden section name || is_there name so_far)

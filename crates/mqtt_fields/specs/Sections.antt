@@ -101,7 +101,7 @@ abbrev pub admitted : Section → Properties → Option PropertyName → Result 
 admitted section so_far None = Err Malformed
 admitted section so_far (Some name) = if is_forbidden section name || is_there name so_far then Err Protocol else Ok name
 
--- one property, behind those that are there
+-- one property, after those that are there
 unfoldable pub property_at : Section → Properties → List ℕ → Field Property
 property_at section so_far bytes = do
   identifier ← byte_at bytes
@@ -123,7 +123,7 @@ properties_at section bytes = do
   if nat_lt (length size.1) size.0 then Err Malformed
       else (gathered_at section nothing (length (take size.0 size.1)) (take size.0 size.1) >>= λ all. Ok (all, drop size.0 size.1))
 
--- each of the properties may come behind those before it, and together they are these
+-- each of the properties may come after those before it, and together they are these
 abbrev pub AddUp : Section → Properties → List Property → Properties → Type 0
 AddUp section so_far [] all = so_far ≡ all
 AddUp section so_far (property ∷ others) all =

@@ -28,7 +28,7 @@ pub enum Fault {
     /// Refusals 101 to 103: the packet itself is at fault.
     #[error("{0}")]
     Stream(StreamFault),
-    /// Refusal 104: memory was wanted and refused.
+    /// Refusal 104: an allocation failed.
     #[error("out of memory")]
     Memory,
 }

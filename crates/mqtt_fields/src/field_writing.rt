@@ -1,4 +1,4 @@
-//! Writers of single fields, behind what a buffer holds (section 1.5). The buffer has room for them.
+//! Writers of single fields, after what a buffer holds (section 1.5). The buffer has room for them.
 
 ghost use Rattle.std.specs.Prelude.{◌≡◌, ◌<◌, ◌∷◌, ◌++◌, []};
 ghost use Rattle.mqtt_fields.specs.Buffers.{HasRoom, Appends};
@@ -44,7 +44,7 @@ pub(crate) fn put_u32(out: &mut Vec<u8>, number: u32)
     put_byte(out, (number % 256) as u8);
 }
 
-/// Writes a Variable Byte Integer of at most `more` bytes behind its first (section 1.5.5), in the fewest bytes.
+/// Writes a Variable Byte Integer of at most `more` bytes after its first (section 1.5.5), in the fewest bytes.
 #[tactic(auto, unfolding(crate::specs::Forms::variable_bytes))]
 pub fn put_variable_byte_integer(out: &mut Vec<u8>, more: u8, number: u32)
     requires limit { number < variable_limit more }

@@ -190,7 +190,7 @@ pub(crate) fn read_variable(body: &mut Bytes) -> Result<u32, StreamFault>
     Ok(number)
 }
 
-/// Reads a Variable Byte Integer of at most `more` bytes behind its first (section 1.5.5): the number and the bytes behind it,
+/// Reads a Variable Byte Integer of at most `more` bytes after its first (section 1.5.5): the number and the bytes after it,
 /// or `None` where it is not whole yet. Refuses with 101 one that is longer, and one in more bytes than it needs.
 #[tactic(auto, unfolding(crate::specs::Fields::variable_at))]
 pub fn variable_byte_integer(more: u8, bytes: &[u8]) -> Result<Option<(u32, &[u8])>, StreamFault>

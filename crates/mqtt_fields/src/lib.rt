@@ -1,7 +1,7 @@
 //! The fields of MQTT 5.0 control packets as bytes, and their sections of properties: each read and each written.
 //!
 //! A reader takes a field from the front of what is left of a body, and answers the first fault there is: `read_byte`,
-//! `read_u16`, `read_text`, `read_properties`, .. A writer puts it behind what a buffer holds, which has room for it: `put_byte`,
+//! `read_u16`, `read_text`, `read_properties`, .. A writer puts it after what a buffer holds, which has room for it: `put_byte`,
 //! `put_u16`, `put_text`, `put_connect_properties`, .. How much room properties take, `connect_list_size` and its like say. The
 //! values are those of [`mqtt_packet`]; whole packets, and streams of them, are the matter of the crate above.
 //!

@@ -48,7 +48,7 @@ fn gather(alloc: Global, section: Section, list: Bytes) -> Result<Properties, Fa
     }
 }
 
-/// Gathers properties up to the end of the bytes, behind those that are there.
+/// Gathers properties up to the end of the bytes, after those that are there.
 fn gather_into(section: Section, properties: &mut Properties, mut list: Bytes) -> Result<(), Fault>
     ensures { Gives (λ _. properties.new) result (gathered_at section properties.old (length list) list) }
 {
@@ -59,7 +59,7 @@ fn gather_into(section: Section, properties: &mut Properties, mut list: Bytes) -
     Ok(())
 }
 
-/// Takes one property, behind those that are there.
+/// Takes one property, after those that are there.
 #[tactic(auto, unfolding(crate::specs::Sections::property_at))]
 fn read_property(section: Section, so_far: &Properties, list: &mut Bytes) -> Result<Property, Fault>
     ensures field { GivesField result list.new (property_at section so_far.now list.old) }

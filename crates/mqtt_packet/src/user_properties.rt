@@ -52,7 +52,7 @@ impl UserProperties {
         }
     }
 
-    /// One more, behind the others. At an `Err` they are as they were.
+    /// One more, after the others. At an `Err` they are as they were.
     pub fn push(&mut self, property: UserProperty) -> Result<(), AllocError>
         ensures pushed { OnOk result (self.new ≡ self.old ++ property ∷ []) }
         ensures unchanged { OnErr result (self.new ≡ self.old) }

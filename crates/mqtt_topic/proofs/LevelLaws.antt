@@ -7,7 +7,7 @@ use Rattle.std.proofs.lemmas.List.{take_all}
 use Rattle.std.proofs.lemmas.Bool.{lt-ltb, le-ltb, ltb-false, cases_lt, cases_Bool}
 use Rattle.mqtt_topic.specs.Levels.{is_separator, onto_first, levels_of, levels_left, text_left, is_multi_level, matches_levels}
 
--- the levels behind the first, where it has that many characters
+-- the levels after the first, where it has that many characters
 abbrev pub behind : ℕ → List ℕ → List (List ℕ)
 behind n text = cond (ltb n (length text)) (levels_of (drop (n + 1) text)) []
 

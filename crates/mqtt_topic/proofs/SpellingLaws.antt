@@ -67,7 +67,7 @@ cut_is text levels = (
 
 -- ---- shares
 
--- what stands before the first `/` and behind it
+-- what stands before the first `/` and after it
 found : (rest : List ℕ) (at : ℕ) → position is_separator rest ≡ Some at → (rest ≡ take at rest ++ 47 ∷ drop (at + 1) rest) × (list_any is_separator (take at rest) ≡ false)
 found rest at e =
     let at_place = position-Some is_separator rest at 0 e in

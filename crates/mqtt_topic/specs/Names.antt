@@ -53,7 +53,7 @@ abbrev pub share_from : List ℕ → Result ℕ TopicError → Result Share Topi
 share_from text (Ok at) = Ok (share_at text at)
 share_from text (Err refusal) = Err refusal
 
--- a place behind `$share/`, as a place of the text
+-- a place after `$share/`, as a place of the text
 abbrev pub moved : Result ℕ TopicError → Result ℕ TopicError
 moved (Ok at) = Ok (7 + at)
 moved (Err refusal) = Err refusal
@@ -62,7 +62,7 @@ abbrev pub with_filter : List ℕ → List ℕ → Result (List ℕ) TopicError 
 with_filter text name (Ok filter) = Ok (record { text = text; name = name; filter = filter })
 with_filter text name (Err refusal) = Err refusal
 
--- 4.8.2: behind `$share/`, a Share Name of at least one character without `+` and `#` up to the first `/`, and a filter
+-- 4.8.2: after `$share/`, a Share Name of at least one character without `+` and `#` up to the first `/`, and a filter
 abbrev pub share_cut : List ℕ → List ℕ → Option ℕ → Result Share TopicError
 share_cut text rest None = Err BadShare
 share_cut text rest (Some at) =

@@ -14,7 +14,7 @@ most_routes = 8
 abbrev pub slot_of : List ℕ → List Share → Option ℕ
 slot_of text shares = position (λ share. bytes_eq share.text text) shares
 
--- no share has the text of one behind it
+-- no share has the text of one after it
 abbrev pub AreDistinct : List Share → Type 0
 AreDistinct [] = Unit {0}
 AreDistinct (share ∷ others) = AllByRecursion (λ other. bytes_eq share.text other.text ≡ false) others × AreDistinct others

@@ -18,7 +18,7 @@ pub enum TopicError {
     /// (sections 4.7.1.2 and 4.7.1.3).
     #[error("a wildcard stands out of place")]
     BadWildcard,
-    /// 203: no Share Name, one with a wildcard, or no `/` behind it (section 4.8.2).
+    /// 203: no Share Name, one with a wildcard, or no `/` after it (section 4.8.2).
     #[error("the share name is not valid")]
     BadShare,
     /// 204: the text does not begin with `$share/` (section 4.8.2).
@@ -27,7 +27,7 @@ pub enum TopicError {
     /// 205: all eight slots are bound to other shares.
     #[error("no slot is free")]
     NoSlot,
-    /// 206: memory was wanted and refused.
+    /// 206: an allocation failed.
     #[error("out of memory")]
     Memory,
 }

@@ -85,7 +85,7 @@ fn are_placed(text: &[u8]) -> bool
     true
 }
 
-/// Whether a level with that behind it is a wildcard in its place, or has none.
+/// Whether a level with that after it is a wildcard in its place, or has none.
 fn is_placed(level: &[u8], next: Option<&[u8]>) -> bool
     ensures { result ≡ is_placed level.now (levels_left (text_left next.entry)) }
 {

@@ -76,7 +76,7 @@ fn match_levels(filter: &[u8], name: &[u8]) -> bool
     names.is_none()
 }
 
-/// Whether a level with that behind it is the Multi-Level Wildcard (section 4.7.1.2).
+/// Whether a level with that after it is the Multi-Level Wildcard (section 4.7.1.2).
 pub(crate) fn is_multi_level(level: &[u8], next: Option<&[u8]>) -> bool
     ensures { result ≡ is_multi_level level.now (levels_left (text_left next.entry)) }
 {

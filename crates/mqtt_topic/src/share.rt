@@ -89,7 +89,7 @@ fn filter_at(text: &[u8]) -> Result<usize, TopicError>
     Ok(PREFIX.len() + filter_at)
 }
 
-/// Where the filter begins behind the prefix.
+/// Where the filter begins after the prefix.
 fn filter_behind(rest: &[u8]) -> Result<usize, TopicError>
     ensures share { (text : List ℕ) → drop 7 text ≡ rest.now →
         share_from text (moved result) ≡ share_cut text rest.now (position is_separator rest.now) }

@@ -111,7 +111,7 @@ flags_back false true false = (refl, refl, refl)
 flags_back false false true = (refl, refl, refl)
 flags_back false false false = (refl, refl, refl)
 
--- ---- the fields behind the flags
+-- ---- the fields after the flags
 
 abbrev behind_flags : Connect → List ℕ → List ℕ
 behind_flags c section = u16_bytes c.keep_alive ++ (section ++ connect_payload c)
@@ -242,7 +242,7 @@ connect_takes body packet fits e =
           (record { client = tt; spelled = (name.0.0, version.0.1, t.0.parts ∙ ap (λ (r : List ℕ). utf8_string name.0.0 ++ r) b.parts, t.1, other.0); byte = refl })
     ]
 
--- behind the protocol the rest decides
+-- after the protocol the rest decides
 protocol_again : (rest : List ℕ) → connect_at (protocol ++ rest) ≡ connect_5_at rest
 unfolding connect_at is_text is_utf8 chars lib.Utf8.encode
 protocol_again rest =

@@ -29,7 +29,7 @@ right value told fault = ((λ e. absurd cc), λ none. absurd none)
 no_fault : {A : Type 0} (value : A) (fault : StreamFault) → Ok value ≡ Err fault → ⊥
 no_fault value fault e = cc
 
--- a field, and those behind it
+-- a field, and those after it
 behind : {A B : Type 0} (field : Result A StreamFault) (others : A → Result B StreamFault) (says : A → StreamFault → Type 0) → ((value : A) → Tells (others value) (says value)) → Tells (field >>= others) (FirstOf field says)
 behind {A} (Ok value) others says each fault = (
   λ e. inr (value, refl, (each value fault).0 e),

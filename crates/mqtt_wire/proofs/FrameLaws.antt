@@ -1,4 +1,4 @@
--- A header that is taken off a stream leaves what is behind it.
+-- A header that is taken off a stream leaves what is after it.
 use Rattle.std.proofs.Common.{◌≡◌, ℕ, ◌-◌, ◌≤◌, List, ◌++◌, length, drop, Some, Ok, ap, ◌∙◌, arith, length-append}
 use Rattle.std.proofs.lemmas.List.{drop_at}
 use Rattle.mqtt_wire.specs.Stream.{Header, header_at}

@@ -48,7 +48,7 @@ back_bytes a b h i = subst AreBytes (drop_at a b (length a) refl) (drop_bytes (l
 
 -- ---- a frame
 
--- the bytes of a frame and what is behind them are the header and what was behind that
+-- the bytes of a frame and what is after them are the header and what was after that
 pub frame_same : (kind : Kind) (remaining : ℕ) (rest : List ℕ) → remaining ≤ length rest → framed (first_byte kind) (take remaining rest) ++ drop remaining rest ≡ (first_byte kind ∷ variable_byte_integer remaining) ++ rest
 frame_same kind remaining rest whole =
     let body : List ℕ = take remaining rest in
@@ -57,7 +57,7 @@ frame_same kind remaining rest whole =
     ∙ append_assoc head body (drop remaining rest)
     ∙ ap (λ (t : List ℕ). head ++ t) (take-append-drop remaining rest)
 
--- a whole packet in front of a stream, as its frame and what is behind it
+-- a whole packet in front of a stream, as its frame and what is after it
 pub record Framed (stream : List ℕ) (header : Header) : Type 0 where
   pub same : framed (first_byte header.kind) (take header.remaining header.rest) ++ drop header.remaining header.rest ≡ stream
   pub small : length (take header.remaining header.rest) ≤ 65532
@@ -82,7 +82,7 @@ frame_holds frame rest small = (
   record { found = frame_header frame rest small; whole = omega (arith, length-append frame.body rest) },
 )
 
--- a header with a whole body behind it is one too
+-- a header with a whole body after it is one too
 pub headed_holds : (header : FixedHeader) (rest : List ℕ) → header.remaining ≤ 65532 → header.remaining ≤ length rest → HoldsPacket (header_bytes header ++ rest)
 headed_holds header rest small whole =
     (header_with header rest, record { found = header_again header.kind header.remaining rest small; whole = whole })

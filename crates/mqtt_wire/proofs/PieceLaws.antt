@@ -1,4 +1,4 @@
--- A stream with more bytes behind it: what was read of it stays, and so does a fault.
+-- A stream with more bytes after it: what was read of it stays, and so does a fault.
 use Rattle.std.proofs.Common.{◌≡◌, ℕ, zero, suc, ◌+◌, ◌-◌, ◌*◌, ltb, eqb, List, [], ◌∷◌, ◌++◌, Option, Some, None, Result, Ok, Err, refl, sym, ap, subst, ◌∙◌, append_assoc, arith, inl, inr, length-append}
 use Rattle.std.proofs.lemmas.List.{take-append-le}
 use Rattle.mqtt_fields.specs.declared.fault.StreamFault.{StreamFault}

@@ -1,4 +1,4 @@
--- Reason codes and the properties behind them: what is read is spelled so, and what is spelled so is read.
+-- Reason codes and the properties after them: what is read is spelled so, and what is spelled so is read.
 use Rattle.std.proofs.Common.{◌≡◌, ℕ, ◌<◌, ◌≤◌, List, [], ◌∷◌, length, Ok, refl, sym, ap, subst, ◌∙◌, arith, inl, inr, length-append}
 use Rattle.std.proofs.lemmas.List.{append-nil}
 use Rattle.mqtt_fields.specs.declared.property.Section.{Section}

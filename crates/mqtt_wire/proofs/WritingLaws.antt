@@ -47,7 +47,7 @@ publish_size p =
     let section : List ℕ = properties (publish_list p.properties) in
     omega (arith, length-append (utf8_string p.topic) (delivery_bytes p.delivery ++ (section ++ p.payload)), length-append (delivery_bytes p.delivery) (section ++ p.payload), length-append section p.payload)
 
--- an identifier, a section of properties, and the entries or codes behind them
+-- an identifier, a section of properties, and the entries or codes after them
 pub listed_size : (identifier : ℕ) (list rest : List ℕ) → length (u16_bytes identifier ++ (properties list ++ rest)) ≡ 2 + length (properties list) + length rest
 listed_size identifier list rest = omega (arith, length-append (properties list) rest)
 
@@ -55,7 +55,7 @@ listed_size identifier list rest = omega (arith, length-append (properties list)
 pub codes_size : (identifier : ℕ) (rest : List ℕ) → length (u16_bytes identifier ++ (properties [] ++ rest)) ≡ 3 + length rest
 codes_size identifier rest = omega (arith, no_properties_size, listed_size identifier [] rest)
 
--- properties behind a reason code
+-- properties after a reason code
 pub reason_some : (code : ℕ) (list : List ℕ) → 0 < length list → reason_bytes code list ≡ code ∷ properties list
 reason_some code [] some = absurd (omega arith)
 reason_some code (byte ∷ list) some = refl

@@ -45,7 +45,7 @@ publish_body_at flags body = do
   all ← properties_at sections.Publish delivery.1
   Ok (record { dup = flags.dup; retain = flags.retain; topic = topic.0; delivery = delivery.0; properties = publish_of all.0; payload = all.1 })
 
--- properties with nothing behind them
+-- properties with nothing after them
 unfoldable pub last_properties_at : Section → List ℕ → Result Properties StreamFault
 last_properties_at section bytes = properties_at section bytes >>= λ all. at_end all.0 all.1
 

@@ -17,7 +17,7 @@ use Rattle.mqtt_fields.specs.PropertyLists.{connect_of}
 abbrev pub expect : Bool → Result (Unit {0}) StreamFault
 expect holds = if holds then Ok tt else Err Malformed
 
--- 3.1.3: Client Identifier, User Name and Password, and nothing behind them
+-- 3.1.3: Client Identifier, User Name and Password, and nothing after them
 unfoldable pub connect_payload_at : ℕ → List ℕ → Result ConnectPayload StreamFault
 connect_payload_at flags bytes = do
   client_identifier ← text_at bytes
@@ -41,14 +41,14 @@ connect_fields_at flags bytes = do
     password = payload.password;
   })
 
--- what stands behind the version 5: behind a will flag nothing is looked at (profile)
+-- what stands behind the version 5: after a will flag nothing is looked at (profile)
 unfoldable pub connect_5_at : List ℕ → Result Packet StreamFault
 connect_5_at bytes = do
   flags ← byte_at bytes
   lawful ← expect (are_connect_flags flags.0)
   if has_will flags.0 then Ok packets.WithWill else (connect_fields_at flags.0 flags.1 >>= λ p. Ok (packets.Connect p))
 
--- 3.1 CONNECT: behind another name or version nothing is looked at (profile)
+-- 3.1 CONNECT: after another name or version nothing is looked at (profile)
 unfoldable pub connect_at : List ℕ → Result Packet StreamFault
 connect_at body = do
   name ← text_at body

@@ -20,7 +20,7 @@ FirstOf {A} field others fault = (field ≡ Err fault) ⊎ ((value : A) × (fiel
 abbrev pub NoneLeft : {A : Type 0} → A → StreamFault → Type 0
 NoneLeft value fault = ⊥
 
--- nothing is left over behind the last field
+-- nothing is left over after the last field
 abbrev pub ended : List ℕ → Result (Unit {0}) StreamFault
 ended bytes = at_end tt bytes
 

@@ -15,7 +15,7 @@ use Rattle.mqtt_wire.specs.Writing.{framed}
 use Rattle.mqtt_wire.specs.Spelling.{Spells}
 use Rattle.mqtt_wire.specs.Stream.{Header, HoldsPacket, IsOpen, FaultAt, Unread, NextAnswers, header_at, maximum_remaining_length}
 
--- a header that was read, with the bytes behind it
+-- a header that was read, with the bytes after it
 abbrev pub header_with : FixedHeader → List ℕ → Header
 header_with header rest = record { kind = header.kind; remaining = header.remaining; rest = rest }
 
@@ -31,7 +31,7 @@ TakesHeader old (Ok (Some header)) new = header_at old ≡ Ok (Some (header_with
 TakesHeader old (Ok None) new = (header_at old ≡ Ok None) × (new ≡ old)
 TakesHeader old (Err fault) new = (header_at old ≡ Err fault) × (new ≡ old)
 
--- the body behind a header was taken, and it is whole
+-- the body after a header was taken, and it is whole
 pub record TakesFrame (header : FixedHeader) (old : List ℕ) (frame : Frame) (new : List ℕ) : Type 0 where
   pub whole : header.remaining ≤ length old
   pub kind : frame.kind ≡ header.kind
@@ -63,7 +63,7 @@ IsInHand Nothing = Unit {0}
 IsInHand (Headed header) = header.remaining ≤ maximum_remaining_length
 IsInHand (Whole frame) = length frame.body ≤ maximum_remaining_length
 
--- what is in hand and the stream behind it, as the splitter holds them
+-- what is in hand and the stream after it, as the splitter holds them
 abbrev pub IsHeld : InHand → List ℕ → Type 0
 IsHeld hand stream = IsInHand hand × AreBytes (bytes_in_hand hand ++ stream)
 
@@ -106,7 +106,7 @@ abbrev pub TakesShort : List ℕ → Option Packet → List ℕ → Type 0
 TakesShort old (Some packet) new = (front : List ℕ) × Spells packet front × (old ≡ front ++ new)
 TakesShort old None new = new ≡ old
 
--- what is unread: the bytes in hand and those behind them
+-- what is unread: the bytes in hand and those after them
 abbrev pub unread : InHand → List ℕ → Option StreamFault → Unread
 unread hand stream fault = record { bytes = bytes_in_hand hand ++ stream; fault = fault }
 

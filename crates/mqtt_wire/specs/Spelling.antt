@@ -21,17 +21,17 @@ use Rattle.mqtt_wire.specs.Protocol.{is_mqtt_5, are_connect_flags, has_will}
 use Rattle.mqtt_wire.specs.Ranges.{IsFromClient, PropertiesFit}
 use Rattle.mqtt_wire.specs.Writing.{protocol, connect_flags, connect_payload, delivery_bytes, subscription_bytes, packet_byte, framed}
 
--- 3.4.2 and 3.14.2: a Reason Code of 0 may be left out, and so may an empty section of properties behind it
+-- 3.4.2 and 3.14.2: a Reason Code of 0 may be left out, and so may an empty section of properties after it
 abbrev pub SpellsReason : Section → ℕ → Properties → List ℕ → Type 0
 SpellsReason section code all [] = (code ≡ 0) × (all ≡ nothing)
 SpellsReason section code all (byte ∷ []) = (byte ≡ code) × (all ≡ nothing)
 SpellsReason section code all (byte ∷ next ∷ rest) = (byte ≡ code) × SpellsProperties section all (next ∷ rest)
 
--- a CONNECT of another name or version, and anything behind that
+-- a CONNECT of another name or version, and anything after that
 abbrev pub SpellsOtherVersion : ℕ → List ℕ → Type 0
 SpellsOtherVersion version body = (name : List ℕ) × (rest : List ℕ) × (body ≡ utf8_string name ++ (version ∷ rest)) × IsText name × (is_mqtt_5 name version ≡ false)
 
--- a CONNECT of version 5 with a will in lawful flags, and anything behind them
+-- a CONNECT of version 5 with a will in lawful flags, and anything after them
 abbrev pub SpellsWithWill : List ℕ → Type 0
 SpellsWithWill body = (flags : ℕ) × (rest : List ℕ) × (body ≡ protocol ++ (flags ∷ rest)) × IsTrue (are_connect_flags flags) × IsTrue (has_will flags)
 

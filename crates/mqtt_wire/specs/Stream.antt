@@ -15,7 +15,7 @@ use Rattle.mqtt_fields.specs.Fields.{variable_at}
 use Rattle.mqtt_wire.specs.Bodies.{body_at}
 use Rattle.mqtt_wire.specs.Spelling.{Spells}
 
--- what a header says, and the bytes behind it
+-- what a header says, and the bytes after it
 pub record Header : Type 0 where
   pub kind : Kind
   pub remaining : ℕ

@@ -43,7 +43,7 @@ abbrev pub reason_front : ℕ → ℕ → List ℕ
 reason_front code zero = if code == 0 then [] else code ∷ []
 reason_front code (suc size) = code ∷ variable_byte_integer (suc size)
 
--- .. and the properties behind them
+-- .. and the properties after them
 abbrev pub reason_bytes : ℕ → List ℕ → List ℕ
 reason_bytes code list = reason_front code (length list) ++ list
 
@@ -135,7 +135,7 @@ packet_byte (packets.Foreign kind) = foreign_byte kind
 packet_byte (packets.OtherVersion version) = first_byte kinds.Connect
 packet_byte packets.WithWill = first_byte kinds.Connect
 
--- 2.1: a header and the body behind it
+-- 2.1: a header and the body after it
 abbrev pub framed : ℕ → List ℕ → List ℕ
 framed first body = first ∷ variable_byte_integer (length body) ++ body
 

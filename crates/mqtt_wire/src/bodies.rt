@@ -65,7 +65,7 @@ fn expected(holds: bool) -> Result<(), StreamFault>
     }
 }
 
-/// Reads a CONNECT (section 3.1). Behind another protocol name or version nothing is looked at.
+/// Reads a CONNECT (section 3.1). After another protocol name or version nothing is looked at.
 #[tactic(auto, unfolding(crate::specs::ConnectBody::connect_at))]
 fn read_connect(alloc: Global, mut body: Bytes) -> Result<Packet, Fault>
     ensures { Gives (λ packet. packet) result (connect_at body) }
@@ -79,7 +79,7 @@ fn read_connect(alloc: Global, mut body: Bytes) -> Result<Packet, Fault>
     }
 }
 
-/// Reads what stands behind the version 5. Behind a will flag nothing is looked at.
+/// Reads what stands behind the version 5. After a will flag nothing is looked at.
 #[tactic(auto, unfolding(crate::specs::ConnectBody::connect_5_at))]
 fn read_connect_5(alloc: Global, mut body: Bytes) -> Result<Packet, Fault>
     ensures { Gives (λ packet. packet) result (connect_5_at body) }
@@ -205,7 +205,7 @@ fn read_reason(
     Ok((code, properties))
 }
 
-/// Reads a section of properties with nothing behind it.
+/// Reads a section of properties with nothing after it.
 #[tactic(auto, unfolding(crate::specs::Bodies::last_properties_at))]
 fn read_last_properties(
     alloc: Global,

@@ -7,7 +7,7 @@ use crate::kind::Kind;
 use bytes::{Bytes, BytesMut};
 use std::alloc::{AllocError, Global};
 
-/// How many bytes small bodies share, one behind the other.
+/// How many bytes small bodies share, one after the other.
 const BLOCK: usize = 512;
 
 /// How many bytes a small body has at most.
@@ -17,7 +17,7 @@ const SMALL: usize = 128;
 ///
 /// What is kept of a packet shares the bytes of its body, and may wait long. So a body of which something may be kept shares the bytes of the
 /// stream only where it is at least half of the stream's buffer. Else it is copied: a small one into a block of 512 bytes, which it shares
-/// with the small bodies before and behind it, and a larger one into bytes of its own.
+/// with the small bodies before and after it, and a larger one into bytes of its own.
 #[derive(Drop)]
 pub(crate) struct BodyRoom {
     alloc: Global,
@@ -62,7 +62,7 @@ impl BodyRoom {
         Ok(body)
     }
 
-    /// A copy of a small body that stands in front of these bytes, behind its header; `None` where it is not whole, is not small, or is not to be
+    /// A copy of a small body that stands in front of these bytes, after its header; `None` where it is not whole, is not small, or is not to be
     /// copied, and where memory is refused.
     pub(crate) fn copy_small(&mut self, header: FixedHeader, bytes: &[u8]) -> Option<Bytes>
         ensures whole { IsSome result → header.remaining ≤ length bytes.now }

@@ -1,4 +1,4 @@
-//! Writers of the body of each kind of packet, behind what a buffer holds (chapter 3). The buffer has room for it.
+//! Writers of the body of each kind of packet, after what a buffer holds (chapter 3). The buffer has room for it.
 
 ghost use Rattle.std.specs.Prelude.{◌≡◌, ◌<◌, ◌++◌, ◌∷◌, [], length, IfSome};
 ghost use Rattle.std.specs.List.{flat_map, AllByRecursion};

@@ -34,7 +34,7 @@ pub(crate) fn take_header(stream: &mut BytesMut) -> Result<Option<FixedHeader>, 
     Ok(Some(header))
 }
 
-/// Takes the body behind a header off the stream; `None` where it is not whole yet. An `Err` comes only where it is, and changes nothing of the
+/// Takes the body after a header off the stream; `None` where it is not whole yet. An `Err` comes only where it is, and changes nothing of the
 /// stream.
 pub(crate) fn take_body(
     room: &mut BodyRoom,

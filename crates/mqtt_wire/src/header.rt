@@ -17,7 +17,7 @@ pub(crate) struct FixedHeader {
     pub(crate) remaining: usize,
 }
 
-/// The header in front of the bytes, and the bytes behind it; `None` where it is not whole yet.
+/// The header in front of the bytes, and the bytes after it; `None` where it is not whole yet.
 #[inline(always)]
 #[tactic(auto, unfolding(crate::specs::Stream::header_at))]
 pub(crate) fn read_header(bytes: &[u8]) -> Result<Option<(FixedHeader, &[u8])>, StreamFault>

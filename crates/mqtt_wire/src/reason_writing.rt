@@ -1,4 +1,4 @@
-//! Writers of a reason code with the properties behind it (sections 3.4.2 and 3.14.2).
+//! Writers of a reason code with the properties after it (sections 3.4.2 and 3.14.2).
 
 ghost use Rattle.std.specs.Prelude.{◌<◌, length};
 ghost use Rattle.mqtt_fields.specs.Buffers.{HasRoom, Appends};
@@ -38,7 +38,7 @@ pub(crate) fn put_disconnect_reason(
     put_disconnect_list(out, list);
 }
 
-/// Writes a reason code, and the length of so many bytes of properties behind it. With none the length is left out, and then
+/// Writes a reason code, and the length of so many bytes of properties after it. With none the length is left out, and then
 /// a code of 0 too.
 fn put_reason(out: &mut Vec<u8>, code: ReasonCode, size: usize)
     requires size { size < 268435456 }

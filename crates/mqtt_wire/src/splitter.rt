@@ -119,7 +119,7 @@ impl Splitter {
         if let Some(fault) = self.fault {
             return Err(Fault::Stream(fault));
         }
-        // Behind the last whole packet nothing is left most often, and then nothing is looked at.
+        // After the last whole packet nothing is left most often, and then nothing is looked at.
         if self.is_drained() {
             return Ok(None);
         }

@@ -27,7 +27,7 @@ pub fn encode(alloc: Global, packet: &Packet) -> Result<Vec<u8>, Fault>
     Ok(bytes)
 }
 
-/// Writes the packet behind what the buffer holds, in its one written form: its properties in rising order of their
+/// Writes the packet after what the buffer holds, in its one written form: its properties in rising order of their
 /// identifiers, and nothing that may be left out. Of the last three kinds of packet, which are only read, it is the
 /// shortest form that is read as the same packet.
 ///

@@ -2,8 +2,8 @@
 use Rattle.std.proofs.Common.{◌≡◌, ◌≢◌, ℕ, List, Option, Some, None, Result, Ok, Err, IfSome, IfErr, OnOk, refl}
 use Rattle.std.specs.Io.KnownBytes.{Keeps}
 use Rattle.arguments.specs.declared.command.Request.{Request}
-use Rattle.line_io.specs.declared.error.RunError.{RunError}
-use Rattle.line_io.specs.declared.error.RunError.TheVariants.{ReadFailed, TooManyReads, WriteFailed, Network, Memory, Unfinished, Line}
+use Rattle.text_io.specs.declared.error.RunError.{RunError}
+use Rattle.text_io.specs.declared.error.RunError.TheVariants.{ReadFailed, TooManyReads, WriteFailed, Network, Memory, Unfinished, Line}
 use Rattle.drive.specs.Transcripts.{Writes, BeginsTo}
 use Rattle.program.specs.Ending.{NamesBadLine, IsOutputFor, Wrote}
 

@@ -2,8 +2,8 @@
 use Rattle.std.specs.Prelude.{◌≡◌, ◌≢◌, ◌⊎◌, ℕ, codes, string_bytes, List, Result, Ok, Err}
 use Rattle.clap.specs.declared.error.kind.ErrorKind.{ErrorKind}
 use Rattle.clap.specs.declared.error.kind.ErrorKind.TheVariants as kinds
-use Rattle.line_io.specs.declared.error.RunError.{RunError}
-use Rattle.line_io.specs.declared.error.RunError.TheVariants.{Memory}
+use Rattle.text_io.specs.declared.error.RunError.{RunError}
+use Rattle.text_io.specs.declared.error.RunError.TheVariants.{Memory}
 use Rattle.arguments.specs.CommandLine.{AskFor, SpellNoRequest}
 use Rattle.program.specs.declared.asking.Asked.{Asked}
 use Rattle.program.specs.declared.asking.Asked.TheVariants.{Run, Show, Refuse}

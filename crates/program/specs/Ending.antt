@@ -3,10 +3,10 @@ use Rattle.std.specs.Prelude.{◌≡◌, ◌⊎◌, ℕ, List, Option, Result, O
 use Rattle.std.specs.Io.KnownBytes.{Appends, Keeps}
 use Rattle.arguments.specs.declared.command.Request.{Request}
 use Rattle.arguments.specs.declared.command.Request.TheVariants.{Solo, Drive}
-use Rattle.line_io.specs.declared.error.RunError.{RunError}
-use Rattle.line_io.specs.declared.error.RunError.TheVariants.{ReadFailed, TooManyReads, WriteFailed, Network, Memory, Unfinished, Line}
-use Rattle.line_io.specs.Status.{status_of, error_line}
-use Rattle.line_io.specs.Passing.{Begins}
+use Rattle.text_io.specs.declared.error.RunError.{RunError}
+use Rattle.text_io.specs.declared.error.RunError.TheVariants.{ReadFailed, TooManyReads, WriteFailed, Network, Memory, Unfinished, Line}
+use Rattle.text_io.specs.Status.{status_of, error_line}
+use Rattle.text_io.specs.Passing.{Begins}
 use Rattle.drive.specs.Scripts.{script_of}
 use Rattle.drive.specs.Transcripts.{IsDriveOutput, Writes, BeginsTo}
 use Rattle.solo_output.specs.Streams.{stream_of}

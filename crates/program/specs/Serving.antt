@@ -5,8 +5,8 @@ use Rattle.clap.specs.declared.error.kind.ErrorKind.{ErrorKind}
 use Rattle.clap.specs.declared.error.kind.ErrorKind.TheVariants as kinds
 use Rattle.arguments.specs.declared.service.Service.{Service}
 use Rattle.arguments.specs.ServeLine.{AskForService, SpellNoService}
-use Rattle.line_io.specs.declared.error.RunError.{RunError}
-use Rattle.line_io.specs.declared.error.RunError.TheVariants.{Memory}
+use Rattle.text_io.specs.declared.error.RunError.{RunError}
+use Rattle.text_io.specs.declared.error.RunError.TheVariants.{Memory}
 use Rattle.tcp_server.specs.Serving.{IsServedAt}
 use Rattle.program.specs.declared.ending.Exit.{Exit}
 use Rattle.program.specs.declared.asking.Asked.{Asked}
@@ -14,7 +14,7 @@ use Rattle.program.specs.declared.asking.Asked.TheVariants.{Run, Show, Refuse}
 use Rattle.program.specs.Asking.{Asks}
 use Rattle.program.specs.Ending.{Streams, Ends, Tells, status_at}
 
--- the word behind the program's name is `serve`
+-- the word after the program's name is `serve`
 abbrev pub IsServe : List (List ℕ) → Type 0
 IsServe words = slice_get words 1 ≡ Some (codes "serve")
 
@@ -45,7 +45,7 @@ IsNoService words (Err error) = error ≡ Memory
 abbrev pub EndsAsServed : List (List ℕ) → Streams → Streams → Exit → Type 0
 EndsAsServed words old new exit = ServeEnds words old new exit ⊎ ((asked : Result Asked RunError) × IsNoService words asked × Ends asked old new exit)
 
--- where the words ask to serve: those behind the program's name say as what
+-- where the words ask to serve: those after the program's name say as what
 abbrev pub EndsServing : {Words Error : Type 0} → Result Words Error → (Words → List (List ℕ)) → Streams → Streams → Exit → Type 0
 EndsServing (Ok words) texts old new exit = EndsAsServed (drop 1 (texts words)) old new exit
 EndsServing (Err error) texts old new exit = ⊥

@@ -1,15 +1,15 @@
 //! What words ask for.
 ghost use Rattle.std.specs.Prelude.{◌≡◌, map, string_bytes, IfOk, IfErr};
 ghost use Rattle.clap.specs.Values.{kind_of};
-ghost use Rattle.line_io.specs.declared.error.RunError.TheVariants.{Memory};
+ghost use Rattle.text_io.specs.declared.error.RunError.TheVariants.{Memory};
 ghost use Rattle.program.specs.Asking.{Asks, IsAnswerTo};
 
 use arguments::{Request, arguments};
 use clap::Error;
 use clap::error::ErrorKind;
-use line_io::RunError;
 use std::alloc::Global;
 use std::io;
+use text_io::RunError;
 
 /// What is said where a word is no UTF-8 text.
 const NO_TEXT: &str = "error: a word is no UTF-8 text\n";

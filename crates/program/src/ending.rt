@@ -1,18 +1,18 @@
 //! The words, what they ask for, and the status.
 ghost use Rattle.std.specs.Prelude.{◌≡◌, map, string_bytes, Result, IfSome};
-ghost use Rattle.line_io.specs.declared.error.RunError.{RunError as Stop};
-ghost use Rattle.program.specs.declared.asking.Asked.{Asked as Wish};
+ghost use Rattle.text_io.specs.declared.error.RunError.{RunError as Stop};
+ghost use Rattle.program.specs.declared.asking.Asked.{Asked as AskedFor};
 ghost use Rattle.program.specs.Asking.{Asks};
 ghost use Rattle.program.specs.Ending.{Ends, Streams, Tells, Wrote, status_at};
 
 use crate::asking::{Asked, asked_by};
 use arguments::Request;
 use drive::drive_lines;
-use line_io::{RunError, tell, write_all};
 use solo_output::solo;
 use std::alloc::Global;
 use std::io;
 use std::io::{Read, Write};
+use text_io::{RunError, tell, write_all};
 
 /// The status that the program ends with where its words are wrong.
 const USAGE: u8 = 2;
@@ -49,7 +49,7 @@ pub fn run<R: Read, W: Write, E: Write>(
     errors: &mut E,
 ) -> Exit
     // It ends as what its words ask for ends.
-    ensures ends { (wish : Result Wish Stop) × Asks words (λ given. map string_bytes given.items) wish × Ends wish
+    ensures ends { (asked_for : Result AskedFor Stop) × Asks words (λ given. map string_bytes given.items) asked_for × Ends asked_for
         (record { input = R.remaining reader.old; output = W.contents output.old; errors = E.contents errors.old })
         (record { input = R.remaining reader.new; output = W.contents output.new; errors = E.contents errors.new }) result }
 {

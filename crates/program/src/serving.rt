@@ -9,7 +9,6 @@ ghost use Rattle.program.specs.Serving.{AskToServe, EndsAsAsked, EndsAsServed, E
 use crate::asking::{Asked, answer};
 use crate::ending::{Exit, conclude, perform, run};
 use arguments::{Service, serve_arguments};
-use line_io::RunError;
 use std::alloc::Global;
 use std::io;
 use std::io::{Read, Write};
@@ -18,11 +17,12 @@ use std::rt::Clock;
 use std::sync::Wait;
 use std::thread::Threads;
 use tcp_server::serve_at;
+use text_io::RunError;
 
 /// The word of the command.
 const SERVE: &str = "serve";
 
-/// The program with all its commands: where the word behind its name is `serve`, it serves on TCP until the reader has ended, and for all other words it is
+/// The program with all its commands: where the word after its name is `serve`, it serves on TCP until the reader has ended, and for all other words it is
 /// [`run`].
 ///
 /// Of `serve` the status is 0 where the reader has ended, 2 where its words are wrong, 3 where the reader, the output or the network failed, 4 where memory was
@@ -96,7 +96,7 @@ fn asked_service(alloc: Global, words: &[String]) -> Result<Service, Result<Aske
     }
 }
 
-/// The words behind the program's name.
+/// The words after the program's name.
 fn behind_the_name(words: &[String]) -> &[String]
     ensures { map string_bytes result.now ≡ drop 1 (map string_bytes words.now) }
 {

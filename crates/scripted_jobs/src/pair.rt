@@ -1,6 +1,6 @@
 //! The two connections, from their opening to their end.
 ghost use Rattle.std.specs.Prelude.{◌≡◌, ◌<◌, None, true, false, IfSome, length};
-ghost use Rattle.conn_engine.specs.declared.standing.Standing.TheVariants.{Ended};
+ghost use Rattle.conn_engine.specs.declared.phase.ConnPhase.TheVariants.{Ended};
 
 use crate::scripts::{member, publisher};
 use conn_engine::Opening;
@@ -9,7 +9,7 @@ use conn_supply::{HoldingPlace, Supply};
 use std::alloc::Global;
 use transport::{OpenCrossing, Scripted};
 
-/// How many rounds a connection has at most behind the close of the broker.
+/// How many rounds a connection has at most after the close of the broker.
 const LAST_ROUNDS: u32 = 64;
 
 /// The member's connection and the publisher's, and whether each goes on.
@@ -63,10 +63,10 @@ fn go_on<P: HoldingPlace, S: Supply<P>>(
     buffer: &mut [u8],
 ) -> bool
     requires goes { goes ≡ true → service.old.ending ≡ None }
-    requires over { goes ≡ false → service.old.client.conn.standing ≡ Ended }
+    requires over { goes ≡ false → service.old.client.conn.phase ≡ Ended }
     requires room { 0 < length buffer.old }
     ensures goes { result ≡ true → service.new.ending ≡ None }
-    ensures over { result ≡ false → service.new.client.conn.standing ≡ Ended }
+    ensures over { result ≡ false → service.new.client.conn.phase ≡ Ended }
 {
     if !goes {
         return false;
@@ -85,13 +85,13 @@ pub fn serve<P: HoldingPlace, S: Supply<P>>(
     window: u16,
 ) -> Pair<P>
     requires takes { pair.takes ≡ true → pair.member.ending ≡ None }
-    requires taken { pair.takes ≡ false → pair.member.client.conn.standing ≡ Ended }
+    requires taken { pair.takes ≡ false → pair.member.client.conn.phase ≡ Ended }
     requires gives { pair.gives ≡ true → pair.publisher.ending ≡ None }
-    requires given { pair.gives ≡ false → pair.publisher.client.conn.standing ≡ Ended }
+    requires given { pair.gives ≡ false → pair.publisher.client.conn.phase ≡ Ended }
     ensures takes { result.takes ≡ true → result.member.ending ≡ None }
-    ensures taken { result.takes ≡ false → result.member.client.conn.standing ≡ Ended }
+    ensures taken { result.takes ≡ false → result.member.client.conn.phase ≡ Ended }
     ensures gives { result.gives ≡ true → result.publisher.ending ≡ None }
-    ensures given { result.gives ≡ false → result.publisher.client.conn.standing ≡ Ended }
+    ensures given { result.gives ≡ false → result.publisher.client.conn.phase ≡ Ended }
 {
     let Pair {
         mut member,
@@ -125,7 +125,7 @@ fn end<P: HoldingPlace, S: Supply<P>>(
     buffer: &mut [u8],
 ) -> Scripted
     requires goes { goes ≡ true → service.ending ≡ None }
-    requires over { goes ≡ false → service.client.conn.standing ≡ Ended }
+    requires over { goes ≡ false → service.client.conn.phase ≡ Ended }
     requires room { 0 < length buffer.old }
 {
     let mut service = service;
@@ -139,9 +139,9 @@ fn end<P: HoldingPlace, S: Supply<P>>(
 /// Both connections end, as their broker was closed; how many bytes were written to both, or `None` where one had ended before.
 pub fn close<P: HoldingPlace, S: Supply<P>>(supply: &mut S, pair: Pair<P>) -> Option<u64>
     requires takes { pair.takes ≡ true → pair.member.ending ≡ None }
-    requires taken { pair.takes ≡ false → pair.member.client.conn.standing ≡ Ended }
+    requires taken { pair.takes ≡ false → pair.member.client.conn.phase ≡ Ended }
     requires gives { pair.gives ≡ true → pair.publisher.ending ≡ None }
-    requires given { pair.gives ≡ false → pair.publisher.client.conn.standing ≡ Ended }
+    requires given { pair.gives ≡ false → pair.publisher.client.conn.phase ≡ Ended }
 {
     let Pair {
         member,

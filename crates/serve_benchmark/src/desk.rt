@@ -11,10 +11,10 @@ pub(crate) enum Until {
 
 /// Who answers what comes on the connections of one thread, which are numbered from 0.
 pub(crate) trait Desk {
-    /// Hears a packet, and puts what answers it behind the output. Whether the connection goes on.
+    /// Hears a packet, and puts what answers it after the output. Whether the connection goes on.
     fn hear(&mut self, number: usize, first: u8, body: &[u8], output: &mut Vec<u8>) -> bool;
 
-    /// Puts behind the output what is to be sent by now. Whether the connection goes on.
+    /// Puts after the output what is to be sent by now. Whether the connection goes on.
     fn speak(&mut self, number: usize, output: &mut Vec<u8>) -> bool;
 
     /// Learns how many nanoseconds ago the load began. Whether all connections are to speak.

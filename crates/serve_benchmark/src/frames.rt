@@ -45,7 +45,7 @@ pub(crate) struct Delivery {
     pub(crate) job: u32,
 }
 
-/// The packet identifier in the body of a PUBLISH packet with QoS 1, behind the topic.
+/// The packet identifier in the body of a PUBLISH packet with QoS 1, after the topic.
 fn identifier_of(body: &[u8]) -> Option<[u8; 2]> {
     let [high, low, rest @ ..] = body else {
         return None;

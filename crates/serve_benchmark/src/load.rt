@@ -48,7 +48,7 @@ impl Load {
         }
     }
 
-    /// The place of a job among all, or one behind all where there is no such job.
+    /// The place of a job among all, or one after all where there is no such job.
     pub(crate) fn place_of(&self, publisher: u32, job: u32) -> usize {
         if job >= self.jobs {
             return usize::MAX;

@@ -2,7 +2,7 @@
 
 use std::alloc::Global;
 
-/// Puts a Remaining Length, of up to three bytes, behind these bytes.
+/// Puts a Remaining Length, of up to three bytes, after these bytes.
 fn put_length(bytes: &mut Vec<u8>, length: usize) -> Option<()> {
     if length < 128 {
         return bytes.push(length as u8).ok();
@@ -18,21 +18,21 @@ fn put_length(bytes: &mut Vec<u8>, length: usize) -> Option<()> {
     None
 }
 
-/// Puts a text with its length behind these bytes.
+/// Puts a text with its length after these bytes.
 fn put_text(bytes: &mut Vec<u8>, text: &[u8]) -> Option<()> {
     let length = u16::try_from(text.len()).ok()?;
     bytes.extend_from_slice(&length.to_be_bytes()).ok()?;
     bytes.extend_from_slice(text).ok()
 }
 
-/// Puts a packet with this first byte and this body behind these bytes.
+/// Puts a packet with this first byte and this body after these bytes.
 fn put_packet(bytes: &mut Vec<u8>, first: u8, body: &[u8]) -> Option<()> {
     bytes.push(first).ok()?;
     put_length(bytes, body.len())?;
     bytes.extend_from_slice(body).ok()
 }
 
-/// Puts a CONNECT packet with Clean Start behind these bytes.
+/// Puts a CONNECT packet with Clean Start after these bytes.
 pub(crate) fn put_connect(
     bytes: &mut Vec<u8>,
     alloc: Global,
@@ -49,7 +49,7 @@ pub(crate) fn put_connect(
     put_packet(bytes, 0x10, body.as_slice())
 }
 
-/// Puts a SUBSCRIBE packet for this filter, with QoS 1, behind these bytes.
+/// Puts a SUBSCRIBE packet for this filter, with QoS 1, after these bytes.
 pub(crate) fn put_subscribe(bytes: &mut Vec<u8>, alloc: Global, filter: &[u8]) -> Option<()> {
     let mut body = Vec::with_capacity(alloc, 64).ok()?;
     body.extend_from_slice(b"\x00\x01\x00").ok()?;
@@ -61,7 +61,7 @@ pub(crate) fn put_subscribe(bytes: &mut Vec<u8>, alloc: Global, filter: &[u8]) -
 /// How many bytes at the front of a payload say which job it is, and when it was published.
 pub(crate) const LEAST_PAYLOAD: usize = 16;
 
-/// What all PUBLISH packets of a load have in common: the bytes up to the packet identifier, and those behind what says which job it is.
+/// What all PUBLISH packets of a load have in common: the bytes up to the packet identifier, and those after what says which job it is.
 #[derive(Drop)]
 pub(crate) struct Form {
     head: Vec<u8>,
@@ -89,7 +89,7 @@ impl Form {
         Some(Form { head, tail })
     }
 
-    /// Puts a job with QoS 1 under this packet identifier behind these bytes.
+    /// Puts a job with QoS 1 under this packet identifier after these bytes.
     pub(crate) fn put(&self, bytes: &mut Vec<u8>, identifier: u16, job: Job) -> Option<()> {
         bytes.extend_from_slice(self.head.as_slice()).ok()?;
         bytes.extend_from_slice(&identifier.to_be_bytes()).ok()?;

@@ -60,7 +60,7 @@ pub(crate) struct Handed {
     pub(crate) whole: bool,
 }
 
-/// Puts a CONNECT packet of a client of this kind and number behind these bytes.
+/// Puts a CONNECT packet of a client of this kind and number after these bytes.
 fn put_client(
     output: &mut Vec<u8>,
     alloc: Global,

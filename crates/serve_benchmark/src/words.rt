@@ -154,7 +154,7 @@ impl Numbers {
     }
 }
 
-/// The words behind the program's name.
+/// The words after the program's name.
 pub(crate) fn read_words<R: Env + AllocGlobal>(rt: &R) -> io::Result<Words> {
     let mut words = env::args(rt)?;
     let _name = words.next();

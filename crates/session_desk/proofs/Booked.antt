@@ -7,8 +7,8 @@ use Rattle.std.specs.FinMap as map
 use Rattle.std.specs.FinMap.{len-insert, len-remove}
 use Rattle.session_desk.specs.declared.session.Session.{Session}
 use Rattle.session_desk.specs.declared.row.Row.{Row}
-use Rattle.session_desk.specs.declared.row.Standing.{Standing}
-use Rattle.session_desk.specs.declared.row.Standing.TheVariants.{Parked, Kept}
+use Rattle.session_desk.specs.declared.row.Holder.{Holder}
+use Rattle.session_desk.specs.declared.row.Holder.TheVariants.{Parked, Kept}
 use Rattle.session_desk.specs.Rows.{Rows, HasRow, NoRow, Register, away, IsKept, IsOverdue, IsLentIn, IsAwayIn}
 use Rattle.session_desk.specs.Sessions.{Who}
 use Rattle.session_desk.specs.Sweeping.{Sweeps, HandsOut}
@@ -32,7 +32,7 @@ pub few_removed : {E P : Type 0} (rows : Rows E P) (assigned n : ℕ) (row : Row
 few_removed rows assigned n row few has =
     record { few = (let same = len-remove nat_cmp_total rows n ∙ ap (λ o. cond (is_some o) (map.len rows - 1) (map.len rows)) has in let less = few.few in omega arith); names = few.names }
 
-few_handed : {E P : Type 0} (old new : Rows E P) (assigned : ℕ) (IsSo : Row E P → Type 0) (stands : Standing E P) → AreFew old assigned → HandsOut old IsSo stands new → AreFew new assigned
+few_handed : {E P : Type 0} (old new : Rows E P) (assigned : ℕ) (IsSo : Row E P → Type 0) (stands : Holder E P) → AreFew old assigned → HandsOut old IsSo stands new → AreFew new assigned
 few_handed old new assigned IsSo stands few h = subst (λ r. AreFew r assigned) (sym h.after) (few_moved old assigned h.number h.oldest.row (away h.oldest.row.client) few h.oldest.has)
 
 pub few_swept : {E P : Type 0} (old new : Rows E P) (now assigned : ℕ) (answer : Option (Session E P)) → AreFew old assigned → Sweeps old now answer new → AreFew new assigned

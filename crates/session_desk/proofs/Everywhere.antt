@@ -9,11 +9,11 @@ use Rattle.session_desk.specs.declared.session.Session.{Session}
 use Rattle.session_desk.specs.declared.session.Membership.{Membership}
 use Rattle.session_desk.specs.declared.session.Membership.TheVariants.{NotMember, Member, Leaving}
 use Rattle.session_desk.specs.declared.row.Row.{Row}
-use Rattle.session_desk.specs.declared.row.Standing.{Standing}
-use Rattle.session_desk.specs.declared.row.Standing.TheVariants.{Lent, Parked, Kept}
+use Rattle.session_desk.specs.declared.row.Holder.{Holder}
+use Rattle.session_desk.specs.declared.row.Holder.TheVariants.{Lent, Parked, Kept}
 use Rattle.member_window.specs.Contents.{held_of}
 use Rattle.session_desk.specs.Sessions.{Who}
-use Rattle.session_desk.specs.Rows.{Rows, HasRow, NoRow, IsKept, IsOverdue, session_in, away, new_row, with_standing, with_wait}
+use Rattle.session_desk.specs.Rows.{Rows, HasRow, NoRow, IsKept, IsOverdue, session_in, away, new_row, with_holder, with_wait}
 use Rattle.session_desk.specs.Books.{Books, new_books, new_session}
 use Rattle.session_desk.specs.Places.{IsFreeAt, IsOwnCell, cell_at}
 use Rattle.session_desk.specs.Attaching.{Request, AttachesClient, AttachesUnnamed, attaches_by}
@@ -112,20 +112,20 @@ module _ {E P : Type 0} (Holds : Session E P → Type 0) (Fits : P → Type 0) (
     (frees : (session : Session E P) → Holds session → held_of session.window ≡ [] → IfMember Fits session.membership) where
   -- of each session that is kept
   abbrev InRows : Rows E P → Type 0
-  InRows rows = (number : ℕ) (row : Row E P) (session : Session E P) → HasRow rows number row → session_in row.standing ≡ Some session → Holds session
+  InRows rows = (number : ℕ) (row : Row E P) (session : Session E P) → HasRow rows number row → session_in row.held_by ≡ Some session → Holds session
 
   -- a row changes, to one without a session, or with one that is so
-  moves : (rows : Rows E P) (k : ℕ) (after : Row E P) → InRows rows → ((session : Session E P) → session_in after.standing ≡ Some session → Holds session) → InRows (map.insert rows k after)
+  moves : (rows : Rows E P) (k : ℕ) (after : Row E P) → InRows rows → ((session : Session E P) → session_in after.held_by ≡ Some session → Holds session) → InRows (map.insert rows k after)
   moves rows k after inside new n row session there has =
       ⊎_elim
-      (λ (here : (n ≡ k) × (after ≡ row)). new session (ap (λ r. session_in r.standing) here.1 ∙ has))
+      (λ (here : (n ≡ k) × (after ≡ row)). new session (ap (λ r. session_in r.held_by) here.1 ∙ has))
       (λ (old : (n ≢ k) × HasRow rows n row). inside n row session old.1 has)
       (after_insert rows k n after row there)
 
-  empties : (rows : Rows E P) (k : ℕ) (after : Row E P) → InRows rows → session_in after.standing ≡ None → InRows (map.insert rows k after)
+  empties : (rows : Rows E P) (k : ℕ) (after : Row E P) → InRows rows → session_in after.held_by ≡ None → InRows (map.insert rows k after)
   empties rows k after inside none = moves rows k after inside (λ session has. absurd (none_some session (sym none ∙ has)))
 
-  fills : (rows : Rows E P) (k : ℕ) (after : Row E P) (session : Session E P) → InRows rows → session_in after.standing ≡ Some session → Holds session → InRows (map.insert rows k after)
+  fills : (rows : Rows E P) (k : ℕ) (after : Row E P) (session : Session E P) → InRows rows → session_in after.held_by ≡ Some session → Holds session → InRows (map.insert rows k after)
   fills rows k after session inside has so = moves rows k after inside (λ other is. subst Holds (one_session session other (sym has ∙ is)) so)
 
   removes : (rows : Rows E P) (k : ℕ) → InRows rows → InRows (map.remove rows k)
@@ -155,8 +155,8 @@ module _ {E P : Type 0} (Holds : Session E P → Type 0) (Fits : P → Type 0) (
         (fresh (record { number = old.made; client = client }) session h.is_new.is, inside h.number h.row ended h.its.has (ap session_in h.its.stands)),
       )
   attach_client old new client request (Ok (Resumed session)) h inside = (
-    same_rows (map.insert old.rows h.number (with_standing h.row (Lent request.connection))) new.rows (ap (λ b. b.rows) h.after)
-        (empties old.rows h.number (with_standing h.row (Lent request.connection)) inside refl),
+    same_rows (map.insert old.rows h.number (with_holder h.row (Lent request.connection))) new.rows (ap (λ b. b.rows) h.after)
+        (empties old.rows h.number (with_holder h.row (Lent request.connection)) inside refl),
     inside h.number h.row session h.its.has (ap session_in h.its.stands),
   )
   attach_client old new client request (Ok (Replace holder)) h inside = (
@@ -191,9 +191,9 @@ module _ {E P : Type 0} (Holds : Session E P → Type 0) (Fits : P → Type 0) (
   attach (byte ∷ bytes) old new request answer h inside = attach_client old new (byte ∷ bytes) request answer h inside
 
   -- a sweep hands out a session
-  sweeps : (old new : Rows E P) (IsOne : Row E P → Type 0) (standing : Standing E P) (session : Session E P) → session_in standing ≡ Some session → HandsOut old IsOne standing new
+  sweeps : (old new : Rows E P) (IsOne : Row E P → Type 0) (held_by : Holder E P) (session : Session E P) → session_in held_by ≡ Some session → HandsOut old IsOne held_by new
       → InRows old → InRows new × Holds session
-  sweeps old new IsOne standing session has h inside = (
+  sweeps old new IsOne held_by session has h inside = (
     same_rows (map.insert old h.number (away h.oldest.row.client)) new h.after (empties old h.number (away h.oldest.row.client) inside refl),
     inside h.number h.oldest.row session h.oldest.has (ap session_in h.stood ∙ has),
   )
@@ -205,8 +205,8 @@ module _ {E P : Type 0} (Holds : Session E P → Type 0) (Fits : P → Type 0) (
     call_rows old new (Withdraw connection) made so going = (same_rows old.rows new.rows (ap (λ b. b.rows) made) so.sessions, tt)
     call_rows old new (Kicked connection answer) made so going = (same_rows old.rows new.rows (ap (λ b. b.rows) made.1) so.sessions, tt)
     call_rows old new (Park session now None) made so going = (
-      same_rows (map.insert old.rows session.identity.number (with_standing made.lent.row (Parked (parked_at session now)))) new.rows (ap (λ b. b.rows) made.after)
-          (fills old.rows session.identity.number (with_standing made.lent.row (Parked (parked_at session now))) (parked_at session now) so.sessions refl (timeless session now going)),
+      same_rows (map.insert old.rows session.identity.number (with_holder made.lent.row (Parked (parked_at session now)))) new.rows (ap (λ b. b.rows) made.after)
+          (fills old.rows session.identity.number (with_holder made.lent.row (Parked (parked_at session now))) (parked_at session now) so.sessions refl (timeless session now going)),
       tt,
     )
     call_rows old new (Park session now (Some back)) made so going = (
@@ -219,14 +219,14 @@ module _ {E P : Type 0} (Holds : Session E P → Type 0) (Fits : P → Type 0) (
       handed_back session back made.0 going,
     )
     call_rows old new (ParkAsIs session None) made so going = (
-      same_rows (map.insert old.rows session.identity.number (with_standing made.lent.row (Parked session))) new.rows (ap (λ b. b.rows) made.after)
-          (fills old.rows session.identity.number (with_standing made.lent.row (Parked session)) session so.sessions refl going),
+      same_rows (map.insert old.rows session.identity.number (with_holder made.lent.row (Parked session))) new.rows (ap (λ b. b.rows) made.after)
+          (fills old.rows session.identity.number (with_holder made.lent.row (Parked session)) session so.sessions refl going),
       tt,
     )
     call_rows old new (ParkAsIs session (Some back)) made so going = (same_rows old.rows new.rows (ap (λ b. b.rows) made.2) so.sessions, handed_back session back made.0 going)
     call_rows old new (Keep session None) made so going = (
-      same_rows (map.insert old.rows session.identity.number (with_standing made.gone.row (Kept session))) new.rows (ap (λ b. b.rows) made.after)
-          (fills old.rows session.identity.number (with_standing made.gone.row (Kept session)) session so.sessions refl going),
+      same_rows (map.insert old.rows session.identity.number (with_holder made.gone.row (Kept session))) new.rows (ap (λ b. b.rows) made.after)
+          (fills old.rows session.identity.number (with_holder made.gone.row (Kept session)) session so.sessions refl going),
       tt,
     )
     call_rows old new (Keep session (Some back)) made so going = (same_rows old.rows new.rows (ap (λ b. b.rows) made.2) so.sessions, handed_back session back made.0 going)

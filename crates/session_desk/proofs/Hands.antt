@@ -4,8 +4,8 @@ use Rattle.std.specs.FinMap as map
 use Rattle.std.proofs.lemmas.Bool.{cases_Bool, cases_eq, eqb-true, eq-eqb, false≢true}
 use Rattle.session_desk.specs.declared.session.Session.{Session}
 use Rattle.session_desk.specs.declared.row.Row.{Row}
-use Rattle.session_desk.specs.declared.row.Standing.{Standing}
-use Rattle.session_desk.specs.declared.row.Standing.TheVariants.{Parked, Away}
+use Rattle.session_desk.specs.declared.row.Holder.{Holder}
+use Rattle.session_desk.specs.declared.row.Holder.TheVariants.{Parked, Away}
 use Rattle.session_desk.specs.Rows.{Rows, HasRow, NoneLivesAs, is_living, session_in, away, new_row}
 use Rattle.session_desk.specs.Hands.{is_out, out_of_row, row_count, outs, rows_of, DeskLaw}
 use Rattle.session_desk.proofs.Seen.{after_insert, insert_here, insert_other, after_remove, remove_here, remove_other}
@@ -13,8 +13,8 @@ use Rattle.session_desk.proofs.Booked.{len_same, len_more, len_removed}
 use Rattle.session_desk.proofs.Kept.{same_who, none_of}
 use Rattle.std.proofs.lemmas.Bool.Decides.{nat_tests}
 
-abbrev pub out_of : {E P : Type 0} → Standing E P → ℕ
-out_of standing = if is_out standing then 1 else 0
+abbrev pub out_of : {E P : Type 0} → Holder E P → ℕ
+out_of held_by = if is_out held_by then 1 else 0
 
 chosen : (b : Bool) (x : ℕ) → b ≡ true → cond b x 0 ≡ x
 chosen b x e = ap (λ t. cond t x 0) e
@@ -23,7 +23,7 @@ not_chosen : (b : Bool) (x : ℕ) → b ≡ false → cond b x 0 ≡ 0
 not_chosen b x e = ap (λ t. cond t x 0) e
 
 -- how often a session is out, after its row is written
-pub outs_moved : {E P : Type 0} (rows : Rows E P) (k n : ℕ) (before after : Row E P) (i o : ℕ) → HasRow rows k before → out_of after.standing + i ≡ out_of before.standing + o
+pub outs_moved : {E P : Type 0} (rows : Rows E P) (k n : ℕ) (before after : Row E P) (i o : ℕ) → HasRow rows k before → out_of after.held_by + i ≡ out_of before.held_by + o
     → outs (map.insert rows k after) n + cond (nat_eq k n) i 0 ≡ outs rows n + cond (nat_eq k n) o 0
 outs_moved rows k n before after i o has moves =
     ⊎_elim
@@ -82,7 +82,7 @@ rows_begun rows k n row none =
     (cases_Bool (nat_eq k n))
 
 -- after it is buried
-pub outs_removed : {E P : Type 0} (rows : Rows E P) (k n : ℕ) (row : Row E P) → HasRow rows k row → row.standing ≡ Away
+pub outs_removed : {E P : Type 0} (rows : Rows E P) (k n : ℕ) (row : Row E P) → HasRow rows k row → row.held_by ≡ Away
     → outs (map.remove rows k) n + cond (nat_eq k n) 1 0 ≡ outs rows n
 outs_removed rows k n row has gone =
     ⊎_elim
@@ -117,14 +117,14 @@ below_next k n = grind (arith, nat_tests)
 
 -- a row that is lent or parked was so before
 once_moved : {E P : Type 0} (rows : Rows E P) (k : ℕ) (before after : Row E P) → HasRow rows k before → after.client ≡ before.client
-    → (is_living after.standing ≡ true → is_living before.standing ≡ true) → (n : ℕ) (row : Row E P) → HasRow (map.insert rows k after) n row → is_living row.standing ≡ true
-    → (old : Row E P) × HasRow rows n old × (is_living old.standing ≡ true) × (old.client ≡ row.client)
+    → (is_living after.held_by ≡ true → is_living before.held_by ≡ true) → (n : ℕ) (row : Row E P) → HasRow (map.insert rows k after) n row → is_living row.held_by ≡ true
+    → (old : Row E P) × HasRow rows n old × (is_living old.held_by ≡ true) × (old.client ≡ row.client)
 once_moved rows k before after has client lives n row there living =
     ⊎_elim
     (λ (here : (n ≡ k) × (after ≡ row)). (
       before,
       ap (map.get rows) here.0 ∙ has,
-      lives (ap (λ r. is_living r.standing) here.1 ∙ living),
+      lives (ap (λ r. is_living r.held_by) here.1 ∙ living),
       sym client ∙ ap (λ r. r.client) here.1,
     ))
     (λ (old : (n ≢ k) × HasRow rows n row). (row, old.1, living, refl))
@@ -132,9 +132,9 @@ once_moved rows k before after has client lives n row there living =
 
 -- the law is kept where a session changes hands
 pub law_moved : {E P : Type 0} (rows : Rows E P) (made k : ℕ) (before after : Row E P) → DeskLaw rows made → HasRow rows k before → after.client ≡ before.client
-    → (is_living after.standing ≡ true → is_living before.standing ≡ true)
-    → ((session : Session E P) → session_in after.standing ≡ Some session → session.identity ≡ record { number = k; client = after.client })
-    → ((session : Session E P) → after.standing ≡ Parked session → session.window.retired ≡ false)
+    → (is_living after.held_by ≡ true → is_living before.held_by ≡ true)
+    → ((session : Session E P) → session_in after.held_by ≡ Some session → session.identity ≡ record { number = k; client = after.client })
+    → ((session : Session E P) → after.held_by ≡ Parked session → session.window.retired ≡ false)
     → DeskLaw (map.insert rows k after) made
 law_moved rows made k before after law has client lives own quiet =
     record {
@@ -150,12 +150,12 @@ law_moved rows made k before after law has client lives own quiet =
           law.one_each n m one.0 two.0 one.1 two.1 one.2 two.2 (one.3 ∙ same ∙ sym two.3);
       own = λ n row session there inside.
           ⊎_elim
-          (λ (here : (n ≡ k) × (after ≡ row)). own session (ap (λ r. session_in r.standing) here.1 ∙ inside) ∙ same_who k n after.client row.client (sym here.0) (ap (λ r. r.client) here.1))
+          (λ (here : (n ≡ k) × (after ≡ row)). own session (ap (λ r. session_in r.held_by) here.1 ∙ inside) ∙ same_who k n after.client row.client (sym here.0) (ap (λ r. r.client) here.1))
           (λ (old : (n ≢ k) × HasRow rows n row). law.own n row session old.1 inside)
           (after_insert rows k n after row there);
       not_ending = λ n row session there is.
           ⊎_elim
-          (λ (here : (n ≡ k) × (after ≡ row)). quiet session (ap (λ r. r.standing) here.1 ∙ is))
+          (λ (here : (n ≡ k) × (after ≡ row)). quiet session (ap (λ r. r.held_by) here.1 ∙ is))
           (λ (old : (n ≢ k) × HasRow rows n row). law.not_ending n row session old.1 is)
           (after_insert rows k n after row there);
     }
@@ -188,12 +188,12 @@ law_begun {E} {P} rows made client connection law none room =
           (after_insert rows made n row one there);
       own = λ n other session there inside.
           ⊎_elim
-          (λ (here : (n ≡ made) × (row ≡ other)). absurd (let e = ap (λ r. session_in r.standing) here.1 ∙ inside in cc))
+          (λ (here : (n ≡ made) × (row ≡ other)). absurd (let e = ap (λ r. session_in r.held_by) here.1 ∙ inside in cc))
           (λ (old : (n ≢ made) × HasRow rows n other). law.own n other session old.1 inside)
           (after_insert rows made n row other there);
       not_ending = λ n other session there is.
           ⊎_elim
-          (λ (here : (n ≡ made) × (row ≡ other)). absurd (let e = ap (λ r. r.standing) here.1 ∙ is in cc))
+          (λ (here : (n ≡ made) × (row ≡ other)). absurd (let e = ap (λ r. r.held_by) here.1 ∙ is in cc))
           (λ (old : (n ≢ made) × HasRow rows n other). law.not_ending n other session old.1 is)
           (after_insert rows made n row other there);
     }
@@ -210,10 +210,10 @@ law_removed rows made k row law has =
     }
 
 -- once its parked session has ended, a client has none
-pub none_lives : {E P : Type 0} (rows : Rows E P) (made k : ℕ) (row : Row E P) → DeskLaw rows made → HasRow rows k row → is_living row.standing ≡ true
+pub none_lives : {E P : Type 0} (rows : Rows E P) (made k : ℕ) (row : Row E P) → DeskLaw rows made → HasRow rows k row → is_living row.held_by ≡ true
     → NoneLivesAs (map.insert rows k (away {E = E} {P = P} row.client)) row.client
 none_lives {E} {P} rows made k row law has living = λ n other there lives.
     ⊎_elim
-    (λ (here : (n ≡ k) × (away {E = E} {P = P} row.client ≡ other)). false≢true (ap (λ r. is_living r.standing) here.1 ∙ lives.living))
+    (λ (here : (n ≡ k) × (away {E = E} {P = P} row.client ≡ other)). false≢true (ap (λ r. is_living r.held_by) here.1 ∙ lives.living))
     (λ (old : (n ≢ k) × HasRow rows n other). old.0 (law.one_each n k other row old.1 has lives.living living lives.its))
     (after_insert rows k n (away row.client) other there)

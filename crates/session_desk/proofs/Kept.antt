@@ -6,9 +6,9 @@ use Rattle.std.specs.FinMap as map
 use Rattle.std.proofs.lemmas.Bool.{cases_Bool, cases_eq, false≢true}
 use Rattle.session_desk.specs.declared.session.Session.{Session}
 use Rattle.session_desk.specs.declared.row.Row.{Row}
-use Rattle.session_desk.specs.declared.row.Standing.TheVariants.{Lent, Parked, Kept, Away}
+use Rattle.session_desk.specs.declared.row.Holder.TheVariants.{Lent, Parked, Kept, Away}
 use Rattle.session_desk.specs.Sessions.{Who, IsOver}
-use Rattle.session_desk.specs.Rows.{Rows, HasRow, NoneLivesAs, is_living, session_in, IsKept, IsOverdue, with_standing, with_wait, away, new_row, Register}
+use Rattle.session_desk.specs.Rows.{Rows, HasRow, NoneLivesAs, is_living, session_in, IsKept, IsOverdue, with_holder, with_wait, away, new_row, Register}
 use Rattle.std.specs.FinMap.{get-empty}
 use Rattle.session_desk.specs.Layout.{AreKept, number_at, seen}
 use Rattle.session_desk.proofs.Seen.{after_insert, insert_here, insert_other, after_remove, remove_other}
@@ -24,8 +24,8 @@ same_who k n c d e f = λ i. record { number = e i; client = f i }
 
 -- a session changes hands, and stays its client's or an ending one
 pub kept_exchange : {E P : Type 0} (rows : Rows E P) (at : At) (made soonest sooner k : ℕ) (before after : Row E P)
-    → AreKept rows at made soonest → HasRow rows k before → after.client ≡ before.client → is_living after.standing ≡ is_living before.standing
-    → ((session : Session E P) → session_in after.standing ≡ Some session → session.identity ≡ record { number = k; client = after.client })
+    → AreKept rows at made soonest → HasRow rows k before → after.client ≡ before.client → is_living after.held_by ≡ is_living before.held_by
+    → ((session : Session E P) → session_in after.held_by ≡ Some session → session.identity ≡ record { number = k; client = after.client })
     → sooner ≤ soonest → (IsKept after → sooner ≡ 0) → ((now : ℕ) → IsOverdue now after → sooner ≤ now)
     → AreKept (map.insert rows k after) at made sooner
 kept_exchange rows at made soonest sooner k before after kept has client living own less zero due =
@@ -35,20 +35,20 @@ kept_exchange rows at made soonest sooner k before after kept has client living 
           ⊎_elim
           (λ (e : n ≡ k). (
           let same = one_row rows k f.0 before (subst (λ n. HasRow rows n f.0) e f.1) has in
-          (after, subst (λ n. HasRow (map.insert rows k after) n after) (sym e) (insert_here rows k after), record { its = client ∙ sym (ap (λ r. r.client) same) ∙ f.2.its; living = living ∙ sym (ap (λ r. is_living r.standing) same) ∙ f.2.living })
+          (after, subst (λ n. HasRow (map.insert rows k after) n after) (sym e) (insert_here rows k after), record { its = client ∙ sym (ap (λ r. r.client) same) ∙ f.2.its; living = living ∙ sym (ap (λ r. is_living r.held_by) same) ∙ f.2.living })
           ))
           (λ (ne : n ≡ k → ⊥). (f.0, insert_other rows k n after ne ∙ f.1, f.2))
           (cases_eq n k);
       listed = λ n row there lives.
           ⊎_elim
           (λ (here : (n ≡ k) × (after ≡ row)).
-          ap at (sym (ap (λ r. r.client) here.1) ∙ client) ∙ kept.listed k before has (sym living ∙ ap (λ r. is_living r.standing) here.1 ∙ lives) ∙ ap Some (sym here.0))
+          ap at (sym (ap (λ r. r.client) here.1) ∙ client) ∙ kept.listed k before has (sym living ∙ ap (λ r. is_living r.held_by) here.1 ∙ lives) ∙ ap Some (sym here.0))
           (λ (other : (n ≢ k) × HasRow rows n row). kept.listed n row other.1 lives)
           (after_insert rows k n after row there);
       own = λ n row session there inside.
           ⊎_elim
           (λ (here : (n ≡ k) × (after ≡ row)).
-          own session (ap (λ r. session_in r.standing) here.1 ∙ inside) ∙ same_who k n after.client row.client (sym here.0) (ap (λ r. r.client) here.1))
+          own session (ap (λ r. session_in r.held_by) here.1 ∙ inside) ∙ same_who k n after.client row.client (sym here.0) (ap (λ r. r.client) here.1))
           (λ (other : (n ≢ k) × HasRow rows n row). kept.own n row session other.1 inside)
           (after_insert rows k n after row there);
       made_before = λ n row there.
@@ -79,27 +79,27 @@ same_parked session s e = cc
 
 -- it is lent again
 pub kept_lend : {E P : Type 0} (rows : Rows E P) (at : At) (made soonest k connection : ℕ) (row : Row E P) (session : Session E P)
-    → AreKept rows at made soonest → HasRow rows k row → row.standing ≡ Parked session
-    → AreKept (map.insert rows k (with_standing row (Lent connection))) at made soonest
+    → AreKept rows at made soonest → HasRow rows k row → row.held_by ≡ Parked session
+    → AreKept (map.insert rows k (with_holder row (Lent connection))) at made soonest
 kept_lend rows at made soonest k connection row session kept has is =
-    kept_exchange rows at made soonest soonest k row (with_standing row (Lent connection)) kept has refl (sym (ap is_living is)) (λ s inside. absurd (none_in s inside)) (omega arith)
+    kept_exchange rows at made soonest soonest k row (with_holder row (Lent connection)) kept has refl (sym (ap is_living is)) (λ s inside. absurd (none_in s inside)) (omega arith)
     (λ there. absurd (let e = there.1 in cc)) (λ now over. absurd (let e = over.1 in cc))
 
 -- it is parked
 pub kept_park : {E P : Type 0} (rows : Rows E P) (at : At) (made soonest sooner k connection : ℕ) (row : Row E P) (session : Session E P)
-    → AreKept rows at made soonest → HasRow rows k row → row.standing ≡ Lent connection → session.identity ≡ record { number = k; client = row.client }
+    → AreKept rows at made soonest → HasRow rows k row → row.held_by ≡ Lent connection → session.identity ≡ record { number = k; client = row.client }
     → sooner ≤ soonest → ((now : ℕ) → IsOver session.expiry now → sooner ≤ now)
-    → AreKept (map.insert rows k (with_standing row (Parked session))) at made sooner
+    → AreKept (map.insert rows k (with_holder row (Parked session))) at made sooner
 kept_park rows at made soonest sooner k connection row session kept has is identity less due =
-    kept_exchange rows at made soonest sooner k row (with_standing row (Parked session)) kept has refl (sym (ap is_living is)) (λ s inside. ap (λ t. t.identity) (sym (same_session session s inside)) ∙ identity) less
+    kept_exchange rows at made soonest sooner k row (with_holder row (Parked session)) kept has refl (sym (ap is_living is)) (λ s inside. ap (λ t. t.identity) (sym (same_session session s inside)) ∙ identity) less
     (λ there. absurd (let e = there.1 in cc)) (λ now over. due now (subst (λ t. IsOver t.expiry now) (sym (same_parked session over.0 over.1)) over.2))
 
 -- an ending session is kept
 pub kept_keep : {E P : Type 0} (rows : Rows E P) (at : At) (made soonest k : ℕ) (row : Row E P) (session : Session E P)
-    → AreKept rows at made soonest → HasRow rows k row → row.standing ≡ Away → session.identity ≡ record { number = k; client = row.client }
-    → AreKept (map.insert rows k (with_standing row (Kept session))) at made 0
+    → AreKept rows at made soonest → HasRow rows k row → row.held_by ≡ Away → session.identity ≡ record { number = k; client = row.client }
+    → AreKept (map.insert rows k (with_holder row (Kept session))) at made 0
 kept_keep rows at made soonest k row session kept has is identity =
-    kept_exchange rows at made soonest 0 k row (with_standing row (Kept session)) kept has refl (sym (ap is_living is)) (λ s inside. ap (λ t. t.identity) (sym (same_session session s inside)) ∙ identity) (omega arith)
+    kept_exchange rows at made soonest 0 k row (with_holder row (Kept session)) kept has refl (sym (ap is_living is)) (λ s inside. ap (λ t. t.identity) (sym (same_session session s inside)) ∙ identity) (omega arith)
     (λ there. refl) (λ now over. omega arith)
 
 -- a connection waits for it
@@ -111,7 +111,7 @@ kept_claim rows at made soonest k connection row kept has =
 
 -- an ending session is handed out
 pub kept_give : {E P : Type 0} (rows : Rows E P) (at : At) (made soonest k : ℕ) (row : Row E P) (session : Session E P)
-    → AreKept rows at made soonest → HasRow rows k row → row.standing ≡ Kept session → AreKept (map.insert rows k (away row.client)) at made soonest
+    → AreKept rows at made soonest → HasRow rows k row → row.held_by ≡ Kept session → AreKept (map.insert rows k (away row.client)) at made soonest
 kept_give rows at made soonest k row session kept has is =
     kept_exchange rows at made soonest soonest k row (away row.client) kept has refl (sym (ap is_living is)) (λ s inside. absurd (let e = inside in cc)) (omega arith)
     (λ there. absurd (let e = there.1 in cc)) (λ now over. absurd (let e = over.1 in cc))
@@ -124,7 +124,7 @@ reads b r x y e = ap (λ t. cond t x y) e
 
 -- the session of a client that is lent or parked ends
 pub kept_dismiss : {E P : Type 0} (rows : Rows E P) (at after : At) (made soonest k : ℕ) (row : Row E P)
-    → AreKept rows at made soonest → HasRow rows k row → is_living row.standing ≡ true
+    → AreKept rows at made soonest → HasRow rows k row → is_living row.held_by ≡ true
     → ((client : List ℕ) → after client ≡ cond (pointwise nat_eq row.client client) None (at client))
     → AreKept (map.insert rows k (away row.client)) after made soonest
 kept_dismiss {E} {P} rows at after made soonest k row kept has lives leads =
@@ -139,7 +139,7 @@ kept_dismiss {E} {P} rows at after made soonest k row kept has lives leads =
           (cases_Bool (pointwise nat_eq row.client c));
       listed = λ n other there living.
           ⊎_elim
-          (λ (here : (n ≡ k) × (away {E = E} {P = P} row.client ≡ other)). absurd (false≢true (ap (λ r. is_living r.standing) here.1 ∙ living)))
+          (λ (here : (n ≡ k) × (away {E = E} {P = P} row.client ≡ other)). absurd (false≢true (ap (λ r. is_living r.held_by) here.1 ∙ living)))
           (λ (old : (n ≢ k) × HasRow rows n other).
           let was = kept.listed n other old.1 living in
           ⊎_elim
@@ -150,7 +150,7 @@ kept_dismiss {E} {P} rows at after made soonest k row kept has lives leads =
           (after_insert rows k n (away row.client) other there);
       own = λ n other session there inside.
           ⊎_elim
-          (λ (here : (n ≡ k) × (away {E = E} {P = P} row.client ≡ other)). absurd (let e = ap (λ r. session_in r.standing) here.1 ∙ inside in cc))
+          (λ (here : (n ≡ k) × (away {E = E} {P = P} row.client ≡ other)). absurd (let e = ap (λ r. session_in r.held_by) here.1 ∙ inside in cc))
           (λ (old : (n ≢ k) × HasRow rows n other). kept.own n other session old.1 inside)
           (after_insert rows k n (away row.client) other there);
       made_before = λ n other there.
@@ -160,12 +160,12 @@ kept_dismiss {E} {P} rows at after made soonest k row kept has lives leads =
           (after_insert rows k n (away row.client) other there);
       kept_due = λ n other there is.
           ⊎_elim
-          (λ (here : (n ≡ k) × (away {E = E} {P = P} row.client ≡ other)). absurd (let e = ap (λ r. r.standing) here.1 ∙ is.1 in cc))
+          (λ (here : (n ≡ k) × (away {E = E} {P = P} row.client ≡ other)). absurd (let e = ap (λ r. r.held_by) here.1 ∙ is.1 in cc))
           (λ (old : (n ≢ k) × HasRow rows n other). kept.kept_due n other old.1 is)
           (after_insert rows k n (away row.client) other there);
       due = λ n now other there over.
           ⊎_elim
-          (λ (here : (n ≡ k) × (away {E = E} {P = P} row.client ≡ other)). absurd (let e = ap (λ r. r.standing) here.1 ∙ over.1 in cc))
+          (λ (here : (n ≡ k) × (away {E = E} {P = P} row.client ≡ other)). absurd (let e = ap (λ r. r.held_by) here.1 ∙ over.1 in cc))
           (λ (old : (n ≢ k) × HasRow rows n other). kept.due n now other old.1 over)
           (after_insert rows k n (away row.client) other there);
     }
@@ -200,7 +200,7 @@ kept_begin {E} {P} rows at after made soonest connection client kept none leads 
           (after_insert rows made n row other there);
       own = λ n other session there inside.
           ⊎_elim
-          (λ (here : (n ≡ made) × (row ≡ other)). absurd (let e = ap (λ r. session_in r.standing) here.1 ∙ inside in cc))
+          (λ (here : (n ≡ made) × (row ≡ other)). absurd (let e = ap (λ r. session_in r.held_by) here.1 ∙ inside in cc))
           (λ (old : (n ≢ made) × HasRow rows n other). kept.own n other session old.1 inside)
           (after_insert rows made n row other there);
       made_before = λ n other there.
@@ -210,33 +210,33 @@ kept_begin {E} {P} rows at after made soonest connection client kept none leads 
           (after_insert rows made n row other there);
       kept_due = λ n other there is.
           ⊎_elim
-          (λ (here : (n ≡ made) × (row ≡ other)). absurd (let e = ap (λ r. r.standing) here.1 ∙ is.1 in cc))
+          (λ (here : (n ≡ made) × (row ≡ other)). absurd (let e = ap (λ r. r.held_by) here.1 ∙ is.1 in cc))
           (λ (old : (n ≢ made) × HasRow rows n other). kept.kept_due n other old.1 is)
           (after_insert rows made n row other there);
       due = λ n now other there over.
           ⊎_elim
-          (λ (here : (n ≡ made) × (row ≡ other)). absurd (let e = ap (λ r. r.standing) here.1 ∙ over.1 in cc))
+          (λ (here : (n ≡ made) × (row ≡ other)). absurd (let e = ap (λ r. r.held_by) here.1 ∙ over.1 in cc))
           (λ (old : (n ≢ made) × HasRow rows n other). kept.due n now other old.1 over)
           (after_insert rows made n row other there);
     }
 
 -- once its session has ended, a client has none
 pub none_after_dismiss : {E P : Type 0} (rows : Rows E P) (at : At) (made soonest k : ℕ) (row : Row E P)
-    → AreKept rows at made soonest → HasRow rows k row → is_living row.standing ≡ true → NoneLivesAs (map.insert rows k (away row.client)) row.client
+    → AreKept rows at made soonest → HasRow rows k row → is_living row.held_by ≡ true → NoneLivesAs (map.insert rows k (away row.client)) row.client
 none_after_dismiss {E} {P} rows at made soonest k row kept has lives = λ n other there it.
     ⊎_elim
-    (λ (here : (n ≡ k) × (away {E = E} {P = P} row.client ≡ other)). false≢true (ap (λ r. is_living r.standing) here.1 ∙ it.living))
+    (λ (here : (n ≡ k) × (away {E = E} {P = P} row.client ≡ other)). false≢true (ap (λ r. is_living r.held_by) here.1 ∙ it.living))
     (λ (old : (n ≢ k) × HasRow rows n other). old.0 (let mine = kept.listed k row has lives in let theirs = kept.listed n other old.1 it.living in let same = ap at it.its in cc))
     (after_insert rows k n (away row.client) other there)
 
 -- a row is taken away
 pub kept_remove : {E P : Type 0} (rows : Rows E P) (at : At) (made soonest k : ℕ) (row : Row E P)
-    → AreKept rows at made soonest → HasRow rows k row → row.standing ≡ Away → AreKept (map.remove rows k) at made soonest
+    → AreKept rows at made soonest → HasRow rows k row → row.held_by ≡ Away → AreKept (map.remove rows k) at made soonest
 kept_remove rows at made soonest k row kept has is =
     record {
       found = λ c n leads.
           let f = kept.found c n leads in
-          let apart : n ≡ k → ⊥ = λ e. false≢true (sym (ap is_living (ap (λ r. r.standing) (one_row rows k f.0 row (subst (λ n. HasRow rows n f.0) e f.1) has) ∙ is)) ∙ f.2.living) in
+          let apart : n ≡ k → ⊥ = λ e. false≢true (sym (ap is_living (ap (λ r. r.held_by) (one_row rows k f.0 row (subst (λ n. HasRow rows n f.0) e f.1) has) ∙ is)) ∙ f.2.living) in
           (f.0, remove_other rows k n apart ∙ f.1, f.2);
       listed = λ n other there living. kept.listed n other (after_remove rows k n other there).1 living;
       own = λ n other session there inside. kept.own n other session (after_remove rows k n other there).1 inside;
@@ -282,7 +282,7 @@ shadowed false x y z = refl
 
 -- a session begins in the place of a parked one
 pub kept_begin_over : {E P : Type 0} (rows : Rows E P) (at after : At) (made soonest k connection : ℕ) (row : Row E P) (client : List ℕ)
-    → AreKept rows at made soonest → HasRow rows k row → is_living row.standing ≡ true → row.client ≡ client
+    → AreKept rows at made soonest → HasRow rows k row → is_living row.held_by ≡ true → row.client ≡ client
     → ((other : List ℕ) → after other ≡ cond (pointwise nat_eq client other) (Some made) (at other))
     → AreKept (map.insert (map.insert rows k (away row.client)) made (new_row client connection)) after (made + 1) soonest
 kept_begin_over {E} {P} rows at after made soonest k connection row client kept has lives its leads =

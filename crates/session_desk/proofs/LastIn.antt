@@ -11,9 +11,9 @@ use Rattle.session_desk.specs.declared.error.DeskError.{DeskError}
 use Rattle.session_desk.specs.declared.error.DeskError.TheVariants.{Full, NoPlace, Memory, NoName}
 use Rattle.session_desk.specs.declared.session.Session.{Session}
 use Rattle.session_desk.specs.declared.row.Row.{Row}
-use Rattle.session_desk.specs.declared.row.Standing.{Standing}
-use Rattle.session_desk.specs.declared.row.Standing.TheVariants.{Lent, Parked, Kept}
-use Rattle.session_desk.specs.Rows.{Rows, HasRow, NoRow, IsKept, IsOverdue, session_in, away, new_row, with_standing, with_wait}
+use Rattle.session_desk.specs.declared.row.Holder.{Holder}
+use Rattle.session_desk.specs.declared.row.Holder.TheVariants.{Lent, Parked, Kept}
+use Rattle.session_desk.specs.Rows.{Rows, HasRow, NoRow, IsKept, IsOverdue, session_in, away, new_row, with_holder, with_wait}
 use Rattle.session_desk.specs.Books.{Books, new_books}
 use Rattle.session_desk.specs.Hands.{DeskLaw}
 use Rattle.session_desk.specs.Keeping.{EndsLent, IsLent, parked_at}
@@ -25,34 +25,34 @@ use Rattle.session_desk.proofs.Seen.{after_insert, after_remove}
 
 -- each row keeps what is said of its number
 record AreLast {E P : Type 0} (rows : Rows E P) (last : ℕ → Option (Session E P)) : Type 0 where
-  pub same : (number : ℕ) (row : Row E P) (session : Session E P) → HasRow rows number row → session_in row.standing ≡ Some session → last number ≡ Some session
+  pub same : (number : ℕ) (row : Row E P) (session : Session E P) → HasRow rows number row → session_in row.held_by ≡ Some session → last number ≡ Some session
 
 -- a row that keeps nothing is written
-emptied : {E P : Type 0} (rows : Rows E P) (last : ℕ → Option (Session E P)) (k : ℕ) (after : Row E P) → AreLast rows last → session_in after.standing ≡ None → AreLast (map.insert rows k after) last
+emptied : {E P : Type 0} (rows : Rows E P) (last : ℕ → Option (Session E P)) (k : ℕ) (after : Row E P) → AreLast rows last → session_in after.held_by ≡ None → AreLast (map.insert rows k after) last
 emptied rows last k after are none =
     record {
       same = λ number row session has keeps.
           ⊎_elim
-          (λ (here : (number ≡ k) × (after ≡ row)). absurd (let e = sym none ∙ ap (λ r. session_in r.standing) here.1 ∙ keeps in cc))
+          (λ (here : (number ≡ k) × (after ≡ row)). absurd (let e = sym none ∙ ap (λ r. session_in r.held_by) here.1 ∙ keeps in cc))
           (λ (old : (number ≢ k) × HasRow rows number row). are.same number row session old.1 keeps)
           (after_insert rows k number after row has);
     }
 
 -- a row is written that keeps what it kept
-rewritten : {E P : Type 0} (rows : Rows E P) (last : ℕ → Option (Session E P)) (k : ℕ) (before after : Row E P) → AreLast rows last → HasRow rows k before → after.standing ≡ before.standing
+rewritten : {E P : Type 0} (rows : Rows E P) (last : ℕ → Option (Session E P)) (k : ℕ) (before after : Row E P) → AreLast rows last → HasRow rows k before → after.held_by ≡ before.held_by
     → AreLast (map.insert rows k after) last
 rewritten rows last k before after are had stands =
     record {
       same = λ number row session has keeps.
           ⊎_elim
           (λ (here : (number ≡ k) × (after ≡ row)).
-          are.same number before session (ap (map.get rows) here.0 ∙ had) (ap session_in (sym stands) ∙ ap (λ r. session_in r.standing) here.1 ∙ keeps))
+          are.same number before session (ap (map.get rows) here.0 ∙ had) (ap session_in (sym stands) ∙ ap (λ r. session_in r.held_by) here.1 ∙ keeps))
           (λ (old : (number ≢ k) × HasRow rows number row). are.same number row session old.1 keeps)
           (after_insert rows k number after row has);
     }
 
 -- a session is put into its row
-stored_in : {E P : Type 0} (rows : Rows E P) (last : ℕ → Option (Session E P)) (given stored : Session E P) (after : Row E P) → AreLast rows last → session_in after.standing ≡ Some stored
+stored_in : {E P : Type 0} (rows : Rows E P) (last : ℕ → Option (Session E P)) (given stored : Session E P) (after : Row E P) → AreLast rows last → session_in after.held_by ≡ Some stored
     → AreLast (map.insert rows given.identity.number after) (λ n. option_or (its n given stored) (last n))
 stored_in {E} {P} rows last given stored after are keeps =
     let k = given.identity.number in
@@ -60,7 +60,7 @@ stored_in {E} {P} rows last given stored after are keeps =
       same = λ number row session has kept.
           ⊎_elim
           (λ (here : (number ≡ k) × (after ≡ row)).
-          ap (λ (b : Bool). option_or (cond b (Some stored) None) (last number)) (eq-eqb k number (sym here.0)) ∙ sym keeps ∙ ap (λ r. session_in r.standing) here.1 ∙ kept)
+          ap (λ (b : Bool). option_or (cond b (Some stored) None) (last number)) (eq-eqb k number (sym here.0)) ∙ sym keeps ∙ ap (λ r. session_in r.held_by) here.1 ∙ kept)
           (λ (old : (number ≢ k) × HasRow rows number row).
           ap (λ (b : Bool). option_or (cond b (Some stored) None) (last number)) (ne_eqb k number (λ e. old.0 (sym e))) ∙ are.same number row session old.1 kept)
           (after_insert rows k number after row has);
@@ -78,7 +78,7 @@ last_client {E} {P} old new client request (Ok (New session (Some ended))) last 
     subst (λ (b : Books E P). AreLast b.rows last) (sym h.after)
     (emptied (map.insert old.rows h.number (away h.row.client)) last old.made (new_row client request.connection) (emptied old.rows last h.number (away h.row.client) are refl) refl)
 last_client {E} {P} old new client request (Ok (Resumed session)) last are h =
-    subst (λ (b : Books E P). AreLast b.rows last) (sym h.after) (emptied old.rows last h.number (with_standing h.row (Lent request.connection)) are refl)
+    subst (λ (b : Books E P). AreLast b.rows last) (sym h.after) (emptied old.rows last h.number (with_holder h.row (Lent request.connection)) are refl)
 last_client {E} {P} old new client request (Ok (Replace holder)) last are h =
     subst (λ (b : Books E P). AreLast b.rows last) (sym h.after) (rewritten old.rows last h.number h.row (with_wait h.row request.connection) are h.its.has refl)
 last_client {E} {P} old new client request (Ok Busy) last are h = subst (λ (b : Books E P). AreLast b.rows last) (sym h.1) are
@@ -107,8 +107,8 @@ last_attach [] old new request answer last are h = last_unnamed old new request.
 last_attach (byte ∷ bytes) old new request answer last are h = last_client old new (byte ∷ bytes) request answer last are h
 
 -- a session is handed out to be retired
-last_given : {E P : Type 0} (old new : Rows E P) (IsSo : Row E P → Type 0) (standing : Standing E P) (last : ℕ → Option (Session E P)) → AreLast old last → HandsOut old IsSo standing new → AreLast new last
-last_given {E} {P} old new IsSo standing last are h =
+last_given : {E P : Type 0} (old new : Rows E P) (IsSo : Row E P → Type 0) (held_by : Holder E P) (last : ℕ → Option (Session E P)) → AreLast old last → HandsOut old IsSo held_by new → AreLast new last
+last_given {E} {P} old new IsSo held_by last are h =
     subst (λ (rows : Rows E P). AreLast rows last) (sym h.after) (emptied old last h.number (away h.oldest.row.client) are refl)
 
 module _ {P : Type 0} (cell : P → ℕ) where
@@ -120,7 +120,7 @@ module _ {P : Type 0} (cell : P → ℕ) where
   last_call {E} old new (Kicked connection answer) last are made = subst (λ (b : Books E P). AreLast b.rows last) (sym made.1) are
   last_call {E} old new (Park session now None) last are made =
       subst (λ (b : Books E P). AreLast b.rows (λ n. option_or (its n session (parked_at session now)) (last n))) (sym made.after)
-      (stored_in old.rows last session (parked_at session now) (with_standing made.lent.row (Parked (parked_at session now))) are refl)
+      (stored_in old.rows last session (parked_at session now) (with_holder made.lent.row (Parked (parked_at session now))) are refl)
   last_call {E} old new (Park session now (Some back)) last are made =
       ⊎_elim
       (λ (h : EndsLent old session new).
@@ -129,11 +129,11 @@ module _ {P : Type 0} (cell : P → ℕ) where
       made.1
   last_call {E} old new (ParkAsIs session None) last are made =
       subst (λ (b : Books E P). AreLast b.rows (λ n. option_or (its n session session) (last n))) (sym made.after)
-      (stored_in old.rows last session session (with_standing made.lent.row (Parked session)) are refl)
+      (stored_in old.rows last session session (with_holder made.lent.row (Parked session)) are refl)
   last_call {E} old new (ParkAsIs session (Some back)) last are made = subst (λ (b : Books E P). AreLast b.rows last) (sym made.2) are
   last_call {E} old new (Keep session None) last are made =
       subst (λ (b : Books E P). AreLast b.rows (λ n. option_or (its n session session) (last n))) (sym made.after)
-      (stored_in old.rows last session session (with_standing made.gone.row (Kept session)) are refl)
+      (stored_in old.rows last session session (with_holder made.gone.row (Kept session)) are refl)
   last_call {E} old new (Keep session (Some back)) last are made = subst (λ (b : Books E P). AreLast b.rows last) (sym made.2) are
   last_call {E} old new (Bury session None) last are made =
       subst (λ (b : Books E P). AreLast b.rows last) (sym made.1) (removed old.rows last session.identity.number are)
@@ -174,7 +174,7 @@ last_new {E} {P} = record { same = λ number row session has keeps. absurd (let 
 
 -- what comes out of its row at a call, by what the rows keep
 out_of_row : {E P : Type 0} (rows : Rows E P) (made number : ℕ) (row : Row E P) (session : Session E P) (last : ℕ → Option (Session E P)) → DeskLaw rows made → AreLast rows last
-    → HasRow rows number row → session_in row.standing ≡ Some session → last session.identity.number ≡ Some session
+    → HasRow rows number row → session_in row.held_by ≡ Some session → last session.identity.number ≡ Some session
 out_of_row rows made number row session last law are has keeps =
     let own = ap (λ w. w.number) (law.own number row session has keeps) in ap last own ∙ are.same number row session has keeps
 
@@ -202,9 +202,9 @@ out_attach : {E P : Type 0} (client : List ℕ) (old new : Books E P) (request :
 out_attach [] old new request answer last out law are h is = absurd (out_unnamed old new request.connection answer out h is)
 out_attach (byte ∷ bytes) old new request answer last out law are h is = out_client old new (byte ∷ bytes) request answer last out law are h is
 
-out_swept : {E P : Type 0} (old new : Rows E P) (made : ℕ) (IsSo : Row E P → Type 0) (standing : Standing E P) (session : Session E P) (last : ℕ → Option (Session E P))
-    → DeskLaw old made → AreLast old last → session_in standing ≡ Some session → HandsOut old IsSo standing new → last session.identity.number ≡ Some session
-out_swept old new made IsSo standing session last law are inside h =
+out_swept : {E P : Type 0} (old new : Rows E P) (made : ℕ) (IsSo : Row E P → Type 0) (held_by : Holder E P) (session : Session E P) (last : ℕ → Option (Session E P))
+    → DeskLaw old made → AreLast old last → session_in held_by ≡ Some session → HandsOut old IsSo held_by new → last session.identity.number ≡ Some session
+out_swept old new made IsSo held_by session last law are inside h =
     out_of_row old made h.number h.oldest.row session last law are h.oldest.has (ap session_in h.stood ∙ inside)
 
 module _ {P : Type 0} (cell : P → ℕ) where

@@ -5,8 +5,8 @@ use Rattle.std.proofs.lemmas.Bool.{cases_lt}
 use Rattle.std.proofs.lemmas.Option.{same_Some}
 use Rattle.session_desk.specs.declared.session.Session.{Session}
 use Rattle.session_desk.specs.declared.row.Row.{Row}
-use Rattle.session_desk.specs.declared.row.Standing.{Standing}
-use Rattle.session_desk.specs.declared.row.Standing.TheVariants.{Lent, Parked, Kept, Away}
+use Rattle.session_desk.specs.declared.row.Holder.{Holder}
+use Rattle.session_desk.specs.declared.row.Holder.TheVariants.{Lent, Parked, Kept, Away}
 use Rattle.session_desk.specs.Rows.{Rows, NoRow, IsKept, IsOverdue, IsOldest, IsRowOf, away}
 use Rattle.session_desk.specs.Books.{Books, IsKicked, with_rows, with_free, after_park, after_end, after_keep}
 use Rattle.session_desk.specs.Hands.{DeskLaw}
@@ -24,7 +24,7 @@ some_none : {A : Type 0} (a : A) → Some a ≡ None → ⊥
 some_none a e = cc
 
 -- a session has one row
-one_row : {E P : Type 0} (rows : Rows E P) (session : Session E P) (row their : Row E P) (s t : Standing E P) → IsRowOf rows session row s → IsRowOf rows session their t → row ≡ their
+one_row : {E P : Type 0} (rows : Rows E P) (session : Session E P) (row their : Row E P) (s t : Holder E P) → IsRowOf rows session row s → IsRowOf rows session their t → row ≡ their
 one_row rows session row their s t is also = same_Some row their (sym is.has ∙ also.has)
 
 module _ {E P : Type 0} (old new new' : Books E P) where
@@ -86,14 +86,14 @@ module _ {E P : Type 0} (old new new' : Rows E P) (IsSo : Row E P → Type 0) wh
       let same : n ≡ m = omega arith in
       (same, same_Some h.row k.row (sym h.has ∙ ap (map.get old) same ∙ k.has))
 
-  one_hand_out : (s t : Standing E P) → HandsOut old IsSo s new → HandsOut old IsSo t new' → (s ≡ t) × (new ≡ new')
+  one_hand_out : (s t : Holder E P) → HandsOut old IsSo s new → HandsOut old IsSo t new' → (s ≡ t) × (new ≡ new')
   one_hand_out s t h k =
       let same = oldest_is h.number k.number h.oldest k.oldest in (
-        sym h.stood ∙ ap (λ r. r.standing) same.1 ∙ k.stood,
+        sym h.stood ∙ ap (λ r. r.held_by) same.1 ∙ k.stood,
         h.after ∙ (λ i. map.insert old (same.0 i) (away (same.1 i).client)) ∙ sym k.after,
       )
 
-  handed_none : {A : Type 0} (s : Standing E P) → HandsOut old IsSo s new → NoRow old IsSo → A
+  handed_none : {A : Type 0} (s : Holder E P) → HandsOut old IsSo s new → NoRow old IsSo → A
   handed_none s h none = absurd (none h.number h.oldest.row h.oldest.has h.oldest.is_so)
 
 one_sweep : {E P : Type 0} (old new new' : Rows E P) (now : ℕ) (x y : Option (Session E P)) → Sweeps old now x new → Sweeps old now y new' → (x ≡ y) × (new ≡ new')
@@ -136,7 +136,7 @@ module _ {P : Type 0} (old new new' : List (Option P)) (slot : ℕ) where
   one_take cell place (Some a) None h k = absurd (some_none h.1.0 (same_Some (Some h.1.0) None (sym h.1.1 ∙ k.0)))
   one_take cell place (Some a) (Some b) h k = (ap (λ p. Some p) (h.0 ∙ sym k.0), h.2 ∙ sym k.2)
 
-one_told : {Said : Type 0} (x y : Bool) → (IsTrue x ↔ Said) → (IsTrue y ↔ Said) → x ≡ y
+one_told : {IsSo : Type 0} (x y : Bool) → (IsTrue x ↔ IsSo) → (IsTrue y ↔ IsSo) → x ≡ y
 one_told true true h k = refl
 one_told true false h k = sym (k.1 (h.0 refl))
 one_told false true h k = h.1 (k.0 refl)
@@ -152,7 +152,7 @@ module _ {E P : Type 0} (cell : P → ℕ) (old new new' : Books E P) (law : Des
       told (Attach request) x asks.0 other asks.1 (one_attach request.client old new new' request x asks.0 law had (rw asks.1 at also) h (rw asks.1 at k))
   one_answer (Withdraw connection) other asks had also h k = (sym asks, h ∙ sym (rw asks at k))
   one_answer (Kicked connection x) other asks had also h k =
-      let k' = rw asks.1 at k in told (Kicked connection) x asks.0 other asks.1 (one_told {Said = IsKicked old connection} x asks.0 h.0 k'.0, same_books old new new' h.1 k'.1)
+      let k' = rw asks.1 at k in told (Kicked connection) x asks.0 other asks.1 (one_told {IsSo = IsKicked old connection} x asks.0 h.0 k'.0, same_books old new new' h.1 k'.1)
   one_answer (Park session now x) other asks had also h k = told (Park session now) x asks.0 other asks.1 (one_park old new new' session now x asks.0 h (rw asks.1 at k))
   one_answer (ParkAsIs session x) other asks had also h k = told (ParkAsIs session) x asks.0 other asks.1 (one_park_as_is old new new' session x asks.0 h (rw asks.1 at k))
   one_answer (Keep session x) other asks had also h k = told (Keep session) x asks.0 other asks.1 (one_keep old new new' session x asks.0 h (rw asks.1 at k))

@@ -9,15 +9,15 @@ use Rattle.session_desk.specs.declared.error.DeskError.{DeskError}
 use Rattle.session_desk.specs.declared.error.DeskError.TheVariants.{Full, NoPlace, Memory, NoName}
 use Rattle.session_desk.specs.declared.session.Session.{Session}
 use Rattle.session_desk.specs.declared.row.Row.{Row}
-use Rattle.session_desk.specs.declared.row.Standing.{Standing}
-use Rattle.session_desk.specs.declared.row.Standing.TheVariants.{Lent, Parked}
+use Rattle.session_desk.specs.declared.row.Holder.{Holder}
+use Rattle.session_desk.specs.declared.row.Holder.TheVariants.{Lent, Parked}
 use Rattle.session_desk.specs.Rows.{Rows, NoneLivesAs, is_living}
 use Rattle.session_desk.specs.Names.{assigned_name, IsNextName, NoNameLeft}
 use Rattle.session_desk.specs.Books.{Books, after_new, after_name, after_lend, after_replace, after_end, new_session}
 use Rattle.session_desk.specs.Hands.{DeskLaw}
 use Rattle.session_desk.specs.Attaching.{Request, IsClients, IsStale, HasStale, WantsNew, BeginsFirst, BeginsOver, Resumes, Replaces, IsBusy, Names, AttachesClient, AttachesUnnamed, attaches_by}
 
--- the same answer, and the same books behind it
+-- the same answer, and the same books after it
 abbrev pub AreOne : {A E P : Type 0} → A → A → Books E P → Books E P → Type 0
 AreOne x y new new' = (x ≡ y) × (new ≡ new')
 
@@ -30,14 +30,14 @@ same_books old new new' is is' = is ∙ sym is'
 pub parked_is : {E P : Type 0} (a b : Session E P) → Parked a ≡ Parked b → a ≡ b
 parked_is a b e = cc
 
-lent_is : {E P : Type 0} (a b : ℕ) → ◌≡◌ {A = Standing E P} (Lent a) (Lent b) → a ≡ b
+lent_is : {E P : Type 0} (a b : ℕ) → ◌≡◌ {A = Holder E P} (Lent a) (Lent b) → a ≡ b
 lent_is a b e = cc
 
 parked_not_lent : {E P : Type 0} (a : Session E P) (b : ℕ) → Parked a ≡ Lent b → ⊥
 parked_not_lent a b e = cc
 
 module _ {E P : Type 0} (old : Books E P) (client : List ℕ) where
-  none_is : (n : ℕ) (row : Row E P) (s : Standing E P) → NoneLivesAs old.rows client → IsClients old client n row s → is_living s ≡ true → ⊥
+  none_is : (n : ℕ) (row : Row E P) (s : Holder E P) → NoneLivesAs old.rows client → IsClients old client n row s → is_living s ≡ true → ⊥
   none_is n row s none is lives = none n row is.has (record { its = is.its; living = ap is_living is.stands ∙ lives })
 
   no_stale : (request : Request) → NoneLivesAs old.rows client → HasStale old client request → ⊥
@@ -45,25 +45,25 @@ module _ {E P : Type 0} (old : Books E P) (client : List ℕ) where
 
 module _ {E P : Type 0} (old : Books E P) (law : DeskLaw old.rows old.made) (client : List ℕ) where
   -- a client has one row that is lent or parked
-  one_number : (n m : ℕ) (row their : Row E P) (s t : Standing E P) → IsClients old client n row s → IsClients old client m their t → is_living s ≡ true → is_living t ≡ true → n ≡ m
+  one_number : (n m : ℕ) (row their : Row E P) (s t : Holder E P) → IsClients old client n row s → IsClients old client m their t → is_living s ≡ true → is_living t ≡ true → n ≡ m
   one_number n m row their s t is also lives living =
       law.one_each n m row their is.has also.has (ap is_living is.stands ∙ lives) (ap is_living also.stands ∙ living) (is.its ∙ sym also.its)
 
-  one_row : (n m : ℕ) (row their : Row E P) (s t : Standing E P) → IsClients old client n row s → IsClients old client m their t → n ≡ m → row ≡ their
+  one_row : (n m : ℕ) (row their : Row E P) (s t : Holder E P) → IsClients old client n row s → IsClients old client m their t → n ≡ m → row ≡ their
   one_row n m row their s t is also same = same_Some row their (sym is.has ∙ ap (map.get old.rows) same ∙ also.has)
 
-  one_standing : (n m : ℕ) (row their : Row E P) (s t : Standing E P) → IsClients old client n row s → IsClients old client m their t → is_living s ≡ true → is_living t ≡ true → s ≡ t
-  one_standing n m row their s t is also lives living =
-      sym is.stands ∙ ap (λ r. r.standing) (one_row n m row their s t is also (one_number n m row their s t is also lives living)) ∙ also.stands
+  same_holder : (n m : ℕ) (row their : Row E P) (s t : Holder E P) → IsClients old client n row s → IsClients old client m their t → is_living s ≡ true → is_living t ≡ true → s ≡ t
+  same_holder n m row their s t is also lives living =
+      sym is.stands ∙ ap (λ r. r.held_by) (one_row n m row their s t is also (one_number n m row their s t is also lives living)) ∙ also.stands
 
   one_session : (n m : ℕ) (row their : Row E P) (a b : Session E P) → IsClients old client n row (Parked a) → IsClients old client m their (Parked b) → a ≡ b
-  one_session n m row their a b is also = parked_is a b (one_standing n m row their (Parked a) (Parked b) is also refl refl)
+  one_session n m row their a b is also = parked_is a b (same_holder n m row their (Parked a) (Parked b) is also refl refl)
 
   one_holder : (n m : ℕ) (row their : Row E P) (a b : ℕ) → IsClients old client n row (Lent a) → IsClients old client m their (Lent b) → a ≡ b
-  one_holder n m row their a b is also = lent_is {E = E} {P = P} a b (one_standing n m row their (Lent a) (Lent b) is also refl refl)
+  one_holder n m row their a b is also = lent_is {E = E} {P = P} a b (same_holder n m row their (Lent a) (Lent b) is also refl refl)
 
   not_both : {A : Type 0} (n m : ℕ) (row their : Row E P) (a : Session E P) (b : ℕ) → IsClients old client n row (Parked a) → IsClients old client m their (Lent b) → A
-  not_both n m row their a b is also = absurd (parked_not_lent a b (one_standing n m row their (Parked a) (Lent b) is also refl refl))
+  not_both n m row their a b is also = absurd (parked_not_lent a b (same_holder n m row their (Parked a) (Lent b) is also refl refl))
 
   fresh_stale : (request : Request) (a b : Session E P) → a ≡ b → ¬ IsStale a request.clean request.now → IsStale b request.clean request.now → ⊥
   fresh_stale request a b same fresh stale = fresh (rw same stale)

@@ -9,9 +9,9 @@ use Rattle.session_desk.specs.declared.error.DeskError.{DeskError}
 use Rattle.session_desk.specs.declared.error.DeskError.TheVariants.{Full, NoPlace, Memory, NoName}
 use Rattle.session_desk.specs.declared.session.Session.{Session}
 use Rattle.session_desk.specs.declared.row.Row.{Row}
-use Rattle.session_desk.specs.declared.row.Standing.{Standing}
-use Rattle.session_desk.specs.declared.row.Standing.TheVariants.{Lent, Parked, Kept}
-use Rattle.session_desk.specs.Rows.{Rows, HasRow, NoneLivesAs, NoRow, IsKept, IsOverdue, IsRowOf, is_living, session_in, away, new_row, with_standing, with_wait}
+use Rattle.session_desk.specs.declared.row.Holder.{Holder}
+use Rattle.session_desk.specs.declared.row.Holder.TheVariants.{Lent, Parked, Kept}
+use Rattle.session_desk.specs.Rows.{Rows, HasRow, NoneLivesAs, NoRow, IsKept, IsOverdue, IsRowOf, is_living, session_in, away, new_row, with_holder, with_wait}
 use Rattle.session_desk.specs.Books.{Books, new_session, with_rows}
 use Rattle.session_desk.specs.Names.{assigned_name}
 use Rattle.session_desk.specs.Attaching.{Request, AttachesClient, AttachesUnnamed, attaches_by}
@@ -43,10 +43,10 @@ stays {E} {P} old new made both same =
 
 -- a session with this number changes hands
 moves : {E P : Type 0} (old : Rows E P) (made k : ℕ) (before after : Row E P) (i o : ℕ) → HasRow old k before → after.client ≡ before.client
-    → (is_living after.standing ≡ true → is_living before.standing ≡ true)
-    → (DeskLaw old made → (session : Session E P) → session_in after.standing ≡ Some session → session.identity ≡ record { number = k; client = after.client })
-    → (DeskLaw old made → (session : Session E P) → after.standing ≡ Parked session → session.window.retired ≡ false)
-    → out_of after.standing + i ≡ out_of before.standing + o
+    → (is_living after.held_by ≡ true → is_living before.held_by ≡ true)
+    → (DeskLaw old made → (session : Session E P) → session_in after.held_by ≡ Some session → session.identity ≡ record { number = k; client = after.client })
+    → (DeskLaw old made → (session : Session E P) → after.held_by ≡ Parked session → session.window.retired ≡ false)
+    → out_of after.held_by + i ≡ out_of before.held_by + o
     → Does old (map.insert old k after) made made (λ n. cond (nat_eq k n) o 0) (λ n. cond (nat_eq k n) i 0) zero_each
 moves old made k before after i o has client lives own quiet counts =
     record {
@@ -93,7 +93,7 @@ as_lawful old new made after out does =
     record { law = λ law. (does law).law law; hands = λ law n. (does law).hands law n; rows = λ law n. (does law).rows law n }
 
 -- the number of a session in a row
-number_in : {E P : Type 0} (rows : Rows E P) (made k : ℕ) (row : Row E P) (session : Session E P) → DeskLaw rows made → HasRow rows k row → session_in row.standing ≡ Some session → session.identity.number ≡ k
+number_in : {E P : Type 0} (rows : Rows E P) (made k : ℕ) (row : Row E P) (session : Session E P) → DeskLaw rows made → HasRow rows k row → session_in row.held_by ≡ Some session → session.identity.number ≡ k
 number_in rows made k row session law has inside = ap (λ w. w.number) (law.own k row session has inside)
 
 once_at : {E P : Type 0} (k n : ℕ) (session : Session E P) → session.identity.number ≡ k → once n session ≡ cond (nat_eq k n) 1 0
@@ -110,11 +110,11 @@ nothing true = refl
 nothing false = refl
 
 -- an ending session is handed out by a sweep
-hands_out : {E P : Type 0} (old new : Rows E P) (made : ℕ) (IsSo : Row E P → Type 0) (standing : Standing E P) (session : Session E P) → session_in standing ≡ Some session → out_of standing ≡ 0
-    → HandsOut old IsSo standing new → Does old new made made (λ n. once n session) zero_each zero_each
-hands_out {E} {P} old new made IsSo standing session inside none h =
+hands_out : {E P : Type 0} (old new : Rows E P) (made : ℕ) (IsSo : Row E P → Type 0) (held_by : Holder E P) (session : Session E P) → session_in held_by ≡ Some session → out_of held_by ≡ 0
+    → HandsOut old IsSo held_by new → Does old new made made (λ n. once n session) zero_each zero_each
+hands_out {E} {P} old new made IsSo held_by session inside none h =
     let row = h.oldest.row in
-    let within : session_in row.standing ≡ Some session = ap session_in h.stood ∙ inside in
+    let within : session_in row.held_by ≡ Some session = ap session_in h.stood ∙ inside in
     subst (λ (r : Rows E P). Does old r made made (λ n. once n session) zero_each zero_each) (sym h.after)
     (as_often old (map.insert old h.number (away row.client)) made made (λ n. cond (nat_eq h.number n) 1 0) (λ n. cond (nat_eq h.number n) 0 0) zero_each (λ n. once n session) zero_each zero_each
     (moves old made h.number row (away row.client) 0 1 h.oldest.has refl (λ e. absurd (false_true e)) (λ law s e. absurd (none_some s e)) (λ law s e. absurd (let f = e in cc)) (let is = ap out_of h.stood ∙ none in omega arith))
@@ -129,10 +129,10 @@ parked_session a b e = cc
 -- a lent session is parked
 parks : {E P : Type 0} (old : Rows E P) (made connection : ℕ) (row : Row E P) (session kept : Session E P) → IsRowOf old session row (Lent connection) → kept.identity ≡ session.identity
     → kept.window.retired ≡ false
-    → Does old (map.insert old session.identity.number (with_standing row (Parked kept))) made made zero_each (λ n. once n session) zero_each
+    → Does old (map.insert old session.identity.number (with_holder row (Parked kept))) made made zero_each (λ n. once n session) zero_each
 parks old made connection row session kept is same quiet =
-    as_often old (map.insert old session.identity.number (with_standing row (Parked kept))) made made (λ n. cond (nat_eq session.identity.number n) 0 0) (λ n. once n session) zero_each zero_each (λ n. once n session) zero_each
-    (moves old made session.identity.number row (with_standing row (Parked kept)) 1 0 is.has refl (λ e. ap is_living is.stands)
+    as_often old (map.insert old session.identity.number (with_holder row (Parked kept))) made made (λ n. cond (nat_eq session.identity.number n) 0 0) (λ n. once n session) zero_each zero_each (λ n. once n session) zero_each
+    (moves old made session.identity.number row (with_holder row (Parked kept)) 1 0 is.has refl (λ e. ap is_living is.stands)
     (λ law s e. ap (λ t. t.identity) (sym (one_session kept s e)) ∙ same ∙ (λ i. record { number = session.identity.number; client = sym is.its i }))
     (λ law s e. ap (λ t. t.window.retired) (sym (parked_session kept s e)) ∙ quiet)
     (let o = ap out_of is.stands in omega arith))
@@ -149,7 +149,7 @@ does_begin old made client connection session none room is =
 
 -- and of one whose parked session ends
 does_begin_over : {E P : Type 0} (old : Rows E P) (made k : ℕ) (client : List ℕ) (connection : ℕ) (row : Row E P) (session ended : Session E P) → HasRow old k row → row.client ≡ client
-    → row.standing ≡ Parked ended → map.len old < 256 → session ≡ new_session (record { number = made; client = client })
+    → row.held_by ≡ Parked ended → map.len old < 256 → session ≡ new_session (record { number = made; client = client })
     → Does old (map.insert (map.insert old k (away row.client)) made (new_row client connection)) made (made + 1) (λ n. once n session + once n ended) zero_each zero_each
 does_begin_over {E} {P} old made k client connection row session ended has its stands room is =
     let mid : Rows E P = map.insert old k (away row.client) in
@@ -197,7 +197,7 @@ does_client old new client request (Ok (New session (Some ended))) h =
     subst (λ b. Does old.rows b.rows old.made b.made (λ n. once n session + once n ended) zero_each zero_each) (sym h.after)
     (does_begin_over old.rows old.made h.number client request.connection h.row session ended h.its.has h.its.its h.its.stands h.is_new.room h.is_new.is)
 does_client old new client request (Ok (Resumed session)) h =
-    let after = with_standing h.row (Lent request.connection) in
+    let after = with_holder h.row (Lent request.connection) in
     subst (λ b. Does old.rows b.rows old.made b.made (λ n. once n session) zero_each zero_each) (sym h.after)
     (as_often old.rows (map.insert old.rows h.number after) old.made old.made (λ n. cond (nat_eq h.number n) 1 0) (λ n. cond (nat_eq h.number n) 0 0) zero_each (λ n. once n session) zero_each zero_each
     (moves old.rows old.made h.number h.row after 0 1 h.its.has refl (λ e. ap is_living h.its.stands) (λ law s e. absurd (none_some s e)) (λ law s e. absurd (let f = e in cc)) (let o = ap out_of h.its.stands in omega arith))
@@ -257,7 +257,7 @@ module _ {P : Type 0} (cell : P → ℕ) where
       let row = made.gone.row in
       let is = made.gone.is_row in
       let k = session.identity.number in
-      let after = with_standing row (Kept session) in
+      let after = with_holder row (Kept session) in
       subst (λ b. Does old.rows b.rows old.made b.made zero_each (λ n. once n session) zero_each) (sym made.after)
       (as_often old.rows (map.insert old.rows k after) old.made old.made (λ n. cond (nat_eq k n) 0 0) (λ n. once n session) zero_each zero_each (λ n. once n session) zero_each
       (moves old.rows old.made k row after 1 0 is.has refl (λ e. absurd (false_true e))

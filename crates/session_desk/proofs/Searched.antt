@@ -9,7 +9,7 @@ use Rattle.std.proofs.lemmas.Option.{slice_get_within}
 use Rattle.std.proofs.lemmas.Bool.{eqb-true, cases_eq}
 use Rattle.std.specs.FinMap as map
 use Rattle.session_desk.specs.declared.row.Row.{Row}
-use Rattle.session_desk.specs.declared.row.Standing.TheVariants.{Parked, Kept}
+use Rattle.session_desk.specs.declared.row.Holder.TheVariants.{Parked, Kept}
 use Rattle.session_desk.specs.declared.sweeping.Due.{Due}
 use Rattle.session_desk.specs.Rows.{Rows, HasRow, IsKept, IsOverdue, NoRow, IsOldest}
 use Rattle.session_desk.specs.Names.{HasName}

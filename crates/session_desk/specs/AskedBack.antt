@@ -36,7 +36,7 @@ abbrev pub NoneLends : {E P : Type 0} → ℕ → List (Call E P) → Type 0
 NoneLends connection [] = Unit {0}
 NoneLends connection (call ∷ calls) = ¬ LendsTo connection call × NoneLends connection calls
 
--- one of these calls asks it for its session, and none behind that lends it one
+-- one of these calls asks it for its session, and none after that lends it one
 abbrev pub IsAskedBack : {E P : Type 0} → ℕ → List (Call E P) → Type 0
 IsAskedBack connection [] = ⊥
 IsAskedBack connection (call ∷ calls) = (AsksBack connection call × NoneLends connection calls) ⊎ IsAskedBack connection calls

@@ -7,8 +7,8 @@ use Rattle.session_desk.specs.declared.error.DeskError.{DeskError}
 use Rattle.session_desk.specs.declared.error.DeskError.TheVariants as errors
 use Rattle.session_desk.specs.declared.session.Session.{Session}
 use Rattle.session_desk.specs.declared.row.Row.{Row}
-use Rattle.session_desk.specs.declared.row.Standing.{Standing}
-use Rattle.session_desk.specs.declared.row.Standing.TheVariants.{Lent, Parked}
+use Rattle.session_desk.specs.declared.row.Holder.{Holder}
+use Rattle.session_desk.specs.declared.row.Holder.TheVariants.{Lent, Parked}
 use Rattle.session_desk.specs.Sessions.{IsOver}
 use Rattle.session_desk.specs.Rows.{HasRow, NoneLivesAs}
 use Rattle.session_desk.specs.Names.{assigned_name, IsNextName, NoNameLeft}
@@ -26,10 +26,10 @@ abbrev pub asked : ℕ → List ℕ → Bool → ℕ → Request
 asked connection client clean now = record { connection = connection; client = client; clean = clean; now = now }
 
 -- the client's session, in this row
-pub record IsClients {E P : Type 0} (b : Books E P) (client : List ℕ) (number : ℕ) (row : Row E P) (standing : Standing E P) : Type 0 where
+pub record IsClients {E P : Type 0} (b : Books E P) (client : List ℕ) (number : ℕ) (row : Row E P) (held_by : Holder E P) : Type 0 where
   pub has : HasRow b.rows number row
   pub its : row.client ≡ client
-  pub stands : row.standing ≡ standing
+  pub stands : row.held_by ≡ held_by
 
 -- a new session is wanted in the place of a parked one: Clean Start is 1, or the parked one's time is over
 abbrev pub IsStale : {E P : Type 0} → Session E P → Bool → ℕ → Type 0

@@ -5,9 +5,9 @@ use Rattle.member_window.specs.Contents.{new_contents}
 use Rattle.session_desk.specs.declared.session.Session.{Session}
 use Rattle.session_desk.specs.declared.session.Membership.TheVariants.{NotMember}
 use Rattle.session_desk.specs.declared.row.Row.{Row}
-use Rattle.session_desk.specs.declared.row.Standing.TheVariants.{Lent, Parked, Kept}
+use Rattle.session_desk.specs.declared.row.Holder.TheVariants.{Lent, Parked, Kept}
 use Rattle.session_desk.specs.Sessions.{Who}
-use Rattle.session_desk.specs.Rows.{Rows, with_standing, with_wait, away, new_row}
+use Rattle.session_desk.specs.Rows.{Rows, with_holder, with_wait, away, new_row}
 
 -- what a desk knows
 pub record Books (E P : Type 0) : Type 0 where
@@ -61,7 +61,7 @@ after_name b number = record { rows = b.rows; made = b.made; assigned = number; 
 
 -- the session in this row is lent to this connection
 abbrev pub after_lend : {E P : Type 0} → Books E P → ℕ → Row E P → ℕ → Books E P
-after_lend b number row connection = entered (with_rows b (map.insert b.rows number (with_standing row (Lent connection)))) connection
+after_lend b number row connection = entered (with_rows b (map.insert b.rows number (with_holder row (Lent connection)))) connection
 
 -- this connection waits for the session, and its holder is kicked
 abbrev pub after_replace : {E P : Type 0} → Books E P → ℕ → Row E P → ℕ → ℕ → Books E P
@@ -82,7 +82,7 @@ after_withdraw b connection =
 
 -- the session in this row is parked
 abbrev pub after_park : {E P : Type 0} → Books E P → ℕ → Row E P → Session E P → Books E P
-after_park b number row session = with_rows b (map.insert b.rows number (with_standing row (Parked session)))
+after_park b number row session = with_rows b (map.insert b.rows number (with_holder row (Parked session)))
 
 -- the session in this row is ending, and in the caller's hands
 abbrev pub after_end : {E P : Type 0} → Books E P → ℕ → Row E P → Books E P
@@ -90,7 +90,7 @@ after_end b number row = with_rows b (map.insert b.rows number (away row.client)
 
 -- the session in this row is ending, and kept
 abbrev pub after_keep : {E P : Type 0} → Books E P → ℕ → Row E P → Session E P → Books E P
-after_keep b number row session = with_rows b (map.insert b.rows number (with_standing row (Kept session)))
+after_keep b number row session = with_rows b (map.insert b.rows number (with_holder row (Kept session)))
 
 -- the session with this number is buried, and these places are free
 abbrev pub after_bury : {E P : Type 0} → Books E P → ℕ → List (Option P) → Books E P

@@ -30,12 +30,12 @@ free_in (Some place) = place ∷ []
 
 -- by any measure as much as is in the sessions that the desk keeps: so these are their items, in some order
 abbrev pub AreItems : {E P : Type 0} → List (ℕ × Row E P) → List E → Type 0
-AreItems {E} entries items = (measure : E → ℕ) → sum_by measure items ≡ sum_by (λ entry. sum_by measure (items_of (session_in entry.1.standing))) entries
+AreItems {E} entries items = (measure : E → ℕ) → sum_by measure items ≡ sum_by (λ entry. sum_by measure (items_of (session_in entry.1.held_by))) entries
 
 -- and as much as the places of these sessions and the free ones: so these are those places, in some order
 abbrev pub ArePlaces : {E P : Type 0} → List (ℕ × Row E P) → List (Option P) → List P → Type 0
 ArePlaces {E} {P} entries free places =
-    (measure : P → ℕ) → sum_by measure places ≡ sum_by (λ entry. sum_by measure (place_of (session_in entry.1.standing))) entries + sum_by (λ cell. sum_by measure (free_in cell)) free
+    (measure : P → ℕ) → sum_by measure places ≡ sum_by (λ entry. sum_by measure (place_of (session_in entry.1.held_by))) entries + sum_by (λ cell. sum_by measure (free_in cell)) free
 
 -- everything that the desk has
 pub record HasAll {E P : Type 0} (b : Books E P) (all_places : List P) (all_items : List E) : Type 0 where

@@ -21,7 +21,7 @@ IfMember Fits (Leaving place) = Fits place
 module _ {E P : Type 0} (Holds : Session E P → Type 0) (Fits : P → Type 0) where
   -- all sessions that the desk keeps have theirs, and all free places
   pub record IsEverywhere (b : Books E P) : Type 0 where
-    pub sessions : (number : ℕ) (row : Row E P) (session : Session E P) → HasRow b.rows number row → session_in row.standing ≡ Some session → Holds session
+    pub sessions : (number : ℕ) (row : Row E P) (session : Session E P) → HasRow b.rows number row → session_in row.held_by ≡ Some session → Holds session
     pub places : (cell : ℕ) (place : P) → IsFreeAt b.free cell place → Fits place
 
   -- what a call hands in has it

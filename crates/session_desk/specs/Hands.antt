@@ -6,8 +6,8 @@ use Rattle.session_desk.specs.declared.attached.Attached.TheVariants.{New, Resum
 use Rattle.session_desk.specs.declared.error.DeskError.{DeskError}
 use Rattle.session_desk.specs.declared.session.Session.{Session}
 use Rattle.session_desk.specs.declared.row.Row.{Row}
-use Rattle.session_desk.specs.declared.row.Standing.{Standing}
-use Rattle.session_desk.specs.declared.row.Standing.TheVariants.{Lent, Parked, Kept, Away}
+use Rattle.session_desk.specs.declared.row.Holder.{Holder}
+use Rattle.session_desk.specs.declared.row.Holder.TheVariants.{Lent, Parked, Kept, Away}
 use Rattle.session_desk.specs.Rows.{Rows, HasRow, is_living, session_in}
 use Rattle.session_desk.specs.Calls.{Call, Attach, Withdraw, Kicked, Park, ParkAsIs, Keep, Bury, Sweep, LendPlace, TakePlace}
 
@@ -72,7 +72,7 @@ total count [] = 0
 total count (call ∷ calls) = count call + total count calls
 
 -- a session that is lent, or ending and not with the desk, is in a caller's hands
-abbrev pub is_out : {E P : Type 0} → Standing E P → Bool
+abbrev pub is_out : {E P : Type 0} → Holder E P → Bool
 is_out (Lent connection) = true
 is_out (Parked session) = false
 is_out (Kept session) = false
@@ -80,7 +80,7 @@ is_out Away = true
 
 -- once where the row of the session with this number says so
 abbrev pub out_of_row : {E P : Type 0} → Option (Row E P) → ℕ
-out_of_row (Some row) = if is_out row.standing then 1 else 0
+out_of_row (Some row) = if is_out row.held_by then 1 else 0
 out_of_row None = 0
 
 abbrev pub row_count : {E P : Type 0} → Option (Row E P) → ℕ
@@ -101,10 +101,10 @@ pub record DeskLaw {E P : Type 0} (rows : Rows E P) (made : ℕ) : Type 0 where
   -- each of a session that was new
   pub made_before : (number : ℕ) (row : Row E P) → HasRow rows number row → number < made
   -- no two rows that are lent or parked are of one client
-  pub one_each : (number other : ℕ) (row their : Row E P) → HasRow rows number row → HasRow rows other their → is_living row.standing ≡ true → is_living their.standing ≡ true
+  pub one_each : (number other : ℕ) (row their : Row E P) → HasRow rows number row → HasRow rows other their → is_living row.held_by ≡ true → is_living their.held_by ≡ true
       → row.client ≡ their.client → number ≡ other
   -- the session that a row keeps is the row's
-  pub own : (number : ℕ) (row : Row E P) (session : Session E P) → HasRow rows number row → session_in row.standing ≡ Some session
+  pub own : (number : ℕ) (row : Row E P) (session : Session E P) → HasRow rows number row → session_in row.held_by ≡ Some session
       → session.identity ≡ record { number = number; client = row.client }
   -- no parked session's window is of an ending one
-  pub not_ending : (number : ℕ) (row : Row E P) (session : Session E P) → HasRow rows number row → row.standing ≡ Parked session → session.window.retired ≡ false
+  pub not_ending : (number : ℕ) (row : Row E P) (session : Session E P) → HasRow rows number row → row.held_by ≡ Parked session → session.window.retired ≡ false

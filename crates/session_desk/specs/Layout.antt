@@ -17,8 +17,8 @@ number_at living client = lookup (pointwise nat_eq client) living
 -- what holds of the rows, of the numbers by identifier, of how many sessions were new, and of the moment before which nothing is due
 pub record AreKept {E P : Type 0} (rows : Rows E P) (at : List ℕ → Option ℕ) (made soonest : ℕ) : Type 0 where
   pub found : (client : List ℕ) (number : ℕ) → at client ≡ Some number → (row : Row E P) × HasRow rows number row × LivesAs client row
-  pub listed : (number : ℕ) (row : Row E P) → HasRow rows number row → is_living row.standing ≡ true → at row.client ≡ Some number
-  pub own : (number : ℕ) (row : Row E P) (session : Session E P) → HasRow rows number row → session_in row.standing ≡ Some session → session.identity ≡ record { number = number; client = row.client }
+  pub listed : (number : ℕ) (row : Row E P) → HasRow rows number row → is_living row.held_by ≡ true → at row.client ≡ Some number
+  pub own : (number : ℕ) (row : Row E P) (session : Session E P) → HasRow rows number row → session_in row.held_by ≡ Some session → session.identity ≡ record { number = number; client = row.client }
   pub made_before : (number : ℕ) (row : Row E P) → HasRow rows number row → number < made
   pub kept_due : (number : ℕ) (row : Row E P) → HasRow rows number row → IsKept row → soonest ≡ 0
   pub due : (number now : ℕ) (row : Row E P) → HasRow rows number row → IsOverdue now row → soonest ≤ now

@@ -5,8 +5,8 @@ use Rattle.std.specs.FinMap as map
 use Rattle.session_desk.specs.Sessions.{Who, IsOver}
 use Rattle.session_desk.specs.declared.session.Session.{Session}
 use Rattle.session_desk.specs.declared.row.Row.{Row}
-use Rattle.session_desk.specs.declared.row.Standing.{Standing}
-use Rattle.session_desk.specs.declared.row.Standing.TheVariants.{Lent, Parked, Kept, Away}
+use Rattle.session_desk.specs.declared.row.Holder.{Holder}
+use Rattle.session_desk.specs.declared.row.Holder.TheVariants.{Lent, Parked, Kept, Away}
 
 -- the rows by the numbers of their sessions: one of each session that was new and is not buried
 abbrev pub Rows : Type 0 → Type 0 → Type 0
@@ -17,7 +17,7 @@ abbrev pub HasRow : {E P : Type 0} → Rows E P → ℕ → Row E P → Type 0
 HasRow rows number row = map.get rows number ≡ Some row
 
 -- lent or parked: its client has the session, or may have it back
-abbrev pub is_living : {E P : Type 0} → Standing E P → Bool
+abbrev pub is_living : {E P : Type 0} → Holder E P → Bool
 is_living (Lent connection) = true
 is_living (Parked session) = true
 is_living (Kept session) = false
@@ -26,30 +26,30 @@ is_living Away = false
 -- the row of this client's session, which is lent or parked
 pub record LivesAs {E P : Type 0} (client : List ℕ) (row : Row E P) : Type 0 where
   pub its : row.client ≡ client
-  pub living : is_living row.standing ≡ true
+  pub living : is_living row.held_by ≡ true
 
 -- no session of this client is lent or parked
 abbrev pub NoneLivesAs : {E P : Type 0} → Rows E P → List ℕ → Type 0
 NoneLivesAs {E} {P} rows client = (number : ℕ) (row : Row E P) → HasRow rows number row → ¬ LivesAs client row
 
 -- the same row, in these hands
-abbrev pub with_standing : {E P : Type 0} → Row E P → Standing E P → Row E P
-with_standing row standing = record { client = row.client; wait = row.wait; standing = standing }
+abbrev pub with_holder : {E P : Type 0} → Row E P → Holder E P → Row E P
+with_holder row held_by = record { client = row.client; wait = row.wait; held_by = held_by }
 
 -- the same row, and this connection waits for it
 abbrev pub with_wait : {E P : Type 0} → Row E P → ℕ → Row E P
-with_wait row connection = record { client = row.client; wait = Some connection; standing = row.standing }
+with_wait row connection = record { client = row.client; wait = Some connection; held_by = row.held_by }
 
 -- the row of a session that is ending and in a caller's hands
 abbrev pub away : {E P : Type 0} → List ℕ → Row E P
-away client = record { client = client; wait = None; standing = Away }
+away client = record { client = client; wait = None; held_by = Away }
 
 -- the row of a new session
 abbrev pub new_row : {E P : Type 0} → List ℕ → ℕ → Row E P
-new_row client connection = record { client = client; wait = None; standing = Lent connection }
+new_row client connection = record { client = client; wait = None; held_by = Lent connection }
 
 -- the session that the desk keeps in this row, if it keeps one
-abbrev pub session_in : {E P : Type 0} → Standing E P → Option (Session E P)
+abbrev pub session_in : {E P : Type 0} → Holder E P → Option (Session E P)
 session_in (Lent connection) = None
 session_in (Parked session) = Some session
 session_in (Kept session) = Some session
@@ -57,11 +57,11 @@ session_in Away = None
 
 -- its session is ending and the desk keeps it
 abbrev pub IsKept : {E P : Type 0} → Row E P → Type 0
-IsKept {E} {P} row = (session : Session E P) × (row.standing ≡ Kept session)
+IsKept {E} {P} row = (session : Session E P) × (row.held_by ≡ Kept session)
 
 -- its session is parked and its time is over
 abbrev pub IsOverdue : {E P : Type 0} → ℕ → Row E P → Type 0
-IsOverdue {E} {P} now row = (session : Session E P) × (row.standing ≡ Parked session) × IsOver session.expiry now
+IsOverdue {E} {P} now row = (session : Session E P) × (row.held_by ≡ Parked session) × IsOver session.expiry now
 
 -- the rows, and how many sessions were ever new, which is the number of the next one
 pub record Register (E P : Type 0) : Type 0 where
@@ -92,10 +92,10 @@ pub record IsOldest {E P : Type 0} (rows : Rows E P) (IsSo : Row E P → Type 0)
   pub least : (other : ℕ) (their : Row E P) → HasRow rows other their → IsSo their → number ≤ other
 
 -- the row of this session
-pub record IsRowOf {E P : Type 0} (rows : Rows E P) (session : Session E P) (row : Row E P) (standing : Standing E P) : Type 0 where
+pub record IsRowOf {E P : Type 0} (rows : Rows E P) (session : Session E P) (row : Row E P) (held_by : Holder E P) : Type 0 where
   pub has : HasRow rows session.identity.number row
   pub its : row.client ≡ session.identity.client
-  pub stands : row.standing ≡ standing
+  pub stands : row.held_by ≡ held_by
 
 -- no row is this session's
 abbrev pub NoRowOf : {E P : Type 0} → Rows E P → Session E P → Type 0

@@ -3,17 +3,17 @@ use Rattle.std.specs.Prelude.{◌≡◌, ◌⊎◌, ℕ, Option, Some, None}
 use Rattle.std.specs.FinMap as map
 use Rattle.session_desk.specs.declared.session.Session.{Session}
 use Rattle.session_desk.specs.declared.row.Row.{Row}
-use Rattle.session_desk.specs.declared.row.Standing.{Standing}
-use Rattle.session_desk.specs.declared.row.Standing.TheVariants.{Parked, Kept}
+use Rattle.session_desk.specs.declared.row.Holder.{Holder}
+use Rattle.session_desk.specs.declared.row.Holder.TheVariants.{Parked, Kept}
 use Rattle.session_desk.specs.declared.sweeping.Due.{Due}
 use Rattle.session_desk.specs.declared.sweeping.Due.TheVariants as due
 use Rattle.session_desk.specs.Rows.{Rows, IsKept, IsOverdue, NoRow, IsOldest, away}
 
 -- the oldest row that is so has this session in these hands, and from now on it is in the caller's, to be retired
-pub record HandsOut {E P : Type 0} (old : Rows E P) (IsSo : Row E P → Type 0) (hands : Standing E P) (new : Rows E P) : Type 0 where
+pub record HandsOut {E P : Type 0} (old : Rows E P) (IsSo : Row E P → Type 0) (hands : Holder E P) (new : Rows E P) : Type 0 where
   pub number : ℕ
   pub oldest : IsOldest old IsSo number
-  pub stood : oldest.row.standing ≡ hands
+  pub stood : oldest.row.held_by ≡ hands
   pub after : new ≡ map.insert old number (away oldest.row.client)
 
 abbrev pub Sweeps : {E P : Type 0} → Rows E P → ℕ → Option (Session E P) → Rows E P → Type 0

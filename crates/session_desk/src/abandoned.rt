@@ -2,18 +2,18 @@
 ghost use Rattle.std.specs.Prelude.{◌≡◌, []};
 ghost use Rattle.member_window.specs.Contents.{held_of};
 
-use crate::row::{Row, Standing};
+use crate::row::{Holder, Row};
 use crate::session::Session;
 use indexmap::IndexMap;
 use member_window::Window;
 
 /// Gives everything in a window to who lets go of it, and ends the window.
-fn abandon_window<E, F: Fn(E)>(mut window: Window<E>, let_go: &F)
-    requires { F.IsAlwaysCallable let_go.now }
+fn abandon_window<E, F: Fn(E)>(mut window: Window<E>, discard: &F)
+    requires { F.IsAlwaysCallable discard.now }
 {
     window.down();
     'held: while let Some((_, item)) = window.take_first() {
-        let_go(item);
+        discard(item);
     }
     window.end();
 }
@@ -38,8 +38,8 @@ impl<E, P: Drop> Session<E, P> {
 impl<E, P: Drop> Session<E, P> {
     /// Lets go of a session, and gives everything in it to who lets go of that. Its desk is told nothing, and its row stays as it
     /// is: for who ends, and has no use for what the session holds.
-    pub fn abandon_with<F: Fn(E)>(self, let_go: &F)
-        requires { F.IsAlwaysCallable let_go.now }
+    pub fn abandon_with<F: Fn(E)>(self, discard: &F)
+        requires { F.IsAlwaysCallable discard.now }
     {
         let Session {
             identity,
@@ -48,7 +48,7 @@ impl<E, P: Drop> Session<E, P> {
             membership: _,
         } = self;
         identity.end();
-        abandon_window(window, let_go);
+        abandon_window(window, discard);
     }
 }
 
@@ -60,28 +60,28 @@ impl<E: Drop, P: Drop> Session<E, P> {
 }
 
 /// Lets go of everything in a row.
-fn abandon_row<E, P: Drop, F: Fn(E)>(row: Row<E, P>, let_go: &F)
-    requires { F.IsAlwaysCallable let_go.now }
+fn abandon_row<E, P: Drop, F: Fn(E)>(row: Row<E, P>, discard: &F)
+    requires { F.IsAlwaysCallable discard.now }
 {
     let Row {
         client: _,
         wait: _,
-        standing,
+        held_by,
     } = row;
-    match standing {
-        Standing::Lent(_) => {}
-        Standing::Away => {}
-        Standing::Parked(session) => session.abandon_with(let_go),
-        Standing::Kept(session) => session.abandon_with(let_go),
+    match held_by {
+        Holder::Lent(_) => {}
+        Holder::Away => {}
+        Holder::Parked(session) => session.abandon_with(discard),
+        Holder::Kept(session) => session.abandon_with(discard),
     }
 }
 
 /// Lets go of everything in the rows, and ends them.
-pub(crate) fn abandon_rows<E, P: Drop, F: Fn(E)>(mut rows: IndexMap<u64, Row<E, P>>, let_go: &F)
-    requires { F.IsAlwaysCallable let_go.now }
+pub(crate) fn abandon_rows<E, P: Drop, F: Fn(E)>(mut rows: IndexMap<u64, Row<E, P>>, discard: &F)
+    requires { F.IsAlwaysCallable discard.now }
 {
     'rows: while let Some((_, row)) = rows.pop() {
-        abandon_row(row, let_go);
+        abandon_row(row, discard);
     }
     rows.destroy_empty();
 }

@@ -76,13 +76,13 @@ impl<E, P: Place> Desk<E, P> {
             return Err(DeskError::Memory);
         };
         match Table::new(alloc) {
-            Ok(table) => Desk::furnish(alloc, table, waits, kicked),
+            Ok(table) => Desk::add_places(alloc, table, waits, kicked),
             Err(_) => Err(DeskError::Memory),
         }
     }
 
     /// A desk of these, with cells for free places.
-    fn furnish(
+    fn add_places(
         alloc: Global,
         table: Table<E, P>,
         waits: Vec<Option<u64>>,
@@ -190,7 +190,7 @@ impl<E, P: Place> Desk<E, P> {
         self.table.soonest()
     }
 
-    /// Ends the desk: all places and all items that it has. A want of memory hands the desk back.
+    /// Ends the desk: all places and all items that it has. A lack of memory hands the desk back.
     pub fn into_all(self) -> Result<All<E, P>, Desk<E, P>>
         ensures { MatchResult result (λ all. HasAll self all.places.items all.envelopes.items) (λ back. back ≡ self) }
     {
@@ -275,8 +275,8 @@ impl<E, P: Place> Desk<E, P> {
 impl<E, P: Place + Drop> Desk<E, P> {
     /// Ends the desk: lets go of all places, and gives each item that it has to who lets go of that. It takes no memory: for who
     /// finds none for [`Desk::into_all`].
-    pub fn abandon_with<F: Fn(E)>(self, let_go: &F)
-        requires { F.IsAlwaysCallable let_go.now }
+    pub fn abandon_with<F: Fn(E)>(self, discard: &F)
+        requires { F.IsAlwaysCallable discard.now }
     {
         let Desk {
             table,
@@ -286,7 +286,7 @@ impl<E, P: Place + Drop> Desk<E, P> {
             assigned: _,
             alloc: _,
         } = self;
-        table.abandon(let_go);
+        table.abandon(discard);
         free.abandon();
     }
 }

@@ -4,7 +4,7 @@ ghost use Rattle.member_window.specs.Contents.{held_of};
 ghost use Rattle.session_desk.specs.Rows.{session_in};
 ghost use Rattle.session_desk.specs.Everything.{items_of, place_in, place_of, free_in};
 
-use crate::row::{Row, Standing};
+use crate::row::{Holder, Row};
 use crate::session::{Membership, Session};
 use indexmap::IndexMap;
 use member_window::Window;
@@ -71,8 +71,8 @@ fn drain_session<E, P>(session: Session<E, P>, places: &mut Vec<P>, envelopes: &
 fn drain_row<E, P>(row: Row<E, P>, places: &mut Vec<P>, envelopes: &mut Vec<E>)
     requires places { length places.old.items + 1 ≤ vec_capacity places.old }
     requires envelopes { length envelopes.old.items + 256 ≤ vec_capacity envelopes.old }
-    ensures places { places.new.items ≡ places.old.items ++ place_of (session_in row.standing) }
-    ensures envelopes { envelopes.new.items ≡ envelopes.old.items ++ items_of (session_in row.standing) }
+    ensures places { places.new.items ≡ places.old.items ++ place_of (session_in row.held_by) }
+    ensures envelopes { envelopes.new.items ≡ envelopes.old.items ++ items_of (session_in row.held_by) }
     ensures places_room { vec_capacity places.new ≡ vec_capacity places.old }
     ensures envelopes_room { vec_capacity envelopes.new ≡ vec_capacity envelopes.old }
     ensures few_places { length places.new.items ≤ length places.old.items + 1 }
@@ -81,13 +81,13 @@ fn drain_row<E, P>(row: Row<E, P>, places: &mut Vec<P>, envelopes: &mut Vec<E>)
     let Row {
         client: _,
         wait: _,
-        standing,
+        held_by,
     } = row;
-    match standing {
-        Standing::Lent(_) => {}
-        Standing::Away => {}
-        Standing::Parked(session) => drain_session(session, places, envelopes),
-        Standing::Kept(session) => drain_session(session, places, envelopes),
+    match held_by {
+        Holder::Lent(_) => {}
+        Holder::Away => {}
+        Holder::Parked(session) => drain_session(session, places, envelopes),
+        Holder::Kept(session) => drain_session(session, places, envelopes),
     }
 }
 
@@ -101,10 +101,10 @@ pub(crate) fn drain_rows<E, P>(
     requires envelopes { length envelopes.old.items + 256 * length rows.entries ≤ vec_capacity envelopes.old }
     ensures places { (measure : P → ℕ) → sum_by measure places.new.items
         ≡ sum_by measure places.old.items
-        + sum_by (λ entry. sum_by measure (place_of (session_in entry.1.standing))) rows.entries }
+        + sum_by (λ entry. sum_by measure (place_of (session_in entry.1.held_by))) rows.entries }
     ensures envelopes { (measure : E → ℕ) → sum_by measure envelopes.new.items
         ≡ sum_by measure envelopes.old.items
-        + sum_by (λ entry. sum_by measure (items_of (session_in entry.1.standing))) rows.entries }
+        + sum_by (λ entry. sum_by measure (items_of (session_in entry.1.held_by))) rows.entries }
     ensures places_room { vec_capacity places.new ≡ vec_capacity places.old }
     ensures few_places { length places.new.items ≤ length places.old.items + length rows.entries }
 {

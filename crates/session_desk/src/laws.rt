@@ -53,7 +53,7 @@ pub fn very_session<E, P>()
 {}
 
 /// **A connection is kicked exactly where it was asked for a session since one was lent to it**: whatever calls were made of a
-/// new desk, one of them answered Replace with this connection as the holder, and none behind that lent a session to it.
+/// new desk, one of them answered Replace with this connection as the holder, and none after that lent a session to it.
 pub fn kicked_exactly<E, P>()
     ensures { (cell : P → ℕ) (calls : List (Call E P)) (b : Books E P) (connection : ℕ) →
         connection < 1024 → MakesAll cell new_books calls b → IsKicked b connection ↔ IsAskedBack connection calls }

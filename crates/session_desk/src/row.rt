@@ -11,11 +11,11 @@ pub(crate) struct Row<E, P> {
     pub(crate) client: Bytes,
     // The connection that may wait for it.
     pub(crate) wait: Option<u16>,
-    pub(crate) standing: Standing<E, P>,
+    pub(crate) held_by: Holder<E, P>,
 }
 
 /// In whose hands a session is.
-pub(crate) enum Standing<E, P> {
+pub(crate) enum Holder<E, P> {
     /// In those of this connection.
     Lent(u16),
     /// In the desk's, until its client comes back or its time is over.
@@ -36,82 +36,82 @@ impl<E, P> Row<E, P> {
         Row {
             client,
             wait: None,
-            standing: Standing::Lent(connection),
+            held_by: Holder::Lent(connection),
         }
     }
 
     /// Puts the session into a caller's hands: it is ending, and nobody waits for it.
-    pub(crate) fn dismiss(&mut self) -> Standing<E, P>
-        ensures before { result ≡ self.old.standing }
+    pub(crate) fn dismiss(&mut self) -> Holder<E, P>
+        ensures before { result ≡ self.old.held_by }
         ensures after { self.new ≡ away self.old.client }
     {
         self.wait = None;
-        mem::replace(&mut self.standing, Standing::Away)
+        mem::replace(&mut self.held_by, Holder::Away)
     }
 
     /// Ends the row of a session that is in a caller's hands, and is buried.
     pub(crate) fn end(self)
-        requires { self.standing ≡ Standing.Away }
+        requires { self.held_by ≡ Holder.Away }
     {
         let Row {
             client: _,
             wait: _,
-            standing,
+            held_by,
         } = self;
-        standing.end_away();
+        held_by.end_away();
     }
 }
 
-impl<E, P> Standing<E, P> {
+impl<E, P> Holder<E, P> {
     ghost use Rattle.session_desk.specs.declared.session.Session.{Session};
 
     /// The session, which was parked.
     pub(crate) fn into_parked(self) -> Session<E, P>
-        requires { (session : Session E P) × (self ≡ Standing.Parked session) }
-        ensures { self ≡ Standing.Parked result }
+        requires { (session : Session E P) × (self ≡ Holder.Parked session) }
+        ensures { self ≡ Holder.Parked result }
     {
         match self {
-            Standing::Parked(session) => session,
-            Standing::Lent(_) => unreachable!(),
-            Standing::Kept(_session) => unreachable!(),
-            Standing::Away => unreachable!(),
+            Holder::Parked(session) => session,
+            Holder::Lent(_) => unreachable!(),
+            Holder::Kept(_session) => unreachable!(),
+            Holder::Away => unreachable!(),
         }
     }
 
     /// The session, which was kept to be retired.
     pub(crate) fn into_kept(self) -> Session<E, P>
-        requires { (session : Session E P) × (self ≡ Standing.Kept session) }
-        ensures { self ≡ Standing.Kept result }
+        requires { (session : Session E P) × (self ≡ Holder.Kept session) }
+        ensures { self ≡ Holder.Kept result }
     {
         match self {
-            Standing::Kept(session) => session,
-            Standing::Lent(_) => unreachable!(),
-            Standing::Parked(_session) => unreachable!(),
-            Standing::Away => unreachable!(),
+            Holder::Kept(session) => session,
+            Holder::Lent(_) => unreachable!(),
+            Holder::Parked(_session) => unreachable!(),
+            Holder::Away => unreachable!(),
         }
     }
 
     /// Nothing: the session was lent.
     pub(crate) fn end_lent(self)
-        requires { (connection : ℕ) × (self ≡ Standing.Lent connection) }
+        requires { (connection : ℕ) × (self ≡ Holder.Lent connection) }
     {
         match self {
-            Standing::Lent(_) => {}
-            Standing::Parked(_session) => unreachable!(),
-            Standing::Kept(_session) => unreachable!(),
-            Standing::Away => unreachable!(),
+            Holder::Lent(_) => {}
+            Holder::Parked(_session) => unreachable!(),
+            Holder::Kept(_session) => unreachable!(),
+            Holder::Away => unreachable!(),
         }
     }
 
     /// Nothing: the session was in a caller's hands.
     pub(crate) fn end_away(self)
-        requires { self ≡ Standing.Away }
+        requires { self ≡ Holder.Away }
     {
         match self {
-            Standing::Away => {}
-            Standing::Lent(_) => unreachable!(),
-            Standing::Parked(_session) => unreachable!(),
-            Standing::Kept(_session) => unreachable!(),
+            Holder::Away => {}
+            Holder::Lent(_) => unreachable!(),
+            Holder::Parked(_session) => unreachable!(),
+            Holder::Kept(_session) => unreachable!(),
         }
     }
 }

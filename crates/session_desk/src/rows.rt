@@ -3,10 +3,10 @@ ghost use Rattle.std.specs.Prelude.{◌≡◌, ℕ, ◌<◌, ◌≤◌, cond, Li
 ghost use Rattle.std.specs.FinMap as map;
 ghost use Rattle.std.specs.Cmp.Lexicographic.{pointwise};
 ghost use Rattle.indexmap.specs.IndexMap.{spare};
-ghost use Rattle.session_desk.specs.Rows.{HasRow, with_standing, with_wait, away};
+ghost use Rattle.session_desk.specs.Rows.{HasRow, with_holder, with_wait, away};
 ghost use Rattle.session_desk.specs.Layout.{seen, number_at};
 
-use crate::row::{Row, Standing};
+use crate::row::{Holder, Row};
 use bytes::Bytes;
 use indexmap::IndexMap;
 use std::alloc::AllocError;
@@ -53,15 +53,15 @@ pub(crate) fn prepare<E, P>(
 pub(crate) fn exchange<E, P>(
     rows: &mut IndexMap<u64, Row<E, P>>,
     number: u64,
-    standing: Standing<E, P>,
-) -> Standing<E, P>
+    held_by: Holder<E, P>,
+) -> Holder<E, P>
     requires { (row : Row E P) × HasRow (seen rows.old.entries) number row }
     ensures { (row : Row E P) → HasRow (seen rows.old.entries) number row →
-        (result ≡ row.standing)
-        × (seen rows.new.entries ≡ map.insert (seen rows.old.entries) number (with_standing row standing)) }
+        (result ≡ row.held_by)
+        × (seen rows.new.entries ≡ map.insert (seen rows.old.entries) number (with_holder row held_by)) }
 {
     match rows.get_mut(&number) {
-        Some(row) => mem::replace(&mut row.standing, standing),
+        Some(row) => mem::replace(&mut row.held_by, held_by),
         None => unreachable!(),
     }
 }
@@ -79,11 +79,11 @@ pub(crate) fn claim<E, P>(rows: &mut IndexMap<u64, Row<E, P>>, number: u64, conn
 }
 
 /// Puts a session that is ending into a caller's hands. Nobody waits for it.
-pub(crate) fn dismiss<E, P>(rows: &mut IndexMap<u64, Row<E, P>>, number: u64) -> Standing<E, P>
+pub(crate) fn dismiss<E, P>(rows: &mut IndexMap<u64, Row<E, P>>, number: u64) -> Holder<E, P>
     requires { (row : Row E P) × HasRow (seen rows.old.entries) number row }
     ensures room { spare rows.new ≡ spare rows.old }
     ensures rows { (row : Row E P) → HasRow (seen rows.old.entries) number row →
-        (result ≡ row.standing)
+        (result ≡ row.held_by)
         × (seen rows.new.entries ≡ map.insert (seen rows.old.entries) number (away row.client)) }
 {
     match rows.get_mut(&number) {
@@ -107,7 +107,7 @@ pub(crate) fn add<E, P>(rows: &mut IndexMap<u64, Row<E, P>>, number: u64, row: R
 
 /// Takes the row of a buried session away.
 pub(crate) fn remove<E, P>(rows: &mut IndexMap<u64, Row<E, P>>, number: u64)
-    requires { (row : Row E P) × HasRow (seen rows.old.entries) number row × (row.standing ≡ Standing.Away) }
+    requires { (row : Row E P) × HasRow (seen rows.old.entries) number row × (row.held_by ≡ Holder.Away) }
     ensures { seen rows.new.entries ≡ map.remove (seen rows.old.entries) number }
 {
     match rows.swap_remove(&number) {
@@ -141,10 +141,10 @@ pub(crate) fn dismiss_living<E, P>(
     rows: &mut IndexMap<u64, Row<E, P>>,
     living: &mut IndexMap<Bytes, u64>,
     number: u64,
-) -> Standing<E, P>
+) -> Holder<E, P>
     requires { (row : Row E P) × HasRow (seen rows.old.entries) number row }
     ensures rows { (row : Row E P) → HasRow (seen rows.old.entries) number row →
-        (result ≡ row.standing)
+        (result ≡ row.held_by)
         × (seen rows.new.entries ≡ map.insert (seen rows.old.entries) number (away row.client)) }
     ensures living { (row : Row E P) → HasRow (seen rows.old.entries) number row →
         (other : List ℕ) → number_at living.new.entries other

@@ -3,7 +3,7 @@ ghost use Rattle.std.specs.Prelude.{◌≡◌, true};
 ghost use Rattle.session_desk.specs.Rows.{is_living};
 ghost use Rattle.session_desk.specs.Opening.{LooksAs};
 
-use crate::row::{Row, Standing};
+use crate::row::{Holder, Row};
 
 /// What a look finds.
 #[derive(Clone, Copy)]
@@ -19,15 +19,15 @@ pub(crate) enum Sight {
 /// A look at the row of a session that is lent or parked, by a connection that asks for it with this Clean Start, at this
 /// moment.
 pub(crate) fn look<E, P>(row: &Row<E, P>, clean: bool, now: u64) -> Sight
-    requires { is_living row.now.standing ≡ true }
+    requires { is_living row.now.held_by ≡ true }
     ensures { LooksAs row.now clean now result }
 {
-    match &row.standing {
-        Standing::Lent(holder) => Sight::Lent {
+    match &row.held_by {
+        Holder::Lent(holder) => Sight::Lent {
             holder: *holder,
             wait: row.wait,
         },
-        Standing::Parked(session) => {
+        Holder::Parked(session) => {
             if clean || session.expiry.is_over(now) {
                 Sight::Stale
             } else {

@@ -5,7 +5,7 @@ ghost use Rattle.session_desk.specs.Rows.{HasRow, IsOverdue, IsOldest, NoRow};
 ghost use Rattle.session_desk.specs.Sweeping.{Fits};
 ghost use Rattle.session_desk.specs.Layout.{seen};
 
-use crate::row::{Row, Standing};
+use crate::row::{Holder, Row};
 use indexmap::IndexMap;
 
 /// What is looked for.
@@ -21,9 +21,9 @@ pub(crate) enum Due {
 fn fits<E, P>(row: &Row<E, P>, due: Due) -> bool
     ensures { IsTrue result ↔ Fits due row.now }
 {
-    match (&row.standing, due) {
-        (Standing::Kept(_), Due::Kept) => true,
-        (Standing::Parked(session), Due::Over(now)) => session.expiry.is_over(now),
+    match (&row.held_by, due) {
+        (Holder::Kept(_), Due::Kept) => true,
+        (Holder::Parked(session), Due::Over(now)) => session.expiry.is_over(now),
         _ => false,
     }
 }
@@ -32,8 +32,8 @@ fn fits<E, P>(row: &Row<E, P>, due: Due) -> bool
 fn due_from<E, P>(row: &Row<E, P>) -> u64
     ensures { (now : ℕ) → IsOverdue now row.now → result ≤ now }
 {
-    match &row.standing {
-        Standing::Parked(session) => session.expiry.over_from(),
+    match &row.held_by {
+        Holder::Parked(session) => session.expiry.over_from(),
         _ => u64::MAX,
     }
 }

@@ -9,7 +9,7 @@ ghost use Rattle.indexmap.specs.IndexMap.{get};
 use crate::abandoned::abandon_rows;
 use crate::drained::drain_rows;
 use crate::names::next_name;
-use crate::row::{Row, Standing};
+use crate::row::{Holder, Row};
 use crate::rows::{add, claim, dismiss, dismiss_living, exchange, prepare, remove, set_number};
 use crate::session::{Identity, Session};
 use crate::sight::{Sight, look};
@@ -51,7 +51,7 @@ impl<E, P> Model for Table<E, P> {
 }
 
 impl<E, P> Table<E, P> {
-    ghost use Rattle.session_desk.specs.Rows.{HasRow, LivesAs, NoneLivesAs, is_living, away, begun, moved, next_who, with_standing, with_wait};
+    ghost use Rattle.session_desk.specs.Rows.{HasRow, LivesAs, NoneLivesAs, is_living, away, begun, moved, next_who, with_holder, with_wait};
     ghost use Rattle.session_desk.specs.Sweeping.{Sweeps, SweepsNothing};
     ghost use Rattle.session_desk.specs.Opening.{LooksAs};
     ghost use Rattle.session_desk.specs.Names.{IsNextName, NoNameLeft};
@@ -110,35 +110,35 @@ impl<E, P> Table<E, P> {
     /// Lends a parked session to a connection.
     pub(crate) fn lend(&mut self, number: u64, connection: u16) -> Session<E, P>
         requires { (row : Row E P) × (session : Session E P) × HasRow self.old.rows number row
-            × (row.standing ≡ Standing.Parked session) }
+            × (row.held_by ≡ Holder.Parked session) }
         ensures { (row : Row E P) → HasRow self.old.rows number row →
-            (row.standing ≡ Standing.Parked result)
-            × (self.new ≡ moved self.old number (with_standing row (Standing.Lent connection))) }
+            (row.held_by ≡ Holder.Parked result)
+            × (self.new ≡ moved self.old number (with_holder row (Holder.Lent connection))) }
     {
-        exchange(&mut self.rows, number, Standing::Lent(connection)).into_parked()
+        exchange(&mut self.rows, number, Holder::Lent(connection)).into_parked()
     }
 
     /// Parks a session that was lent.
     pub(crate) fn park(&mut self, number: u64, session: Session<E, P>)
         requires { (row : Row E P) × (connection : ℕ) × HasRow self.old.rows number row
-            × (row.standing ≡ Standing.Lent connection)
+            × (row.held_by ≡ Holder.Lent connection)
             × (session.identity ≡ record { number = number; client = row.client }) }
         ensures { (row : Row E P) → HasRow self.old.rows number row →
-            self.new ≡ moved self.old number (with_standing row (Standing.Parked session)) }
+            self.new ≡ moved self.old number (with_holder row (Holder.Parked session)) }
     {
         self.soonest = self.soonest.min(session.expiry.over_from());
-        exchange(&mut self.rows, number, Standing::Parked(session)).end_lent();
+        exchange(&mut self.rows, number, Holder::Parked(session)).end_lent();
     }
 
     /// Keeps a session that is ending, and was in a caller's hands.
     pub(crate) fn keep(&mut self, number: u64, session: Session<E, P>)
-        requires { (row : Row E P) × HasRow self.old.rows number row × (row.standing ≡ Standing.Away)
+        requires { (row : Row E P) × HasRow self.old.rows number row × (row.held_by ≡ Holder.Away)
             × (session.identity ≡ record { number = number; client = row.client }) }
         ensures { (row : Row E P) → HasRow self.old.rows number row →
-            self.new ≡ moved self.old number (with_standing row (Standing.Kept session)) }
+            self.new ≡ moved self.old number (with_holder row (Holder.Kept session)) }
     {
         self.soonest = 0;
-        exchange(&mut self.rows, number, Standing::Kept(session)).end_away();
+        exchange(&mut self.rows, number, Holder::Kept(session)).end_away();
     }
 
     /// Lets a connection wait for a session.
@@ -153,7 +153,7 @@ impl<E, P> Table<E, P> {
     /// Ends a session that was lent: it stays in the caller's hands.
     pub(crate) fn end_lent(&mut self, number: u64)
         requires { (row : Row E P) × (connection : ℕ) × HasRow self.old.rows number row
-            × (row.standing ≡ Standing.Lent connection) }
+            × (row.held_by ≡ Holder.Lent connection) }
         ensures { (row : Row E P) → HasRow self.old.rows number row →
             self.new ≡ moved self.old number (away row.client) }
     {
@@ -163,9 +163,9 @@ impl<E, P> Table<E, P> {
     /// Ends a session that was parked, and hands it out.
     pub(crate) fn end_parked(&mut self, number: u64) -> Session<E, P>
         requires { (row : Row E P) × (session : Session E P) × HasRow self.old.rows number row
-            × (row.standing ≡ Standing.Parked session) }
+            × (row.held_by ≡ Holder.Parked session) }
         ensures { (row : Row E P) → HasRow self.old.rows number row →
-            (row.standing ≡ Standing.Parked result)
+            (row.held_by ≡ Holder.Parked result)
             × (self.new ≡ moved self.old number (away row.client)) }
     {
         dismiss_living(&mut self.rows, &mut self.living, number).into_parked()
@@ -174,9 +174,9 @@ impl<E, P> Table<E, P> {
     /// Hands out a session that is ending and was kept.
     pub(crate) fn give(&mut self, number: u64) -> Session<E, P>
         requires { (row : Row E P) × (session : Session E P) × HasRow self.old.rows number row
-            × (row.standing ≡ Standing.Kept session) }
+            × (row.held_by ≡ Holder.Kept session) }
         ensures { (row : Row E P) → HasRow self.old.rows number row →
-            (row.standing ≡ Standing.Kept result)
+            (row.held_by ≡ Holder.Kept result)
             × (self.new ≡ moved self.old number (away row.client)) }
     {
         dismiss(&mut self.rows, number).into_kept()
@@ -184,7 +184,7 @@ impl<E, P> Table<E, P> {
 
     /// Takes the row of a session away that is ending, and was in a caller's hands.
     pub(crate) fn bury(&mut self, number: u64)
-        requires { (row : Row E P) × HasRow self.old.rows number row × (row.standing ≡ Standing.Away) }
+        requires { (row : Row E P) × HasRow self.old.rows number row × (row.held_by ≡ Holder.Away) }
         ensures { self.new ≡ record { rows = map.remove self.old.rows number; made = self.old.made } }
     {
         remove(&mut self.rows, number);
@@ -216,9 +216,9 @@ impl<E, P> Table<E, P> {
         connection: u16,
     ) -> Result<(Identity, Session<E, P>), AllocError>
         requires { (row : Row E P) × (session : Session E P) × HasRow self.old.rows old row
-            × (row.standing ≡ Standing.Parked session) × (row.client ≡ client.now) }
+            × (row.held_by ≡ Holder.Parked session) × (row.client ≡ client.now) }
         ensures ok { IfOk result (λ both. (row : Row E P) → HasRow self.old.rows old row →
-            (row.standing ≡ Standing.Parked both.1) × (both.0 ≡ next_who self.old client.now)
+            (row.held_by ≡ Holder.Parked both.1) × (both.0 ≡ next_who self.old client.now)
             × (self.new ≡ begun (moved self.old old (away row.client)) client.now connection)) }
         ensures err { OnErr result (self.new ≡ self.old) }
     {
@@ -264,7 +264,7 @@ impl<E, P> Table<E, P> {
         ensures { IsTrue result ↔ IsLentIn self.now.rows session.now }
     {
         match self.row_of(session) {
-            Some(row) => matches!(row.standing, Standing::Lent(_)),
+            Some(row) => matches!(row.held_by, Holder::Lent(_)),
             None => false,
         }
     }
@@ -274,7 +274,7 @@ impl<E, P> Table<E, P> {
         ensures { IsTrue result ↔ IsAwayIn self.now.rows session.now }
     {
         match self.row_of(session) {
-            Some(row) => matches!(row.standing, Standing::Away),
+            Some(row) => matches!(row.held_by, Holder::Away),
             None => false,
         }
     }
@@ -282,7 +282,7 @@ impl<E, P> Table<E, P> {
     /// The row with a session's number, where its client is the session's.
     fn row_of(&self, session: &Session<E, P>) -> Option<&Row<E, P>>
         ensures { MatchOption result (NoRowOf self.now.rows session.now)
-            (λ row. IsRowOf self.now.rows session.now row.now row.now.standing) }
+            (λ row. IsRowOf self.now.rows session.now row.now row.now.held_by) }
     {
         let row = self.get(session.identity.number())?;
         if row.client == *session.identity.client() {
@@ -302,7 +302,7 @@ impl<E, P> Table<E, P> {
 
     /// A look at the row of a session that is lent or parked.
     pub(crate) fn look(&self, number: u64, clean: bool, now: u64) -> Sight
-        requires { (row : Row E P) × HasRow self.now.rows number row × (is_living row.standing ≡ true) }
+        requires { (row : Row E P) × HasRow self.now.rows number row × (is_living row.held_by ≡ true) }
         ensures { (row : Row E P) → HasRow self.now.rows number row → LooksAs row clean now result }
     {
         match self.get(number) {
@@ -317,10 +317,10 @@ impl<E, P> Table<E, P> {
         requires envelopes { length envelopes.old.items + 256 * map.len self.rows ≤ vec_capacity envelopes.old }
         ensures places { (measure : P → ℕ) → sum_by measure places.new.items
             ≡ sum_by measure places.old.items
-            + sum_by (λ entry. sum_by measure (place_of (session_in entry.1.standing))) (map.entries self.rows) }
+            + sum_by (λ entry. sum_by measure (place_of (session_in entry.1.held_by))) (map.entries self.rows) }
         ensures envelopes { (measure : E → ℕ) → sum_by measure envelopes.new.items
             ≡ sum_by measure envelopes.old.items
-            + sum_by (λ entry. sum_by measure (items_of (session_in entry.1.standing))) (map.entries self.rows) }
+            + sum_by (λ entry. sum_by measure (items_of (session_in entry.1.held_by))) (map.entries self.rows) }
         ensures places_room { vec_capacity places.new ≡ vec_capacity places.old }
         ensures few_places { length places.new.items ≤ length places.old.items + map.len self.rows }
     {
@@ -337,8 +337,8 @@ impl<E, P> Table<E, P> {
 
 impl<E, P: Drop> Table<E, P> {
     /// Lets go of everything in the rows, and ends the table.
-    pub(crate) fn abandon<F: Fn(E)>(self, let_go: &F)
-        requires { F.IsAlwaysCallable let_go.now }
+    pub(crate) fn abandon<F: Fn(E)>(self, discard: &F)
+        requires { F.IsAlwaysCallable discard.now }
     {
         let Table {
             rows,
@@ -346,6 +346,6 @@ impl<E, P: Drop> Table<E, P> {
             made: _,
             soonest: _,
         } = self;
-        abandon_rows(rows, let_go);
+        abandon_rows(rows, discard);
     }
 }

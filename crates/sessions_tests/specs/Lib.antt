@@ -1,3 +1,3 @@
 pub mod Spots
 pub mod Rules
-pub mod Standing
+pub mod SessionHolders

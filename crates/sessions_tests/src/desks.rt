@@ -1,4 +1,4 @@
 //! Tests of `session_desk`: each call once with ample memory, and the answers in some stories.
 
-mod hall;
+mod handed;
 mod stories;

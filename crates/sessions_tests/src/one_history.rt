@@ -3,11 +3,11 @@ ghost use Rattle.std.specs.Prelude.{◌≡◌};
 ghost use Rattle.session_desk.specs.Calls.{Withdraw};
 ghost use Rattle.shared_desk.specs.Histories.{IsHistory};
 ghost use Rattle.sessions_tests.specs.Spots.{any_out, number_of_spot};
-ghost use Rattle.sessions_tests.specs.Standing.{Stands};
+ghost use Rattle.sessions_tests.specs.SessionHolders.{Stands};
 
 use crate::spot::Spot;
 use call_history::HistoryName;
-use shared_desk::{DeskPass, SharedDesk};
+use shared_desk::{DeskView, SharedDesk};
 use std::sync::Wait;
 use std::thread::{Threads, join};
 
@@ -15,9 +15,9 @@ use std::thread::{Threads, join};
 fn withdraw_as<D: HistoryName, R: Wait>(
     rt: &R,
     desk: &SharedDesk<Spot, D>,
-    mut me: DeskPass<Spot, D>,
+    mut me: DeskView<Spot, D>,
     connection: u16,
-) -> DeskPass<Spot, D>
+) -> DeskView<Spot, D>
     ensures { Stands (Withdraw connection) result }
 {
     desk.withdraw(rt, &mut me, connection);
@@ -28,22 +28,22 @@ fn withdraw_as<D: HistoryName, R: Wait>(
 pub fn both_withdraw<D: HistoryName + Send + Sync, R: Threads + Wait + Sync>(
     rt: &R,
     desk: &SharedDesk<Spot, D>,
-    one: DeskPass<Spot, D>,
-    other: DeskPass<Spot, D>,
-) -> DeskPass<Spot, D>
+    one: DeskView<Spot, D>,
+    other: DeskView<Spot, D>,
+) -> DeskView<Spot, D>
     ensures first { Stands (Withdraw 0) result }
     ensures second { Stands (Withdraw 1) result }
     ensures legal { IsHistory any_out (λ _. 3) number_of_spot result }
 {
     let (mut one, other) = join(
         rt,
-        move || -> DeskPass<Spot, D>
+        move || -> DeskView<Spot, D>
             ensures { Stands (Withdraw 0) result }
         { withdraw_as(rt, desk, one, 0) },
-        move || -> DeskPass<Spot, D>
+        move || -> DeskView<Spot, D>
             ensures { Stands (Withdraw 1) result }
         { withdraw_as(rt, desk, other, 1) },
     );
-    desk.meet(&mut one, other);
+    desk.agree(&mut one, other);
     one
 }

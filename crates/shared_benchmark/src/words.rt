@@ -20,7 +20,7 @@ pub(crate) enum Run {
     Sizes,
 }
 
-/// The run that the words behind the program's name ask for; `None` where they ask for none.
+/// The run that the words after the program's name ask for; `None` where they ask for none.
 pub(crate) fn run_in_words(rt: &(impl Env + Alloc)) -> io::Result<Option<Run>> {
     let mut words = env::args(rt)?;
     let _name = words.next();

@@ -9,7 +9,7 @@ use Rattle.session_desk.specs.Everywhere.{GoesIn, AllGoIn}
 use Rattle.session_desk.specs.Places.{cell_at}
 use Rattle.conn_supply.specs.Holding.{IsOutAtPlace}
 use Rattle.shared_desk.specs.Books.{IsLawful}
-use Rattle.shared_desk.specs.Histories.{Leads, IsHistory, IsTold}
+use Rattle.shared_desk.specs.Histories.{Leads, IsHistory, AddsCall}
 use Rattle.shared_desk.proofs.Desks.{new_is_lawful, kept}
 
 module _ {P : Type 0} (HasOut : P → List Held → Type 0) (slot_of number_of : P → ℕ) where
@@ -47,7 +47,7 @@ module _ {P : Type 0} (HasOut : P → List Held → Type 0) (slot_of number_of :
       (record { made = makes_next calls new_books old new call leads.made allowed makes; going = go_next calls call leads.going goes })
 
   pub is_told : (known calls after now : List (Call Held P)) (new : Books Held P) (call : Call Held P) → Leads HasOut slot_of number_of after new
-      → after ≡ calls ++ call ∷ [] → now ≡ after → IsPrefix known calls → IsTold HasOut slot_of number_of known call now
+      → after ≡ calls ++ call ∷ [] → now ≡ after → IsPrefix known calls → AddsCall HasOut slot_of number_of known call now
   is_told known calls after now new call leads is told before = record {
     since = before.0;
     is = told ∙ is ∙ ap (λ l. l ++ call ∷ []) (sym before.1);
@@ -58,7 +58,7 @@ module _ {P : Type 0} (HasOut : P → List Held → Type 0) (slot_of number_of :
   pub noted : (calls after known now : List (Call Held P)) (old new : Books Held P) (call : Call Held P) → Leads HasOut slot_of number_of calls old
       → IsAllowed call → GoesIn (IsOutAtPlace HasOut) Fits call → Makes cell old call new
       → after ≡ calls ++ call ∷ [] → now ≡ after → IsPrefix known calls
-      → Leads HasOut slot_of number_of after new × IsTold HasOut slot_of number_of known call now
+      → Leads HasOut slot_of number_of after new × AddsCall HasOut slot_of number_of known call now
   noted calls after known now old new call leads allowed goes makes is told before =
       let next = leads_on calls after old new call leads allowed goes makes is in
       (next, is_told known calls after now new call next is told before)

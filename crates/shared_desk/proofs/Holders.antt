@@ -20,7 +20,7 @@ abbrev rest_of : {A : Type 0} → List A → List A
 rest_of [] = []
 rest_of (x ∷ xs) = xs
 
--- where one element stands in a list, and where another does: at one place, or one behind the other
+-- where one element stands in a list, and where another does: at one place, or one after the other
 data Order {A : Type 0} (before : List A) (x : A) (after first : List A) (y : A) (last : List A) : Type 0 where
   same : x ≡ y → Order before x after first y last
   later : (within : List A) → after ≡ within ++ y ∷ last → Order before x after first y last

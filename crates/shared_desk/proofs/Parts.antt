@@ -20,7 +20,7 @@ module _ {E P : Type 0} (cell : P → ℕ) where
 
   few_outs : (row : Option (Row E P)) → out_of_row row ≤ 1
   few_outs None = omega arith
-  few_outs (Some row) = by (is_out row.standing)
+  few_outs (Some row) = by (is_out row.held_by)
     where
       by : (b : Bool) → (if b then 1 else 0) ≤ 1
       by true = omega arith

@@ -15,7 +15,7 @@ use Rattle.session_desk.proofs.Marked.{marked_all, none_marked}
 use Rattle.session_desk.proofs.OneHand.{law_all, law_new}
 use Rattle.conn_supply.specs.Holding.{IsOutAtPlace}
 use Rattle.shared_desk.specs.Books.{IsMade}
-use Rattle.shared_desk.specs.Histories.{IsHistory, IsTold}
+use Rattle.shared_desk.specs.Histories.{IsHistory, AddsCall}
 use Rattle.shared_desk.proofs.Desks.{made}
 use Rattle.shared_desk.proofs.Histories.{lawful}
 use Rattle.shared_desk.proofs.Parts.{parts}
@@ -43,7 +43,7 @@ module _ {P : Type 0} (HasOut : P → List Held → Type 0) (slot_of number_of :
       let going = going_parts before (call ∷ after) history.1.going in
       made HasOut slot_of number_of all.0 all.2.1.0 call (lawful HasOut slot_of number_of before all.0 (record { made = all.1; going = going.0 })) all.2.0 going.1.0 all.2.1.1
 
-  pub was_told : (known now : List (Call Held P)) (call : Call Held P) → IsTold HasOut slot_of number_of known call now → IsMade HasOut slot_of number_of call × IsPrefix known now
+  pub was_told : (known now : List (Call Held P)) (call : Call Held P) → AddsCall HasOut slot_of number_of known call now → IsMade HasOut slot_of number_of call × IsPrefix known now
   was_told known now call told = (
     was_made (known ++ told.since) [] call (subst (IsHistory HasOut slot_of number_of) told.is told.legal),
     (told.since ++ call ∷ [], sym (append_assoc known told.since (call ∷ [])) ∙ sym told.is),

@@ -17,8 +17,8 @@ module _ {P : Type 0} (HasOut : P → List Held → Type 0) (slot_of number_of :
   abbrev pub IsHistory : List (Call Held P) → Type 0
   IsHistory calls = (books : Books Held P) × Leads calls books
 
-  -- the call was made behind what was known and what others did since
-  pub record IsTold (known : List (Call Held P)) (call : Call Held P) (now : List (Call Held P)) : Type 0 where
+  -- the call was made after what was known and what others did since
+  pub record AddsCall (known : List (Call Held P)) (call : Call Held P) (now : List (Call Held P)) : Type 0 where
     pub since : List (Call Held P)
     pub is : now ≡ known ++ since ++ call ∷ []
     pub legal : IsHistory now
@@ -27,4 +27,4 @@ module _ {P : Type 0} (HasOut : P → List Held → Type 0) (slot_of number_of :
   abbrev pub TakesEach : List (Call Held P) → List P → List (Call Held P) → Type 0
   TakesEach known [] now = now ≡ known
   TakesEach known (place ∷ places) now =
-      (back : Option P) × (between : List (Call Held P)) × IsTold known (TakePlace place back) between × TakesEach between places now
+      (back : Option P) × (between : List (Call Held P)) × AddsCall known (TakePlace place back) between × TakesEach between places now

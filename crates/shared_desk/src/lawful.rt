@@ -10,9 +10,9 @@ ghost use Rattle.session_desk.specs.declared.session.Session as Sessions;
 ghost use Rattle.conn_supply.specs.Holding.{IsOutAtPlace};
 ghost use Rattle.conn_supply.specs.Ready.{IsReady, IsSoundSession};
 ghost use Rattle.shared_desk.specs.Books.{IsLawful, IsMade};
-ghost use Rattle.shared_desk.specs.Histories.{IsTold, Leads};
+ghost use Rattle.shared_desk.specs.Histories.{AddsCall, Leads};
 
-use crate::told::{DeskHistory, DeskPass, Told};
+use crate::view::{DeskCall, DeskHistory, DeskView};
 use bytes::Bytes;
 use call_history::{Entries, HistoryName, Keeper, Known};
 use conn_supply::HoldingPlace;
@@ -26,7 +26,7 @@ use std::marker::{Brand, Model};
 /// Contracts see it as its books.
 pub(crate) struct LawfulDesk<P: HoldingPlace, D: HistoryName> {
     desk: Desk<Envelope, P>,
-    keeper: Keeper<Told<P>, D>,
+    keeper: Keeper<DeskCall<P>, D>,
 }
 
 impl<P: HoldingPlace, D: HistoryName> Model for LawfulDesk<P, D> {
@@ -46,10 +46,10 @@ impl<P: HoldingPlace, D: HistoryName> Model for LawfulDesk<P, D> {
 }
 
 /// Notes a call, with what was asked and answered, which the proof of a call of this one says, and lets a thread know all calls so far.
-fn note<P: HoldingPlace, D: HistoryName, A, B, J: Entries<Told<P>>>(
-    keeper: &mut Keeper<Told<P>, D>,
+fn note<P: HoldingPlace, D: HistoryName, A, B, J: Entries<DeskCall<P>>>(
+    keeper: &mut Keeper<DeskCall<P>, D>,
     history: &DeskHistory<P, D>,
-    known: &mut Known<Told<P>, D>,
+    known: &mut Known<DeskCall<P>, D>,
     _asked: &A,
     _answer: &B,
 )
@@ -62,7 +62,7 @@ fn note<P: HoldingPlace, D: HistoryName, A, B, J: Entries<Told<P>>>(
 
 impl<P: HoldingPlace, D: HistoryName> LawfulDesk<P, D> {
     /// A new desk, with the keeper of its empty history.
-    pub fn new(desk: Desk<Envelope, P>, keeper: Keeper<Told<P>, D>) -> LawfulDesk<P, D>
+    pub fn new(desk: Desk<Envelope, P>, keeper: Keeper<DeskCall<P>, D>) -> LawfulDesk<P, D>
         requires desk { desk ≡ new_books }
         requires keeper { keeper ≡ [] }
     {
@@ -70,17 +70,17 @@ impl<P: HoldingPlace, D: HistoryName> LawfulDesk<P, D> {
     }
 
     /// A pass that knows all calls so far.
-    pub fn pass(&mut self, history: &DeskHistory<P, D>) -> DeskPass<P, D>
+    pub fn pass(&mut self, history: &DeskHistory<P, D>) -> DeskView<P, D>
         ensures { self.new ≡ self.old }
     {
         let known = self.keeper.tell(history);
-        DeskPass { known }
+        DeskView { known }
     }
 
     pub fn attach(
         &mut self,
         history: &DeskHistory<P, D>,
-        me: &mut DeskPass<P, D>,
+        me: &mut DeskView<P, D>,
         connection: u16,
         client: &Bytes,
         clean: bool,
@@ -92,7 +92,7 @@ impl<P: HoldingPlace, D: HistoryName> LawfulDesk<P, D> {
         requires short { length client.now ≤ 128 }
         ensures ready { IfOk result (IsReady P.has_out) }
         ensures made { IsMade P.has_out P.slot_of P.number_of (Attach request result) }
-        ensures told { IsTold P.has_out P.slot_of P.number_of me.old (Attach request result) me.new }
+        ensures told { AddsCall P.has_out P.slot_of P.number_of me.old (Attach request result) me.new }
     {
         let answer = self.desk.attach(connection, client, clean, now);
         note::<P, D, (), Result<Attached<Envelope, P>, DeskError>, Brand>(
@@ -108,11 +108,11 @@ impl<P: HoldingPlace, D: HistoryName> LawfulDesk<P, D> {
     pub fn withdraw(
         &mut self,
         history: &DeskHistory<P, D>,
-        me: &mut DeskPass<P, D>,
+        me: &mut DeskView<P, D>,
         connection: u16,
     )
         ensures made { IsMade P.has_out P.slot_of P.number_of (Withdraw connection) }
-        ensures told { IsTold P.has_out P.slot_of P.number_of me.old (Withdraw connection) me.new }
+        ensures told { AddsCall P.has_out P.slot_of P.number_of me.old (Withdraw connection) me.new }
     {
         self.desk.withdraw(connection);
         note::<P, D, u16, (), Brand>(&mut self.keeper, history, &mut me.known, &connection, &());
@@ -121,11 +121,11 @@ impl<P: HoldingPlace, D: HistoryName> LawfulDesk<P, D> {
     pub fn kicked(
         &mut self,
         history: &DeskHistory<P, D>,
-        me: &mut DeskPass<P, D>,
+        me: &mut DeskView<P, D>,
         connection: u16,
     ) -> bool
         ensures yes { result ≡ true → (books : Books Held P) × IsLawful P.has_out books × IsKicked books connection }
-        ensures told { IsTold P.has_out P.slot_of P.number_of me.old (Kicked connection result) me.new }
+        ensures told { AddsCall P.has_out P.slot_of P.number_of me.old (Kicked connection result) me.new }
     {
         let is_kicked = self.desk.kicked(connection);
         note::<P, D, u16, bool, Brand>(
@@ -141,7 +141,7 @@ impl<P: HoldingPlace, D: HistoryName> LawfulDesk<P, D> {
     pub fn park(
         &mut self,
         history: &DeskHistory<P, D>,
-        me: &mut DeskPass<P, D>,
+        me: &mut DeskView<P, D>,
         session: Session<Envelope, P>,
         now: u64,
     ) -> Option<Session<Envelope, P>>
@@ -150,7 +150,7 @@ impl<P: HoldingPlace, D: HistoryName> LawfulDesk<P, D> {
         requires sound { IsSoundSession P.has_out session }
         ensures same { IfSome result (λ back. back ≡ session) }
         ensures made { IsMade P.has_out P.slot_of P.number_of (Park session now result) }
-        ensures told { IsTold P.has_out P.slot_of P.number_of me.old (Park session now result) me.new }
+        ensures told { AddsCall P.has_out P.slot_of P.number_of me.old (Park session now result) me.new }
     {
         let back = self.desk.park(session, now);
         note::<P, D, u64, Option<Session<Envelope, P>>, Brand>(
@@ -166,7 +166,7 @@ impl<P: HoldingPlace, D: HistoryName> LawfulDesk<P, D> {
     pub fn park_as_is(
         &mut self,
         history: &DeskHistory<P, D>,
-        me: &mut DeskPass<P, D>,
+        me: &mut DeskView<P, D>,
         session: Session<Envelope, P>,
     ) -> Option<Session<Envelope, P>>
         ghost before: { Sessions.Session Held P }
@@ -174,7 +174,7 @@ impl<P: HoldingPlace, D: HistoryName> LawfulDesk<P, D> {
         requires sound { IsSoundSession P.has_out session }
         ensures same { IfSome result (λ back. back ≡ session) }
         ensures made { IsMade P.has_out P.slot_of P.number_of (ParkAsIs session result) }
-        ensures told { IsTold P.has_out P.slot_of P.number_of me.old (ParkAsIs session result) me.new }
+        ensures told { AddsCall P.has_out P.slot_of P.number_of me.old (ParkAsIs session result) me.new }
     {
         let back = self.desk.park_as_is(session);
         note::<P, D, (), Option<Session<Envelope, P>>, Brand>(
@@ -190,7 +190,7 @@ impl<P: HoldingPlace, D: HistoryName> LawfulDesk<P, D> {
     pub fn keep(
         &mut self,
         history: &DeskHistory<P, D>,
-        me: &mut DeskPass<P, D>,
+        me: &mut DeskView<P, D>,
         session: Session<Envelope, P>,
     ) -> Option<Session<Envelope, P>>
         ghost before: { Sessions.Session Held P }
@@ -198,7 +198,7 @@ impl<P: HoldingPlace, D: HistoryName> LawfulDesk<P, D> {
         requires out { IsOutAtPlace P.has_out session }
         ensures same { IfSome result (λ back. back ≡ session) }
         ensures made { IsMade P.has_out P.slot_of P.number_of (Keep session result) }
-        ensures told { IsTold P.has_out P.slot_of P.number_of me.old (Keep session result) me.new }
+        ensures told { AddsCall P.has_out P.slot_of P.number_of me.old (Keep session result) me.new }
     {
         let back = self.desk.keep(session);
         note::<P, D, (), Option<Session<Envelope, P>>, Brand>(
@@ -214,7 +214,7 @@ impl<P: HoldingPlace, D: HistoryName> LawfulDesk<P, D> {
     pub fn bury(
         &mut self,
         history: &DeskHistory<P, D>,
-        me: &mut DeskPass<P, D>,
+        me: &mut DeskView<P, D>,
         session: Session<Envelope, P>,
     ) -> Option<Session<Envelope, P>>
         ghost before: { Sessions.Session Held P }
@@ -222,7 +222,7 @@ impl<P: HoldingPlace, D: HistoryName> LawfulDesk<P, D> {
         requires out { IsOutAtPlace P.has_out session }
         ensures same { IfSome result (λ back. back ≡ session) }
         ensures made { IsMade P.has_out P.slot_of P.number_of (Bury session result) }
-        ensures told { IsTold P.has_out P.slot_of P.number_of me.old (Bury session result) me.new }
+        ensures told { AddsCall P.has_out P.slot_of P.number_of me.old (Bury session result) me.new }
     {
         let back = self.desk.bury(session);
         note::<P, D, (), Option<Session<Envelope, P>>, Brand>(
@@ -238,12 +238,12 @@ impl<P: HoldingPlace, D: HistoryName> LawfulDesk<P, D> {
     pub fn sweep(
         &mut self,
         history: &DeskHistory<P, D>,
-        me: &mut DeskPass<P, D>,
+        me: &mut DeskView<P, D>,
         now: u64,
     ) -> Option<Session<Envelope, P>>
         ensures out { IfSome result (IsOutAtPlace P.has_out) }
         ensures made { IsMade P.has_out P.slot_of P.number_of (Sweep now result) }
-        ensures told { IsTold P.has_out P.slot_of P.number_of me.old (Sweep now result) me.new }
+        ensures told { AddsCall P.has_out P.slot_of P.number_of me.old (Sweep now result) me.new }
     {
         let session = self.desk.sweep(now);
         note::<P, D, u64, Option<Session<Envelope, P>>, Brand>(
@@ -259,13 +259,13 @@ impl<P: HoldingPlace, D: HistoryName> LawfulDesk<P, D> {
     pub fn lend_place(
         &mut self,
         history: &DeskHistory<P, D>,
-        me: &mut DeskPass<P, D>,
+        me: &mut DeskView<P, D>,
         slot: u8,
     ) -> Option<P>
         ensures own { IfSome result (IsOfSlot P.slot_of P.number_of slot) }
         ensures out { IfSome result (λ place. P.has_out place []) }
         ensures made { IsMade P.has_out P.slot_of P.number_of (LendPlace slot result) }
-        ensures told { IsTold P.has_out P.slot_of P.number_of me.old (LendPlace slot result) me.new }
+        ensures told { AddsCall P.has_out P.slot_of P.number_of me.old (LendPlace slot result) me.new }
     {
         let place = self.desk.lend_place(slot);
         note::<P, D, u8, Option<P>, Brand>(&mut self.keeper, history, &mut me.known, &slot, &place);
@@ -275,7 +275,7 @@ impl<P: HoldingPlace, D: HistoryName> LawfulDesk<P, D> {
     pub fn take_place(
         &mut self,
         history: &DeskHistory<P, D>,
-        me: &mut DeskPass<P, D>,
+        me: &mut DeskView<P, D>,
         place: P,
     ) -> Option<P>
         ghost before: { P }
@@ -283,7 +283,7 @@ impl<P: HoldingPlace, D: HistoryName> LawfulDesk<P, D> {
         requires out { P.has_out place [] }
         ensures same { IfSome result (λ back. back ≡ place) }
         ensures made { IsMade P.has_out P.slot_of P.number_of (TakePlace place result) }
-        ensures told { IsTold P.has_out P.slot_of P.number_of me.old (TakePlace place result) me.new }
+        ensures told { AddsCall P.has_out P.slot_of P.number_of me.old (TakePlace place result) me.new }
     {
         let back = self.desk.take_place(place);
         note::<P, D, (), Option<P>, Brand>(&mut self.keeper, history, &mut me.known, &(), &back);
@@ -302,7 +302,7 @@ impl<P: HoldingPlace, D: HistoryName> LawfulDesk<P, D> {
     }
 
     /// The desk, and lets a thread know all calls that were made of it.
-    pub fn finish(self, history: &DeskHistory<P, D>, me: &mut DeskPass<P, D>) -> Desk<Envelope, P>
+    pub fn finish(self, history: &DeskHistory<P, D>, me: &mut DeskView<P, D>) -> Desk<Envelope, P>
         ensures lawful { IsLawful P.has_out result }
         ensures before { IsPrefix me.old me.new }
         ensures all { Leads P.has_out P.slot_of P.number_of me.new result }

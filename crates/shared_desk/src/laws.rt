@@ -9,7 +9,7 @@ ghost use Rattle.session_desk.specs.Hands.{handed_in, handed_out, total};
 ghost use Rattle.session_desk.specs.Stored.{TakesOut, last_in};
 ghost use Rattle.session_desk.specs.declared.session.Session.{Session};
 ghost use Rattle.shared_desk.specs.Books.{IsMade};
-ghost use Rattle.shared_desk.specs.Histories.{IsHistory, IsTold};
+ghost use Rattle.shared_desk.specs.Histories.{IsHistory, AddsCall};
 ghost use Rattle.shared_desk.specs.Holders.{IsHolder};
 
 use conn_supply::HoldingPlace;
@@ -20,7 +20,7 @@ pub fn histories<P: HoldingPlace>()
     ensures made { (before after : List (Call Held P)) (call : Call Held P) →
         IsHistory P.has_out P.slot_of P.number_of (before ++ call ∷ after) → IsMade P.has_out P.slot_of P.number_of call }
     ensures told { (known now : List (Call Held P)) (call : Call Held P) →
-        IsTold P.has_out P.slot_of P.number_of known call now → IsMade P.has_out P.slot_of P.number_of call × IsPrefix known now }
+        AddsCall P.has_out P.slot_of P.number_of known call now → IsMade P.has_out P.slot_of P.number_of call × IsPrefix known now }
 {}
 
 /// **A session is in one pair of hands**, whichever threads call. It was handed out as often as it was handed in, or once more (`hands`). Between a call that
@@ -48,7 +48,7 @@ pub fn very_session<P: HoldingPlace>()
         last_in session.identity.number before ≡ Some session }
 {}
 
-/// **Who is kicked was asked**, whichever threads call: one of the calls before answered Replace with this connection as the holder, and none behind that lent a
+/// **Who is kicked was asked**, whichever threads call: one of the calls before answered Replace with this connection as the holder, and none after that lent a
 /// session to it.
 pub fn kicked_was_asked<P: HoldingPlace>()
     ensures { (before after : List (Call Held P)) (connection : ℕ) → connection < 1024 →

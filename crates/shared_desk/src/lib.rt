@@ -8,7 +8,7 @@
 mod lawful;
 pub mod laws;
 mod shared;
-mod told;
+mod view;
 
 pub use shared::{OpenedDesk, SharedDesk};
-pub use told::{DeskPass, Told};
+pub use view::{DeskCall, DeskView};

@@ -9,10 +9,10 @@ ghost use Rattle.session_desk.specs.Places.{IsOfSlot};
 ghost use Rattle.conn_supply.specs.Holding.{IsOutAtPlace};
 ghost use Rattle.conn_supply.specs.Ready.{IsReady, IsSoundSession};
 ghost use Rattle.shared_desk.specs.Books.{IsLawful, IsMade};
-ghost use Rattle.shared_desk.specs.Histories.{IsHistory, IsTold, Leads, TakesEach};
+ghost use Rattle.shared_desk.specs.Histories.{IsHistory, AddsCall, Leads, TakesEach};
 
 use crate::lawful::LawfulDesk;
-use crate::told::{DeskHistory, DeskPass, Told};
+use crate::view::{DeskCall, DeskHistory, DeskView};
 use bytes::Bytes;
 use call_history::{HistoryName, Opened};
 use conn_supply::HoldingPlace;
@@ -27,7 +27,7 @@ use std::sync::{Mutex, Wait};
 /// A new desk, which has no name yet. Contracts see it as the table of its history.
 pub struct OpenedDesk<P: HoldingPlace> {
     desk: Desk<Envelope, P>,
-    opened: Opened<Told<P>>,
+    opened: Opened<DeskCall<P>>,
     soonest: AtomicU64,
     marks: Vec<AtomicBool>,
 }
@@ -64,7 +64,7 @@ impl<P: HoldingPlace> OpenedDesk<P> {
     }
 
     /// The desk under a name, and a pass that knows of no call.
-    pub fn name<D: HistoryName>(self) -> (SharedDesk<P, D>, DeskPass<P, D>)
+    pub fn name<D: HistoryName>(self) -> (SharedDesk<P, D>, DeskView<P, D>)
         requires { self ≡ D.history }
         ensures { result.1 ≡ [] }
     {
@@ -84,7 +84,7 @@ impl<P: HoldingPlace> OpenedDesk<P> {
                 soonest,
                 marks,
             },
-            DeskPass { known },
+            DeskView { known },
         )
     }
 }
@@ -98,20 +98,20 @@ impl<P: HoldingPlace + Drop> OpenedDesk<P> {
             soonest: _,
             marks: _,
         } = self;
-        desk.abandon_with(&let_go);
+        desk.abandon_with(&discard);
     }
 }
 
 /// Lets go of a message.
-fn let_go(envelope: Envelope) {
+fn discard(envelope: Envelope) {
     let _parts = envelope.open();
 }
 
 /// Every session of a broker, with the free places of its groups, which threads share by reference. `D` is the name of its history.
 ///
 /// A call takes the lock for its own length, and waits for another thread's call. There is one history of calls, in the order of the lock; each call that
-/// takes the lock is the last one of what its thread knows of it from then on (`IsTold`), and all that other threads know are beginnings of the same history. What
-/// the books are behind the lock then, nobody else knows; a clause says what the call made of books that were lawful before it and are behind it
+/// takes the lock is the last one of what its thread knows of it from then on (`AddsCall`), and all that other threads know are beginnings of the same history. What
+/// the books are behind the lock then, nobody else knows; a clause says what the call made of books that were lawful before it and are after it
 /// (`IsMade`). What comes out has out at its place what it holds, by what lies behind the lock.
 pub struct SharedDesk<P: HoldingPlace, D: HistoryName> {
     desk: Mutex<LawfulDesk<P, D>>,
@@ -132,7 +132,7 @@ impl<P: HoldingPlace, D: HistoryName> SharedDesk<P, D> {
     pub fn attach<R: Wait>(
         &self,
         rt: &R,
-        me: &mut DeskPass<P, D>,
+        me: &mut DeskView<P, D>,
         connection: u16,
         client: &Bytes,
         clean: bool,
@@ -142,7 +142,7 @@ impl<P: HoldingPlace, D: HistoryName> SharedDesk<P, D> {
         requires short { length client.now ≤ 128 }
         ensures ready { IfOk result (IsReady P.has_out) }
         ensures made { IsMade P.has_out P.slot_of P.number_of (Attach (asked connection client.now clean now) result) }
-        ensures told { IsTold P.has_out P.slot_of P.number_of me.old (Attach (asked connection client.now clean now) result) me.new }
+        ensures told { AddsCall P.has_out P.slot_of P.number_of me.old (Attach (asked connection client.now clean now) result) me.new }
     {
         let mut desk = self.desk.lock(rt);
         let attached = desk.attach(&self.history, me, connection, client, clean, now);
@@ -162,18 +162,18 @@ impl<P: HoldingPlace, D: HistoryName> SharedDesk<P, D> {
     }
 
     /// The connection waits for no session from now on.
-    pub fn withdraw<R: Wait>(&self, rt: &R, me: &mut DeskPass<P, D>, connection: u16)
+    pub fn withdraw<R: Wait>(&self, rt: &R, me: &mut DeskView<P, D>, connection: u16)
         ensures made { IsMade P.has_out P.slot_of P.number_of (Withdraw connection) }
-        ensures told { IsTold P.has_out P.slot_of P.number_of me.old (Withdraw connection) me.new }
+        ensures told { AddsCall P.has_out P.slot_of P.number_of me.old (Withdraw connection) me.new }
     {
         self.desk.lock(rt).withdraw(&self.history, me, connection);
     }
 
     /// Whether another connection asked for this connection's session since it was lent. The lock is taken only where one may have: else the answer is no, and
     /// the pass knows what it knew.
-    pub fn kicked<R: Wait>(&self, rt: &R, me: &mut DeskPass<P, D>, connection: u16) -> bool
+    pub fn kicked<R: Wait>(&self, rt: &R, me: &mut DeskView<P, D>, connection: u16) -> bool
         ensures yes { result ≡ true → (books : Books Held P) × IsLawful P.has_out books × IsKicked books connection }
-        ensures told { ((result ≡ false) × (me.new ≡ me.old)) ⊎ IsTold P.has_out P.slot_of P.number_of me.old (Kicked connection result) me.new }
+        ensures told { ((result ≡ false) × (me.new ≡ me.old)) ⊎ AddsCall P.has_out P.slot_of P.number_of me.old (Kicked connection result) me.new }
     {
         if !self.is_marked(connection) {
             return false;
@@ -194,14 +194,14 @@ impl<P: HoldingPlace, D: HistoryName> SharedDesk<P, D> {
     pub fn park<R: Wait>(
         &self,
         rt: &R,
-        me: &mut DeskPass<P, D>,
+        me: &mut DeskView<P, D>,
         session: Session<Envelope, P>,
         now: u64,
     ) -> Option<Session<Envelope, P>>
         requires { IsSoundSession P.has_out session }
         ensures same { IfSome result (λ back. back ≡ session) }
         ensures made { IsMade P.has_out P.slot_of P.number_of (Park session now result) }
-        ensures told { IsTold P.has_out P.slot_of P.number_of me.old (Park session now result) me.new }
+        ensures told { AddsCall P.has_out P.slot_of P.number_of me.old (Park session now result) me.new }
     {
         let mut desk = self.desk.lock(rt);
         let back = desk.park(&self.history, me, session, now);
@@ -213,13 +213,13 @@ impl<P: HoldingPlace, D: HistoryName> SharedDesk<P, D> {
     pub fn park_as_is<R: Wait>(
         &self,
         rt: &R,
-        me: &mut DeskPass<P, D>,
+        me: &mut DeskView<P, D>,
         session: Session<Envelope, P>,
     ) -> Option<Session<Envelope, P>>
         requires { IsSoundSession P.has_out session }
         ensures same { IfSome result (λ back. back ≡ session) }
         ensures made { IsMade P.has_out P.slot_of P.number_of (ParkAsIs session result) }
-        ensures told { IsTold P.has_out P.slot_of P.number_of me.old (ParkAsIs session result) me.new }
+        ensures told { AddsCall P.has_out P.slot_of P.number_of me.old (ParkAsIs session result) me.new }
     {
         let mut desk = self.desk.lock(rt);
         let back = desk.park_as_is(&self.history, me, session);
@@ -231,13 +231,13 @@ impl<P: HoldingPlace, D: HistoryName> SharedDesk<P, D> {
     pub fn keep<R: Wait>(
         &self,
         rt: &R,
-        me: &mut DeskPass<P, D>,
+        me: &mut DeskView<P, D>,
         session: Session<Envelope, P>,
     ) -> Option<Session<Envelope, P>>
         requires { IsOutAtPlace P.has_out session }
         ensures same { IfSome result (λ back. back ≡ session) }
         ensures made { IsMade P.has_out P.slot_of P.number_of (Keep session result) }
-        ensures told { IsTold P.has_out P.slot_of P.number_of me.old (Keep session result) me.new }
+        ensures told { AddsCall P.has_out P.slot_of P.number_of me.old (Keep session result) me.new }
     {
         let mut desk = self.desk.lock(rt);
         let back = desk.keep(&self.history, me, session);
@@ -249,13 +249,13 @@ impl<P: HoldingPlace, D: HistoryName> SharedDesk<P, D> {
     pub fn bury<R: Wait>(
         &self,
         rt: &R,
-        me: &mut DeskPass<P, D>,
+        me: &mut DeskView<P, D>,
         session: Session<Envelope, P>,
     ) -> Option<Session<Envelope, P>>
         requires { IsOutAtPlace P.has_out session }
         ensures same { IfSome result (λ back. back ≡ session) }
         ensures made { IsMade P.has_out P.slot_of P.number_of (Bury session result) }
-        ensures told { IsTold P.has_out P.slot_of P.number_of me.old (Bury session result) me.new }
+        ensures told { AddsCall P.has_out P.slot_of P.number_of me.old (Bury session result) me.new }
     {
         self.desk.lock(rt).bury(&self.history, me, session)
     }
@@ -264,12 +264,12 @@ impl<P: HoldingPlace, D: HistoryName> SharedDesk<P, D> {
     pub fn sweep<R: Wait>(
         &self,
         rt: &R,
-        me: &mut DeskPass<P, D>,
+        me: &mut DeskView<P, D>,
         now: u64,
     ) -> Option<Session<Envelope, P>>
         ensures out { IfSome result (IsOutAtPlace P.has_out) }
         ensures made { IfSome result (λ session. IsMade P.has_out P.slot_of P.number_of (Sweep now (Some session))) }
-        ensures told { ((result ≡ None) × (me.new ≡ me.old)) ⊎ IsTold P.has_out P.slot_of P.number_of me.old (Sweep now result) me.new }
+        ensures told { ((result ≡ None) × (me.new ≡ me.old)) ⊎ AddsCall P.has_out P.slot_of P.number_of me.old (Sweep now result) me.new }
     {
         if now < self.soonest.load(SeqCst) {
             return None;
@@ -281,46 +281,46 @@ impl<P: HoldingPlace, D: HistoryName> SharedDesk<P, D> {
     }
 
     /// Lends the least free place of the group of this slot.
-    pub fn lend_place<R: Wait>(&self, rt: &R, me: &mut DeskPass<P, D>, slot: u8) -> Option<P>
+    pub fn lend_place<R: Wait>(&self, rt: &R, me: &mut DeskView<P, D>, slot: u8) -> Option<P>
         ensures own { IfSome result (IsOfSlot P.slot_of P.number_of slot) }
         ensures out { IfSome result (λ place. P.has_out place []) }
         ensures made { IsMade P.has_out P.slot_of P.number_of (LendPlace slot result) }
-        ensures told { IsTold P.has_out P.slot_of P.number_of me.old (LendPlace slot result) me.new }
+        ensures told { AddsCall P.has_out P.slot_of P.number_of me.old (LendPlace slot result) me.new }
     {
         self.desk.lock(rt).lend_place(&self.history, me, slot)
     }
 
     /// A place is free from now on. It is handed back where a place of the same group with the same number is free already.
-    pub fn take_place<R: Wait>(&self, rt: &R, me: &mut DeskPass<P, D>, place: P) -> Option<P>
+    pub fn take_place<R: Wait>(&self, rt: &R, me: &mut DeskView<P, D>, place: P) -> Option<P>
         requires { P.has_out place [] }
         ensures same { IfSome result (λ back. back ≡ place) }
         ensures made { IsMade P.has_out P.slot_of P.number_of (TakePlace place result) }
-        ensures told { IsTold P.has_out P.slot_of P.number_of me.old (TakePlace place result) me.new }
+        ensures told { AddsCall P.has_out P.slot_of P.number_of me.old (TakePlace place result) me.new }
     {
         self.desk.lock(rt).take_place(&self.history, me, place)
     }
 
     /// One more pass that knows what this one does.
-    pub fn pass(&self, me: &mut DeskPass<P, D>) -> DeskPass<P, D>
+    pub fn pass(&self, me: &mut DeskView<P, D>) -> DeskView<P, D>
         ensures same { me.new ≡ me.old }
         ensures new { result ≡ me.old }
     {
         let known = me.known.tell(&self.history);
-        DeskPass { known }
+        DeskView { known }
     }
 
     /// Two passes become one, which knows the longer of what they knew: it goes on from either.
-    pub fn meet(&self, me: &mut DeskPass<P, D>, other: DeskPass<P, D>)
+    pub fn agree(&self, me: &mut DeskView<P, D>, other: DeskView<P, D>)
         ensures mine { IsPrefix me.old me.new }
         ensures others { IsPrefix other me.new }
         ensures legal { IsHistory P.has_out P.slot_of P.number_of me.new }
     {
-        let DeskPass { known } = other;
-        me.known.meet(&self.history, known);
+        let DeskView { known } = other;
+        me.known.agree(&self.history, known);
     }
 
     /// A pass that knows all calls so far.
-    pub fn know<R: Wait>(&self, rt: &R) -> DeskPass<P, D> {
+    pub fn observe<R: Wait>(&self, rt: &R) -> DeskView<P, D> {
         self.desk.lock(rt).pass(&self.history)
     }
 
@@ -338,7 +338,7 @@ impl<P: HoldingPlace, D: HistoryName> SharedDesk<P, D> {
     }
 
     /// The desk, once no other thread has it, and lets a thread know all calls that were made of it: what the thread knew is the beginning of them.
-    pub fn finish(self, me: &mut DeskPass<P, D>) -> Desk<Envelope, P>
+    pub fn finish(self, me: &mut DeskView<P, D>) -> Desk<Envelope, P>
         ensures lawful { IsLawful P.has_out result }
         ensures before { IsPrefix me.old me.new }
         ensures all { Leads P.has_out P.slot_of P.number_of me.new result }
@@ -356,7 +356,7 @@ impl<P: HoldingPlace, D: HistoryName> SharedDesk<P, D> {
 impl<P: HoldingPlace + Drop, D: HistoryName> SharedDesk<P, D> {
     /// Places are free from now on, one after the other, the last one first. One of which a place of the same group with the same number is free already is
     /// let go.
-    pub fn take_places<R: Wait>(&self, rt: &R, me: &mut DeskPass<P, D>, places: Vec<P>)
+    pub fn take_places<R: Wait>(&self, rt: &R, me: &mut DeskView<P, D>, places: Vec<P>)
         requires { All (λ place. P.has_out place []) places.items }
         ensures { TakesEach P.has_out P.slot_of P.number_of me.old (reverse places.items) me.new }
     {

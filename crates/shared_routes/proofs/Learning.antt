@@ -7,7 +7,7 @@ use Rattle.once_cell.specs.Once.{Agrees}
 use Rattle.mqtt_topic.specs.Names.{Share}
 use Rattle.mqtt_topic.specs.Routes.{slot_of}
 use Rattle.shared_routes.specs.Cells.{CellState, unknown, names_of, first_of, known_of}
-use Rattle.shared_routes.specs.Known.{KnownState, AreFirst, Learns, IsTold, IsBound, IsBoundBehind}
+use Rattle.shared_routes.specs.Known.{KnownState, AreFirst, Learns, PublishesTo, IsBound, IsBoundBehind}
 use Rattle.shared_routes.proofs.Told.{first_all, first_first, first_few, first_kept, first_known, first_more, first_end, first_whole, names_same, next_same}
 
 -- nothing more is learnt
@@ -40,7 +40,7 @@ told_kept cells slot old new share is knows agrees =
     subst (λ (known : List (Option Share)). AreFirst (known_of cells) (first_of known)) (sym (shares_set cells slot new share knows))
     (first_kept (map (λ (cell : CellState). cell.share) cells) slot old.share share (at_share cells slot old is) agrees)
 
--- the share of the next cell is known behind the first
+-- the share of the next cell is known after the first
 pub told_more : (cells : List CellState) (shares : List Share) (slot : ℕ) (new : CellState) (share : Share) → slot ≡ length shares → slot < length cells → new.share ≡ Some share
     → AreFirst shares (known_of cells) → AreFirst (shares ++ share ∷ []) (known_of (set cells slot new))
 told_more cells shares slot new share next room knows first =
@@ -63,10 +63,10 @@ told_all cells shares all first =
     first_whole shares (known_of cells) first
     (omega (arith, all, first_few (map (λ (cell : CellState). cell.share) cells), length-map cells (λ (cell : CellState). cell.share)))
 
--- a worker is told of the share of a cell, behind those of the cells before it
+-- a worker is told of the share of a cell, after those of the cells before it
 pub is_told_next : (cells : List CellState) (shares some : List Share) (slot : ℕ) (old new : CellState) (share : Share) → slot ≡ length some → slot < length cells
     → old ≡ get_or cells slot old → new.name ≡ old.name → new.share ≡ Some share → Agrees old.share share → AreFirst some (known_of cells)
-    → IsTold (state_of cells shares) (some ++ share ∷ []) (state_of (set cells slot new) shares)
+    → PublishesTo (state_of cells shares) (some ++ share ∷ []) (state_of (set cells slot new) shares)
 is_told_next cells shares some slot old new share next room is same knows agrees first = record {
   same = ap (λ (names : List ℕ). record { table = names; shares = shares; told = known_of (set cells slot new) }) (names_same cells slot old new is same);
   kept = told_kept cells slot old new share is knows agrees;
@@ -117,7 +117,7 @@ bound_later old between new share other None one behind = record {
 }
 
 -- what a worker was told of the next cell it sees there
-pub learns_told : (old told new : KnownState) (share seen : Share) → IsTold old (old.shares ++ share ∷ []) told → Learns told (seen ∷ []) new → AreFirst new.shares new.told
+pub learns_told : (old told new : KnownState) (share seen : Share) → PublishesTo old (old.shares ++ share ∷ []) told → Learns told (seen ∷ []) new → AreFirst new.shares new.told
     → Learns old (seen ∷ []) new × (share ≡ seen)
 learns_told old told new share seen one other first =
     let shares : new.shares ≡ old.shares ++ seen ∷ [] = other.shares ∙ ap (λ (known : KnownState). known.shares ++ seen ∷ []) one.same in (
@@ -145,7 +145,7 @@ slot_name cells others slot mine other table is is' below below' =
 pub told_slot : (cells others : List CellState) (shares seen : List Share) (slot : ℕ) (mine old new : CellState) → mine ≡ get_or cells slot mine → old ≡ get_or others slot old
     → new ≡ mine → names_of others ≡ names_of cells → IfSome mine.share (Agrees old.share) → slot < length shares → slot < length others
     → AreFirst shares (known_of cells) → AreFirst (take slot shares) (known_of others)
-    → IsTold (state_of others seen) (take (slot + 1) shares) (state_of (set others slot new) seen)
+    → PublishesTo (state_of others seen) (take (slot + 1) shares) (state_of (set others slot new) seen)
 told_slot cells others shares seen slot mine old new is is' becomes table agrees below room first before =
     let none : Share = record { text = []; name = []; filter = [] } in
     let share : Share = get_or shares slot none in

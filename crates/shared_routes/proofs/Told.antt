@@ -60,7 +60,7 @@ first_kept (None ∷ others) (suc slot) old share is agrees = first_all []
 first_kept (Some one ∷ others) (suc slot) old share is agrees =
     consed one (first_of others) (first_of (set others slot (Some share))) (first_kept others slot old share is agrees)
 
--- the share of the next cell is known behind the first
+-- the share of the next cell is known after the first
 pub first_more : (shares : List Share) (known : List (Option Share)) (share : Share) → AreFirst shares (first_of known) → length shares < length known
     → AreFirst (shares ++ share ∷ []) (first_of (set known (length shares) (Some share)))
 first_more [] [] share first room = absurd (omega (arith, room))

@@ -15,7 +15,7 @@ pub record KnownState : Type 0 where
 abbrev pub AreFirst : List Share → List Share → Type 0
 AreFirst ones all = (others : List Share) × (all ≡ ones ++ others)
 
--- of the same table all that was known, and these behind; all that the worker was told of stays told
+-- of the same table all that was known, and these after; all that the worker was told of stays told
 pub record Learns (old : KnownState) (more : List Share) (new : KnownState) : Type 0 where
   pub table : new.table ≡ old.table
   pub shares : new.shares ≡ old.shares ++ more
@@ -26,12 +26,12 @@ abbrev pub Grows : KnownState → KnownState → Type 0
 Grows old new = (more : List Share) × Learns old more new
 
 -- of the same table what was known; all that the worker was told of stays told, and these are told as well
-pub record IsTold (old : KnownState) (shares : List Share) (new : KnownState) : Type 0 where
+pub record PublishesTo (old : KnownState) (shares : List Share) (new : KnownState) : Type 0 where
   pub same : new ≡ record old { told = new.told }
   pub kept : AreFirst old.told new.told
   pub told : AreFirst shares new.told
 
--- a share that is not known, once it is bound: behind what is known others stand that have another text, and then one of its text, whoever bound it
+-- a share that is not known, once it is bound: after what is known others stand that have another text, and then one of its text, whoever bound it
 pub record IsBound (old : KnownState) (share : Share) (slot : ℕ) (new : KnownState) : Type 0 where
   pub others : List Share
   pub bound : Share

@@ -55,7 +55,7 @@ impl<'a> KnownCell<'a> {
     }
 
     /// Tells another worker of the share.
-    pub(crate) fn tell(&mut self, other: &mut KnownCell<'_>)
+    pub(crate) fn publish(&mut self, other: &mut KnownCell<'_>)
         requires { other.old.name ≡ self.old.name }
         ensures same { self.new ≡ self.old }
         ensures told { other.new ≡ self.old }

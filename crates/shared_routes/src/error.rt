@@ -12,7 +12,7 @@ pub enum BindError {
     /// 205: all eight slots are bound to other shares.
     #[error("no slot is free")]
     NoSlot,
-    /// 206: memory was wanted and refused.
+    /// 206: an allocation failed.
     #[error("out of memory")]
     Memory,
 }

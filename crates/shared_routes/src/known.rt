@@ -2,7 +2,7 @@
 ghost use Rattle.std.specs.Prelude.{◌≡◌, ◌<◌, ◌≤◌, ◌+◌, ◌∷◌, ◌++◌, [], true, false, bytes_eq, length, map, take, slice_get, position, All, Some, None, IfOk, IfSome, MatchOption, MatchResult};
 ghost use Rattle.mqtt_topic.specs.Names.{Share as share_type};
 ghost use Rattle.mqtt_topic.specs.Routes.{slot_of, routed, byte_of, sets_of, places_of};
-ghost use Rattle.shared_routes.specs.Known.{AreFirst, Learns, Grows, IsTold, IsBoundBehind, BindAnswers};
+ghost use Rattle.shared_routes.specs.Known.{AreFirst, Learns, Grows, PublishesTo, IsBoundBehind, BindAnswers};
 
 use crate::cell::KnownCell;
 use crate::error::BindError;
@@ -12,7 +12,7 @@ use std::alloc::{AllocError, Global};
 use std::marker::Model;
 
 /// What a worker has seen of the table: the shares of the first slots. It only grows. Whoever binds a share knows it; what others bound, a worker
-/// knows from its next [`KnownRoutes::learn`] on, and so what it was told of.
+/// knows from its next [`KnownRoutes::refresh`] on, and so what it was told of.
 ///
 /// Contracts see it as a `KnownState`.
 #[derive(Drop)]
@@ -43,7 +43,7 @@ impl<'a> KnownRoutes<'a> {
     ///
     /// # Errors
     ///
-    /// Want of memory. Of the other calls only [`bind`](KnownRoutes::bind) takes any.
+    /// Lack of memory. Of the other calls only [`bind`](KnownRoutes::bind) takes any.
     pub fn new(alloc: Global, routes: &'a SharedRoutes) -> Result<KnownRoutes<'a>, AllocError>
         ensures { IfOk result (λ known. known ≡ record { table = routes.now; shares = []; told = [] }) }
     {
@@ -54,18 +54,18 @@ impl<'a> KnownRoutes<'a> {
     }
 
     /// Learns what was bound since: all that it was told of, and what else it finds. It takes no memory.
-    pub fn learn(&mut self)
+    pub fn refresh(&mut self)
         ensures grows { Grows self.old self.new }
         ensures told { AreFirst self.old.told self.new.shares }
         ensures all { self.new.told ≡ self.new.shares }
     {
-        if self.learn_one() {
-            self.learn();
+        if self.refresh_one() {
+            self.refresh();
         }
     }
 
     /// Learns of the next slot, and says whether there was something to learn.
-    fn learn_one(&mut self) -> bool
+    fn refresh_one(&mut self) -> bool
         ensures grows { Grows self.old self.new }
         ensures more { result ≡ true → length self.new.shares ≡ length self.old.shares + 1 }
         ensures all { result ≡ false → self.new.told ≡ self.new.shares }
@@ -89,37 +89,37 @@ impl<'a> KnownRoutes<'a> {
         Some(share)
     }
 
-    /// Tells another worker of all that this one knows: that knows it from its next [`learn`](KnownRoutes::learn) on. It looks at no cell.
-    pub fn tell(&mut self, other: &mut KnownRoutes<'_>)
+    /// Tells another worker of all that this one knows: that knows it from its next [`refresh`](KnownRoutes::learn) on. It looks at no cell.
+    pub fn publish(&mut self, other: &mut KnownRoutes<'_>)
         requires { other.old.table ≡ self.old.table }
         ensures same { self.new ≡ self.old }
-        ensures told { IsTold other.old self.old.shares other.new }
+        ensures told { PublishesTo other.old self.old.shares other.new }
     {
-        self.tell_from(other, 0);
+        self.publish_from(other, 0);
     }
 
     /// Tells another worker, which was told of the shares before this slot, of the others.
-    fn tell_from(&mut self, other: &mut KnownRoutes<'_>, slot: usize)
+    fn publish_from(&mut self, other: &mut KnownRoutes<'_>, slot: usize)
         requires table { other.old.table ≡ self.old.table }
         requires told { AreFirst (take slot self.old.shares) other.old.told }
         ensures same { self.new ≡ self.old }
-        ensures told { IsTold other.old self.old.shares other.new }
+        ensures told { PublishesTo other.old self.old.shares other.new }
     {
         if slot < self.seen.len() {
-            self.tell_one(other, slot);
-            self.tell_from(other, slot + 1);
+            self.publish_one(other, slot);
+            self.publish_from(other, slot + 1);
         }
     }
 
     /// Tells another worker, which was told of the shares before this slot, of that of the slot.
-    fn tell_one(&mut self, other: &mut KnownRoutes<'_>, slot: usize)
+    fn publish_one(&mut self, other: &mut KnownRoutes<'_>, slot: usize)
         requires table { other.old.table ≡ self.old.table }
         requires told { AreFirst (take slot self.old.shares) other.old.told }
         requires known { slot < length self.old.shares }
         ensures same { self.new ≡ self.old }
-        ensures told { IsTold other.old (take (slot + 1) self.old.shares) other.new }
+        ensures told { PublishesTo other.old (take (slot + 1) self.old.shares) other.new }
     {
-        self.cells[slot].tell(&mut other.cells[slot]);
+        self.cells[slot].publish(&mut other.cells[slot]);
     }
 
     /// The slot that the share is bound to, as far as is known.
@@ -201,7 +201,7 @@ impl<'a> KnownRoutes<'a> {
     /// Writes the share to the next cell, unless a share stands there: then it comes back. The worker has not seen what stands there, but was told of it.
     fn offer(&mut self, share: Box<Share>) -> Option<Box<Share>>
         requires room { length self.old.shares < MOST_ROUTES }
-        ensures { (bound : share_type) × IsTold self.old (self.old.shares ++ bound ∷ []) self.new
+        ensures { (bound : share_type) × PublishesTo self.old (self.old.shares ++ bound ∷ []) self.new
             × MatchOption result (bound ≡ share.value) (λ back. back.value ≡ share.value) }
     {
         let slot = self.seen.len();

@@ -8,7 +8,7 @@
 //! let routes = SharedRoutes::new(alloc);
 //! let mut known = KnownRoutes::new(alloc, &routes)?;
 //! let slot = known.bind(alloc, share)?; // the slot that the share is bound to, by whomever
-//! known.learn();
+//! known.refresh();
 //! let slots = known.matching(&topic);
 //! ```
 #![tactic(auto)]

@@ -6,11 +6,11 @@ use Rattle.group_jobs.specs.Stamps.{Held}
 use Rattle.session_desk.specs.declared.session.Session.{Session}
 use Rattle.session_desk.specs.Calls.{Call}
 use Rattle.session_desk.specs.Calls as desk
-use Rattle.shared_desk.specs.Histories.{IsTold}
+use Rattle.shared_desk.specs.Histories.{AddsCall}
 use Rattle.conn_supply.specs.declared.supply.BindRefusal.{BindRefusal}
 use Rattle.conn_supply.specs.declared.supply.BindRefusal.TheVariants as bind
-use Rattle.conn_supply.specs.Facts.{Fact}
-use Rattle.conn_supply.specs.Facts.Fact.{Attach, Withdraw, Kicked, Park, ParkAsIs, Keep, Bury, Sweep, LendPlace, TakePlace, Bind, Find, Match, Offer, MayTake, Take, TakeBack, Settle, GiveBack}
+use Rattle.conn_supply.specs.SupplyCalls.{SupplyCall}
+use Rattle.conn_supply.specs.SupplyCalls.SupplyCall.{Attach, Withdraw, Kicked, Park, ParkAsIs, Keep, Bury, Sweep, LendPlace, TakePlace, Bind, Find, Match, Offer, MayTake, Take, TakeBack, Settle, GiveBack}
 use Rattle.group_queue.specs.Ports.{GroupId}
 use Rattle.group_queue.specs.Places.{PlaceState, GiveBackAnswers, TakeAnswers, TakeBackAnswers}
 use Rattle.broker_groups.specs.Answers.{in_group, Sights}
@@ -22,9 +22,9 @@ use Rattle.shared_supply.specs.Waking.{asking_back, freeing, one_more_if, one_ta
 use Rattle.shared_supply.specs.Workers.{Worker}
 use Rattle.shared_supply.specs.Settling.{SettlesAndGathers}
 
--- the desk was called behind what was known of its calls and what others did since, in the one history of its calls
+-- the desk was called after what was known of its calls and what others did since, in the one history of its calls
 abbrev pub IsToldOfDesk : List (Call Held PlaceState) → Call Held PlaceState → List (Call Held PlaceState) → Type 0
-IsToldOfDesk known call now = IsTold HasOut (λ (p : PlaceState). p.group) (λ (p : PlaceState). p.number) known call now
+IsToldOfDesk known call now = AddsCall HasOut (λ (p : PlaceState). p.group) (λ (p : PlaceState). p.number) known call now
 
 -- the same worker, who has these to wake
 abbrev pub waking : Worker → Wakes → Worker
@@ -64,7 +64,7 @@ Binds old share (Err bind.Memory) new = (slot_of share.text old.shares ≡ None)
 
 module _ (group : ℕ → GroupId) (seen : Sights) where
   -- what each call makes, with its answer, in a broker with these groups, whose witness saw this
-  abbrev pub Calls : Worker → Fact PlaceState → Worker → Type 0
+  abbrev pub Calls : Worker → SupplyCall PlaceState → Worker → Type 0
   Calls old (Attach request answer) new = AsksDesk (waking old (asking_back answer old.wakes)) (desk.Attach request answer) new
   Calls old (Withdraw connection) new = AsksDesk old (desk.Withdraw connection) new
   Calls old (Kicked connection answer) new = ((answer ≡ false) × (new ≡ old)) ⊎ AsksDesk old (desk.Kicked connection answer) new

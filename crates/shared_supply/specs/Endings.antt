@@ -27,7 +27,7 @@ pub record IsAllBehind (calls : List (Call Held PlaceState)) (places : List Plac
   pub led : IsLedTo calls books
   pub all : HasAll books places held
 
--- each group ended with the ports that are its own, and with these places and messages, which were all that the desk had behind these calls
+-- each group ended with the ports that are its own, and with these places and messages, which were all that the desk had after these calls
 pub record IsEndedWith {W : Type 0} (group : ℕ → GroupId) (calls : List (Call Held PlaceState)) (ports : List (List PortState)) (places : List PlaceState) (held : List Held)
     (answers : List (Result Report (Unfinished W))) (strangers : List Held) : Type 0 where
   pub had : IsAllBehind calls places held

@@ -33,9 +33,9 @@ abbrev pub is_visiting : Worker → Bool
 is_visiting worker = is_inside worker.visitor
 
 -- where the worker stands; there always is a visitor
-abbrev pub standing : Option Visitor → Visitor
-standing (Some visitor) = visitor
-standing None = Outside (new_seat no_gate 0)
+abbrev pub visitor_of : Option Visitor → Visitor
+visitor_of (Some visitor) = visitor
+visitor_of None = Outside (new_seat no_gate 0)
 
 -- there is a visitor, and it is one of this gate
 abbrev pub IsVisitorOf : GateId → Option Visitor → Type 0

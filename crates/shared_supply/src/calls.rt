@@ -1,14 +1,14 @@
 //! The calls of connections.
 ghost use Rattle.std.specs.Prelude.{◌≡◌, [], IfSome};
 ghost use Rattle.member_window.specs.Contents.{held_of};
-ghost use Rattle.conn_supply.specs.Facts.Fact.{Park, ParkAsIs, Keep, Bury};
+ghost use Rattle.conn_supply.specs.SupplyCalls.SupplyCall.{Park, ParkAsIs, Keep, Bury};
 ghost use Rattle.conn_supply.specs.Holding.{IsOutAtPlace};
 ghost use Rattle.conn_supply.specs.Ready.{IsSoundSession};
 ghost use Rattle.broker_groups.specs.Outs.{HasOut};
 ghost use Rattle.shared_supply.specs.Calls.{Calls};
 ghost use Rattle.shared_supply.specs.Workers.{is_visiting, Begins, Leaves};
 
-use crate::letting_go::dissolve;
+use crate::discarding::release;
 use crate::settling::settle;
 use crate::supply::{SharedSupply, turn_of};
 use broker_groups::{Broker, BrokerPlace};
@@ -59,8 +59,8 @@ impl<'a, 'g, B: Broker, N: HistoryName, R: Wait> Supply<BrokerPlace<B>>
         clean: bool,
         now: u64,
     ) -> Result<Attached<Envelope, BrokerPlace<B>>, DeskError> {
-        let hall = self.hall;
-        let attached = hall.desk.attach(
+        let shared_broker = self.shared_broker;
+        let attached = shared_broker.desk.attach(
             self.rt,
             &mut self.desk,
             connection,
@@ -73,13 +73,17 @@ impl<'a, 'g, B: Broker, N: HistoryName, R: Wait> Supply<BrokerPlace<B>>
     }
 
     fn withdraw(&mut self, connection: u16) {
-        let hall = self.hall;
-        hall.desk.withdraw(self.rt, &mut self.desk, connection);
+        let shared_broker = self.shared_broker;
+        shared_broker
+            .desk
+            .withdraw(self.rt, &mut self.desk, connection);
     }
 
     fn kicked(&mut self, connection: u16) -> bool {
-        let hall = self.hall;
-        hall.desk.kicked(self.rt, &mut self.desk, connection)
+        let shared_broker = self.shared_broker;
+        shared_broker
+            .desk
+            .kicked(self.rt, &mut self.desk, connection)
     }
 
     fn park(
@@ -93,8 +97,10 @@ impl<'a, 'g, B: Broker, N: HistoryName, R: Wait> Supply<BrokerPlace<B>>
         ensures visiting { is_visiting self.new ≡ is_visiting self.old }
     {
         self.wakes.free_session();
-        let hall = self.hall;
-        hall.desk.park(self.rt, &mut self.desk, session, now)
+        let shared_broker = self.shared_broker;
+        shared_broker
+            .desk
+            .park(self.rt, &mut self.desk, session, now)
     }
 
     fn park_as_is(&mut self, session: Session<Envelope, BrokerPlace<B>>)
@@ -103,8 +109,12 @@ impl<'a, 'g, B: Broker, N: HistoryName, R: Wait> Supply<BrokerPlace<B>>
         ensures visiting { is_visiting self.new ≡ is_visiting self.old }
     {
         self.wakes.free_session();
-        let hall = self.hall;
-        dissolve(hall.desk.park_as_is(self.rt, &mut self.desk, session));
+        let shared_broker = self.shared_broker;
+        release(
+            shared_broker
+                .desk
+                .park_as_is(self.rt, &mut self.desk, session),
+        );
     }
 
     fn keep(&mut self, session: Session<Envelope, BrokerPlace<B>>)
@@ -112,8 +122,8 @@ impl<'a, 'g, B: Broker, N: HistoryName, R: Wait> Supply<BrokerPlace<B>>
         ensures called { Calls B.group B.Seen.Witness self.old (Keep session) self.new }
         ensures visiting { is_visiting self.new ≡ is_visiting self.old }
     {
-        let hall = self.hall;
-        dissolve(hall.desk.keep(self.rt, &mut self.desk, session));
+        let shared_broker = self.shared_broker;
+        release(shared_broker.desk.keep(self.rt, &mut self.desk, session));
     }
 
     fn bury(&mut self, session: Session<Envelope, BrokerPlace<B>>)
@@ -122,23 +132,25 @@ impl<'a, 'g, B: Broker, N: HistoryName, R: Wait> Supply<BrokerPlace<B>>
         ensures called { Calls B.group B.Seen.Witness self.old (Bury session) self.new }
         ensures visiting { is_visiting self.new ≡ is_visiting self.old }
     {
-        let hall = self.hall;
-        dissolve(hall.desk.bury(self.rt, &mut self.desk, session));
+        let shared_broker = self.shared_broker;
+        release(shared_broker.desk.bury(self.rt, &mut self.desk, session));
     }
 
     fn sweep(&mut self, now: u64) -> Option<Session<Envelope, BrokerPlace<B>>> {
-        let hall = self.hall;
-        hall.desk.sweep(self.rt, &mut self.desk, now)
+        let shared_broker = self.shared_broker;
+        shared_broker.desk.sweep(self.rt, &mut self.desk, now)
     }
 
     fn lend_place(&mut self, slot: u8) -> Option<BrokerPlace<B>> {
-        let hall = self.hall;
-        hall.desk.lend_place(self.rt, &mut self.desk, slot)
+        let shared_broker = self.shared_broker;
+        shared_broker.desk.lend_place(self.rt, &mut self.desk, slot)
     }
 
     fn take_place(&mut self, place: BrokerPlace<B>) {
-        let hall = self.hall;
-        let _back = hall.desk.take_place(self.rt, &mut self.desk, place);
+        let shared_broker = self.shared_broker;
+        let _back = shared_broker
+            .desk
+            .take_place(self.rt, &mut self.desk, place);
     }
 
     fn bind(&mut self, share: Share) -> Result<u8, BindRefusal> {
@@ -163,9 +175,12 @@ impl<'a, 'g, B: Broker, N: HistoryName, R: Wait> Supply<BrokerPlace<B>>
         _connection: u16,
         message: SharedMessage,
     ) -> Result<Stamp, OfferRefusal> {
-        let hall = self.hall;
+        let shared_broker = self.shared_broker;
         let turn = turn_of(&self.visitor);
-        match self.ports.offer(&hall.groups, self.rt, turn, slot, message) {
+        match self
+            .ports
+            .offer(&shared_broker.groups, self.rt, turn, slot, message)
+        {
             Ok(stamp) => {
                 self.note_brought(slot);
                 Ok(stamp)
@@ -179,24 +194,31 @@ impl<'a, 'g, B: Broker, N: HistoryName, R: Wait> Supply<BrokerPlace<B>>
     }
 
     fn take(&mut self, place: &mut BrokerPlace<B>) -> Result<Option<Envelope>, NoMemory> {
-        let hall = self.hall;
+        let shared_broker = self.shared_broker;
         let slot = place.slot();
-        let taken = place.take(&hall.groups, self.rt, turn_of(&self.visitor));
+        let taken = place.take(&shared_broker.groups, self.rt, turn_of(&self.visitor));
         self.note_handed(slot, &taken);
         taken
     }
 
     fn take_back(&mut self, place: &mut BrokerPlace<B>) -> Result<Option<Envelope>, NoMemory> {
-        let hall = self.hall;
+        let shared_broker = self.shared_broker;
         let slot = place.slot();
-        let taken = place.take_back(&hall.groups, self.rt, turn_of(&self.visitor));
+        let taken = place.take_back(&shared_broker.groups, self.rt, turn_of(&self.visitor));
         self.note_handed(slot, &taken);
         taken
     }
 
     fn settle(&mut self, place: &mut BrokerPlace<B>, envelope: Envelope, fate: Fate) {
-        let hall = self.hall;
-        let is_missed = settle(self.rt, self.alloc, &hall.groups, place, envelope, fate);
+        let shared_broker = self.shared_broker;
+        let is_missed = settle(
+            self.rt,
+            self.alloc,
+            &shared_broker.groups,
+            place,
+            envelope,
+            fate,
+        );
         self.note_missed(is_missed);
     }
 
@@ -205,9 +227,9 @@ impl<'a, 'g, B: Broker, N: HistoryName, R: Wait> Supply<BrokerPlace<B>>
         place: &mut BrokerPlace<B>,
         envelope: Envelope,
     ) -> Result<(), Envelope> {
-        let hall = self.hall;
+        let shared_broker = self.shared_broker;
         let slot = place.slot();
-        match place.give_back(&hall.groups, self.rt, envelope) {
+        match place.give_back(&shared_broker.groups, self.rt, envelope) {
             Ok(()) => {
                 self.note_brought(slot);
                 Ok(())

@@ -3,14 +3,14 @@ ghost use Rattle.std.specs.Prelude.{◌≡◌, IfOk, IfErr, MatchResult};
 ghost use mathlib.Core.List.{IsPrefix};
 ghost use Rattle.shared_supply.specs.Endings.{IsAllBehind, IsEnded, IsLedTo, IsLeft};
 
-use crate::hall::Hall;
-use crate::letting_go::let_go;
+use crate::discarding::discard;
+use crate::shared_broker::SharedBroker;
 use broker_groups::{Broker, BrokerGroups, BrokerPlace, Ended, Ports, Unended};
 use call_history::HistoryName;
 use group_jobs::Envelope;
 use group_queue::LawfulWitness;
 use session_desk::{All, Desk};
-use shared_desk::DeskPass;
+use shared_desk::DeskView;
 use shared_routes::SharedRoutes;
 use std::alloc::Global;
 use std::sync::Wait;
@@ -56,7 +56,7 @@ impl<'g, B: Broker> StillOpen<'g, B> {
                 routes: _,
                 ports: _,
             } => {
-                desk.abandon_with(&let_go);
+                desk.abandon_with(&discard);
                 groups.abandon();
             }
             StillOpen::Groups { unended, routes: _ } => unended.abandon(),
@@ -64,7 +64,7 @@ impl<'g, B: Broker> StillOpen<'g, B> {
     }
 }
 
-impl<'g, B: Broker, N: HistoryName> Hall<'g, B, N> {
+impl<'g, B: Broker, N: HistoryName> SharedBroker<'g, B, N> {
     /// Takes the broker apart: its desk gives all places, and the messages that its sessions held. The pass then knows all calls that were made of the desk, and by
     /// these it had just those places and messages.
     ///
@@ -73,7 +73,7 @@ impl<'g, B: Broker, N: HistoryName> Hall<'g, B, N> {
     /// [`Unemptied`]: an allocation failed. All that it had comes back, with the desk as these calls led to it.
     pub fn empty(
         self,
-        me: &mut DeskPass<BrokerPlace<B>, N>,
+        me: &mut DeskView<BrokerPlace<B>, N>,
     ) -> Result<Emptied<'g, B>, Unemptied<'g, B>>
         ensures before { IsPrefix me.old me.new }
         ensures all { IfOk result (λ emptied. IsAllBehind me.new emptied.places.items emptied.held.items) }
@@ -97,7 +97,7 @@ impl<'g, B: Broker, N: HistoryName> Hall<'g, B, N> {
     }
 }
 
-impl<'g, B: Broker, N: HistoryName> Hall<'g, B, N>
+impl<'g, B: Broker, N: HistoryName> SharedBroker<'g, B, N>
 where
     B::Seen: LawfulWitness,
 {
@@ -112,7 +112,7 @@ where
         rt: &R,
         alloc: Global,
         ports: Vec<Ports<B>>,
-        me: &mut DeskPass<BrokerPlace<B>, N>,
+        me: &mut DeskView<BrokerPlace<B>, N>,
     ) -> Result<Ended<'g, B::Seen>, StillOpen<'g, B>>
         ensures before { IsPrefix me.old me.new }
         ensures ended { IfOk result (λ ended. IsEnded B.group me.new ports.items ended.answers.items ended.strangers.items) }

@@ -2,16 +2,16 @@
 #![tactic(auto)]
 
 mod calls;
+mod discarding;
 mod ending;
-mod hall;
-mod letting_go;
 mod settling;
+mod shared_broker;
 mod supply;
 mod tallies;
 mod wakes;
 
 pub use ending::{Emptied, StillOpen, Unemptied};
-pub use hall::Hall;
+pub use shared_broker::SharedBroker;
 pub use supply::SharedSupply;
 pub use tallies::Tally;
 pub use wakes::{AskedBack, Wakes};

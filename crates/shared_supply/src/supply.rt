@@ -4,9 +4,9 @@ ghost use Rattle.gate_word.specs.Visits.{Ends};
 ghost use Rattle.gate_word.specs.declared.visitor.Visitor.TheVariants.{Inside, Outside};
 ghost use Rattle.shared_supply.specs.Calls.{handing, missing};
 ghost use Rattle.shared_supply.specs.Waking.{KeepsAtMost, no_wakes, one_called, one_more};
-ghost use Rattle.shared_supply.specs.Workers.{Begins, Leaves, standing, is_inside};
+ghost use Rattle.shared_supply.specs.Workers.{Begins, Leaves, visitor_of, is_inside};
 
-use crate::hall::Hall;
+use crate::shared_broker::SharedBroker;
 use crate::tallies::{Tallies, Tally};
 use crate::wakes::Wakes;
 use broker_groups::{Broker, BrokerPlace, Key, Ports};
@@ -14,25 +14,25 @@ use call_history::HistoryName;
 use conn_supply::NoMemory;
 use gate_word::{Turn, Visitor};
 use group_jobs::Envelope;
-use shared_desk::DeskPass;
+use shared_desk::DeskView;
 use shared_routes::KnownRoutes;
 use std::alloc::Global;
 use std::marker::Model;
 use std::mem;
 use std::sync::Wait;
 
-/// What a worker asks: the hall that it shares with the others, and what it has for itself, a visitor of the broker's gate, a port of each group,
+/// What a worker asks: the shared broker that it shares with the others, and what it has for itself, a visitor of the broker's gate, a port of each group,
 /// what it knows of the routes and of the calls of the desk, what it did that others may wait for, and how many more messages it may be handed.
 ///
 /// Contracts see it as a `Worker`.
 pub struct SharedSupply<'a, 'g, B: Broker, N: HistoryName, R: Wait> {
     pub(crate) rt: &'a R,
-    pub(crate) hall: &'a Hall<'g, B, N>,
+    pub(crate) shared_broker: &'a SharedBroker<'g, B, N>,
     // There always is one.
     pub(crate) visitor: Option<Visitor>,
     pub(crate) ports: Ports<B>,
     pub(crate) known: KnownRoutes<'a>,
-    pub(crate) desk: DeskPass<BrokerPlace<B>, N>,
+    pub(crate) desk: DeskView<BrokerPlace<B>, N>,
     pub(crate) alloc: Global,
     pub(crate) wakes: Wakes,
     // How many more messages are to be handed to its members, until it is allowed others.
@@ -44,13 +44,13 @@ pub struct SharedSupply<'a, 'g, B: Broker, N: HistoryName, R: Wait> {
 
 impl<'a, 'g, B: Broker, N: HistoryName, R: Wait> Model for SharedSupply<'a, 'g, B, N, R> {
     ghost use Rattle.std.specs.Prelude.{◌≡◌};
-    ghost use Rattle.shared_supply.specs.Workers.{Worker, standing, IsVisitorOf};
+    ghost use Rattle.shared_supply.specs.Workers.{Worker, visitor_of, IsVisitorOf};
 
     ghost Value = { Worker };
 
-    ghost view = { λ s. record { visitor = standing s.visitor; ports = s.ports; known = s.known; desk = s.desk; wakes = s.wakes; allowance = s.allowance; missed = s.missed } };
+    ghost view = { λ s. record { visitor = visitor_of s.visitor; ports = s.ports; known = s.known; desk = s.desk; wakes = s.wakes; allowance = s.allowance; missed = s.missed } };
 
-    ghost invariant = { λ s. IsVisitorOf B.gate s.visitor × (s.known.table ≡ s.hall.now) };
+    ghost invariant = { λ s. IsVisitorOf B.gate s.visitor × (s.known.table ≡ s.shared_broker.now) };
 }
 
 impl<'a, 'g, B: Broker, N: HistoryName, R: Wait> SharedSupply<'a, 'g, B, N, R> {
@@ -58,21 +58,21 @@ impl<'a, 'g, B: Broker, N: HistoryName, R: Wait> SharedSupply<'a, 'g, B, N, R> {
     pub fn new(
         rt: &'a R,
         alloc: Global,
-        hall: &'a Hall<'g, B, N>,
+        shared_broker: &'a SharedBroker<'g, B, N>,
         key: Key<B>,
         ports: Ports<B>,
         known: KnownRoutes<'a>,
     ) -> SharedSupply<'a, 'g, B, N, R>
-        requires { known.table ≡ hall.now }
+        requires { known.table ≡ shared_broker.now }
         ensures { result ≡ record { visitor = Outside key; ports = ports; known = known.entry; desk = result.desk; wakes = no_wakes; allowance = u32.MAX; missed = 0 } }
     {
         SharedSupply {
             rt,
-            hall,
+            shared_broker,
             visitor: Some(key.into_visitor()),
             ports,
             known,
-            desk: hall.desk.know(rt),
+            desk: shared_broker.desk.observe(rt),
             alloc,
             wakes: Wakes::none(),
             allowance: u32::MAX,
@@ -138,14 +138,14 @@ impl<'a, 'g, B: Broker, N: HistoryName, R: Wait> SharedSupply<'a, 'g, B, N, R> {
         }
     }
 
-    /// The hall that it asks, of whose routes it knows.
-    pub fn hall(&self) -> &'a Hall<'g, B, N>
+    /// The shared broker that it asks, of whose routes it knows.
+    pub fn shared_broker(&self) -> &'a SharedBroker<'g, B, N>
         ensures { self.now.known.table ≡ result.now }
     {
-        self.hall
+        self.shared_broker
     }
 
-    /// What it did since it was last asked that others may wait for. Who asks behind a visit can wake just these.
+    /// What it did since it was last asked that others may wait for. Who asks after a visit can wake just these.
     pub fn take_wakes(&mut self) -> Wakes
         ensures told { result ≡ self.old.wakes }
         ensures cleared { self.new ≡ record self.old { wakes = no_wakes } }
@@ -178,14 +178,14 @@ impl<'a, 'g, B: Broker, N: HistoryName, R: Wait> SharedSupply<'a, 'g, B, N, R> {
     }
 
     /// Its key and its ports. A worker that is inside leaves first.
-    pub fn into_parts(self) -> (Key<B>, Ports<B>, DeskPass<BrokerPlace<B>, N>)
+    pub fn into_parts(self) -> (Key<B>, Ports<B>, DeskView<BrokerPlace<B>, N>)
         ensures key { Ends self.entry.visitor result.0 }
         ensures ports { result.1 ≡ self.entry.ports }
         ensures desk { result.2 ≡ self.entry.desk }
     {
         let SharedSupply {
             rt: _,
-            hall,
+            shared_broker,
             visitor,
             ports,
             known: _,
@@ -199,7 +199,7 @@ impl<'a, 'g, B: Broker, N: HistoryName, R: Wait> SharedSupply<'a, 'g, B, N, R> {
         let Some(visitor) = visitor else {
             unreachable!()
         };
-        (Key::of(visitor.leave(hall.gate)), ports, desk)
+        (Key::of(visitor.leave(shared_broker.gate)), ports, desk)
     }
 
     /// Enters the gate, unless it is shut, and learns of the routes what others bound.
@@ -209,12 +209,12 @@ impl<'a, 'g, B: Broker, N: HistoryName, R: Wait> SharedSupply<'a, 'g, B, N, R> {
         let Some(visitor) = self.visitor.take() else {
             unreachable!()
         };
-        let hall = self.hall;
-        let entered = visitor.enter(hall.gate);
+        let shared_broker = self.shared_broker;
+        let entered = visitor.enter(shared_broker.gate);
         if let Some(other) = mem::replace(&mut self.visitor, Some(entered)) {
-            let _seat = other.leave(hall.gate);
+            let _seat = other.leave(shared_broker.gate);
         }
-        self.known.learn();
+        self.known.refresh();
     }
 
     /// Leaves the gate.
@@ -224,18 +224,18 @@ impl<'a, 'g, B: Broker, N: HistoryName, R: Wait> SharedSupply<'a, 'g, B, N, R> {
         let Some(visitor) = self.visitor.take() else {
             unreachable!()
         };
-        let hall = self.hall;
-        let seat = visitor.leave(hall.gate);
+        let shared_broker = self.shared_broker;
+        let seat = visitor.leave(shared_broker.gate);
         if let Some(other) = mem::replace(&mut self.visitor, Some(Visitor::Outside(seat))) {
-            let _seat = other.leave(hall.gate);
+            let _seat = other.leave(shared_broker.gate);
         }
     }
 }
 
 /// The turn of a visitor that is inside.
 pub(crate) fn turn_of(visitor: &Option<Visitor>) -> &Turn
-    requires { is_inside (standing visitor.now) ≡ true }
-    ensures { standing visitor.now ≡ Inside result.now }
+    requires { is_inside (visitor_of visitor.now) ≡ true }
+    ensures { visitor_of visitor.now ≡ Inside result.now }
 {
     let Some(Visitor::Inside(turn)) = visitor else {
         unreachable!()

@@ -1,10 +1,10 @@
-//! Plays over the supply that threads share, and over the server on one thread: both write the same.
+//! Scenarios over the supply that threads share, and over the server on one thread: both write the same.
 ghost use Rattle.std.specs.Prelude.{◌≡◌, true};
 
 use crate::telling::tell;
 use broker_groups::{Broker, BrokerPlace, Key};
 use call_history::HistoryName;
-use client_table::{CLIENTS, ClientTable, Said};
+use client_table::{CLIENTS, ClientTable, StepOutput};
 use conn_engine::Opening;
 use conn_rules::MaxInflight;
 use conn_supply::{HoldingPlace, NoMemory, Supply};
@@ -13,7 +13,7 @@ use gate_word::Gate;
 use group_queue::Nobody;
 use local_server::Setup;
 use mqtt_topic::Routes;
-use plays::{Event, Play, What, all_plays, longest_wait};
+use scenarios::{Event, Scenario, What, all_scenarios, longest_wait};
 use std::alloc::Global;
 use std::process::Abort;
 use std::sync::Wait;
@@ -27,7 +27,7 @@ use test_broker::worker::{Shift, work_alone};
 fn serve<P: HoldingPlace, S: Supply<P>>(
     supply: &mut S,
     clients: &mut ClientTable<P>,
-    said: &mut Vec<Said>,
+    said: &mut Vec<StepOutput>,
     now: u64,
     event: &Event,
 ) -> Result<(), NoMemory>
@@ -52,7 +52,7 @@ fn serve<P: HoldingPlace, S: Supply<P>>(
 fn visit<P: HoldingPlace, S: Supply<P>>(
     supply: &mut S,
     clients: &mut ClientTable<P>,
-    said: &mut Vec<Said>,
+    said: &mut Vec<StepOutput>,
     now: u64,
     event: &Event,
 ) -> Result<(), NoMemory> {
@@ -64,20 +64,20 @@ fn visit<P: HoldingPlace, S: Supply<P>>(
     served
 }
 
-/// A play on one worker, and what was written in it. `None` where memory is wanted.
+/// A scenario on one worker, and what was written in it. `None` where an allocation fails.
 #[derive(Drop)]
 struct Stage<'t> {
-    play: &'t Play<'t>,
+    scenario: &'t Scenario<'t>,
     now: u64,
-    said: Vec<Said>,
+    said: Vec<StepOutput>,
     text: Vec<u8>,
 }
 
 impl<'t> Stage<'t> {
     /// One on which nothing happened yet.
-    fn of(alloc: Global, play: &'t Play<'t>) -> Stage<'t> {
+    fn of(alloc: Global, scenario: &'t Scenario<'t>) -> Stage<'t> {
         Stage {
-            play,
+            scenario,
             now: 0,
             said: Vec::new(alloc),
             text: Vec::new(alloc),
@@ -105,7 +105,7 @@ impl<'t> Stage<'t> {
         supply: &mut S,
         clients: &mut ClientTable<P>,
     ) -> Option<()> {
-        let events = self.play.events(alloc)?;
+        let events = self.scenario.events(alloc)?;
         for event in &events {
             self.happen(alloc, supply, clients, event)?;
         }
@@ -126,7 +126,7 @@ impl<'t> Stage<'t> {
         tell(alloc, &mut self.text, &self.said)
     }
 
-    /// The play with these clients.
+    /// The scenario with these clients.
     fn act<B: Broker, S: Supply<BrokerPlace<B>>>(
         &mut self,
         alloc: Global,
@@ -137,9 +137,9 @@ impl<'t> Stage<'t> {
     ) -> Option<()>
         requires { gate.now ≡ B.gate }
     {
-        bind(alloc, supply, self.play.shares)?;
+        bind(alloc, supply, self.scenario.shares)?;
         self.go_on(alloc, supply, clients)?;
-        if let Some(moment) = self.play.close() {
+        if let Some(moment) = self.scenario.close() {
             self.now = self.now.max(moment);
             let _is_drained = shut(gate, spare);
             self.close(alloc, supply, clients)?;
@@ -180,22 +180,22 @@ impl<'t> Day for Stage<'t> {
 }
 
 /// What a server begins with.
-fn setup(alloc: Global, play: &Play<'_>) -> Option<Setup> {
+fn setup(alloc: Global, scenario: &Scenario<'_>) -> Option<Setup> {
     let mut groups = Routes::new(alloc);
-    for text in play.shares {
+    for text in scenario.shares {
         let _slot = groups.bind(share_of(alloc, *text)?).ok()?;
     }
     Some(Setup {
-        capacity: play.capacity,
+        capacity: scenario.capacity,
         max_inflight: MaxInflight::most(),
         groups,
     })
 }
 
-/// What is written of a play over the server on one thread.
-fn by_server(alloc: Global, play: &Play<'_>) -> Option<Vec<u8>> {
-    let script = play.script(alloc)?;
-    let setup = setup(alloc, play)?;
+/// What is written of a scenario over the server on one thread.
+fn by_server(alloc: Global, scenario: &Scenario<'_>) -> Option<Vec<u8>> {
+    let script = scenario.script(alloc)?;
+    let setup = setup(alloc, scenario)?;
     let mut written = Vec::new(alloc);
     drive_lines(alloc, setup, &mut script.as_bytes(), &mut written).ok()?;
     Some(written)
@@ -225,28 +225,28 @@ fn compare_reports(rt: &impl Abort, alloc: Global, name: &str, lines: &str, coun
     assert!(rt; lines.lines().count() <= counts.len(), "{name}");
 }
 
-/// A play writes the same over both, and each group's report counts the same.
-fn compare<R: Wait + Abort>(rt: &R, alloc: Global, play: &Play<'_>) {
-    let mut stage = Stage::of(alloc, play);
-    let capacity = play.capacity.max(1).min(65_536);
+/// A scenario writes the same over both, and each group's report counts the same.
+fn compare<R: Wait + Abort>(rt: &R, alloc: Global, scenario: &Scenario<'_>) {
+    let mut stage = Stage::of(alloc, scenario);
+    let capacity = scenario.capacity.max(1).min(65_536);
     let counts = open(rt, alloc, capacity, 1, &mut stage).expect(rt, "a day");
-    let wanted = by_server(alloc, play).expect(rt, "a run");
-    assert!(rt; wanted.starts_with(&stage.text), "{}", play.name);
+    let wanted = by_server(alloc, scenario).expect(rt, "a run");
+    assert!(rt; wanted.starts_with(&stage.text), "{}", scenario.name);
     let lines = wanted.get(stage.text.len()..).unwrap_or(b"");
     let lines = std::str::from_utf8(lines).ok().expect(rt, "text");
     assert!(rt;
         lines.is_empty() || lines.starts_with("$share"),
         "{}",
-        play.name
+        scenario.name
     );
-    compare_reports(rt, alloc, play.name, lines, &counts);
+    compare_reports(rt, alloc, scenario.name, lines, &counts);
 }
 
 #[test]
-fn plays(rt: HostRuntime) {
-    for plays in all_plays() {
-        for play in plays {
-            compare(&rt, rt.alloc(), play);
+fn scenarios(rt: HostRuntime) {
+    for scenarios in all_scenarios() {
+        for scenario in scenarios {
+            compare(&rt, rt.alloc(), scenario);
         }
     }
 }
@@ -254,12 +254,12 @@ fn plays(rt: HostRuntime) {
 #[test]
 fn longest(rt: HostRuntime) -> Result<(), Fail> {
     let lines = longest_wait(rt.alloc()).ok_or("memory")?;
-    let play = Play {
+    let scenario = Scenario {
         name: "longest_wait",
         capacity: 8,
         shares: &[],
         lines: lines.as_str(),
     };
-    compare(&rt, rt.alloc(), &play);
+    compare(&rt, rt.alloc(), &scenario);
     Ok(())
 }

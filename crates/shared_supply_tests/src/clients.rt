@@ -1,7 +1,7 @@
 //! Two clients over any supply.
 ghost use Rattle.std.specs.Prelude.{◌<◌};
 
-use client_table::{ClientTable, Said};
+use client_table::{ClientTable, StepOutput};
 use conn_engine::Opening;
 use conn_supply::{HoldingPlace, NoMemory, Supply};
 use mqtt_wire::encode_into;
@@ -28,11 +28,11 @@ const PING: &[u8] = b"\xC0\x00";
 pub(crate) const WRITTEN: &[u8] =
     b"\x20\x0E\x00\x00\x0B\x24\x01\x25\x00\x27\x00\x01\x00\x00\x29\x00\x90\x04\x00\x01\x00\x01\x20\x0E\x00\x00\x0B\x24\x01\x25\x00\x27\x00\x01\x00\x00\x29\x00\x40\x02\x00\x01\x32\x09\x00\x03job\x00\x01\x00A\xD0\x00";
 
-/// A client's piece comes within a visit of its own; a job for the member is handed out behind it.
+/// A client's piece comes within a visit of its own; a job for the member is handed out after it.
 fn says<P: HoldingPlace, S: Supply<P>>(
     supply: &mut S,
     clients: &mut ClientTable<P>,
-    said: &mut Vec<Said>,
+    said: &mut Vec<StepOutput>,
     number: u8,
     piece: &[u8],
 ) -> Result<(), NoMemory>
@@ -50,7 +50,7 @@ fn says<P: HoldingPlace, S: Supply<P>>(
 fn work<P: HoldingPlace, S: Supply<P>>(
     supply: &mut S,
     clients: &mut ClientTable<P>,
-    said: &mut Vec<Said>,
+    said: &mut Vec<StepOutput>,
 ) -> Result<(), NoMemory> {
     says(supply, clients, said, 0, MEMBER)?;
     says(supply, clients, said, 0, SUBSCRIBE)?;
@@ -61,7 +61,7 @@ fn work<P: HoldingPlace, S: Supply<P>>(
 }
 
 /// What was said, as bytes.
-fn bytes_of(alloc: Global, said: &[Said]) -> Option<Vec<u8>> {
+fn bytes_of(alloc: Global, said: &[StepOutput]) -> Option<Vec<u8>> {
     let mut bytes = Vec::new(alloc);
     for words in said {
         for packet in words.packets() {

@@ -92,7 +92,7 @@ impl Day for Runs {
     }
 }
 
-// Each docket gathers its first 64 runs, and keeps the 36 behind them; the report has them all.
+// Each docket gathers its first 64 runs, and keeps the 36 after them; the report has them all.
 #[test]
 fn a_full_docket_is_gathered(rt: HostRuntime) -> Result<(), Fail> {
     let mut runs = Runs { near: 0, far: 0 };

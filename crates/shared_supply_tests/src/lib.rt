@@ -1,4 +1,4 @@
-//! The tests of `shared_supply` on one thread: rows of calls, and plays beside the server on one thread, byte for byte.
+//! The tests of `shared_supply` on one thread: rows of calls, and scenarios beside the server on one thread, byte for byte.
 #![tactic(auto)]
 
 #[cfg(test)]

@@ -7,7 +7,7 @@ use call_history::HistoryName;
 use conn_supply::Supply;
 use gate_word::Gate;
 use group_queue::Nobody;
-use shared_supply::Hall;
+use shared_supply::SharedBroker;
 use std::alloc::Global;
 use std::marker::Brand;
 use std::sync::Wait;
@@ -93,7 +93,7 @@ fn may_be_threaded<B: Broker + Send + Sync, N: HistoryName + Send + Sync>()
 where
     B::Seen: Send + Sync,
 {
-    is_shared_by_threads::<Hall<'static, B, N>>();
+    is_shared_by_threads::<SharedBroker<'static, B, N>>();
 }
 
 #[test]

@@ -1,13 +1,13 @@
 //! What is written of what was said, a line a packet.
 
-use client_table::Said;
+use client_table::StepOutput;
 use conn_supply::Then;
 use mqtt_packet::Packet;
 use mqtt_wire::encode_into;
 use std::alloc::Global;
 
 /// Adds the lines of what was said.
-pub(crate) fn tell(alloc: Global, text: &mut Vec<u8>, said: &[Said]) -> Option<()> {
+pub(crate) fn tell(alloc: Global, text: &mut Vec<u8>, said: &[StepOutput]) -> Option<()> {
     for step in said {
         tell_step(alloc, text, step)?;
     }
@@ -15,7 +15,7 @@ pub(crate) fn tell(alloc: Global, text: &mut Vec<u8>, said: &[Said]) -> Option<(
 }
 
 /// Adds the lines of a step.
-fn tell_step(alloc: Global, text: &mut Vec<u8>, step: &Said) -> Option<()> {
+fn tell_step(alloc: Global, text: &mut Vec<u8>, step: &StepOutput) -> Option<()> {
     let connection = step.connection();
     for packet in step.packets() {
         tell_packet(alloc, text, connection, packet)?;

@@ -1,4 +1,4 @@
--- How a broker shows a story: its routes and its groups, one group at a time.
+-- How a broker shows a model: its routes and its groups, one group at a time.
 use Rattle.std.proofs.Common.{◌≡◌, ◌≢◌, ℕ, zero, suc, ◌<◌, ◌≤◌, ◌==◌, true, false, cond, List, [], ◌∷◌, ◌++◌, map, length, slice_get, slice_set, Some, refl, sym, ap, ◌∙◌, subst, ⊎_elim, arith, eq-eqb, ne_eqb}
 use Rattle.std.proofs.lemmas.Bool.{cases_eq, cases_Bool}
 use Rattle.std.proofs.lemmas.List.{length-map, length-set}
@@ -12,7 +12,7 @@ use Rattle.session_desk.specs.declared.session.Membership.TheVariants.{NotMember
 use Rattle.local_group.specs.Groups.{Group}
 use Rattle.local_broker.specs.Groups.{InGroup}
 use Rattle.local_broker.specs.Broker.{Broker}
-use Rattle.solo_output.specs.Groups.{Bound, Story, shares_of, accepted_in, accepting, handed_in, bound}
+use Rattle.solo_output.specs.Groups.{Bound, SoloState, shares_of, accepted_in, accepting, handed_in, bound}
 use Rattle.solo_output.proofs.Groups.{ShowsGroup}
 
 -- the entries of the window that are messages of the group of this slot: a client is a member of one group at a time
@@ -21,17 +21,17 @@ entries_at NotMember slot entries = []
 entries_at (Member own) slot entries = cond (own == slot) entries []
 entries_at (Leaving own) slot entries = cond (own == slot) entries []
 
--- each group shows what the story has of its slot; these entries are in the window
-abbrev pub ShowsGroups : Story → List (ℕ × Held) → List Group → Type 0
-ShowsGroups story entries groups =
+-- each group shows what the model has of its slot; these entries are in the window
+abbrev pub ShowsGroups : SoloState → List (ℕ × Held) → List Group → Type 0
+ShowsGroups solo entries groups =
     (slot : ℕ) (group : Group) → slice_get groups slot ≡ Some group
-    → ShowsGroup story.capacity slot (accepted_in slot story.groups) (handed_in slot story.handed_out) (entries_at story.membership slot entries) group
+    → ShowsGroup solo.capacity slot (accepted_in slot solo.groups) (handed_in slot solo.handed_out) (entries_at solo.membership slot entries) group
 
-pub record ShowsBroker (story : Story) (entries : List (ℕ × Held)) (b : Broker) : Type 0 where
-  pub routes : b.routes ≡ shares_of story.groups
-  pub few : length story.groups ≤ 8
+pub record ShowsBroker (solo : SoloState) (entries : List (ℕ × Held)) (b : Broker) : Type 0 where
+  pub routes : b.routes ≡ shares_of solo.groups
+  pub few : length solo.groups ≤ 8
   pub eight : length b.groups ≡ 8
-  pub groups : ShowsGroups story entries b.groups
+  pub groups : ShowsGroups solo entries b.groups
 
 -- what holds of each group, where a call was made of one of them
 pub in_group : (old new : List Group) (at : ℕ) (Does : Group → Group → Type 0) (IsSo : ℕ → Group → Type 0) (does : InGroup old at Does new)
@@ -52,7 +52,7 @@ in_group old new at Does IsSo does others here slot group there =
 pub as_many : (old new : List Group) (at : ℕ) (Does : Group → Group → Type 0) → InGroup old at Does new → length new ≡ length old
 as_many old new at Does does = ap length does.becomes ∙ length-set old at does.after
 
--- the groups of a story
+-- the groups of a model
 
 pub accepted_same : (slot : ℕ) (message : Message) (groups : List Bound) → slot < length groups → accepted_in slot (accepting slot message groups) ≡ accepted_in slot groups ++ message ∷ []
 accepted_same slot message [] within = absurd (omega arith)

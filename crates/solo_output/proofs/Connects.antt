@@ -1,4 +1,4 @@
--- The first packet of the connection is answered as the story has it.
+-- The first packet of the connection is answered as the model has it.
 use Rattle.std.proofs.Common.{◌≡◌, ◌≢◌, ℕ, ◌<◌, ◌≤◌, Bool, false, List, [], ◌∷◌, map, length, replicate, slice_get, slice_set, nat_cmp, Option, Some, None, Result, Ok, Err, refl, sym, ap, ◌∙◌, subst, ⊎_elim, arith}
 use Rattle.std.specs.FinMap as map
 use Rattle.std.specs.FinMap.{get-empty, len-empty}
@@ -27,24 +27,24 @@ use Rattle.session_desk.specs.declared.session.Membership.TheVariants.{NotMember
 use Rattle.conn_rules.specs.Connecting.{terms_of}
 use Rattle.conn_rules.specs.Packets.{accepting}
 use Rattle.conn_supply.specs.declared.reply.Then.TheVariants.{Go}
-use Rattle.conn_supply.specs.declared.reply.Reply.{Reply as Told}
+use Rattle.conn_supply.specs.declared.reply.Reply.{Reply as ConnReply}
 use Rattle.conn_supply.specs.Replies.{going_on}
 use Rattle.conn_engine.specs.Step.{request_of}
-use Rattle.conn_engine.specs.declared.standing.ConnectRequest.{ConnectRequest}
+use Rattle.conn_engine.specs.declared.phase.ConnectRequest.{ConnectRequest}
 use Rattle.conn_engine.specs.Connecting.{assigned, opened, Attaches as EngineAttaches, AttachedAs}
-use Rattle.conn_engine.specs.declared.standing.Link.{Link}
-use Rattle.conn_engine.specs.declared.standing.Standing.{Standing}
-use Rattle.conn_engine.specs.declared.standing.Standing.TheVariants as standings
+use Rattle.conn_engine.specs.declared.phase.ConnectedClient.{ConnectedClient}
+use Rattle.conn_engine.specs.declared.phase.ConnPhase.{ConnPhase}
+use Rattle.conn_engine.specs.declared.phase.ConnPhase.TheVariants as phases
 use Rattle.local_broker.specs.Places.{GroupPlace}
 use Rattle.local_broker.specs.Broker.{Broker, HasAllPlaces, IsNewBroker}
 use Rattle.local_broker.specs.Calls.{Calls}
-use Rattle.solo_output.specs.Groups.{Story, opening, bound}
+use Rattle.solo_output.specs.Groups.{SoloState, opening, bound}
 use Rattle.solo_output.specs.Groups.Phase.{Connected}
 use Rattle.solo_output.specs.Replies.{assigned_to}
 use Rattle.solo_output.proofs.Counted.{none_counted}
 use Rattle.solo_output.proofs.Groups.{ShowsGroup}
 use Rattle.solo_output.proofs.Desks.{ShowsDesk, AllFree}
-use Rattle.solo_output.proofs.Sessions.{IsLentAs, ShowsLink, broker_moved}
+use Rattle.solo_output.proofs.Sessions.{IsLentAs, ShowsClient, broker_moved}
 use Rattle.solo_output.proofs.Brokers.{ShowsBroker, accepted_first, shares_first}
 
 -- the name that is given first
@@ -52,7 +52,7 @@ first_name : (number : ℕ) → assigned [] (record { number = number; client = 
 unfolding is_text is_utf8 chars lib.Utf8.encode
 first_name number = refl
 
--- a new broker shows the story before the first packet
+-- a new broker shows the model before the first packet
 pub opens : (capacity max_inflight : ℕ) (shares : List Share) (b : Broker) → length shares ≤ 8 → IsNewBroker capacity shares b → ShowsBroker (opening capacity max_inflight shares) [] b
 opens capacity max_inflight shares b few new =
     record {
@@ -168,38 +168,38 @@ module _ (old new : Books Held GroupPlace) (all : HasAllPlaces old) where
 
 -- ---- the connection begins
 
--- the story from then on
-abbrev pub begun : Connect → Story → Story
-begun connect story = record story { phase = Connected; terms = terms_of story.max_inflight connect }
+-- the model from then on
+abbrev pub begun : Connect → SoloState → SoloState
+begun connect solo = record solo { phase = Connected; terms = terms_of solo.max_inflight connect }
 
-pub record Began (connect : Connect) (story : Story) (standing : Standing GroupPlace) (reply : Told) (new : Broker) : Type 0 where
-  pub link : Link GroupPlace
-  pub stands : standing ≡ standings.Connected link
+pub record Began (connect : Connect) (solo : SoloState) (phase : ConnPhase GroupPlace) (reply : ConnReply) (new : Broker) : Type 0 where
+  pub connected : ConnectedClient GroupPlace
+  pub stands : phase ≡ phases.Connected connected
   pub told : reply ≡ record { packet = Some (accepting false (assigned_to connect.client_identifier)); next = Go }
-  pub shows : ShowsLink (begun connect story) link new
+  pub shows : ShowsClient (begun connect solo) connected new
 
-not_memory : (mid new : Broker) (request : ConnectRequest) (answer : Result (Attached Held GroupPlace) DeskError) (standing : Standing GroupPlace) (reply : Told) → AttachedAs Calls mid request 0 answer standing reply new → answer ≢ Err errors.Memory
-not_memory mid new request answer standing reply does is = absurd (subst (λ a. AttachedAs Calls mid request 0 a standing reply new) is does)
+not_memory : (mid new : Broker) (request : ConnectRequest) (answer : Result (Attached Held GroupPlace) DeskError) (phase : ConnPhase GroupPlace) (reply : ConnReply) → AttachedAs Calls mid request 0 answer phase reply new → answer ≢ Err errors.Memory
+not_memory mid new request answer phase reply does is = absurd (subst (λ a. AttachedAs Calls mid request 0 a phase reply new) is does)
 
-pub attaches : (connect : Connect) (capacity max_inflight : ℕ) (shares : List Share) (now : ℕ) (standing : Standing GroupPlace) (reply : Told) (old new : Broker) → IsNewBroker capacity shares old → length shares ≤ 8
-    → EngineAttaches Calls old 0 now (request_of max_inflight connect now) 0 standing reply new → Began connect (opening capacity max_inflight shares) standing reply new
-attaches connect capacity max_inflight shares now standing reply old new is_new few does =
-    let story = opening capacity max_inflight shares in
+pub attaches : (connect : Connect) (capacity max_inflight : ℕ) (shares : List Share) (now : ℕ) (phase : ConnPhase GroupPlace) (reply : ConnReply) (old new : Broker) → IsNewBroker capacity shares old → length shares ≤ 8
+    → EngineAttaches Calls old 0 now (request_of max_inflight connect now) 0 phase reply new → Began connect (opening capacity max_inflight shares) phase reply new
+attaches connect capacity max_inflight shares now phase reply old new is_new few does =
+    let solo = opening capacity max_inflight shares in
     let client = connect.client_identifier in
     let request = asked 0 client connect.clean_start now in
     let mid = does.mid in
-    let first = named old.desk mid.desk is_new.desk client request does.answer refl (not_memory mid new (request_of max_inflight connect now) does.answer standing reply does.answered) does.asked_for.makes in
-    let begins_as = subst (λ a. AttachedAs Calls mid (request_of max_inflight connect now) 0 a standing reply new) first.answer_is does.answered in
+    let first = named old.desk mid.desk is_new.desk client request does.answer refl (not_memory mid new (request_of max_inflight connect now) does.answer phase reply does.answered) does.asked_for.makes in
+    let begins_as = subst (λ a. AttachedAs Calls mid (request_of max_inflight connect now) 0 a phase reply new) first.answer_is does.answered in
     let same : new ≡ mid = begins_as.0 in
     let accepts = begins_as.1 in
     let session = opened {P = GroupPlace} (new_session first.who) (terms_of max_inflight connect) in
     let start = opens capacity max_inflight shares old few is_new in
-    let now_shows : ShowsBroker (begun connect story) [] old = record { routes = start.routes; few = start.few; eight = start.eight; groups = start.groups } in
-    let then_shows : ShowsBroker (begun connect story) [] new =
-    subst (ShowsBroker (begun connect story) []) (sym same) (broker_moved (begun connect story) [] old mid does.asked_for.routes does.asked_for.groups now_shows) in
+    let now_shows : ShowsBroker (begun connect solo) [] old = record { routes = start.routes; few = start.few; eight = start.eight; groups = start.groups } in
+    let then_shows : ShowsBroker (begun connect solo) [] new =
+    subst (ShowsBroker (begun connect solo) []) (sym same) (broker_moved (begun connect solo) [] old mid does.asked_for.routes does.asked_for.groups now_shows) in
     let desk : ShowsDesk NotMember mid.desk = record { not_kicked = first.kicked; places = subst AllFree (sym first.free) is_new.desk.free } in
     record {
-      link = record { session = session; terms = terms_of max_inflight connect; heard = now };
+      connected = record { session = session; terms = terms_of max_inflight connect; heard = now };
       stands = accepts.begun;
       told = accepts.told ∙ ap (λ (n : Option (List ℕ)). going_on (Some (accepting false n))) first.name;
       shows = record {

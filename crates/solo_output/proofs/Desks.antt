@@ -1,4 +1,4 @@
--- How a desk shows a story: one place at most is lent, the first of its group, and the connection is not kicked.
+-- How a desk shows a model: one place at most is lent, the first of its group, and the connection is not kicked.
 use Rattle.std.proofs.Common.{◌≡◌, ◌≢◌, ℕ, ◌+◌, ◌*◌, ◌/◌, ◌%◌, ◌<◌, ◌≤◌, Bool, true, false, List, slice_get, slice_set, Option, Some, None, refl, sym, ap, ◌∙◌, ⊎_elim, arith}
 use Rattle.std.proofs.lemmas.Bool.{cases_eq, cases_lt}
 use Rattle.std.proofs.lemmas.Option.{slice_get_within, same_Some, none-some}
@@ -8,7 +8,7 @@ use Rattle.session_desk.specs.declared.session.Membership.{Membership}
 use Rattle.session_desk.specs.declared.session.Membership.TheVariants.{NotMember, Member, Leaving}
 use Rattle.session_desk.specs.Books.{Books}
 use Rattle.session_desk.specs.Places.{IsFreeAt, IsLeast, cell_at}
-use Rattle.conn_supply.specs.Facts.Fact.{LendPlace, TakePlace, Kicked}
+use Rattle.conn_supply.specs.SupplyCalls.SupplyCall.{LendPlace, TakePlace, Kicked}
 use Rattle.local_broker.specs.Places.{GroupPlace, cell_of, place_at}
 use Rattle.local_broker.specs.Broker.{Broker}
 use Rattle.local_broker.specs.Calls.{Calls}

@@ -1,4 +1,4 @@
--- What every run of a story keeps in its groups: their slots, and one fate for each message.
+-- What every run of a model keeps in its groups: their slots, and one fate for each message.
 use Rattle.std.proofs.Common.{◌≡◌, ℕ, suc, ◌+◌, ◌≤◌, ◌==◌, nat_lt, not, Bool, true, false, cond, List, [], ◌∷◌, ◌++◌, length, Option, Some, None, refl, sym, ap, ◌∙◌, subst, arith}
 use Rattle.std.specs.List.{count_by}
 use Rattle.std.proofs.lemmas.List.{append-nil, append_assoc, length-map, length_push, map-append}
@@ -8,8 +8,8 @@ use Rattle.mqtt_topic.specs.Names.{Share}
 use Rattle.mqtt_topic.specs.Routes.{AreDistinct}
 use Rattle.mqtt_topic.proofs.RouteLaws.{none_has, distinct_more}
 use Rattle.local_server.specs.declared.setup.Setup.{Setup}
-use Rattle.solo_output.specs.Groups.{Story, HandOut, Bound, bound, opening, shares_of, accepted_in, handed_in, open_identifiers, acknowledges, refuses, with_message, with_share}
-use Rattle.solo_output.specs.Replies.{turns}
+use Rattle.solo_output.specs.Groups.{SoloState, HandOut, Bound, bound, opening, shares_of, accepted_in, handed_in, open_identifiers, acknowledges, refuses, with_message, with_share}
+use Rattle.solo_output.specs.Replies.{solo_steps}
 use Rattle.solo_output.specs.Report.{counts_of}
 use Rattle.solo_output.specs.Runs.{run_of}
 use Rattle.solo_output.proofs.Brokers.{shares_kept, length-accepting, length-shares, shares_first}
@@ -33,13 +33,13 @@ grows_none one two many same =
 stay : (groups : List Bound) → Grows groups groups
 stay groups = grows_none groups groups refl refl
 
-abbrev GroupsGrow : Story → Story → Type 0
+abbrev GroupsGrow : SoloState → SoloState → Type 0
 GroupsGrow one two = Grows one.groups two.groups
 
 groups_grow : Ways GroupsGrow
 groups_grow =
     record {
-      stays = λ story. stay story.groups;
+      stays = λ solo. stay solo.groups;
       goes_on = λ one two three first' later.
           record {
             few = λ few. later.few (first'.few few);
@@ -47,40 +47,40 @@ groups_grow =
             later = first'.later ++ later.later;
             behind = later.behind ∙ ap (λ (l : List Share). l ++ later.later) first'.behind ∙ append_assoc (shares_of one.groups) first'.later later.later;
           };
-      connects = λ connect story is. stay story.groups;
-      closes = λ story. stay story.groups;
-      expires = λ expiry story. stay story.groups;
-      binds = λ share story none few.
-          let more : shares_of (with_share share story).groups ≡ shares_of story.groups ++ share ∷ [] = map-append (λ (g : Bound). g.share) story.groups (bound share ∷ []) in
+      connects = λ connect solo is. stay solo.groups;
+      closes = λ solo. stay solo.groups;
+      expires = λ expiry solo. stay solo.groups;
+      binds = λ share solo none few.
+          let more : shares_of (with_share share solo).groups ≡ shares_of solo.groups ++ share ∷ [] = map-append (λ (g : Bound). g.share) solo.groups (bound share ∷ []) in
           record {
-            few = λ fewer. omega (arith, length_push story.groups (bound share), few);
-            distinct = λ distinct. subst AreDistinct (sym more) (distinct_more (shares_of story.groups) share distinct (none_has share.text (shares_of story.groups) none));
+            few = λ fewer. omega (arith, length_push solo.groups (bound share), few);
+            distinct = λ distinct. subst AreDistinct (sym more) (distinct_more (shares_of solo.groups) share distinct (none_has share.text (shares_of solo.groups) none));
             later = share ∷ [];
             behind = more;
           };
-      joins = λ slot story may within. stay story.groups;
-      leaves = λ slot story is. stay story.groups;
-      parts = λ slot story is none. stay story.groups;
+      joins = λ slot solo may within. stay solo.groups;
+      leaves = λ slot solo is. stay solo.groups;
+      parts = λ slot solo is none. stay solo.groups;
     }
 
-groups_ran : (packets : List Packet) (story : Story) → GroupsGrow story (turns packets story).story
+groups_ran : (packets : List Packet) (solo : SoloState) → GroupsGrow solo (solo_steps packets solo).solo
 groups_ran =
     ran GroupsGrow groups_grow
-    (λ slot message story within room. grows_none story.groups (with_message slot message story).groups (length-accepting slot message story.groups) (shares_kept slot message story.groups))
-    (λ identifier code story. stay story.groups)
-    (λ slot message rest story connected member less waits. stay story.groups)
+    (λ slot message solo within room. grows_none solo.groups (with_message slot message solo).groups (length-accepting slot message solo.groups) (shares_kept slot message solo.groups))
+    (λ identifier code solo. stay solo.groups)
+    (λ slot message rest solo connected member less waits. stay solo.groups)
 
-pub slots_all : (setup : Setup) (packets more : List Packet) → let story = (run_of setup packets).story in (later : List Share) × (shares_of (turns more story).story.groups ≡ shares_of story.groups ++ later)
+pub slots_all : (setup : Setup) (packets more : List Packet) → let solo = (run_of setup packets).solo in (later : List Share) × (shares_of (solo_steps more solo).solo.groups ≡ shares_of solo.groups ++ later)
 slots_all setup packets more =
-    let grows = groups_ran more (run_of setup packets).story in
+    let grows = groups_ran more (run_of setup packets).solo in
     (grows.later, grows.behind)
 
-pub groups_all : (setup : Setup) (packets : List Packet) → length setup.groups ≤ 8 → AreDistinct setup.groups → let shares = shares_of (run_of setup packets).story.groups in (length shares ≤ 8) × AreDistinct shares
+pub groups_all : (setup : Setup) (packets : List Packet) → length setup.groups ≤ 8 → AreDistinct setup.groups → let shares = shares_of (run_of setup packets).solo.groups in (length shares ≤ 8) × AreDistinct shares
 groups_all setup packets few distinct =
-    let story = (run_of setup packets).story in
+    let solo = (run_of setup packets).solo in
     let grows = groups_ran packets (opening setup.capacity setup.max_inflight setup.groups) in
-    let small : length story.groups ≤ 8 = grows.few (omega (arith, length-map setup.groups bound, few)) in
-    (omega (arith, length-shares story.groups, small), grows.distinct (subst AreDistinct (sym (shares_first setup.groups)) distinct))
+    let small : length solo.groups ≤ 8 = grows.few (omega (arith, length-map setup.groups bound, few)) in
+    (omega (arith, length-shares solo.groups, small), grows.distinct (subst AreDistinct (sym (shares_first setup.groups)) distinct))
 
 -- ---- fates
 
@@ -113,9 +113,9 @@ held_or_back : (b : Bool) (n : ℕ) → cond b 0 n + cond b n 0 ≡ n
 held_or_back true n = omega arith
 held_or_back false n = omega arith
 
-pub fates_all : (setup : Setup) (packets : List Packet) (slot : ℕ) → let story = (run_of setup packets).story in let accepted = length (accepted_in slot story.groups) in
-    let fates = counts_of story.terms.session_expiry_interval accepted (handed_in slot story.handed_out) in fates.acknowledged + fates.refused + fates.held + fates.queued + fates.returned ≡ accepted
+pub fates_all : (setup : Setup) (packets : List Packet) (slot : ℕ) → let solo = (run_of setup packets).solo in let accepted = length (accepted_in slot solo.groups) in
+    let fates = counts_of solo.terms.session_expiry_interval accepted (handed_in slot solo.handed_out) in fates.acknowledged + fates.refused + fates.held + fates.queued + fates.returned ≡ accepted
 fates_all setup packets slot =
-    let story = (run_of setup packets).story in
-    let own = handed_in slot story.handed_out in
-    omega (arith, (kept_of setup packets).order slot, fates own, held_or_back (story.terms.session_expiry_interval == 0) (length (open_identifiers own)))
+    let solo = (run_of setup packets).solo in
+    let own = handed_in slot solo.handed_out in
+    omega (arith, (kept_of setup packets).order slot, fates own, held_or_back (solo.terms.session_expiry_interval == 0) (length (open_identifiers own)))

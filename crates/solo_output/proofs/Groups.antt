@@ -267,7 +267,7 @@ module _ (capacity slot : ℕ) (accepted : List Message) (hand_outs : List HandO
 
       pub settles : IsSettled old 0 envelope (fate_of code) new → ShowsGroup capacity slot accepted (map (settled identifier code) hand_outs) (entries_without identifier entries) new
       settles (inl does) = did does.1
-      settles (inr let_go) = absurd (let_go.stranger out)
+      settles (inr discard) = absurd (discard.stranger out)
 
 -- ---- the end
 
@@ -305,9 +305,9 @@ one_back accepted good bad queued returned slot entry entries old new is (inl do
       back = ap length does.1.returned ∙ length_push old.returned _ ∙ ap (λ n. n + 1) is.back;
       ours = is.ours.1;
     }
-one_back accepted good bad queued returned slot entry entries old new is (inr let_go) =
+one_back accepted good bad queued returned slot entry entries old new is (inr discard) =
     let job = job_of entry.1.stamp in
     absurd
-    (let_go.stranger
+    (discard.stranger
     (is_out old slot accepted good bad (jobs_of (entry ∷ entries)) entry.0 entry.1 is.numbered is.counted is.ours.0
     (omega (arith, count_of-cons job job (jobs_of entries), count_of-same job))))

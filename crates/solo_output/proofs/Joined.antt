@@ -1,4 +1,4 @@
--- The entries of a SUBSCRIBE: who is a member behind them.
+-- The entries of a SUBSCRIBE: who is a member after them.
 use Rattle.std.proofs.Common.{◌≡◌, ◌≢◌, ◌⊎◌, ℕ, zero, suc, ◌+◌, ◌<◌, ◌≤◌, nat_lt, not, bytes_eq, Bool, true, false, cond, List, [], ◌∷◌, ◌++◌, map, length, slice_get, Option, Some, None, Result, Ok, Err, refl, sym, ap, ◌∙◌, subst, inl, inr, ⊎_elim, arith, eqb-true, eq-eqb}
 use Rattle.std.specs.List.{position, position_or_len}
 use Rattle.std.proofs.lemmas.Bool.{cond_both, ltb-true, ltb-false, lt-ltb}
@@ -17,7 +17,7 @@ use Rattle.conn_rules.specs.declared.subscribing.EntryAnswer.{EntryAnswer}
 use Rattle.conn_rules.specs.declared.subscribing.EntryAnswer.TheVariants as entries
 use Rattle.conn_rules.specs.declared.terms.Terms.{Terms}
 use Rattle.conn_rules.specs.Subscribing.{filter_code, refused_code, share_answer, entry_answer}
-use Rattle.solo_output.specs.Groups.{Story, Bound, bound, shares_of, with_membership, with_share}
+use Rattle.solo_output.specs.Groups.{SoloState, Bound, bound, shares_of, with_membership, with_share}
 use Rattle.solo_output.specs.Subscribing.{Coded, AllCoded, coded, coded_first, enter, is_slot, stay, join_as, entry_reply, join_all}
 use Rattle.solo_output.specs.Memberships.{HasCode}
 use Rattle.solo_output.specs.Runs.{IsInGroup}
@@ -95,17 +95,17 @@ found_slot slot (Some other) is = ap (λ (n : ℕ). Some n) (eqb-true other slot
 
 -- ---- what answers the entries of a SUBSCRIBE and of an UNSUBSCRIBE: shares may be bound, and nothing is handed out
 
-pub record Follows (one two : Story) : Type 0 where
+pub record Follows (one two : SoloState) : Type 0 where
   pub phase : two.phase ≡ one.phase
   pub terms : two.terms ≡ one.terms
   pub handed : two.handed_out ≡ one.handed_out
   pub later : List Share
   pub grows : shares_of two.groups ≡ shares_of one.groups ++ later
 
-follows_as : (membership : Membership ℕ) (story : Story) → Follows story (with_membership membership story)
-follows_as membership story = record { phase = refl; terms = refl; handed = refl; later = []; grows = sym (append-nil (shares_of story.groups)) }
+follows_as : (membership : Membership ℕ) (solo : SoloState) → Follows solo (with_membership membership solo)
+follows_as membership solo = record { phase = refl; terms = refl; handed = refl; later = []; grows = sym (append-nil (shares_of solo.groups)) }
 
-follows_both : (one two three : Story) → Follows one two → Follows two three → Follows one three
+follows_both : (one two three : SoloState) → Follows one two → Follows two three → Follows one three
 follows_both one two three first' next =
     record {
       phase = next.phase ∙ first'.phase;
@@ -115,7 +115,7 @@ follows_both one two three first' next =
       grows = next.grows ∙ ap (λ (l : List Share). l ++ next.later) first'.grows ∙ append_assoc (shares_of one.groups) first'.later next.later;
     }
 
-slot_still : (one two : Story) (text : List ℕ) (slot : ℕ) → Follows one two → slot_of text (shares_of one.groups) ≡ Some slot → slot_of text (shares_of two.groups) ≡ Some slot
+slot_still : (one two : SoloState) (text : List ℕ) (slot : ℕ) → Follows one two → slot_of text (shares_of one.groups) ≡ Some slot → slot_of text (shares_of two.groups) ≡ Some slot
 slot_still one two text slot follows found = ap (slot_of text) follows.grows ∙ slot_kept text (shares_of one.groups) follows.later slot found
 
 -- ---- an entry of a SUBSCRIBE
@@ -148,34 +148,34 @@ answer_fits true entry terms = λ e. absurd (omega (arith, e))
 answer_fits false entry terms = share_fits _ (share_of entry.filter) entry.filter refl
 
 -- the client is a member of its group
-record Enters (text : List ℕ) (one two : Story) : Type 0 where
+record Enters (text : List ℕ) (one two : SoloState) : Type 0 where
   slot : ℕ
   now : two.membership ≡ Member slot
   its : slot_of text (shares_of two.groups) ≡ Some slot
   may : MayJoin one.membership slot
 
 -- the code is 01 and the client enters, or it is another and nothing happens
-record EntryIs (text : List ℕ) (one : Story) (c : Coded) : Type 0 where
-  follows : Follows one c.story
-  does : ((c.code ≡ 1) × Enters text one c.story) ⊎ ((c.code ≢ 1) × (c.story ≡ one))
+record EntryIs (text : List ℕ) (one : SoloState) (c : Coded) : Type 0 where
+  follows : Follows one c.solo
+  does : ((c.code ≡ 1) × Enters text one c.solo) ⊎ ((c.code ≢ 1) × (c.solo ≡ one))
 
-refused : (text : List ℕ) (code : ℕ) (story : Story) → code ≢ 1 → EntryIs text story (coded code story)
-refused text code story other = record { follows = follows_as story.membership story; does = inr (other, refl) }
+refused : (text : List ℕ) (code : ℕ) (solo : SoloState) → code ≢ 1 → EntryIs text solo (coded code solo)
+refused text code solo other = record { follows = follows_as solo.membership solo; does = inr (other, refl) }
 
 refused_slot : ◌≢◌ {A = ℕ} 0x97 1
 refused_slot e = absurd (omega (arith, e))
 
-granted : (text : List ℕ) (slot : ℕ) (story : Story) → slot_of text (shares_of story.groups) ≡ Some slot → MayJoin story.membership slot → EntryIs text story (coded 1 (with_membership (Member slot) story))
-granted text slot story found may =
-    record { follows = follows_as (Member slot) story; does = inl (refl, record { slot = slot; now = refl; its = found; may = may }) }
+granted : (text : List ℕ) (slot : ℕ) (solo : SoloState) → slot_of text (shares_of solo.groups) ≡ Some slot → MayJoin solo.membership slot → EntryIs text solo (coded 1 (with_membership (Member slot) solo))
+granted text slot solo found may =
+    record { follows = follows_as (Member slot) solo; does = inl (refl, record { slot = slot; now = refl; its = found; may = may }) }
 
-entered : (found : Option ℕ) (share : Share) (story : Story) → slot_of share.text (shares_of story.groups) ≡ found → story.membership ≡ NotMember → EntryIs share.text story (enter found share story)
-entered (Some slot) share story found is = granted share.text slot story found (may_as story.membership NotMember slot is tt)
-entered None share story found is =
-    let slot = length story.groups in
-    let behind = with_membership (Member slot) (with_share share story) in
-    let grows : shares_of (story.groups ++ bound share ∷ []) ≡ shares_of story.groups ++ share ∷ [] = map-append (λ (g : Bound). g.share) story.groups (bound share ∷ []) in
-    cond_both (nat_lt slot most_routes) (coded 1 behind) (coded 0x97 story) (EntryIs share.text story)
+entered : (found : Option ℕ) (share : Share) (solo : SoloState) → slot_of share.text (shares_of solo.groups) ≡ found → solo.membership ≡ NotMember → EntryIs share.text solo (enter found share solo)
+entered (Some slot) share solo found is = granted share.text slot solo found (may_as solo.membership NotMember slot is tt)
+entered None share solo found is =
+    let slot = length solo.groups in
+    let behind = with_membership (Member slot) (with_share share solo) in
+    let grows : shares_of (solo.groups ++ bound share ∷ []) ≡ shares_of solo.groups ++ share ∷ [] = map-append (λ (g : Bound). g.share) solo.groups (bound share ∷ []) in
+    cond_both (nat_lt slot most_routes) (coded 1 behind) (coded 0x97 solo) (EntryIs share.text solo)
     (λ room.
     record {
       follows = record { phase = refl; terms = refl; handed = refl; later = share ∷ []; grows = grows };
@@ -184,75 +184,75 @@ entered None share story found is =
         record {
           slot = slot;
           now = refl;
-          its = ap (slot_of share.text) grows ∙ slot_pushed share (shares_of story.groups) found ∙ ap (λ (n : ℕ). Some n) (length-shares story.groups);
-          may = may_as story.membership NotMember slot is tt;
+          its = ap (slot_of share.text) grows ∙ slot_pushed share (shares_of solo.groups) found ∙ ap (λ (n : ℕ). Some n) (length-shares solo.groups);
+          may = may_as solo.membership NotMember slot is tt;
         },
       );
     })
-    (λ full. refused share.text 0x97 story refused_slot)
+    (λ full. refused share.text 0x97 solo refused_slot)
 
-stayed : (slot : ℕ) (share : Share) (story : Story) → MayJoin story.membership slot → EntryIs share.text story (stay slot (slot_of share.text (shares_of story.groups)) story)
-stayed slot share story may =
-    let found = slot_of share.text (shares_of story.groups) in
-    cond_both (is_slot slot found) (coded 1 (with_membership (Member slot) story)) (coded 0x97 story) (EntryIs share.text story)
-    (λ its. granted share.text slot story (found_slot slot found its) may)
-    (λ other. refused share.text 0x97 story refused_slot)
+stayed : (slot : ℕ) (share : Share) (solo : SoloState) → MayJoin solo.membership slot → EntryIs share.text solo (stay slot (slot_of share.text (shares_of solo.groups)) solo)
+stayed slot share solo may =
+    let found = slot_of share.text (shares_of solo.groups) in
+    cond_both (is_slot slot found) (coded 1 (with_membership (Member slot) solo)) (coded 0x97 solo) (EntryIs share.text solo)
+    (λ its. granted share.text slot solo (found_slot slot found its) may)
+    (λ other. refused share.text 0x97 solo refused_slot)
 
-joined_as : (membership : Membership ℕ) (share : Share) (story : Story) → story.membership ≡ membership → EntryIs share.text story (join_as membership (slot_of share.text (shares_of story.groups)) share story)
-joined_as NotMember share story is = entered (slot_of share.text (shares_of story.groups)) share story refl is
-joined_as (Member slot) share story is = stayed slot share story (may_as story.membership (Member slot) slot is refl)
-joined_as (Leaving slot) share story is = stayed slot share story (may_as story.membership (Leaving slot) slot is refl)
+joined_as : (membership : Membership ℕ) (share : Share) (solo : SoloState) → solo.membership ≡ membership → EntryIs share.text solo (join_as membership (slot_of share.text (shares_of solo.groups)) share solo)
+joined_as NotMember share solo is = entered (slot_of share.text (shares_of solo.groups)) share solo refl is
+joined_as (Member slot) share solo is = stayed slot share solo (may_as solo.membership (Member slot) slot is refl)
+joined_as (Leaving slot) share solo is = stayed slot share solo (may_as solo.membership (Leaving slot) slot is refl)
 
-entry_is : (text : List ℕ) (answer : EntryAnswer) (story : Story) → Fits text answer → EntryIs text story (entry_reply answer story)
-entry_is text (entries.Refuse code) story other = refused text code story other
-entry_is text (entries.Join share) story its = subst (λ (t : List ℕ). EntryIs t story (entry_reply (entries.Join share) story)) its (joined_as story.membership share story refl)
+entry_is : (text : List ℕ) (answer : EntryAnswer) (solo : SoloState) → Fits text answer → EntryIs text solo (entry_reply answer solo)
+entry_is text (entries.Refuse code) solo other = refused text code solo other
+entry_is text (entries.Join share) solo its = subst (λ (t : List ℕ). EntryIs t solo (entry_reply (entries.Join share) solo)) its (joined_as solo.membership share solo refl)
 
-module _ (text : List ℕ) (one : Story) (c : Coded) (is : EntryIs text one c) where
-  entry_joins : c.code ≡ 1 → Enters text one c.story
+module _ (text : List ℕ) (one : SoloState) (c : Coded) (is : EntryIs text one c) where
+  entry_joins : c.code ≡ 1 → Enters text one c.solo
   entry_joins told =
       ⊎_elim
-      (λ (yes' : (c.code ≡ 1) × Enters text one c.story). yes'.1)
-      (λ (no' : (c.code ≢ 1) × (c.story ≡ one)). absurd (no'.0 told))
+      (λ (yes' : (c.code ≡ 1) × Enters text one c.solo). yes'.1)
+      (λ (no' : (c.code ≢ 1) × (c.solo ≡ one)). absurd (no'.0 told))
       is.does
 
-  entry_joined : (slot : ℕ) → c.story.membership ≡ Member slot → (one.membership ≡ Member slot) ⊎ ((c.code ≡ 1) × (slot_of text (shares_of c.story.groups) ≡ Some slot))
+  entry_joined : (slot : ℕ) → c.solo.membership ≡ Member slot → (one.membership ≡ Member slot) ⊎ ((c.code ≡ 1) × (slot_of text (shares_of c.solo.groups) ≡ Some slot))
   entry_joined slot now =
       ⊎_elim
-      (λ (yes' : (c.code ≡ 1) × Enters text one c.story). let same : Some yes'.1.slot ≡ Some slot = (let e : Member yes'.1.slot ≡ Member slot = sym yes'.1.now ∙ now in cc) in inr (yes'.0, yes'.1.its ∙ same))
-      (λ (no' : (c.code ≢ 1) × (c.story ≡ one)). inl (ap (λ (s : Story). s.membership) (sym no'.1) ∙ now))
+      (λ (yes' : (c.code ≡ 1) × Enters text one c.solo). let same : Some yes'.1.slot ≡ Some slot = (let e : Member yes'.1.slot ≡ Member slot = sym yes'.1.now ∙ now in cc) in inr (yes'.0, yes'.1.its ∙ same))
+      (λ (no' : (c.code ≢ 1) × (c.solo ≡ one)). inl (ap (λ (s : SoloState). s.membership) (sym no'.1) ∙ now))
       is.does
 
-  entry_stays : (slot : ℕ) → one.membership ≡ Member slot → c.story.membership ≡ Member slot
+  entry_stays : (slot : ℕ) → one.membership ≡ Member slot → c.solo.membership ≡ Member slot
   entry_stays slot was =
       ⊎_elim
-      (λ (yes' : (c.code ≡ 1) × Enters text one c.story). yes'.1.now ∙ ap (λ (n : ℕ). Member n) (own_slot one.membership yes'.1.slot slot yes'.1.may was))
-      (λ (no' : (c.code ≢ 1) × (c.story ≡ one)). ap (λ (s : Story). s.membership) no'.1 ∙ was)
+      (λ (yes' : (c.code ≡ 1) × Enters text one c.solo). yes'.1.now ∙ ap (λ (n : ℕ). Member n) (own_slot one.membership yes'.1.slot slot yes'.1.may was))
+      (λ (no' : (c.code ≢ 1) × (c.solo ≡ one)). ap (λ (s : SoloState). s.membership) no'.1 ∙ was)
       is.does
 
-  entry_stays_in : (slot : ℕ) → IsInGroup one.membership slot → IsInGroup c.story.membership slot
+  entry_stays_in : (slot : ℕ) → IsInGroup one.membership slot → IsInGroup c.solo.membership slot
   entry_stays_in slot was =
       ⊎_elim
-      (λ (yes' : (c.code ≡ 1) × Enters text one c.story).
-      is_in_as c.story.membership slot (yes'.1.now ∙ ap (λ (n : ℕ). Member n) (one_slot one.membership yes'.1.slot slot yes'.1.may was)))
-      (λ (no' : (c.code ≢ 1) × (c.story ≡ one)). subst (λ (s : Story). IsInGroup s.membership slot) (sym no'.1) was)
+      (λ (yes' : (c.code ≡ 1) × Enters text one c.solo).
+      is_in_as c.solo.membership slot (yes'.1.now ∙ ap (λ (n : ℕ). Member n) (one_slot one.membership yes'.1.slot slot yes'.1.may was)))
+      (λ (no' : (c.code ≢ 1) × (c.solo ≡ one)). subst (λ (s : SoloState). IsInGroup s.membership slot) (sym no'.1) was)
       is.does
 
-  entry_leaving : (slot : ℕ) → c.story.membership ≡ Leaving slot → one.membership ≡ Leaving slot
+  entry_leaving : (slot : ℕ) → c.solo.membership ≡ Leaving slot → one.membership ≡ Leaving slot
   entry_leaving slot now =
       ⊎_elim
-      (λ (yes' : (c.code ≡ 1) × Enters text one c.story). let e : Member yes'.1.slot ≡ Leaving slot = sym yes'.1.now ∙ now in absurd cc)
-      (λ (no' : (c.code ≢ 1) × (c.story ≡ one)). ap (λ (s : Story). s.membership) (sym no'.1) ∙ now)
+      (λ (yes' : (c.code ≡ 1) × Enters text one c.solo). let e : Member yes'.1.slot ≡ Leaving slot = sym yes'.1.now ∙ now in absurd cc)
+      (λ (no' : (c.code ≢ 1) × (c.solo ≡ one)). ap (λ (s : SoloState). s.membership) (sym no'.1) ∙ now)
       is.does
 
 -- ---- all entries
 
-pub record AllJoin (filters : List (List ℕ)) (one : Story) (all : AllCoded) : Type 0 where
-  pub follows : Follows one all.story
-  pub joins : (place slot : ℕ) (filter : List ℕ) → slice_get filters place ≡ Some filter → slice_get all.codes place ≡ Some 1 → slot_of filter (shares_of all.story.groups) ≡ Some slot → all.story.membership ≡ Member slot
-  pub joined : (slot : ℕ) → all.story.membership ≡ Member slot → (one.membership ≡ Member slot) ⊎ HasCode filters all.codes 1 slot (shares_of all.story.groups)
-  pub stays : (slot : ℕ) → one.membership ≡ Member slot → all.story.membership ≡ Member slot
-  pub stays_in : (slot : ℕ) → IsInGroup one.membership slot → IsInGroup all.story.membership slot
-  pub leaving : (slot : ℕ) → all.story.membership ≡ Leaving slot → one.membership ≡ Leaving slot
+pub record AllJoin (filters : List (List ℕ)) (one : SoloState) (all : AllCoded) : Type 0 where
+  pub follows : Follows one all.solo
+  pub joins : (place slot : ℕ) (filter : List ℕ) → slice_get filters place ≡ Some filter → slice_get all.codes place ≡ Some 1 → slot_of filter (shares_of all.solo.groups) ≡ Some slot → all.solo.membership ≡ Member slot
+  pub joined : (slot : ℕ) → all.solo.membership ≡ Member slot → (one.membership ≡ Member slot) ⊎ HasCode filters all.codes 1 slot (shares_of all.solo.groups)
+  pub stays : (slot : ℕ) → one.membership ≡ Member slot → all.solo.membership ≡ Member slot
+  pub stays_in : (slot : ℕ) → IsInGroup one.membership slot → IsInGroup all.solo.membership slot
+  pub leaving : (slot : ℕ) → all.solo.membership ≡ Leaving slot → one.membership ≡ Leaving slot
 
 abbrev pub filters_of : List Subscription → List (List ℕ)
 filters_of subscriptions = map (λ entry. entry.filter) subscriptions
@@ -263,127 +263,127 @@ none_there place x e = absurd cc
 pub one_more : (filter : List ℕ) (filters : List (List ℕ)) (code : ℕ) (codes : List ℕ) (its slot : ℕ) (shares : List Share) → HasCode filters codes its slot shares → HasCode (filter ∷ filters) (code ∷ codes) its slot shares
 one_more filter filters code codes its slot shares has = record { place = suc has.place; filter = has.filter; asked = has.asked; coded = has.coded; its = has.its }
 
-module _ (text : List ℕ) (filters : List (List ℕ)) (story : Story) (one : Coded) (is : EntryIs text story one) (rest : AllCoded) (later : AllJoin filters one.story rest) where
-  at_first : (slot : ℕ) → one.code ≡ 1 → slot_of text (shares_of one.story.groups) ≡ Some slot → HasCode (text ∷ filters) (one.code ∷ rest.codes) 1 slot (shares_of rest.story.groups)
-  at_first slot told its = record { place = zero; filter = text; asked = refl; coded = ap (λ (n : ℕ). Some n) told; its = slot_still one.story rest.story text slot later.follows its }
+module _ (text : List ℕ) (filters : List (List ℕ)) (solo : SoloState) (one : Coded) (is : EntryIs text solo one) (rest : AllCoded) (later : AllJoin filters one.solo rest) where
+  at_first : (slot : ℕ) → one.code ≡ 1 → slot_of text (shares_of one.solo.groups) ≡ Some slot → HasCode (text ∷ filters) (one.code ∷ rest.codes) 1 slot (shares_of rest.solo.groups)
+  at_first slot told its = record { place = zero; filter = text; asked = refl; coded = ap (λ (n : ℕ). Some n) told; its = slot_still one.solo rest.solo text slot later.follows its }
 
-  by_entry : (slot : ℕ) → (story.membership ≡ Member slot) ⊎ ((one.code ≡ 1) × (slot_of text (shares_of one.story.groups) ≡ Some slot))
-      → (story.membership ≡ Member slot) ⊎ HasCode (text ∷ filters) (one.code ∷ rest.codes) 1 slot (shares_of rest.story.groups)
+  by_entry : (slot : ℕ) → (solo.membership ≡ Member slot) ⊎ ((one.code ≡ 1) × (slot_of text (shares_of one.solo.groups) ≡ Some slot))
+      → (solo.membership ≡ Member slot) ⊎ HasCode (text ∷ filters) (one.code ∷ rest.codes) 1 slot (shares_of rest.solo.groups)
   by_entry slot (inl was) = inl was
   by_entry slot (inr (told, its)) = inr (at_first slot told its)
 
-  joins_at : (place slot : ℕ) (filter : List ℕ) → slice_get (text ∷ filters) place ≡ Some filter → slice_get (one.code ∷ rest.codes) place ≡ Some 1 → slot_of filter (shares_of rest.story.groups) ≡ Some slot
-      → rest.story.membership ≡ Member slot
+  joins_at : (place slot : ℕ) (filter : List ℕ) → slice_get (text ∷ filters) place ≡ Some filter → slice_get (one.code ∷ rest.codes) place ≡ Some 1 → slot_of filter (shares_of rest.solo.groups) ≡ Some slot
+      → rest.solo.membership ≡ Member slot
   joins_at zero slot filter asked told its =
-      let enters = entry_joins text story one is (same_Some one.code 1 told) in
+      let enters = entry_joins text solo one is (same_Some one.code 1 told) in
       let text_is = same_Some text filter asked in
-      let still : slot_of text (shares_of rest.story.groups) ≡ Some enters.slot = slot_still one.story rest.story text enters.slot later.follows enters.its in
-      let same = same_Some enters.slot slot (sym still ∙ ap (λ (t : List ℕ). slot_of t (shares_of rest.story.groups)) text_is ∙ its) in
+      let still : slot_of text (shares_of rest.solo.groups) ≡ Some enters.slot = slot_still one.solo rest.solo text enters.slot later.follows enters.its in
+      let same = same_Some enters.slot slot (sym still ∙ ap (λ (t : List ℕ). slot_of t (shares_of rest.solo.groups)) text_is ∙ its) in
       later.stays slot (enters.now ∙ ap (λ (n : ℕ). Member n) same)
   joins_at (suc place) slot filter asked told its = later.joins place slot filter asked told its
 
-  first_joins : AllJoin (text ∷ filters) story (coded_first one.code rest)
+  first_joins : AllJoin (text ∷ filters) solo (coded_first one.code rest)
   first_joins =
       record {
-        follows = follows_both story one.story rest.story is.follows later.follows;
+        follows = follows_both solo one.solo rest.solo is.follows later.follows;
         joins = joins_at;
         joined = λ slot now.
             ⊎_elim
-            (λ (was : one.story.membership ≡ Member slot). by_entry slot (entry_joined text story one is slot was))
-            (λ (has : HasCode filters rest.codes 1 slot (shares_of rest.story.groups)). inr (one_more text filters one.code rest.codes 1 slot (shares_of rest.story.groups) has))
+            (λ (was : one.solo.membership ≡ Member slot). by_entry slot (entry_joined text solo one is slot was))
+            (λ (has : HasCode filters rest.codes 1 slot (shares_of rest.solo.groups)). inr (one_more text filters one.code rest.codes 1 slot (shares_of rest.solo.groups) has))
             (later.joined slot now);
-        stays = λ slot was. later.stays slot (entry_stays text story one is slot was);
-        stays_in = λ slot was. later.stays_in slot (entry_stays_in text story one is slot was);
-        leaving = λ slot now. entry_leaving text story one is slot (later.leaving slot now);
+        stays = λ slot was. later.stays slot (entry_stays text solo one is slot was);
+        stays_in = λ slot was. later.stays_in slot (entry_stays_in text solo one is slot was);
+        leaving = λ slot now. entry_leaving text solo one is slot (later.leaving slot now);
       }
 
-pub all_join : (identified : Bool) (subscriptions : List Subscription) (story : Story) → AllJoin (filters_of subscriptions) story (join_all identified subscriptions story)
-all_join identified [] story =
+pub all_join : (identified : Bool) (subscriptions : List Subscription) (solo : SoloState) → AllJoin (filters_of subscriptions) solo (join_all identified subscriptions solo)
+all_join identified [] solo =
     record {
-      follows = follows_as story.membership story;
+      follows = follows_as solo.membership solo;
       joins = λ place slot filter asked told its. absurd (none_there place filter asked);
       joined = λ slot now. inl now;
       stays = λ slot was. was;
       stays_in = λ slot was. was;
       leaving = λ slot now. now;
     }
-all_join identified (entry ∷ others) story =
-    let one = entry_reply (entry_answer identified entry story.terms) story in
-    first_joins entry.filter (filters_of others) story one (entry_is entry.filter (entry_answer identified entry story.terms) story (answer_fits identified entry story.terms))
-    (join_all identified others one.story) (all_join identified others one.story)
+all_join identified (entry ∷ others) solo =
+    let one = entry_reply (entry_answer identified entry solo.terms) solo in
+    first_joins entry.filter (filters_of others) solo one (entry_is entry.filter (entry_answer identified entry solo.terms) solo (answer_fits identified entry solo.terms))
+    (join_all identified others one.solo) (all_join identified others one.solo)
 
 -- ---- who is served
 
 text_of : (identified : Bool) (entry : Subscription) (terms : Terms) (share : Share) → entry_answer identified entry terms ≡ entries.Join share → share.text ≡ entry.filter
 text_of identified entry terms share served = subst (Fits entry.filter) served (answer_fits identified entry terms)
 
-stays_told : (membership : Membership ℕ) (share : Share) (story : Story) (slot : ℕ) → IsInGroup membership slot → slot_of share.text (shares_of story.groups) ≡ Some slot
-    → (join_as membership (slot_of share.text (shares_of story.groups)) share story).code ≡ 1
-stays_told NotMember share story slot in_ found = absurd in_
-stays_told (Member own) share story slot in_ found =
-    ap (λ (f : Option ℕ). (stay own f story).code) found ∙ ap (λ (b : Bool). (cond b (coded 1 (with_membership (Member own) story)) (coded 0x97 story)).code) (eq-eqb slot own (sym in_))
-stays_told (Leaving own) share story slot in_ found =
-    ap (λ (f : Option ℕ). (stay own f story).code) found ∙ ap (λ (b : Bool). (cond b (coded 1 (with_membership (Member own) story)) (coded 0x97 story)).code) (eq-eqb slot own (sym in_))
+stays_told : (membership : Membership ℕ) (share : Share) (solo : SoloState) (slot : ℕ) → IsInGroup membership slot → slot_of share.text (shares_of solo.groups) ≡ Some slot
+    → (join_as membership (slot_of share.text (shares_of solo.groups)) share solo).code ≡ 1
+stays_told NotMember share solo slot in_ found = absurd in_
+stays_told (Member own) share solo slot in_ found =
+    ap (λ (f : Option ℕ). (stay own f solo).code) found ∙ ap (λ (b : Bool). (cond b (coded 1 (with_membership (Member own) solo)) (coded 0x97 solo)).code) (eq-eqb slot own (sym in_))
+stays_told (Leaving own) share solo slot in_ found =
+    ap (λ (f : Option ℕ). (stay own f solo).code) found ∙ ap (λ (b : Bool). (cond b (coded 1 (with_membership (Member own) solo)) (coded 0x97 solo)).code) (eq-eqb slot own (sym in_))
 
 -- the share is bound, or can be
-abbrev pub HasSlot : Share → Story → Type 0
-HasSlot share story = (slot_of share.text (shares_of story.groups) ≢ None) ⊎ (length story.groups < most_routes)
+abbrev pub HasSlot : Share → SoloState → Type 0
+HasSlot share solo = (slot_of share.text (shares_of solo.groups) ≢ None) ⊎ (length solo.groups < most_routes)
 
-enters_told : (found : Option ℕ) (share : Share) (story : Story) → (found ≢ None) ⊎ (length story.groups < most_routes) → (enter found share story).code ≡ 1
-enters_told (Some slot) share story has = refl
-enters_told None share story (inl some) = absurd (some refl)
-enters_told None share story (inr room) =
-    let slot = length story.groups in
-    ap (λ (b : Bool). (cond b (coded 1 (with_membership (Member slot) (with_share share story))) (coded 0x97 story)).code) (lt-ltb slot most_routes room)
+enters_told : (found : Option ℕ) (share : Share) (solo : SoloState) → (found ≢ None) ⊎ (length solo.groups < most_routes) → (enter found share solo).code ≡ 1
+enters_told (Some slot) share solo has = refl
+enters_told None share solo (inl some) = absurd (some refl)
+enters_told None share solo (inr room) =
+    let slot = length solo.groups in
+    ap (λ (b : Bool). (cond b (coded 1 (with_membership (Member slot) (with_share share solo))) (coded 0x97 solo)).code) (lt-ltb slot most_routes room)
 
 module _ (identified : Bool) (share : Share) where
-  pub serves_own : (subscriptions : List Subscription) (story : Story) (place slot : ℕ) (entry : Subscription) → slice_get subscriptions place ≡ Some entry → entry_answer identified entry story.terms ≡ entries.Join share
-      → IsInGroup story.membership slot → slot_of share.text (shares_of story.groups) ≡ Some slot → let all = join_all identified subscriptions story in HasCode (filters_of subscriptions) all.codes 1 slot (shares_of all.story.groups)
-  serves_own [] story place slot entry asked served in_ found = absurd (none_there place entry asked)
-  serves_own (first' ∷ others) story zero slot entry asked served in_ found =
-      let answer = entry_answer identified first' story.terms in
-      let one = entry_reply answer story in
+  pub serves_own : (subscriptions : List Subscription) (solo : SoloState) (place slot : ℕ) (entry : Subscription) → slice_get subscriptions place ≡ Some entry → entry_answer identified entry solo.terms ≡ entries.Join share
+      → IsInGroup solo.membership slot → slot_of share.text (shares_of solo.groups) ≡ Some slot → let all = join_all identified subscriptions solo in HasCode (filters_of subscriptions) all.codes 1 slot (shares_of all.solo.groups)
+  serves_own [] solo place slot entry asked served in_ found = absurd (none_there place entry asked)
+  serves_own (first' ∷ others) solo zero slot entry asked served in_ found =
+      let answer = entry_answer identified first' solo.terms in
+      let one = entry_reply answer solo in
       let same = same_Some first' entry asked in
       let told : one.code ≡ 1 =
-      ap (λ (e : Subscription). (entry_reply (entry_answer identified e story.terms) story).code) same ∙ ap (λ (a : EntryAnswer). (entry_reply a story).code) served ∙ stays_told story.membership share story slot in_ found in
-      let text_is : share.text ≡ first'.filter = text_of identified entry story.terms share served ∙ ap (λ (e : Subscription). e.filter) (sym same) in
-      let is = entry_is first'.filter answer story (answer_fits identified first' story.terms) in
-      at_first first'.filter (filters_of others) story one is (join_all identified others one.story) (all_join identified others one.story) slot told
-      (slot_still story one.story first'.filter slot is.follows (ap (λ (t : List ℕ). slot_of t (shares_of story.groups)) (sym text_is) ∙ found))
-  serves_own (first' ∷ others) story (suc place) slot entry asked served in_ found =
-      let answer = entry_answer identified first' story.terms in
-      let one = entry_reply answer story in
-      let is = entry_is first'.filter answer story (answer_fits identified first' story.terms) in
-      let rest = join_all identified others one.story in
-      one_more first'.filter (filters_of others) one.code rest.codes 1 slot (shares_of rest.story.groups)
-      (serves_own others one.story place slot entry asked (ap (λ (t : Terms). entry_answer identified entry t) is.follows.terms ∙ served)
-      (entry_stays_in first'.filter story one is slot in_) (slot_still story one.story share.text slot is.follows found))
+      ap (λ (e : Subscription). (entry_reply (entry_answer identified e solo.terms) solo).code) same ∙ ap (λ (a : EntryAnswer). (entry_reply a solo).code) served ∙ stays_told solo.membership share solo slot in_ found in
+      let text_is : share.text ≡ first'.filter = text_of identified entry solo.terms share served ∙ ap (λ (e : Subscription). e.filter) (sym same) in
+      let is = entry_is first'.filter answer solo (answer_fits identified first' solo.terms) in
+      at_first first'.filter (filters_of others) solo one is (join_all identified others one.solo) (all_join identified others one.solo) slot told
+      (slot_still solo one.solo first'.filter slot is.follows (ap (λ (t : List ℕ). slot_of t (shares_of solo.groups)) (sym text_is) ∙ found))
+  serves_own (first' ∷ others) solo (suc place) slot entry asked served in_ found =
+      let answer = entry_answer identified first' solo.terms in
+      let one = entry_reply answer solo in
+      let is = entry_is first'.filter answer solo (answer_fits identified first' solo.terms) in
+      let rest = join_all identified others one.solo in
+      one_more first'.filter (filters_of others) one.code rest.codes 1 slot (shares_of rest.solo.groups)
+      (serves_own others one.solo place slot entry asked (ap (λ (t : Terms). entry_answer identified entry t) is.follows.terms ∙ served)
+      (entry_stays_in first'.filter solo one is slot in_) (slot_still solo one.solo share.text slot is.follows found))
 
-  pub serves_free : (subscriptions : List Subscription) (story : Story) (place : ℕ) (entry : Subscription) → slice_get subscriptions place ≡ Some entry → entry_answer identified entry story.terms ≡ entries.Join share
-      → story.membership ≡ NotMember → HasSlot share story → let all = join_all identified subscriptions story in (slot : ℕ) × HasCode (filters_of subscriptions) all.codes 1 slot (shares_of all.story.groups)
-  serves_free [] story place entry asked served none has = absurd (none_there place entry asked)
-  serves_free (first' ∷ others) story zero entry asked served none has =
-      let answer = entry_answer identified first' story.terms in
-      let one = entry_reply answer story in
+  pub serves_free : (subscriptions : List Subscription) (solo : SoloState) (place : ℕ) (entry : Subscription) → slice_get subscriptions place ≡ Some entry → entry_answer identified entry solo.terms ≡ entries.Join share
+      → solo.membership ≡ NotMember → HasSlot share solo → let all = join_all identified subscriptions solo in (slot : ℕ) × HasCode (filters_of subscriptions) all.codes 1 slot (shares_of all.solo.groups)
+  serves_free [] solo place entry asked served none has = absurd (none_there place entry asked)
+  serves_free (first' ∷ others) solo zero entry asked served none has =
+      let answer = entry_answer identified first' solo.terms in
+      let one = entry_reply answer solo in
       let told : one.code ≡ 1 =
-      ap (λ (e : Subscription). (entry_reply (entry_answer identified e story.terms) story).code) (same_Some first' entry asked)
-      ∙ ap (λ (a : EntryAnswer). (entry_reply a story).code) served
-      ∙ ap (λ (m : Membership ℕ). (join_as m (slot_of share.text (shares_of story.groups)) share story).code) none
-      ∙ enters_told (slot_of share.text (shares_of story.groups)) share story has in
-      let is = entry_is first'.filter answer story (answer_fits identified first' story.terms) in
-      let enters = entry_joins first'.filter story one is told in
-      (enters.slot, at_first first'.filter (filters_of others) story one is (join_all identified others one.story) (all_join identified others one.story) enters.slot told enters.its)
-  serves_free (first' ∷ others) story (suc place) entry asked served none has =
-      let answer = entry_answer identified first' story.terms in
-      let one = entry_reply answer story in
-      let is = entry_is first'.filter answer story (answer_fits identified first' story.terms) in
-      let rest = join_all identified others one.story in
+      ap (λ (e : Subscription). (entry_reply (entry_answer identified e solo.terms) solo).code) (same_Some first' entry asked)
+      ∙ ap (λ (a : EntryAnswer). (entry_reply a solo).code) served
+      ∙ ap (λ (m : Membership ℕ). (join_as m (slot_of share.text (shares_of solo.groups)) share solo).code) none
+      ∙ enters_told (slot_of share.text (shares_of solo.groups)) share solo has in
+      let is = entry_is first'.filter answer solo (answer_fits identified first' solo.terms) in
+      let enters = entry_joins first'.filter solo one is told in
+      (enters.slot, at_first first'.filter (filters_of others) solo one is (join_all identified others one.solo) (all_join identified others one.solo) enters.slot told enters.its)
+  serves_free (first' ∷ others) solo (suc place) entry asked served none has =
+      let answer = entry_answer identified first' solo.terms in
+      let one = entry_reply answer solo in
+      let is = entry_is first'.filter answer solo (answer_fits identified first' solo.terms) in
+      let rest = join_all identified others one.solo in
       ⊎_elim
-      (λ (enters : (one.code ≡ 1) × Enters first'.filter story one.story).
-      (enters.1.slot, at_first first'.filter (filters_of others) story one is rest (all_join identified others one.story) enters.1.slot enters.0 enters.1.its))
-      (λ (not_first : (one.code ≢ 1) × (one.story ≡ story)).
+      (λ (enters : (one.code ≡ 1) × Enters first'.filter solo one.solo).
+      (enters.1.slot, at_first first'.filter (filters_of others) solo one is rest (all_join identified others one.solo) enters.1.slot enters.0 enters.1.its))
+      (λ (not_first : (one.code ≢ 1) × (one.solo ≡ solo)).
       let later =
-      serves_free others one.story place entry asked (ap (λ (t : Terms). entry_answer identified entry t) is.follows.terms ∙ served) (ap (λ (s : Story). s.membership) not_first.1 ∙ none)
+      serves_free others one.solo place entry asked (ap (λ (t : Terms). entry_answer identified entry t) is.follows.terms ∙ served) (ap (λ (s : SoloState). s.membership) not_first.1 ∙ none)
       (subst (HasSlot share) (sym not_first.1) has) in
-      (later.0, one_more first'.filter (filters_of others) one.code rest.codes 1 later.0 (shares_of rest.story.groups) later.1))
+      (later.0, one_more first'.filter (filters_of others) one.code rest.codes 1 later.0 (shares_of rest.solo.groups) later.1))
       is.does

@@ -1,4 +1,4 @@
--- What every move of a story keeps: identifiers that differ, the quota, and in each group its order, its life and its capacity.
+-- What every move of a model keeps: identifiers that differ, the quota, and in each group its order, its life and its capacity.
 use Rattle.std.proofs.Common.{◌≡◌, ◌≢◌, ℕ, suc, ◌+◌, ◌<◌, ◌≤◌, ◌==◌, ◌&&◌, ◌||◌, not, nat_le, Bool, true, false, cond, List, [], ◌∷◌, ◌++◌, map, length, drop, Option, Some, None, refl, sym, ap, ◌∙◌, subst, ⊎_elim, arith}
 use Rattle.std.specs.List.{AllByRecursion}
 use Rattle.std.proofs.lemmas.Bool.{both_ways, cases_eq, cases_lt, le-leb}
@@ -11,11 +11,11 @@ use Rattle.member_window.specs.Identifiers.{AreDistinct, identifiers_without}
 use Rattle.member_window.proofs.Lists.{distinct_push, distinct_without, length-without}
 use Rattle.session_desk.specs.declared.session.Membership.{Membership}
 use Rattle.session_desk.specs.declared.session.Membership.TheVariants.{NotMember, Member, Leaving}
-use Rattle.solo_output.specs.Groups.{Story, HandOut, bound, opening, accepted_in, handed_in, waiting_in, is_open, open_identifiers, settled, unacknowledged, with_message, with_share, with_puback, with_hand_out, with_membership}
+use Rattle.solo_output.specs.Groups.{SoloState, HandOut, bound, opening, accepted_in, handed_in, waiting_in, is_open, open_identifiers, settled, unacknowledged, with_message, with_share, with_puback, with_hand_out, with_membership}
 use Rattle.solo_output.specs.Groups.Phase.{Unconnected, Connected}
 use Rattle.solo_output.specs.HandOuts.{quota, least_free}
 use Rattle.solo_output.specs.Publishing.{is_full}
-use Rattle.solo_output.specs.Replies.{reply, turn, turns}
+use Rattle.solo_output.specs.Replies.{reply, solo_step, solo_steps}
 use Rattle.solo_output.specs.Runs.{IsInGroup}
 use Rattle.solo_output.proofs.Groups.{all_kept, all_push}
 use Rattle.solo_output.proofs.Lists.{handed, open_push, handed_in_push_same, handed_in_push_other, open_settled, handed_in_settled}
@@ -30,16 +30,16 @@ IsSmall identifier = (1 ≤ identifier) × (identifier ≤ 256)
 abbrev pub IsOwn : Membership ℕ → HandOut → Type 0
 IsOwn membership hand_out = hand_out.code ≡ None → IsInGroup membership hand_out.slot
 
-pub record Kept (story : Story) : Type 0 where
-  pub small : AllByRecursion IsSmall (unacknowledged story)
-  pub distinct : AreDistinct (unacknowledged story)
-  pub room : length (unacknowledged story) ≤ quota story
-  pub fresh : story.phase ≡ Unconnected → story.handed_out ≡ []
-  pub order : (slot : ℕ) → length (handed_in slot story.handed_out) ≤ length (accepted_in slot story.groups)
-  pub lives : (slot : ℕ) → length (accepted_in slot story.groups) ≤ life
-  pub fits : (slot : ℕ) → length (waiting_in slot story) ≤ story.capacity
-  pub own : AllByRecursion (IsOwn story.membership) story.handed_out
-  pub bound : (slot : ℕ) → IsInGroup story.membership slot → slot < length story.groups
+pub record Kept (solo : SoloState) : Type 0 where
+  pub small : AllByRecursion IsSmall (unacknowledged solo)
+  pub distinct : AreDistinct (unacknowledged solo)
+  pub room : length (unacknowledged solo) ≤ quota solo
+  pub fresh : solo.phase ≡ Unconnected → solo.handed_out ≡ []
+  pub order : (slot : ℕ) → length (handed_in slot solo.handed_out) ≤ length (accepted_in slot solo.groups)
+  pub lives : (slot : ℕ) → length (accepted_in slot solo.groups) ≤ life
+  pub fits : (slot : ℕ) → length (waiting_in slot solo) ≤ solo.capacity
+  pub own : AllByRecursion (IsOwn solo.membership) solo.handed_out
+  pub bound : (slot : ℕ) → IsInGroup solo.membership slot → slot < length solo.groups
 
 pub kept_first : (capacity max_inflight : ℕ) (shares : List Share) → Kept (opening capacity max_inflight shares)
 kept_first capacity max_inflight shares =
@@ -61,10 +61,10 @@ all_own : (P Q : HandOut → Type 0) (hand_outs : List HandOut) → ((hand_out :
 all_own P Q [] so all = tt
 all_own P Q (hand_out ∷ hand_outs) so all = (so hand_out all.0, all_own P Q hand_outs so all.1)
 
-kept_as : (membership : Membership ℕ) (story : Story) → ((hand_out : HandOut) → IsOwn story.membership hand_out → IsOwn membership hand_out) → (Kept story → (slot : ℕ) → IsInGroup membership slot → slot < length story.groups) → Kept story
-    → Kept (with_membership membership story)
-kept_as membership story so there k =
-    record { small = k.small; distinct = k.distinct; room = k.room; fresh = k.fresh; order = k.order; lives = k.lives; fits = k.fits; own = all_own (IsOwn story.membership) (IsOwn membership) story.handed_out so k.own; bound = there k }
+kept_as : (membership : Membership ℕ) (solo : SoloState) → ((hand_out : HandOut) → IsOwn solo.membership hand_out → IsOwn membership hand_out) → (Kept solo → (slot : ℕ) → IsInGroup membership slot → slot < length solo.groups) → Kept solo
+    → Kept (with_membership membership solo)
+kept_as membership solo so there k =
+    record { small = k.small; distinct = k.distinct; room = k.room; fresh = k.fresh; order = k.order; lives = k.lives; fits = k.fits; own = all_own (IsOwn solo.membership) (IsOwn membership) solo.handed_out so k.own; bound = there k }
 
 may_own : (before : Membership ℕ) (slot : ℕ) (hand_out : HandOut) → MayJoin before slot → IsOwn before hand_out → IsOwn (Member slot) hand_out
 may_own NotMember slot hand_out may its none = absurd (its none)
@@ -93,14 +93,14 @@ not_either false y e = (refl, e)
 below : (n m : ℕ) → nat_le n m ≡ false → m < n
 below n m e = ⊎_elim (λ (less : m < n). less) (λ (not_less : n ≤ m). absurd (both_ways (nat_le n m) e (le-leb n m not_less))) (cases_lt m n)
 
-pub kept_accepting : (slot : ℕ) (message : Message) (story : Story) → slot < length story.groups → is_full slot story ≡ false → Kept story → Kept (with_message slot message story)
-kept_accepting slot message story within room k =
+pub kept_accepting : (slot : ℕ) (message : Message) (solo : SoloState) → slot < length solo.groups → is_full slot solo ≡ false → Kept solo → Kept (with_message slot message solo)
+kept_accepting slot message solo within room k =
     let not_full = not_either _ _ room in
-    let young : length (accepted_in slot story.groups) < life = below life (length (accepted_in slot story.groups)) not_full.0 in
-    let free : length (waiting_in slot story) < story.capacity = below story.capacity (length (waiting_in slot story)) not_full.1 in
-    let more : length (accepted_in slot (with_message slot message story).groups) ≡ length (accepted_in slot story.groups) + 1 =
-    ap length (accepted_same slot message story.groups within) ∙ length_push (accepted_in slot story.groups) message in
-    let many = λ (s : Story). λ (at : ℕ). length-drop (length (handed_in at s.handed_out)) (accepted_in at s.groups) in
+    let young : length (accepted_in slot solo.groups) < life = below life (length (accepted_in slot solo.groups)) not_full.0 in
+    let free : length (waiting_in slot solo) < solo.capacity = below solo.capacity (length (waiting_in slot solo)) not_full.1 in
+    let more : length (accepted_in slot (with_message slot message solo).groups) ≡ length (accepted_in slot solo.groups) + 1 =
+    ap length (accepted_same slot message solo.groups within) ∙ length_push (accepted_in slot solo.groups) message in
+    let many = λ (s : SoloState). λ (at : ℕ). length-drop (length (handed_in at s.handed_out)) (accepted_in at s.groups) in
     record {
       small = k.small;
       distinct = k.distinct;
@@ -108,27 +108,27 @@ kept_accepting slot message story within room k =
       fresh = k.fresh;
       order = λ at.
           ⊎_elim
-          (λ (is : at ≡ slot). subst (λ (n : ℕ). length (handed_in n story.handed_out) ≤ length (accepted_in n (with_message slot message story).groups)) (sym is) (omega (arith, more, k.order slot)))
-          (λ (other : at ≢ slot). omega (arith, ap length (accepted_other slot at message story.groups other), k.order at))
+          (λ (is : at ≡ slot). subst (λ (n : ℕ). length (handed_in n solo.handed_out) ≤ length (accepted_in n (with_message slot message solo).groups)) (sym is) (omega (arith, more, k.order slot)))
+          (λ (other : at ≢ slot). omega (arith, ap length (accepted_other slot at message solo.groups other), k.order at))
           (cases_eq at slot);
       lives = λ at.
           ⊎_elim
-          (λ (is : at ≡ slot). subst (λ (n : ℕ). length (accepted_in n (with_message slot message story).groups) ≤ life) (sym is) (omega (arith, more, young)))
-          (λ (other : at ≢ slot). omega (arith, ap length (accepted_other slot at message story.groups other), k.lives at))
+          (λ (is : at ≡ slot). subst (λ (n : ℕ). length (accepted_in n (with_message slot message solo).groups) ≤ life) (sym is) (omega (arith, more, young)))
+          (λ (other : at ≢ slot). omega (arith, ap length (accepted_other slot at message solo.groups other), k.lives at))
           (cases_eq at slot);
       fits = λ at.
           ⊎_elim
-          (λ (is : at ≡ slot). subst (λ (n : ℕ). length (waiting_in n (with_message slot message story)) ≤ story.capacity) (sym is) (omega (arith, more, free, many story slot, many (with_message slot message story) slot)))
-          (λ (other : at ≢ slot). omega (arith, ap length (accepted_other slot at message story.groups other), many story at, many (with_message slot message story) at, k.fits at))
+          (λ (is : at ≡ slot). subst (λ (n : ℕ). length (waiting_in n (with_message slot message solo)) ≤ solo.capacity) (sym is) (omega (arith, more, free, many solo slot, many (with_message slot message solo) slot)))
+          (λ (other : at ≢ slot). omega (arith, ap length (accepted_other slot at message solo.groups other), many solo at, many (with_message slot message solo) at, k.fits at))
           (cases_eq at slot);
       own = k.own;
-      bound = λ at in_. omega (arith, length-accepting slot message story.groups, k.bound at in_);
+      bound = λ at in_. omega (arith, length-accepting slot message solo.groups, k.bound at in_);
     }
 
-kept_binding : (share : Share) (story : Story) → Kept story → Kept (with_share share story)
-kept_binding share story k =
-    let same = λ (slot : ℕ). ap length (accepted_bound slot share story.groups) in
-    let many = λ (s : Story). λ (at : ℕ). length-drop (length (handed_in at s.handed_out)) (accepted_in at s.groups) in
+kept_binding : (share : Share) (solo : SoloState) → Kept solo → Kept (with_share share solo)
+kept_binding share solo k =
+    let same = λ (slot : ℕ). ap length (accepted_bound slot share solo.groups) in
+    let many = λ (s : SoloState). λ (at : ℕ). length-drop (length (handed_in at s.handed_out)) (accepted_in at s.groups) in
     record {
       small = k.small;
       distinct = k.distinct;
@@ -136,9 +136,9 @@ kept_binding share story k =
       fresh = k.fresh;
       order = λ slot. omega (arith, same slot, k.order slot);
       lives = λ slot. omega (arith, same slot, k.lives slot);
-      fits = λ slot. omega (arith, same slot, many story slot, many (with_share share story) slot, k.fits slot);
+      fits = λ slot. omega (arith, same slot, many solo slot, many (with_share share solo) slot, k.fits slot);
       own = k.own;
-      bound = λ at in_. omega (arith, length_push story.groups (bound share), k.bound at in_);
+      bound = λ at in_. omega (arith, length_push solo.groups (bound share), k.bound at in_);
     }
 
 -- ---- a PUBACK
@@ -151,38 +151,38 @@ all_settled : (membership : Membership ℕ) (identifier code : ℕ) (hand_outs :
 all_settled membership identifier code [] all = tt
 all_settled membership identifier code (h ∷ hand_outs) all = (settled_own membership code (is_open h && (h.identifier == identifier)) h all.0, all_settled membership identifier code hand_outs all.1)
 
-pub kept_settling : (identifier code : ℕ) (story : Story) → Kept story → Kept (with_puback identifier code story)
-kept_settling identifier code story k =
-    let opens : unacknowledged (with_puback identifier code story) ≡ identifiers_without identifier (unacknowledged story) = open_settled identifier code story.handed_out in
-    let same : (slot : ℕ) → length (handed_in slot (with_puback identifier code story).handed_out) ≡ length (handed_in slot story.handed_out) =
-    λ slot. ap length (handed_in_settled identifier code slot story.handed_out) ∙ length-map (handed_in slot story.handed_out) (settled identifier code) in
+pub kept_settling : (identifier code : ℕ) (solo : SoloState) → Kept solo → Kept (with_puback identifier code solo)
+kept_settling identifier code solo k =
+    let opens : unacknowledged (with_puback identifier code solo) ≡ identifiers_without identifier (unacknowledged solo) = open_settled identifier code solo.handed_out in
+    let same : (slot : ℕ) → length (handed_in slot (with_puback identifier code solo).handed_out) ≡ length (handed_in slot solo.handed_out) =
+    λ slot. ap length (handed_in_settled identifier code slot solo.handed_out) ∙ length-map (handed_in slot solo.handed_out) (settled identifier code) in
     record {
-      small = subst (AllByRecursion IsSmall) (sym opens) (all_kept IsSmall (λ other. not (other == identifier)) (unacknowledged story) k.small);
-      distinct = subst AreDistinct (sym opens) (distinct_without identifier (unacknowledged story) k.distinct);
-      room = omega (arith, ap length opens, length-without identifier (unacknowledged story), k.room);
+      small = subst (AllByRecursion IsSmall) (sym opens) (all_kept IsSmall (λ other. not (other == identifier)) (unacknowledged solo) k.small);
+      distinct = subst AreDistinct (sym opens) (distinct_without identifier (unacknowledged solo) k.distinct);
+      room = omega (arith, ap length opens, length-without identifier (unacknowledged solo), k.room);
       fresh = λ e. ap (map (settled identifier code)) (k.fresh e);
       order = λ slot. omega (arith, same slot, k.order slot);
       lives = k.lives;
-      fits = λ slot. subst (λ (n : ℕ). length (drop n (accepted_in slot story.groups)) ≤ story.capacity) (sym (same slot)) (k.fits slot);
-      own = all_settled story.membership identifier code story.handed_out k.own;
+      fits = λ slot. subst (λ (n : ℕ). length (drop n (accepted_in slot solo.groups)) ≤ solo.capacity) (sym (same slot)) (k.fits slot);
+      own = all_settled solo.membership identifier code solo.handed_out k.own;
       bound = k.bound;
     }
 
 -- ---- a hand-out
 
-pub kept_handing : (slot : ℕ) (message : Message) (rest : List Message) (story : Story) → story.phase ≡ Connected → story.membership ≡ Member slot → length (unacknowledged story) < quota story → waiting_in slot story ≡ message ∷ rest
-    → Kept story → Kept (with_hand_out slot (least_free (unacknowledged story)) story)
-kept_handing slot message rest story connected member less waits k =
-    let used = unacknowledged story in
+pub kept_handing : (slot : ℕ) (message : Message) (rest : List Message) (solo : SoloState) → solo.phase ≡ Connected → solo.membership ≡ Member slot → length (unacknowledged solo) < quota solo → waiting_in slot solo ≡ message ∷ rest
+    → Kept solo → Kept (with_hand_out slot (least_free (unacknowledged solo)) solo)
+kept_handing slot message rest solo connected member less waits k =
+    let used = unacknowledged solo in
     let next = least_free used in
-    let behind = with_hand_out slot next story in
-    let opens : unacknowledged behind ≡ used ++ next ∷ [] = open_push story.handed_out slot next in
+    let behind = with_hand_out slot next solo in
+    let opens : unacknowledged behind ≡ used ++ next ∷ [] = open_push solo.handed_out slot next in
     let least = is_least used in
-    let some : length (waiting_in slot story) ≡ suc (length rest) = ap length waits in
-    let many = λ (s : Story). λ (at : ℕ). length-drop (length (handed_in at s.handed_out)) (accepted_in at s.groups) in
-    let one_more : length (handed_in slot behind.handed_out) ≡ length (handed_in slot story.handed_out) + 1 =
-    ap length (handed_in_push_same story.handed_out slot next) ∙ length_push (handed_in slot story.handed_out) (handed slot next None) in
-    let others : (at : ℕ) → at ≢ slot → length (handed_in at behind.handed_out) ≡ length (handed_in at story.handed_out) = λ at other. ap length (handed_in_push_other story.handed_out slot at next (λ e. other (sym e))) in
+    let some : length (waiting_in slot solo) ≡ suc (length rest) = ap length waits in
+    let many = λ (s : SoloState). λ (at : ℕ). length-drop (length (handed_in at s.handed_out)) (accepted_in at s.groups) in
+    let one_more : length (handed_in slot behind.handed_out) ≡ length (handed_in slot solo.handed_out) + 1 =
+    ap length (handed_in_push_same solo.handed_out slot next) ∙ length_push (handed_in slot solo.handed_out) (handed slot next None) in
+    let others : (at : ℕ) → at ≢ slot → length (handed_in at behind.handed_out) ≡ length (handed_in at solo.handed_out) = λ at other. ap length (handed_in_push_other solo.handed_out slot at next (λ e. other (sym e))) in
     record {
       small = subst (AllByRecursion IsSmall) (sym opens) (all_push IsSmall used next k.small (least.not_zero, omega (arith, least_small used, less)));
       distinct = subst AreDistinct (sym opens) (distinct_push used next k.distinct least.free);
@@ -190,30 +190,30 @@ kept_handing slot message rest story connected member less waits k =
       fresh = λ e. let f : Unconnected ≡ Connected = sym e ∙ connected in absurd cc;
       order = λ at.
           ⊎_elim
-          (λ (is : at ≡ slot). subst (λ (n : ℕ). length (handed_in n behind.handed_out) ≤ length (accepted_in n story.groups)) (sym is) (omega (arith, one_more, some, many story slot)))
+          (λ (is : at ≡ slot). subst (λ (n : ℕ). length (handed_in n behind.handed_out) ≤ length (accepted_in n solo.groups)) (sym is) (omega (arith, one_more, some, many solo slot)))
           (λ (other : at ≢ slot). omega (arith, others at other, k.order at))
           (cases_eq at slot);
       lives = k.lives;
       fits = λ at.
           ⊎_elim
-          (λ (is : at ≡ slot). subst (λ (n : ℕ). length (waiting_in n behind) ≤ story.capacity) (sym is) (omega (arith, one_more, some, many story slot, many behind slot, k.fits slot)))
-          (λ (other : at ≢ slot). omega (arith, others at other, many story at, many behind at, k.fits at))
+          (λ (is : at ≡ slot). subst (λ (n : ℕ). length (waiting_in n behind) ≤ solo.capacity) (sym is) (omega (arith, one_more, some, many solo slot, many behind slot, k.fits slot)))
+          (λ (other : at ≢ slot). omega (arith, others at other, many solo at, many behind at, k.fits at))
           (cases_eq at slot);
-      own = all_push (IsOwn story.membership) story.handed_out (handed slot next None) k.own (λ none. subst (λ (m : Membership ℕ). IsInGroup m slot) (sym member) refl);
+      own = all_push (IsOwn solo.membership) solo.handed_out (handed slot next None) k.own (λ none. subst (λ (m : Membership ℕ). IsInGroup m slot) (sym member) refl);
       bound = k.bound;
     }
 
 -- ---- every move
 
-abbrev pub Keeps : Story → Story → Type 0
+abbrev pub Keeps : SoloState → SoloState → Type 0
 Keeps one two = Kept one → Kept two
 
 pub keeps : Ways Keeps
 keeps =
     record {
-      stays = λ story k. k;
+      stays = λ solo k. k;
       goes_on = λ one two three first later k. later (first k);
-      connects = λ connect story is k.
+      connects = λ connect solo is k.
           record {
             small = k.small;
             distinct = k.distinct;
@@ -225,20 +225,20 @@ keeps =
             own = k.own;
             bound = k.bound;
           };
-      closes = λ story k. record { small = k.small; distinct = k.distinct; room = k.room; fresh = λ e. absurd cc; order = k.order; lives = k.lives; fits = k.fits; own = k.own; bound = k.bound };
-      expires = λ expiry story k. record { small = k.small; distinct = k.distinct; room = k.room; fresh = k.fresh; order = k.order; lives = k.lives; fits = k.fits; own = k.own; bound = k.bound };
-      binds = λ share story none few. kept_binding share story;
-      joins = λ slot story may within. kept_as (Member slot) story (λ hand_out. may_own story.membership slot hand_out may) (λ k at in_. subst (λ (n : ℕ). n < length story.groups) in_ within);
-      leaves = λ slot story is. kept_as (Leaving slot) story (λ hand_out. leaving_own story.membership slot hand_out is) (λ k at in_. k.bound at (subst (λ (m : Membership ℕ). IsInGroup m at) (sym is) in_));
-      parts = λ slot story is none k.
-          record { small = k.small; distinct = k.distinct; room = k.room; fresh = k.fresh; order = k.order; lives = k.lives; fits = k.fits; own = none_open NotMember story.handed_out none; bound = λ slot in_. absurd in_ };
+      closes = λ solo k. record { small = k.small; distinct = k.distinct; room = k.room; fresh = λ e. absurd cc; order = k.order; lives = k.lives; fits = k.fits; own = k.own; bound = k.bound };
+      expires = λ expiry solo k. record { small = k.small; distinct = k.distinct; room = k.room; fresh = k.fresh; order = k.order; lives = k.lives; fits = k.fits; own = k.own; bound = k.bound };
+      binds = λ share solo none few. kept_binding share solo;
+      joins = λ slot solo may within. kept_as (Member slot) solo (λ hand_out. may_own solo.membership slot hand_out may) (λ k at in_. subst (λ (n : ℕ). n < length solo.groups) in_ within);
+      leaves = λ slot solo is. kept_as (Leaving slot) solo (λ hand_out. leaving_own solo.membership slot hand_out is) (λ k at in_. k.bound at (subst (λ (m : Membership ℕ). IsInGroup m at) (sym is) in_));
+      parts = λ slot solo is none k.
+          record { small = k.small; distinct = k.distinct; room = k.room; fresh = k.fresh; order = k.order; lives = k.lives; fits = k.fits; own = none_open NotMember solo.handed_out none; bound = λ slot in_. absurd in_ };
     }
 
-pub kept_replying : (packet : Packet) (story : Story) → Kept story → Kept (reply packet story).story
+pub kept_replying : (packet : Packet) (solo : SoloState) → Kept solo → Kept (reply packet solo).solo
 kept_replying = replied Keeps keeps kept_accepting kept_settling
 
-pub kept_turning : (packet : Packet) (story : Story) → Kept story → Kept (turn packet story).story
+pub kept_turning : (packet : Packet) (solo : SoloState) → Kept solo → Kept (solo_step packet solo).solo
 kept_turning = turned Keeps keeps kept_accepting kept_settling kept_handing
 
-pub kept_ran : (packets : List Packet) (story : Story) → Kept story → Kept (turns packets story).story
+pub kept_ran : (packets : List Packet) (solo : SoloState) → Kept solo → Kept (solo_steps packets solo).solo
 kept_ran = ran Keeps keeps kept_accepting kept_settling kept_handing

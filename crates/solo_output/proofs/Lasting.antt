@@ -8,10 +8,10 @@ use Rattle.dispatch_core.proofs.Spots.{slice_get-push_same, slice_get-push_other
 use Rattle.group_jobs.specs.declared.message.Message.{Message}
 use Rattle.session_desk.specs.declared.session.Membership.TheVariants.{Member}
 use Rattle.mqtt_packet.specs.declared.packet.Packet.{Packet}
-use Rattle.solo_output.specs.Groups.{Story, HandOut, settled, unacknowledged, waiting_in, with_puback, with_hand_out}
+use Rattle.solo_output.specs.Groups.{SoloState, HandOut, settled, unacknowledged, waiting_in, with_puback, with_hand_out}
 use Rattle.solo_output.specs.Groups.Phase.{Connected}
 use Rattle.solo_output.specs.HandOuts.{quota, least_free, due, hand_out, deliver}
-use Rattle.solo_output.specs.Replies.{turns}
+use Rattle.solo_output.specs.Replies.{solo_steps}
 use Rattle.solo_output.specs.Runs.{IsStill}
 use Rattle.solo_output.proofs.Lists.{handed}
 use Rattle.solo_output.proofs.Moves.{Ways, hands_out, delivered, ran}
@@ -21,13 +21,13 @@ still one = record { slot = refl; identifier = refl; for_good = λ code is. is }
 
 -- ---- a hand-out that was there is there
 
-abbrev pub Lasts : Story → Story → Type 0
+abbrev pub Lasts : SoloState → SoloState → Type 0
 Lasts one two = (place : ℕ) (hand_out : HandOut) → slice_get one.handed_out place ≡ Some hand_out → (other : HandOut) × (slice_get two.handed_out place ≡ Some other) × IsStill hand_out other
 
 lasts : Ways Lasts
 lasts =
     record {
-      stays = λ story place hand_out there. (hand_out, there, still hand_out);
+      stays = λ solo place hand_out there. (hand_out, there, still hand_out);
       goes_on = λ one two three first later place hand_out there.
           let behind = first place hand_out there in
           let last = later place behind.0 behind.1 in (
@@ -39,13 +39,13 @@ lasts =
               for_good = λ code is. last.2.for_good code (behind.2.for_good code is);
             },
           );
-      connects = λ connect story is place hand_out there. (hand_out, there, still hand_out);
-      closes = λ story place hand_out there. (hand_out, there, still hand_out);
-      expires = λ expiry story place hand_out there. (hand_out, there, still hand_out);
-      binds = λ share story none few place hand_out there. (hand_out, there, still hand_out);
-      joins = λ slot story may within place hand_out there. (hand_out, there, still hand_out);
-      leaves = λ slot story is place hand_out there. (hand_out, there, still hand_out);
-      parts = λ slot story is none place hand_out there. (hand_out, there, still hand_out);
+      connects = λ connect solo is place hand_out there. (hand_out, there, still hand_out);
+      closes = λ solo place hand_out there. (hand_out, there, still hand_out);
+      expires = λ expiry solo place hand_out there. (hand_out, there, still hand_out);
+      binds = λ share solo none few place hand_out there. (hand_out, there, still hand_out);
+      joins = λ slot solo may within place hand_out there. (hand_out, there, still hand_out);
+      leaves = λ slot solo is place hand_out there. (hand_out, there, still hand_out);
+      parts = λ slot solo is none place hand_out there. (hand_out, there, still hand_out);
     }
 
 settled_as : (identifier code slot own : ℕ) (was : Option ℕ) → IsStill (handed slot own was) (settled identifier code (handed slot own was))
@@ -56,10 +56,10 @@ settled_as identifier code slot own None =
     (λ (differs : (own == identifier) ≡ false). subst (λ (b : Bool). IsStill (handed slot own None) (cond b (handed slot own (Some code)) (handed slot own None))) (sym differs) (still (handed slot own None)))
     (cases_Bool (own == identifier))
 
-lasts_settling : (identifier code : ℕ) (story : Story) → Lasts story (with_puback identifier code story)
-lasts_settling identifier code story place hand_out there = (
+lasts_settling : (identifier code : ℕ) (solo : SoloState) → Lasts solo (with_puback identifier code solo)
+lasts_settling identifier code solo place hand_out there = (
   settled identifier code hand_out,
-  slice_get-map (settled identifier code) story.handed_out place ∙ ap (option_map (settled identifier code)) there,
+  slice_get-map (settled identifier code) solo.handed_out place ∙ ap (option_map (settled identifier code)) there,
   settled_as identifier code hand_out.slot hand_out.identifier hand_out.code,
 )
 
@@ -68,43 +68,43 @@ lasts_pushing one hand_outs place hand_out there =
     let within = slice_get_within hand_outs place hand_out there in
     slice_get-push_other hand_outs place one (λ e. absurd (omega (arith, within, e))) ∙ there
 
-lasts_one : (slot : ℕ) (message : Message) (rest : List Message) (story : Story) → story.phase ≡ Connected → story.membership ≡ Member slot → length (unacknowledged story) < quota story → waiting_in slot story ≡ message ∷ rest
-    → Lasts story (with_hand_out slot (least_free (unacknowledged story)) story)
-lasts_one slot message rest story connected member less waits place hand_out there = (
+lasts_one : (slot : ℕ) (message : Message) (rest : List Message) (solo : SoloState) → solo.phase ≡ Connected → solo.membership ≡ Member slot → length (unacknowledged solo) < quota solo → waiting_in slot solo ≡ message ∷ rest
+    → Lasts solo (with_hand_out slot (least_free (unacknowledged solo)) solo)
+lasts_one slot message rest solo connected member less waits place hand_out there = (
   hand_out,
-  lasts_pushing (handed slot (least_free (unacknowledged story)) None) story.handed_out place hand_out there,
+  lasts_pushing (handed slot (least_free (unacknowledged solo)) None) solo.handed_out place hand_out there,
   still hand_out,
 )
 
-pub lasts_handing : (slot : ℕ) (messages : List Message) (story : Story) → story.phase ≡ Connected → story.membership ≡ Member slot → messages ≡ due slot story → Lasts story (hand_out slot messages story).story
+pub lasts_handing : (slot : ℕ) (messages : List Message) (solo : SoloState) → solo.phase ≡ Connected → solo.membership ≡ Member slot → messages ≡ due slot solo → Lasts solo (hand_out slot messages solo).solo
 lasts_handing = hands_out Lasts lasts lasts_one
 
-pub lasts_delivering : (story : Story) → Lasts story (deliver story).story
+pub lasts_delivering : (solo : SoloState) → Lasts solo (deliver solo).solo
 lasts_delivering = delivered Lasts lasts lasts_one
 
-pub lasts_ran : (packets : List Packet) (story : Story) → Lasts story (turns packets story).story
-lasts_ran = ran Lasts lasts (λ slot message story within room place hand_out there. (hand_out, there, still hand_out)) lasts_settling lasts_one
+pub lasts_ran : (packets : List Packet) (solo : SoloState) → Lasts solo (solo_steps packets solo).solo
+lasts_ran = ran Lasts lasts (λ slot message solo within room place hand_out there. (hand_out, there, still hand_out)) lasts_settling lasts_one
 
--- what goes out comes behind what is there
-abbrev Appends : Story → Story → Type 0
+-- what goes out comes after what is there
+abbrev Appends : SoloState → SoloState → Type 0
 Appends one two = (later : List HandOut) × (two.handed_out ≡ one.handed_out ++ later)
 
 appends : Ways Appends
 appends =
     record {
-      stays = λ story. ([], sym (append-nil story.handed_out));
+      stays = λ solo. ([], sym (append-nil solo.handed_out));
       goes_on = λ one two three first later. (first.0 ++ later.0, later.1 ∙ ap (λ (l : List HandOut). l ++ later.0) first.1 ∙ append_assoc one.handed_out first.0 later.0);
-      connects = λ connect story is. ([], sym (append-nil story.handed_out));
-      closes = λ story. ([], sym (append-nil story.handed_out));
-      expires = λ expiry story. ([], sym (append-nil story.handed_out));
-      binds = λ share story none few. ([], sym (append-nil story.handed_out));
-      joins = λ slot story may within. ([], sym (append-nil story.handed_out));
-      leaves = λ slot story is. ([], sym (append-nil story.handed_out));
-      parts = λ slot story is none. ([], sym (append-nil story.handed_out));
+      connects = λ connect solo is. ([], sym (append-nil solo.handed_out));
+      closes = λ solo. ([], sym (append-nil solo.handed_out));
+      expires = λ expiry solo. ([], sym (append-nil solo.handed_out));
+      binds = λ share solo none few. ([], sym (append-nil solo.handed_out));
+      joins = λ slot solo may within. ([], sym (append-nil solo.handed_out));
+      leaves = λ slot solo is. ([], sym (append-nil solo.handed_out));
+      parts = λ slot solo is none. ([], sym (append-nil solo.handed_out));
     }
 
-pub appends_handing : (slot : ℕ) (messages : List Message) (story : Story) → story.phase ≡ Connected → story.membership ≡ Member slot → messages ≡ due slot story → Appends story (hand_out slot messages story).story
-appends_handing = hands_out Appends appends (λ slot message rest story connected member less waits. (handed slot (least_free (unacknowledged story)) None ∷ [], refl))
+pub appends_handing : (slot : ℕ) (messages : List Message) (solo : SoloState) → solo.phase ≡ Connected → solo.membership ≡ Member slot → messages ≡ due slot solo → Appends solo (hand_out slot messages solo).solo
+appends_handing = hands_out Appends appends (λ slot message rest solo connected member less waits. (handed slot (least_free (unacknowledged solo)) None ∷ [], refl))
 
 -- ---- a PUBACK settles the one that is unacknowledged under its identifier
 
@@ -118,10 +118,10 @@ settles_its identifier code hand_outs place hand_out there none its =
 -- ---- where a code comes from
 
 -- it was there before, or came by this PUBACK
-abbrev pub WasOrCame : ℕ → ℕ → ℕ → ℕ → HandOut → Type 0
-WasOrCame identifier code place told one = (one.code ≡ Some told) ⊎ ((one.code ≡ None) × (identifier ≡ one.identifier) × (code ≡ told))
+abbrev pub WasOrEventIsAnswered : ℕ → ℕ → ℕ → ℕ → HandOut → Type 0
+WasOrEventIsAnswered identifier code place told one = (one.code ≡ Some told) ⊎ ((one.code ≡ None) × (identifier ≡ one.identifier) × (code ≡ told))
 
-came_as : (identifier code place told slot own : ℕ) (was : Option ℕ) → (settled identifier code (handed slot own was)).code ≡ Some told → WasOrCame identifier code place told (handed slot own was)
+came_as : (identifier code place told slot own : ℕ) (was : Option ℕ) → (settled identifier code (handed slot own was)).code ≡ Some told → WasOrEventIsAnswered identifier code place told (handed slot own was)
 came_as identifier code place told slot own (Some is) e = inl e
 came_as identifier code place told slot own None e =
     ⊎_elim
@@ -132,7 +132,7 @@ came_as identifier code place told slot own None e =
     inl (ap (λ (b : Bool). (cond b (handed slot own (Some code)) (handed slot own None)).code) (sym differs) ∙ e))
     (cases_Bool (own == identifier))
 
--- a place of the list behind is one of the list before
+-- a place of the list after is one of the list before
 before_map : (f : HandOut → HandOut) (hand_outs : List HandOut) (place : ℕ) (other : HandOut) → slice_get (map f hand_outs) place ≡ Some other → (one : HandOut) × (slice_get hand_outs place ≡ Some one) × (f one ≡ other)
 before_map f hand_outs place other there = found (slice_get hand_outs place) refl
   where
@@ -141,7 +141,7 @@ before_map f hand_outs place other there = found (slice_get hand_outs place) ref
     found (Some one) is = (one, is, same_Some (f one) other (sym (ap (option_map f) is) ∙ sym (slice_get-map f hand_outs place) ∙ there))
 
 pub came_from : (identifier code : ℕ) (hand_outs : List HandOut) (place told : ℕ) (other : HandOut) → slice_get (map (settled identifier code) hand_outs) place ≡ Some other → other.code ≡ Some told
-    → (one : HandOut) × (slice_get hand_outs place ≡ Some one) × WasOrCame identifier code place told one
+    → (one : HandOut) × (slice_get hand_outs place ≡ Some one) × WasOrEventIsAnswered identifier code place told one
 came_from identifier code hand_outs place told other there is =
     let one = before_map (settled identifier code) hand_outs place other there in
     (one.0, one.1, came_as identifier code place told one.0.slot one.0.identifier one.0.code (ap (λ (h : HandOut). h.code) one.2 ∙ is))

@@ -14,7 +14,7 @@ pub mod Answers
 pub mod Delivers
 pub mod Ends
 pub mod Connects
-pub mod Turns
+pub mod SoloSteps
 pub mod Streams
 pub mod Walk
 pub mod Output
@@ -23,7 +23,7 @@ pub mod Kept
 pub mod Told
 pub mod Taken
 pub mod Lasting
-pub mod Turned
+pub mod StepLaws
 pub mod Lawful
 pub mod Grouped
 pub mod Joined

@@ -23,12 +23,12 @@ use Rattle.conn_rules.specs.Packets.{disconnect as disconnecting, suback, unsuba
 use Rattle.conn_rules.specs.Publishing.{publish_answer, message_of}
 use Rattle.conn_rules.specs.Subscribing.{subscribe_refusal, unsubscribe_refusal}
 use Rattle.local_server.specs.declared.setup.Setup.{Setup}
-use Rattle.solo_output.specs.Groups.{Story, Bound, HandOut, Phase, opening, shares_of, open_identifiers, unacknowledged}
+use Rattle.solo_output.specs.Groups.{SoloState, Bound, HandOut, Phase, opening, shares_of, open_identifiers, unacknowledged}
 use Rattle.solo_output.specs.Groups.Phase.{Unconnected, Connected, Closed}
 use Rattle.solo_output.specs.HandOuts.{deliver}
 use Rattle.solo_output.specs.Publishing.{Reply, closing, matching, publish_reply_as}
 use Rattle.solo_output.specs.Subscribing.{AllCoded, join_all, leave_all, subscribe_reply_as, unsubscribe_reply_as}
-use Rattle.solo_output.specs.Replies.{first_reply_as, with_expiry, disconnect_reply, later_reply, reply_in, reply, turn, turns}
+use Rattle.solo_output.specs.Replies.{first_reply_as, with_expiry, disconnect_reply, later_reply, reply_in, reply, solo_step, solo_steps}
 use Rattle.solo_output.specs.Memberships.{HasCode, Joins, Leaves, AsksFor, AsksToLeave}
 use Rattle.solo_output.specs.Runs.{run_of, IsInGroup}
 use Rattle.solo_output.proofs.Sessions.{offer_keeps}
@@ -39,17 +39,17 @@ use Rattle.solo_output.proofs.Left.{AllLeave, all_leave, lets_go}
 -- ---- every reply
 
 -- what a packet and its reply make of the membership; and where the connection does not go on, nothing else happens
-record Does (packet : Packet) (one : Story) (r : Reply) : Type 0 where
-  joins : (slot : ℕ) → Joins packet r slot → r.story.membership ≡ Member slot
-  joined : (slot : ℕ) → r.story.membership ≡ Member slot → (one.membership ≡ Member slot) ⊎ Joins packet r slot
-  leaves : (slot : ℕ) → Leaves packet r slot → (one.membership ≡ Member slot) × (r.story.membership ≡ Leaving slot)
-  left : (slot : ℕ) → one.membership ≡ Member slot → (r.story.membership ≡ Member slot) ⊎ Leaves packet r slot
-  leaving : (slot : ℕ) → r.story.membership ≡ Leaving slot → (one.membership ≡ Leaving slot) ⊎ Leaves packet r slot
-  stays_in : (slot : ℕ) → one.membership ≡ Leaving slot → IsInGroup r.story.membership slot
-  ends : (r.story.phase ≡ Connected) ⊎ ((r.story.membership ≡ one.membership) × (r.story.handed_out ≡ one.handed_out))
+record Does (packet : Packet) (one : SoloState) (r : Reply) : Type 0 where
+  joins : (slot : ℕ) → Joins packet r slot → r.solo.membership ≡ Member slot
+  joined : (slot : ℕ) → r.solo.membership ≡ Member slot → (one.membership ≡ Member slot) ⊎ Joins packet r slot
+  leaves : (slot : ℕ) → Leaves packet r slot → (one.membership ≡ Member slot) × (r.solo.membership ≡ Leaving slot)
+  left : (slot : ℕ) → one.membership ≡ Member slot → (r.solo.membership ≡ Member slot) ⊎ Leaves packet r slot
+  leaving : (slot : ℕ) → r.solo.membership ≡ Leaving slot → (one.membership ≡ Leaving slot) ⊎ Leaves packet r slot
+  stays_in : (slot : ℕ) → one.membership ≡ Leaving slot → IsInGroup r.solo.membership slot
+  ends : (r.solo.phase ≡ Connected) ⊎ ((r.solo.membership ≡ one.membership) × (r.solo.handed_out ≡ one.handed_out))
 
-does_no_more : (packet : Packet) (one : Story) (r : Reply) → r.story.membership ≡ one.membership → ((slot : ℕ) → Joins packet r slot → ⊥) → ((slot : ℕ) → Leaves packet r slot → ⊥)
-    → (r.story.phase ≡ Connected) ⊎ ((r.story.membership ≡ one.membership) × (r.story.handed_out ≡ one.handed_out)) → Does packet one r
+does_no_more : (packet : Packet) (one : SoloState) (r : Reply) → r.solo.membership ≡ one.membership → ((slot : ℕ) → Joins packet r slot → ⊥) → ((slot : ℕ) → Leaves packet r slot → ⊥)
+    → (r.solo.phase ≡ Connected) ⊎ ((r.solo.membership ≡ one.membership) × (r.solo.handed_out ≡ one.handed_out)) → Does packet one r
 does_no_more packet one r same no_join no_leave ends =
     record {
       joins = λ slot join. absurd (no_join slot join);
@@ -57,7 +57,7 @@ does_no_more packet one r same no_join no_leave ends =
       leaves = λ slot leave. absurd (no_leave slot leave);
       left = λ slot was. inl (same ∙ was);
       leaving = λ slot now. inl (sym same ∙ now);
-      stays_in = λ slot was. is_in r.story.membership slot (same ∙ was);
+      stays_in = λ slot was. is_in r.solo.membership slot (same ∙ was);
       ends = ends;
     }
 
@@ -101,8 +101,8 @@ leaves_none (packets.OtherVersion version) r slot none leave' = leave'
 leaves_none packets.WithWill r slot none leave' = leave'
 
 -- the connection is closed with no answer
-closes : (packet : Packet) (story : Story) → Does packet story (closing None story)
-closes packet story = does_no_more packet story (closing None story) refl (λ slot. joins_none packet (closing None story) slot refl) (λ slot. leaves_none packet (closing None story) slot refl) (inr (refl, refl))
+closes : (packet : Packet) (solo : SoloState) → Does packet solo (closing None solo)
+closes packet solo = does_no_more packet solo (closing None solo) refl (λ slot. joins_none packet (closing None solo) slot refl) (λ slot. leaves_none packet (closing None solo) slot refl) (inr (refl, refl))
 
 -- ---- a SUBSCRIBE and an UNSUBSCRIBE
 
@@ -122,38 +122,38 @@ closed_no_suback code identifier codes e = absurd cc
 closed_no_unsuback : (code identifier : ℕ) (codes : List ℕ) → Some (disconnecting code) ≡ Some (unsuback identifier codes) → ⊥
 closed_no_unsuback code identifier codes e = absurd cc
 
-subscribe_does : (refusal : Option ℕ) (subscribe : Subscribe) (story : Story) → story.phase ≡ Connected → Does (packets.Subscribe subscribe) story (subscribe_reply_as refusal subscribe story)
-subscribe_does (Some code) subscribe story connected =
-    does_no_more (packets.Subscribe subscribe) story (closing (Some (disconnecting code)) story) refl
+subscribe_does : (refusal : Option ℕ) (subscribe : Subscribe) (solo : SoloState) → solo.phase ≡ Connected → Does (packets.Subscribe subscribe) solo (subscribe_reply_as refusal subscribe solo)
+subscribe_does (Some code) subscribe solo connected =
+    does_no_more (packets.Subscribe subscribe) solo (closing (Some (disconnecting code)) solo) refl
     (λ slot join. closed_no_suback code subscribe.packet_identifier join.0 join.1) (λ slot leave'. leave') (inr (refl, refl))
-subscribe_does None subscribe story connected =
+subscribe_does None subscribe solo connected =
     record {
       joins = λ slot join.
           let same = same_codes subscribe.packet_identifier all.codes join.0 join.1 in
           does.joins join.2.place slot join.2.filter join.2.asked (ap (λ (l : List ℕ). slice_get l join.2.place) same ∙ join.2.coded) join.2.its;
       joined = λ slot now.
           ⊎_elim
-          (λ (was : story.membership ≡ Member slot). inl was)
-          (λ (has : HasCode (filters_of subscribe.subscriptions) all.codes 1 slot (shares_of all.story.groups)). inr (all.codes, refl, has))
+          (λ (was : solo.membership ≡ Member slot). inl was)
+          (λ (has : HasCode (filters_of subscribe.subscriptions) all.codes 1 slot (shares_of all.solo.groups)). inr (all.codes, refl, has))
           (does.joined slot now);
       leaves = λ slot leave'. absurd leave';
       left = λ slot was. inl (does.stays slot was);
       leaving = λ slot now. inl (does.leaving slot now);
-      stays_in = λ slot was. does.stays_in slot (is_in story.membership slot was);
+      stays_in = λ slot was. does.stays_in slot (is_in solo.membership slot was);
       ends = inl (does.follows.phase ∙ connected);
     }
   where
     all : AllCoded
-    all = join_all (is_some subscribe.properties.subscription_identifier) subscribe.subscriptions story
+    all = join_all (is_some subscribe.properties.subscription_identifier) subscribe.subscriptions solo
 
-    does : AllJoin (filters_of subscribe.subscriptions) story all
-    does = all_join (is_some subscribe.properties.subscription_identifier) subscribe.subscriptions story
+    does : AllJoin (filters_of subscribe.subscriptions) solo all
+    does = all_join (is_some subscribe.properties.subscription_identifier) subscribe.subscriptions solo
 
-unsubscribe_does : (refusal : Option ℕ) (unsubscribe : Unsubscribe) (story : Story) → story.phase ≡ Connected → Does (packets.Unsubscribe unsubscribe) story (unsubscribe_reply_as refusal unsubscribe story)
-unsubscribe_does (Some code) unsubscribe story connected =
-    does_no_more (packets.Unsubscribe unsubscribe) story (closing (Some (disconnecting code)) story) refl
+unsubscribe_does : (refusal : Option ℕ) (unsubscribe : Unsubscribe) (solo : SoloState) → solo.phase ≡ Connected → Does (packets.Unsubscribe unsubscribe) solo (unsubscribe_reply_as refusal unsubscribe solo)
+unsubscribe_does (Some code) unsubscribe solo connected =
+    does_no_more (packets.Unsubscribe unsubscribe) solo (closing (Some (disconnecting code)) solo) refl
     (λ slot join. join) (λ slot leave'. closed_no_unsuback code unsubscribe.packet_identifier leave'.0 leave'.1) (inr (refl, refl))
-unsubscribe_does None unsubscribe story connected =
+unsubscribe_does None unsubscribe solo connected =
     record {
       joins = λ slot join. absurd join;
       joined = λ slot now. inl (does.was slot now);
@@ -163,25 +163,25 @@ unsubscribe_does None unsubscribe story connected =
           (ap (λ (gs : List Bound). slot_of leave'.2.filter (shares_of gs)) (sym does.groups) ∙ leave'.2.its);
       left = λ slot was.
           ⊎_elim
-          (λ (now : all.story.membership ≡ Member slot). inl now)
-          (λ (has : HasCode unsubscribe.filters all.codes 0 slot (shares_of story.groups)). inr (told slot has))
+          (λ (now : all.solo.membership ≡ Member slot). inl now)
+          (λ (has : HasCode unsubscribe.filters all.codes 0 slot (shares_of solo.groups)). inr (told slot has))
           (does.left slot was);
       leaving = λ slot now.
           ⊎_elim
-          (λ (was : story.membership ≡ Leaving slot). inl was)
-          (λ (has : HasCode unsubscribe.filters all.codes 0 slot (shares_of story.groups)). inr (told slot has))
+          (λ (was : solo.membership ≡ Leaving slot). inl was)
+          (λ (has : HasCode unsubscribe.filters all.codes 0 slot (shares_of solo.groups)). inr (told slot has))
           (does.leaving slot now);
-      stays_in = λ slot was. is_in all.story.membership slot (does.stays slot was);
+      stays_in = λ slot was. is_in all.solo.membership slot (does.stays slot was);
       ends = inl (does.phase ∙ connected);
     }
   where
     all : AllCoded
-    all = leave_all unsubscribe.filters story
+    all = leave_all unsubscribe.filters solo
 
-    does : AllLeave unsubscribe.filters story all
-    does = all_leave unsubscribe.filters story
+    does : AllLeave unsubscribe.filters solo all
+    does = all_leave unsubscribe.filters solo
 
-    told : (slot : ℕ) → HasCode unsubscribe.filters all.codes 0 slot (shares_of story.groups) → Leaves (packets.Unsubscribe unsubscribe) (unsubscribe_reply_as None unsubscribe story) slot
+    told : (slot : ℕ) → HasCode unsubscribe.filters all.codes 0 slot (shares_of solo.groups) → Leaves (packets.Unsubscribe unsubscribe) (unsubscribe_reply_as None unsubscribe solo) slot
     told slot has = (all.codes, refl, subst (λ (gs : List Bound). HasCode unsubscribe.filters all.codes 0 slot (shares_of gs)) (sym does.groups) has)
 
 -- ---- the other packets
@@ -189,169 +189,169 @@ unsubscribe_does None unsubscribe story connected =
 abbrev Quiet : Packet → Type 0
 Quiet packet = (r : Reply) (slot : ℕ) → (Joins packet r slot → ⊥) × (Leaves packet r slot → ⊥)
 
-module _ (packet : Packet) (quiet : Quiet packet) (story : Story) where
-  keeps_all : (r : Reply) → r.story.membership ≡ story.membership → (r.story.phase ≡ Connected) ⊎ ((r.story.membership ≡ story.membership) × (r.story.handed_out ≡ story.handed_out)) → Does packet story r
-  keeps_all r same ends = does_no_more packet story r same (λ slot. (quiet r slot).0) (λ slot. (quiet r slot).1) ends
+module _ (packet : Packet) (quiet : Quiet packet) (solo : SoloState) where
+  keeps_all : (r : Reply) → r.solo.membership ≡ solo.membership → (r.solo.phase ≡ Connected) ⊎ ((r.solo.membership ≡ solo.membership) × (r.solo.handed_out ≡ solo.handed_out)) → Does packet solo r
+  keeps_all r same ends = does_no_more packet solo r same (λ slot. (quiet r slot).0) (λ slot. (quiet r slot).1) ends
 
-  answers_closing : (answer : Option Packet) → Does packet story (closing answer story)
-  answers_closing answer = keeps_all (closing answer story) refl (inr (refl, refl))
+  answers_closing : (answer : Option Packet) → Does packet solo (closing answer solo)
+  answers_closing answer = keeps_all (closing answer solo) refl (inr (refl, refl))
 
-  answers_staying : story.phase ≡ Connected → (answer : Option Packet) → Does packet story (record { packet = answer; story = story })
-  answers_staying connected answer = keeps_all (record { packet = answer; story = story }) refl (inl connected)
+  answers_staying : solo.phase ≡ Connected → (answer : Option Packet) → Does packet solo (record { packet = answer; solo = solo })
+  answers_staying connected answer = keeps_all (record { packet = answer; solo = solo }) refl (inl connected)
 
 neither : (r : Reply) (slot : ℕ) → (⊥ → ⊥) × (⊥ → ⊥)
 neither r slot = (λ e. e, λ e. e)
 
-publish_does : (answer : PublishAnswer) (publish : Publish) (story : Story) → story.phase ≡ Connected → Does (packets.Publish publish) story (publish_reply_as answer publish story)
-publish_does (publishing.Close code) publish story connected = answers_closing (packets.Publish publish) neither story (Some (disconnecting code))
-publish_does (publishing.Refuse identifier code) publish story connected = answers_staying (packets.Publish publish) neither story connected _
-publish_does (publishing.Offer identifier) publish story connected =
-    let keeps = offer_keeps (matching publish.topic story) (message_of publish) story in
-    keeps_all (packets.Publish publish) neither story (publish_reply_as (publishing.Offer identifier) publish story) keeps.same.membership (inl (keeps.same.phase ∙ connected))
+publish_does : (answer : PublishAnswer) (publish : Publish) (solo : SoloState) → solo.phase ≡ Connected → Does (packets.Publish publish) solo (publish_reply_as answer publish solo)
+publish_does (publishing.Close code) publish solo connected = answers_closing (packets.Publish publish) neither solo (Some (disconnecting code))
+publish_does (publishing.Refuse identifier code) publish solo connected = answers_staying (packets.Publish publish) neither solo connected _
+publish_does (publishing.Offer identifier) publish solo connected =
+    let keeps = offer_keeps (matching publish.topic solo) (message_of publish) solo in
+    keeps_all (packets.Publish publish) neither solo (publish_reply_as (publishing.Offer identifier) publish solo) keeps.same.membership (inl (keeps.same.phase ∙ connected))
 
-disconnect_does : (packet : Packet) (quiet : Quiet packet) (expiry : Option ℕ) (story : Story) → Does packet story (disconnect_reply expiry story)
-disconnect_does packet quiet None story = answers_closing packet quiet story None
-disconnect_does packet quiet (Some expiry) story =
-    cond_both (is_given_expiry expiry story.terms) (closing (Some (disconnecting 0x82)) story) (closing None (with_expiry expiry story)) (Does packet story)
-    (λ given. answers_closing packet quiet story (Some (disconnecting 0x82)))
-    (λ other. keeps_all packet quiet story (closing None (with_expiry expiry story)) refl (inr (refl, refl)))
+disconnect_does : (packet : Packet) (quiet : Quiet packet) (expiry : Option ℕ) (solo : SoloState) → Does packet solo (disconnect_reply expiry solo)
+disconnect_does packet quiet None solo = answers_closing packet quiet solo None
+disconnect_does packet quiet (Some expiry) solo =
+    cond_both (is_given_expiry expiry solo.terms) (closing (Some (disconnecting 0x82)) solo) (closing None (with_expiry expiry solo)) (Does packet solo)
+    (λ given. answers_closing packet quiet solo (Some (disconnecting 0x82)))
+    (λ other. keeps_all packet quiet solo (closing None (with_expiry expiry solo)) refl (inr (refl, refl)))
 
-later_does : (packet : Packet) (story : Story) → story.phase ≡ Connected → Does packet story (later_reply packet story)
-later_does (packets.Publish publish) story connected = publish_does (publish_answer publish) publish story connected
-later_does (packets.Puback puback) story connected = keeps_all (packets.Puback puback) neither story (later_reply (packets.Puback puback) story) refl (inl connected)
-later_does (packets.Subscribe subscribe) story connected = subscribe_does (subscribe_refusal subscribe) subscribe story connected
-later_does (packets.Unsubscribe unsubscribe) story connected = unsubscribe_does (unsubscribe_refusal unsubscribe) unsubscribe story connected
-later_does packets.Pingreq story connected = answers_staying packets.Pingreq neither story connected _
-later_does (packets.Disconnect disconnect) story connected = disconnect_does (packets.Disconnect disconnect) neither disconnect.properties.session_expiry_interval story
-later_does (packets.Connect connect) story connected = answers_closing (packets.Connect connect) neither story _
-later_does (packets.Connack connack) story connected = answers_closing (packets.Connack connack) neither story _
-later_does (packets.Suback suback') story connected = answers_closing (packets.Suback suback') neither story _
-later_does (packets.Unsuback unsuback') story connected = answers_closing (packets.Unsuback unsuback') neither story _
-later_does packets.Pingresp story connected = answers_closing packets.Pingresp neither story _
-later_does (packets.Foreign kind) story connected = answers_closing (packets.Foreign kind) neither story _
-later_does (packets.OtherVersion version) story connected = answers_closing (packets.OtherVersion version) neither story _
-later_does packets.WithWill story connected = answers_closing packets.WithWill neither story _
+later_does : (packet : Packet) (solo : SoloState) → solo.phase ≡ Connected → Does packet solo (later_reply packet solo)
+later_does (packets.Publish publish) solo connected = publish_does (publish_answer publish) publish solo connected
+later_does (packets.Puback puback) solo connected = keeps_all (packets.Puback puback) neither solo (later_reply (packets.Puback puback) solo) refl (inl connected)
+later_does (packets.Subscribe subscribe) solo connected = subscribe_does (subscribe_refusal subscribe) subscribe solo connected
+later_does (packets.Unsubscribe unsubscribe) solo connected = unsubscribe_does (unsubscribe_refusal unsubscribe) unsubscribe solo connected
+later_does packets.Pingreq solo connected = answers_staying packets.Pingreq neither solo connected _
+later_does (packets.Disconnect disconnect) solo connected = disconnect_does (packets.Disconnect disconnect) neither disconnect.properties.session_expiry_interval solo
+later_does (packets.Connect connect) solo connected = answers_closing (packets.Connect connect) neither solo _
+later_does (packets.Connack connack) solo connected = answers_closing (packets.Connack connack) neither solo _
+later_does (packets.Suback suback') solo connected = answers_closing (packets.Suback suback') neither solo _
+later_does (packets.Unsuback unsuback') solo connected = answers_closing (packets.Unsuback unsuback') neither solo _
+later_does packets.Pingresp solo connected = answers_closing packets.Pingresp neither solo _
+later_does (packets.Foreign kind) solo connected = answers_closing (packets.Foreign kind) neither solo _
+later_does (packets.OtherVersion version) solo connected = answers_closing (packets.OtherVersion version) neither solo _
+later_does packets.WithWill solo connected = answers_closing packets.WithWill neither solo _
 
-connect_does : (answer : FirstAnswer) (connect : Connect) (story : Story) → Does (packets.Connect connect) story (first_reply_as answer (packets.Connect connect) story)
-connect_does first.Close connect story = closes (packets.Connect connect) story
-connect_does (first.Refuse refusal) connect story = answers_closing (packets.Connect connect) neither story _
-connect_does first.Attach connect story = keeps_all (packets.Connect connect) neither story (first_reply_as first.Attach (packets.Connect connect) story) refl (inl refl)
+connect_does : (answer : FirstAnswer) (connect : Connect) (solo : SoloState) → Does (packets.Connect connect) solo (first_reply_as answer (packets.Connect connect) solo)
+connect_does first.Close connect solo = closes (packets.Connect connect) solo
+connect_does (first.Refuse refusal) connect solo = answers_closing (packets.Connect connect) neither solo _
+connect_does first.Attach connect solo = keeps_all (packets.Connect connect) neither solo (first_reply_as first.Attach (packets.Connect connect) solo) refl (inl refl)
 
-first_does : (packet : Packet) (story : Story) → Does packet story (reply_in Unconnected packet story)
-first_does (packets.Connect connect) story = connect_does (connect_answer connect) connect story
-first_does (packets.Publish publish) story = closes (packets.Publish publish) story
-first_does (packets.Puback puback) story = closes (packets.Puback puback) story
-first_does (packets.Subscribe subscribe) story = closes (packets.Subscribe subscribe) story
-first_does (packets.Unsubscribe unsubscribe) story = closes (packets.Unsubscribe unsubscribe) story
-first_does packets.Pingreq story = closes packets.Pingreq story
-first_does (packets.Disconnect disconnect) story = closes (packets.Disconnect disconnect) story
-first_does (packets.Connack connack) story = closes (packets.Connack connack) story
-first_does (packets.Suback suback') story = closes (packets.Suback suback') story
-first_does (packets.Unsuback unsuback') story = closes (packets.Unsuback unsuback') story
-first_does packets.Pingresp story = closes packets.Pingresp story
-first_does (packets.Foreign kind) story = closes (packets.Foreign kind) story
-first_does (packets.OtherVersion version) story = answers_closing (packets.OtherVersion version) neither story _
-first_does packets.WithWill story = answers_closing packets.WithWill neither story _
+first_does : (packet : Packet) (solo : SoloState) → Does packet solo (reply_in Unconnected packet solo)
+first_does (packets.Connect connect) solo = connect_does (connect_answer connect) connect solo
+first_does (packets.Publish publish) solo = closes (packets.Publish publish) solo
+first_does (packets.Puback puback) solo = closes (packets.Puback puback) solo
+first_does (packets.Subscribe subscribe) solo = closes (packets.Subscribe subscribe) solo
+first_does (packets.Unsubscribe unsubscribe) solo = closes (packets.Unsubscribe unsubscribe) solo
+first_does packets.Pingreq solo = closes packets.Pingreq solo
+first_does (packets.Disconnect disconnect) solo = closes (packets.Disconnect disconnect) solo
+first_does (packets.Connack connack) solo = closes (packets.Connack connack) solo
+first_does (packets.Suback suback') solo = closes (packets.Suback suback') solo
+first_does (packets.Unsuback unsuback') solo = closes (packets.Unsuback unsuback') solo
+first_does packets.Pingresp solo = closes packets.Pingresp solo
+first_does (packets.Foreign kind) solo = closes (packets.Foreign kind) solo
+first_does (packets.OtherVersion version) solo = answers_closing (packets.OtherVersion version) neither solo _
+first_does packets.WithWill solo = answers_closing packets.WithWill neither solo _
 
-reply_does_in : (phase : Phase) (packet : Packet) (story : Story) → story.phase ≡ phase → Does packet story (reply_in phase packet story)
-reply_does_in Unconnected packet story is = first_does packet story
-reply_does_in Connected packet story is = later_does packet story is
-reply_does_in Closed packet story is =
-    let r : Reply = record { packet = None; story = story } in
-    does_no_more packet story r refl (λ slot. joins_none packet r slot refl) (λ slot. leaves_none packet r slot refl) (inr (refl, refl))
+reply_does_in : (phase : Phase) (packet : Packet) (solo : SoloState) → solo.phase ≡ phase → Does packet solo (reply_in phase packet solo)
+reply_does_in Unconnected packet solo is = first_does packet solo
+reply_does_in Connected packet solo is = later_does packet solo is
+reply_does_in Closed packet solo is =
+    let r : Reply = record { packet = None; solo = solo } in
+    does_no_more packet solo r refl (λ slot. joins_none packet r slot refl) (λ slot. leaves_none packet r slot refl) (inr (refl, refl))
 
-reply_does : (packet : Packet) (story : Story) → Does packet story (reply packet story)
-reply_does packet story = reply_does_in story.phase packet story refl
+reply_does : (packet : Packet) (solo : SoloState) → Does packet solo (reply packet solo)
+reply_does packet solo = reply_does_in solo.phase packet solo refl
 
--- ---- every turn
+-- ---- every step
 
-pub turn_joins : (story : Story) (packet : Packet) (slot : ℕ) → Joins packet (reply packet story) slot → (turn packet story).story.membership ≡ Member slot
-turn_joins story packet slot join = (delivers (reply packet story).story).stays slot ((reply_does packet story).joins slot join)
+pub step_joins : (solo : SoloState) (packet : Packet) (slot : ℕ) → Joins packet (reply packet solo) slot → (solo_step packet solo).solo.membership ≡ Member slot
+step_joins solo packet slot join = (delivers (reply packet solo).solo).stays slot ((reply_does packet solo).joins slot join)
 
-pub turn_joined : (story : Story) (packet : Packet) (slot : ℕ) → (turn packet story).story.membership ≡ Member slot → (story.membership ≡ Member slot) ⊎ Joins packet (reply packet story) slot
-turn_joined story packet slot now = (reply_does packet story).joined slot ((delivers (reply packet story).story).was slot now)
+pub step_joined : (solo : SoloState) (packet : Packet) (slot : ℕ) → (solo_step packet solo).solo.membership ≡ Member slot → (solo.membership ≡ Member slot) ⊎ Joins packet (reply packet solo) slot
+step_joined solo packet slot now = (reply_does packet solo).joined slot ((delivers (reply packet solo).solo).was slot now)
 
-pub turn_leaves : (story : Story) (packet : Packet) (slot : ℕ) → Leaves packet (reply packet story) slot → let next = (turn packet story).story in
-    (story.membership ≡ Member slot) × ((next.membership ≡ Leaving slot) ⊎ ((next.membership ≡ NotMember) × (unacknowledged next ≡ [])))
-turn_leaves story packet slot leave' =
-    let does = (reply_does packet story).leaves slot leave' in
-    (does.0, (delivers (reply packet story).story).parts slot does.1)
+pub step_leaves : (solo : SoloState) (packet : Packet) (slot : ℕ) → Leaves packet (reply packet solo) slot → let next = (solo_step packet solo).solo in
+    (solo.membership ≡ Member slot) × ((next.membership ≡ Leaving slot) ⊎ ((next.membership ≡ NotMember) × (unacknowledged next ≡ [])))
+step_leaves solo packet slot leave' =
+    let does = (reply_does packet solo).leaves slot leave' in
+    (does.0, (delivers (reply packet solo).solo).parts slot does.1)
 
-pub turn_left : (story : Story) (packet : Packet) (slot : ℕ) → story.membership ≡ Member slot → ((turn packet story).story.membership ≡ Member slot) ⊎ Leaves packet (reply packet story) slot
-turn_left story packet slot was =
+pub step_left : (solo : SoloState) (packet : Packet) (slot : ℕ) → solo.membership ≡ Member slot → ((solo_step packet solo).solo.membership ≡ Member slot) ⊎ Leaves packet (reply packet solo) slot
+step_left solo packet slot was =
     ⊎_elim
-    (λ (still : (reply packet story).story.membership ≡ Member slot). inl ((delivers (reply packet story).story).stays slot still))
-    (λ (leave' : Leaves packet (reply packet story) slot). inr leave')
-    ((reply_does packet story).left slot was)
+    (λ (still : (reply packet solo).solo.membership ≡ Member slot). inl ((delivers (reply packet solo).solo).stays slot still))
+    (λ (leave' : Leaves packet (reply packet solo) slot). inr leave')
+    ((reply_does packet solo).left slot was)
 
-pub turn_leaving : (story : Story) (packet : Packet) (slot : ℕ) → (turn packet story).story.membership ≡ Leaving slot → (story.membership ≡ Leaving slot) ⊎ Leaves packet (reply packet story) slot
-turn_leaving story packet slot now = (reply_does packet story).leaving slot ((delivers (reply packet story).story).leaving slot now)
+pub step_leaving : (solo : SoloState) (packet : Packet) (slot : ℕ) → (solo_step packet solo).solo.membership ≡ Leaving slot → (solo.membership ≡ Leaving slot) ⊎ Leaves packet (reply packet solo) slot
+step_leaving solo packet slot now = (reply_does packet solo).leaving slot ((delivers (reply packet solo).solo).leaving slot now)
 
-parted : (membership : Membership ℕ) (replied : Story) (slot : ℕ) → replied.membership ≡ membership → IsInGroup membership slot → let next = (deliver replied).story in
+parted : (membership : Membership ℕ) (replied : SoloState) (slot : ℕ) → replied.membership ≡ membership → IsInGroup membership slot → let next = (deliver replied).solo in
     IsInGroup next.membership slot ⊎ ((next.membership ≡ NotMember) × (unacknowledged next ≡ []))
 parted NotMember replied slot is in_ = absurd in_
-parted (Member own) replied slot is in_ = inl (is_in_as (deliver replied).story.membership slot ((delivers replied).stays slot (is ∙ ap (λ (n : ℕ). Member n) in_)))
+parted (Member own) replied slot is in_ = inl (is_in_as (deliver replied).solo.membership slot ((delivers replied).stays slot (is ∙ ap (λ (n : ℕ). Member n) in_)))
 parted (Leaving own) replied slot is in_ =
-    let next = (deliver replied).story in
+    let next = (deliver replied).solo in
     ⊎_elim
     (λ (still : next.membership ≡ Leaving slot). inl (is_in next.membership slot still))
     (λ (gone : (next.membership ≡ NotMember) × (unacknowledged next ≡ [])). inr gone)
     ((delivers replied).parts slot (is ∙ ap (λ (n : ℕ). Leaving n) in_))
 
-pub turn_parts : (story : Story) (packet : Packet) (slot : ℕ) → story.membership ≡ Leaving slot → let next = (turn packet story).story in
+pub step_parts : (solo : SoloState) (packet : Packet) (slot : ℕ) → solo.membership ≡ Leaving slot → let next = (solo_step packet solo).solo in
     IsInGroup next.membership slot ⊎ ((next.membership ≡ NotMember) × (unacknowledged next ≡ []))
-turn_parts story packet slot was = parted (reply packet story).story.membership (reply packet story).story slot refl ((reply_does packet story).stays_in slot was)
+step_parts solo packet slot was = parted (reply packet solo).solo.membership (reply packet solo).solo slot refl ((reply_does packet solo).stays_in slot was)
 
 -- who is leaving has not acknowledged all
-abbrev Owes : Story → Type 0
-Owes story = (slot : ℕ) → story.membership ≡ Leaving slot → unacknowledged story ≢ []
+abbrev Owes : SoloState → Type 0
+Owes solo = (slot : ℕ) → solo.membership ≡ Leaving slot → unacknowledged solo ≢ []
 
-owes_turned : (packet : Packet) (story : Story) → Owes story → Owes (turn packet story).story
-owes_turned packet story owes =
-    let r = (reply packet story).story in
+owes_turned : (packet : Packet) (solo : SoloState) → Owes solo → Owes (solo_step packet solo).solo
+owes_turned packet solo owes =
+    let r = (reply packet solo).solo in
     (delivers r).owes
     (⊎_elim
     (λ (connected : r.phase ≡ Connected). inl connected)
-    (λ (same : (r.membership ≡ story.membership) × (r.handed_out ≡ story.handed_out)).
+    (λ (same : (r.membership ≡ solo.membership) × (r.handed_out ≡ solo.handed_out)).
     inr (λ slot now none. owes slot (sym same.0 ∙ now) (ap (λ (hs : List HandOut). open_identifiers hs) (sym same.1) ∙ none)))
-    (reply_does packet story).ends)
+    (reply_does packet solo).ends)
 
-owes_ran : (packets : List Packet) (story : Story) → Owes story → Owes (turns packets story).story
-owes_ran [] story owes = owes
-owes_ran (packet ∷ packets) story owes = owes_ran packets (turn packet story).story (owes_turned packet story owes)
+owes_ran : (packets : List Packet) (solo : SoloState) → Owes solo → Owes (solo_steps packets solo).solo
+owes_ran [] solo owes = owes
+owes_ran (packet ∷ packets) solo owes = owes_ran packets (solo_step packet solo).solo (owes_turned packet solo owes)
 
-pub owes_all : (setup : Setup) (packets : List Packet) (slot : ℕ) → (run_of setup packets).story.membership ≡ Leaving slot → unacknowledged (run_of setup packets).story ≢ []
+pub owes_all : (setup : Setup) (packets : List Packet) (slot : ℕ) → (run_of setup packets).solo.membership ≡ Leaving slot → unacknowledged (run_of setup packets).solo ≢ []
 owes_all setup packets = owes_ran packets (opening setup.capacity setup.max_inflight setup.groups) (λ slot now. absurd cc)
 
 -- ---- who asks
 
-subscribe_is : (subscribe : Subscribe) (share : Share) (story : Story) → AsksFor subscribe share story → reply (packets.Subscribe subscribe) story ≡ subscribe_reply_as None subscribe story
-subscribe_is subscribe share story asks =
-    ap (λ (p : Phase). reply_in p (packets.Subscribe subscribe) story) asks.connected ∙ ap (λ (r : Option ℕ). subscribe_reply_as r subscribe story) asks.goes_on
+subscribe_is : (subscribe : Subscribe) (share : Share) (solo : SoloState) → AsksFor subscribe share solo → reply (packets.Subscribe subscribe) solo ≡ subscribe_reply_as None subscribe solo
+subscribe_is subscribe share solo asks =
+    ap (λ (p : Phase). reply_in p (packets.Subscribe subscribe) solo) asks.connected ∙ ap (λ (r : Option ℕ). subscribe_reply_as r subscribe solo) asks.goes_on
 
-pub turn_admits : (story : Story) (subscribe : Subscribe) (share : Share) → AsksFor subscribe share story → story.membership ≡ NotMember → HasSlot share story
-    → (slot : ℕ) × Joins (packets.Subscribe subscribe) (reply (packets.Subscribe subscribe) story) slot
-turn_admits story subscribe share asks none has =
+pub step_admits : (solo : SoloState) (subscribe : Subscribe) (share : Share) → AsksFor subscribe share solo → solo.membership ≡ NotMember → HasSlot share solo
+    → (slot : ℕ) × Joins (packets.Subscribe subscribe) (reply (packets.Subscribe subscribe) solo) slot
+step_admits solo subscribe share asks none has =
     let identified = is_some subscribe.properties.subscription_identifier in
-    let told = serves_free identified share subscribe.subscriptions story asks.place asks.entry asks.asked asks.served none has in
-    (told.0, subst (λ (r : Reply). Joins (packets.Subscribe subscribe) r told.0) (sym (subscribe_is subscribe share story asks)) ((join_all identified subscribe.subscriptions story).codes, refl, told.1))
+    let told = serves_free identified share subscribe.subscriptions solo asks.place asks.entry asks.asked asks.served none has in
+    (told.0, subst (λ (r : Reply). Joins (packets.Subscribe subscribe) r told.0) (sym (subscribe_is subscribe share solo asks)) ((join_all identified subscribe.subscriptions solo).codes, refl, told.1))
 
-pub turn_readmits : (story : Story) (subscribe : Subscribe) (share : Share) (slot : ℕ) → AsksFor subscribe share story → IsInGroup story.membership slot → slot_of share.text (shares_of story.groups) ≡ Some slot
-    → Joins (packets.Subscribe subscribe) (reply (packets.Subscribe subscribe) story) slot
-turn_readmits story subscribe share slot asks in_ found =
+pub step_readmits : (solo : SoloState) (subscribe : Subscribe) (share : Share) (slot : ℕ) → AsksFor subscribe share solo → IsInGroup solo.membership slot → slot_of share.text (shares_of solo.groups) ≡ Some slot
+    → Joins (packets.Subscribe subscribe) (reply (packets.Subscribe subscribe) solo) slot
+step_readmits solo subscribe share slot asks in_ found =
     let identified = is_some subscribe.properties.subscription_identifier in
-    subst (λ (r : Reply). Joins (packets.Subscribe subscribe) r slot) (sym (subscribe_is subscribe share story asks))
-    ((join_all identified subscribe.subscriptions story).codes, refl, serves_own identified share subscribe.subscriptions story asks.place slot asks.entry asks.asked asks.served in_ found)
+    subst (λ (r : Reply). Joins (packets.Subscribe subscribe) r slot) (sym (subscribe_is subscribe share solo asks))
+    ((join_all identified subscribe.subscriptions solo).codes, refl, serves_own identified share subscribe.subscriptions solo asks.place slot asks.entry asks.asked asks.served in_ found)
 
-pub turn_releases : (story : Story) (unsubscribe : Unsubscribe) (slot : ℕ) → AsksToLeave unsubscribe slot story → story.membership ≡ Member slot
-    → Leaves (packets.Unsubscribe unsubscribe) (reply (packets.Unsubscribe unsubscribe) story) slot
-turn_releases story unsubscribe slot asks member =
-    let all = leave_all unsubscribe.filters story in
-    let is : reply (packets.Unsubscribe unsubscribe) story ≡ unsubscribe_reply_as None unsubscribe story =
-    ap (λ (p : Phase). reply_in p (packets.Unsubscribe unsubscribe) story) asks.connected ∙ ap (λ (r : Option ℕ). unsubscribe_reply_as r unsubscribe story) asks.goes_on in
+pub step_releases : (solo : SoloState) (unsubscribe : Unsubscribe) (slot : ℕ) → AsksToLeave unsubscribe slot solo → solo.membership ≡ Member slot
+    → Leaves (packets.Unsubscribe unsubscribe) (reply (packets.Unsubscribe unsubscribe) solo) slot
+step_releases solo unsubscribe slot asks member =
+    let all = leave_all unsubscribe.filters solo in
+    let is : reply (packets.Unsubscribe unsubscribe) solo ≡ unsubscribe_reply_as None unsubscribe solo =
+    ap (λ (p : Phase). reply_in p (packets.Unsubscribe unsubscribe) solo) asks.connected ∙ ap (λ (r : Option ℕ). unsubscribe_reply_as r unsubscribe solo) asks.goes_on in
     subst (λ (r : Reply). Leaves (packets.Unsubscribe unsubscribe) r slot) (sym is) (
       all.codes,
       refl,
-      subst (λ (gs : List Bound). HasCode unsubscribe.filters all.codes 0 slot (shares_of gs)) (sym (all_leave unsubscribe.filters story).groups)
-          (lets_go asks.share asks.spelled unsubscribe.filters story asks.place slot asks.asked member asks.its),
+      subst (λ (gs : List Bound). HasCode unsubscribe.filters all.codes 0 slot (shares_of gs)) (sym (all_leave unsubscribe.filters solo).groups)
+          (lets_go asks.share asks.spelled unsubscribe.filters solo asks.place slot asks.asked member asks.its),
     )

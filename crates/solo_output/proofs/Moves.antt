@@ -1,4 +1,4 @@
--- The moves of which the turns of a story are made: what holds of each, and of two one after the other, holds of every turn.
+-- The moves of which the steps of a model are made: what holds of each, and of two one after the other, holds of every step.
 use Rattle.std.proofs.Common.{◌≡◌, ℕ, zero, suc, ◌+◌, ◌-◌, ◌<◌, nat_lt, Bool, true, false, List, [], ◌∷◌, length, take, drop, Option, Some, None, Result, Ok, Err, refl, sym, ap, ◌∙◌, subst, arith, eqb-true, ltb-true}
 use Rattle.std.specs.List.{AllByRecursion}
 use Rattle.std.proofs.lemmas.Bool.{cond_both}
@@ -26,12 +26,12 @@ use Rattle.conn_rules.specs.Connecting.{first_answer, terms_of, is_given_expiry}
 use Rattle.conn_rules.specs.Packets.{disconnect as disconnecting}
 use Rattle.conn_rules.specs.Publishing.{publish_answer, message_of}
 use Rattle.conn_rules.specs.Subscribing.{entry_answer, subscribe_refusal, unsubscribe_refusal}
-use Rattle.solo_output.specs.Groups.{Story, Phase, bound, shares_of, accepted_in, handed_in, waiting_in, unacknowledged, with_phase, with_membership, with_message, with_share, with_puback, with_hand_out}
+use Rattle.solo_output.specs.Groups.{SoloState, Phase, bound, shares_of, accepted_in, handed_in, waiting_in, unacknowledged, with_phase, with_membership, with_message, with_share, with_puback, with_hand_out}
 use Rattle.solo_output.specs.Groups.Phase.{Unconnected, Connected, Closed}
 use Rattle.solo_output.specs.HandOuts.{quota, least_free, due, hand_out, left_with, deliver_to, deliver_in, deliver}
 use Rattle.solo_output.specs.Publishing.{closing, is_full, matching, offer_to, taken_too, publish_reply_as}
 use Rattle.solo_output.specs.Subscribing.{coded, enter, is_slot, stay, join_as, entry_reply, join_all, leave_as, leave, leave_all, subscribe_reply_as, unsubscribe_reply_as}
-use Rattle.solo_output.specs.Replies.{attach_reply, first_reply_as, with_expiry, disconnect_reply, later_reply, reply_in, reply, turn, turns}
+use Rattle.solo_output.specs.Replies.{attach_reply, first_reply_as, with_expiry, disconnect_reply, later_reply, reply_in, reply, solo_step, solo_steps}
 use Rattle.solo_output.proofs.Lists.{handed, open_push, handed_in_push_same, drop_cons}
 use Rattle.solo_output.proofs.Brokers.{length-shares}
 use Rattle.solo_output.proofs.Publishes.{matching_below, below_still}
@@ -43,28 +43,28 @@ MayJoin NotMember slot = Unit {0}
 MayJoin (Member own) slot = own ≡ slot
 MayJoin (Leaving own) slot = own ≡ slot
 
--- what holds of stories of which one becomes the other
-pub record Ways (R : Story → Story → Type 0) : Type 0 where
-  pub stays : (story : Story) → R story story
-  pub goes_on : (one two three : Story) → R one two → R two three → R one three
-  pub connects : (connect : Connect) (story : Story) → story.phase ≡ Unconnected → R story (record story { phase = Connected; terms = terms_of story.max_inflight connect })
-  pub closes : (story : Story) → R story (with_phase Closed story)
-  pub expires : (expiry : ℕ) (story : Story) → R story (with_expiry expiry story)
-  pub binds : (share : Share) (story : Story) → slot_of share.text (shares_of story.groups) ≡ None → length story.groups < most_routes → R story (with_share share story)
-  pub joins : (slot : ℕ) (story : Story) → MayJoin story.membership slot → slot < length story.groups → R story (with_membership (Member slot) story)
-  pub leaves : (slot : ℕ) (story : Story) → story.membership ≡ Member slot → R story (with_membership (Leaving slot) story)
-  pub parts : (slot : ℕ) (story : Story) → story.membership ≡ Leaving slot → unacknowledged story ≡ [] → R story (with_membership NotMember story)
+-- what holds of models of which one becomes the other
+pub record Ways (R : SoloState → SoloState → Type 0) : Type 0 where
+  pub stays : (solo : SoloState) → R solo solo
+  pub goes_on : (one two three : SoloState) → R one two → R two three → R one three
+  pub connects : (connect : Connect) (solo : SoloState) → solo.phase ≡ Unconnected → R solo (record solo { phase = Connected; terms = terms_of solo.max_inflight connect })
+  pub closes : (solo : SoloState) → R solo (with_phase Closed solo)
+  pub expires : (expiry : ℕ) (solo : SoloState) → R solo (with_expiry expiry solo)
+  pub binds : (share : Share) (solo : SoloState) → slot_of share.text (shares_of solo.groups) ≡ None → length solo.groups < most_routes → R solo (with_share share solo)
+  pub joins : (slot : ℕ) (solo : SoloState) → MayJoin solo.membership slot → slot < length solo.groups → R solo (with_membership (Member slot) solo)
+  pub leaves : (slot : ℕ) (solo : SoloState) → solo.membership ≡ Member slot → R solo (with_membership (Leaving slot) solo)
+  pub parts : (slot : ℕ) (solo : SoloState) → solo.membership ≡ Leaving slot → unacknowledged solo ≡ [] → R solo (with_membership NotMember solo)
 
-abbrev pub Accepts : (Story → Story → Type 0) → Type 0
-Accepts R = (slot : ℕ) (message : Message) (story : Story) → slot < length story.groups → is_full slot story ≡ false → R story (with_message slot message story)
+abbrev pub Accepts : (SoloState → SoloState → Type 0) → Type 0
+Accepts R = (slot : ℕ) (message : Message) (solo : SoloState) → slot < length solo.groups → is_full slot solo ≡ false → R solo (with_message slot message solo)
 
-abbrev pub Settles : (Story → Story → Type 0) → Type 0
-Settles R = (identifier code : ℕ) (story : Story) → R story (with_puback identifier code story)
+abbrev pub Settles : (SoloState → SoloState → Type 0) → Type 0
+Settles R = (identifier code : ℕ) (solo : SoloState) → R solo (with_puback identifier code solo)
 
-abbrev pub Hands : (Story → Story → Type 0) → Type 0
+abbrev pub Hands : (SoloState → SoloState → Type 0) → Type 0
 Hands R =
-    (slot : ℕ) (message : Message) (rest : List Message) (story : Story) → story.phase ≡ Connected → story.membership ≡ Member slot → length (unacknowledged story) < quota story → waiting_in slot story ≡ message ∷ rest
-    → R story (with_hand_out slot (least_free (unacknowledged story)) story)
+    (slot : ℕ) (message : Message) (rest : List Message) (solo : SoloState) → solo.phase ≡ Connected → solo.membership ≡ Member slot → length (unacknowledged solo) < quota solo → waiting_in slot solo ≡ message ∷ rest
+    → R solo (with_hand_out slot (least_free (unacknowledged solo)) solo)
 
 -- the first of some of a list is the first of it
 pub taken_first : (n : ℕ) (xs : List Message) (x : Message) (ys : List Message) → x ∷ ys ≡ take n xs → (rest : List Message) × (less : ℕ) × (xs ≡ x ∷ rest) × (n ≡ suc less) × (ys ≡ take less rest)
@@ -72,198 +72,198 @@ taken_first zero xs x ys e = absurd cc
 taken_first (suc n) [] x ys e = absurd cc
 taken_first (suc n) (first' ∷ xs) x ys e = (xs, n, cc, refl, cc)
 
--- what is due behind a hand-out
-pub due_behind : (slot : ℕ) (story : Story) (message : Message) (messages : List Message) → message ∷ messages ≡ due slot story
-    → (rest : List Message) × (waiting_in slot story ≡ message ∷ rest) × (length (unacknowledged story) < quota story) × (messages ≡ due slot (with_hand_out slot (least_free (unacknowledged story)) story))
-due_behind slot story message messages is =
-    let next = least_free (unacknowledged story) in
-    let hand_outs = handed_in slot story.handed_out in
-    let accepted = accepted_in slot story.groups in
-    let first' = taken_first (quota story - length (unacknowledged story)) (waiting_in slot story) message messages is in
-    let more : length (unacknowledged (with_hand_out slot next story)) ≡ length (unacknowledged story) + 1 = ap length (open_push story.handed_out slot next) ∙ length_push (unacknowledged story) next in
-    let longer : length (handed_in slot (with_hand_out slot next story).handed_out) ≡ length hand_outs + 1 = ap length (handed_in_push_same story.handed_out slot next) ∙ length_push hand_outs (handed slot next None) in
-    let left : waiting_in slot (with_hand_out slot next story) ≡ first'.0 = ap (λ (n : ℕ). drop n accepted) longer ∙ (drop_cons (length hand_outs) accepted message first'.0 first'.2).1 in
-    let many : first'.1 ≡ quota story - length (unacknowledged (with_hand_out slot next story)) = omega (arith, more, first'.3) in
+-- what is due after a hand-out
+pub due_behind : (slot : ℕ) (solo : SoloState) (message : Message) (messages : List Message) → message ∷ messages ≡ due slot solo
+    → (rest : List Message) × (waiting_in slot solo ≡ message ∷ rest) × (length (unacknowledged solo) < quota solo) × (messages ≡ due slot (with_hand_out slot (least_free (unacknowledged solo)) solo))
+due_behind slot solo message messages is =
+    let next = least_free (unacknowledged solo) in
+    let hand_outs = handed_in slot solo.handed_out in
+    let accepted = accepted_in slot solo.groups in
+    let first' = taken_first (quota solo - length (unacknowledged solo)) (waiting_in slot solo) message messages is in
+    let more : length (unacknowledged (with_hand_out slot next solo)) ≡ length (unacknowledged solo) + 1 = ap length (open_push solo.handed_out slot next) ∙ length_push (unacknowledged solo) next in
+    let longer : length (handed_in slot (with_hand_out slot next solo).handed_out) ≡ length hand_outs + 1 = ap length (handed_in_push_same solo.handed_out slot next) ∙ length_push hand_outs (handed slot next None) in
+    let left : waiting_in slot (with_hand_out slot next solo) ≡ first'.0 = ap (λ (n : ℕ). drop n accepted) longer ∙ (drop_cons (length hand_outs) accepted message first'.0 first'.2).1 in
+    let many : first'.1 ≡ quota solo - length (unacknowledged (with_hand_out slot next solo)) = omega (arith, more, first'.3) in
     (first'.0, first'.2, omega (arith, first'.3), first'.4 ∙ (λ i. take (many i) (sym left i)))
 
-module _ (R : Story → Story → Type 0) (ways : Ways R) where
+module _ (R : SoloState → SoloState → Type 0) (ways : Ways R) where
   -- ---- a SUBSCRIBE, an UNSUBSCRIBE
 
-  free : (story : Story) (membership : Membership ℕ) (slot : ℕ) → story.membership ≡ membership → MayJoin membership slot → MayJoin story.membership slot
-  free story membership slot is may = subst (λ (m : Membership ℕ). MayJoin m slot) (sym is) may
+  free : (solo : SoloState) (membership : Membership ℕ) (slot : ℕ) → solo.membership ≡ membership → MayJoin membership slot → MayJoin solo.membership slot
+  free solo membership slot is may = subst (λ (m : Membership ℕ). MayJoin m slot) (sym is) may
 
-  bound_here : (share : Share) (story : Story) (slot : ℕ) → slot_of share.text (shares_of story.groups) ≡ Some slot → slot < length story.groups
-  bound_here share story slot found =
-      let within = position_below _ (shares_of story.groups) slot found in
-      omega (arith, within, length-shares story.groups)
+  bound_here : (share : Share) (solo : SoloState) (slot : ℕ) → slot_of share.text (shares_of solo.groups) ≡ Some slot → slot < length solo.groups
+  bound_here share solo slot found =
+      let within = position_below _ (shares_of solo.groups) slot found in
+      omega (arith, within, length-shares solo.groups)
 
-  enters : (found : Option ℕ) (share : Share) (story : Story) → slot_of share.text (shares_of story.groups) ≡ found → story.membership ≡ NotMember → R story (enter found share story).story
-  enters (Some slot) share story found is = ways.joins slot story (free story NotMember slot is tt) (bound_here share story slot found)
-  enters None share story found is =
-      let slot = length story.groups in
-      cond_both (nat_lt slot most_routes) (coded 1 (with_membership (Member slot) (with_share share story))) (coded 0x97 story) (λ one. R story one.story)
+  enters : (found : Option ℕ) (share : Share) (solo : SoloState) → slot_of share.text (shares_of solo.groups) ≡ found → solo.membership ≡ NotMember → R solo (enter found share solo).solo
+  enters (Some slot) share solo found is = ways.joins slot solo (free solo NotMember slot is tt) (bound_here share solo slot found)
+  enters None share solo found is =
+      let slot = length solo.groups in
+      cond_both (nat_lt slot most_routes) (coded 1 (with_membership (Member slot) (with_share share solo))) (coded 0x97 solo) (λ one. R solo one.solo)
       (λ room.
-      ways.goes_on story (with_share share story) (with_membership (Member slot) (with_share share story))
-      (ways.binds share story found (ltb-true slot most_routes room))
-      (ways.joins slot (with_share share story) (free (with_share share story) NotMember slot is tt) (omega (arith, length_push story.groups (bound share)))))
-      (λ full. ways.stays story)
+      ways.goes_on solo (with_share share solo) (with_membership (Member slot) (with_share share solo))
+      (ways.binds share solo found (ltb-true slot most_routes room))
+      (ways.joins slot (with_share share solo) (free (with_share share solo) NotMember slot is tt) (omega (arith, length_push solo.groups (bound share)))))
+      (λ full. ways.stays solo)
 
   found_slot : (slot : ℕ) (found : Option ℕ) → is_slot slot found ≡ true → found ≡ Some slot
   found_slot slot None is = absurd cc
   found_slot slot (Some other) is = ap (λ (n : ℕ). Some n) (eqb-true other slot is)
 
-  remains : (slot : ℕ) (share : Share) (story : Story) → MayJoin story.membership slot → R story (stay slot (slot_of share.text (shares_of story.groups)) story).story
-  remains slot share story may =
-      let found = slot_of share.text (shares_of story.groups) in
-      cond_both (is_slot slot found) (coded 1 (with_membership (Member slot) story)) (coded 0x97 story) (λ one. R story one.story)
-      (λ is. ways.joins slot story may (bound_here share story slot (found_slot slot found is)))
-      (λ other. ways.stays story)
+  remains : (slot : ℕ) (share : Share) (solo : SoloState) → MayJoin solo.membership slot → R solo (stay slot (slot_of share.text (shares_of solo.groups)) solo).solo
+  remains slot share solo may =
+      let found = slot_of share.text (shares_of solo.groups) in
+      cond_both (is_slot slot found) (coded 1 (with_membership (Member slot) solo)) (coded 0x97 solo) (λ one. R solo one.solo)
+      (λ is. ways.joins slot solo may (bound_here share solo slot (found_slot slot found is)))
+      (λ other. ways.stays solo)
 
-  joins : (membership : Membership ℕ) (share : Share) (story : Story) → story.membership ≡ membership → R story (join_as membership (slot_of share.text (shares_of story.groups)) share story).story
-  joins NotMember share story is = enters (slot_of share.text (shares_of story.groups)) share story refl is
-  joins (Member slot) share story is = remains slot share story (free story (Member slot) slot is refl)
-  joins (Leaving slot) share story is = remains slot share story (free story (Leaving slot) slot is refl)
+  joins : (membership : Membership ℕ) (share : Share) (solo : SoloState) → solo.membership ≡ membership → R solo (join_as membership (slot_of share.text (shares_of solo.groups)) share solo).solo
+  joins NotMember share solo is = enters (slot_of share.text (shares_of solo.groups)) share solo refl is
+  joins (Member slot) share solo is = remains slot share solo (free solo (Member slot) slot is refl)
+  joins (Leaving slot) share solo is = remains slot share solo (free solo (Leaving slot) slot is refl)
 
-  enters_as : (answer : EntryAnswer) (story : Story) → R story (entry_reply answer story).story
-  enters_as (entries.Refuse code) story = ways.stays story
-  enters_as (entries.Join share) story = joins story.membership share story refl
+  enters_as : (answer : EntryAnswer) (solo : SoloState) → R solo (entry_reply answer solo).solo
+  enters_as (entries.Refuse code) solo = ways.stays solo
+  enters_as (entries.Join share) solo = joins solo.membership share solo refl
 
-  joins_all : (identified : Bool) (entries : List Subscription) (story : Story) → R story (join_all identified entries story).story
-  joins_all identified [] story = ways.stays story
-  joins_all identified (entry ∷ entries) story =
-      let next = (entry_reply (entry_answer identified entry story.terms) story).story in
-      ways.goes_on story next (join_all identified entries next).story (enters_as (entry_answer identified entry story.terms) story) (joins_all identified entries next)
+  joins_all : (identified : Bool) (entries : List Subscription) (solo : SoloState) → R solo (join_all identified entries solo).solo
+  joins_all identified [] solo = ways.stays solo
+  joins_all identified (entry ∷ entries) solo =
+      let next = (entry_reply (entry_answer identified entry solo.terms) solo).solo in
+      ways.goes_on solo next (join_all identified entries next).solo (enters_as (entry_answer identified entry solo.terms) solo) (joins_all identified entries next)
 
-  pub subscribes : (refusal : Option ℕ) (subscribe : Subscribe) (story : Story) → R story (subscribe_reply_as refusal subscribe story).story
-  subscribes (Some code) subscribe story = ways.closes story
-  subscribes None subscribe story = joins_all _ subscribe.subscriptions story
+  pub subscribes : (refusal : Option ℕ) (subscribe : Subscribe) (solo : SoloState) → R solo (subscribe_reply_as refusal subscribe solo).solo
+  subscribes (Some code) subscribe solo = ways.closes solo
+  subscribes None subscribe solo = joins_all _ subscribe.subscriptions solo
 
-  leaves_as : (membership : Membership ℕ) (parsed : Result Share TopicError) (story : Story) → story.membership ≡ membership → R story (leave_as membership parsed story).story
-  leaves_as (Member slot) (Ok share) story is =
-      cond_both (is_slot slot (slot_of share.text (shares_of story.groups))) (coded 0 (with_membership (Leaving slot) story)) (coded 0x11 story) (λ one. R story one.story)
-      (λ its. ways.leaves slot story is)
-      (λ other. ways.stays story)
-  leaves_as (Member slot) (Err refusal) story is = ways.stays story
-  leaves_as NotMember parsed story is = ways.stays story
-  leaves_as (Leaving slot) parsed story is = ways.stays story
+  leaves_as : (membership : Membership ℕ) (parsed : Result Share TopicError) (solo : SoloState) → solo.membership ≡ membership → R solo (leave_as membership parsed solo).solo
+  leaves_as (Member slot) (Ok share) solo is =
+      cond_both (is_slot slot (slot_of share.text (shares_of solo.groups))) (coded 0 (with_membership (Leaving slot) solo)) (coded 0x11 solo) (λ one. R solo one.solo)
+      (λ its. ways.leaves slot solo is)
+      (λ other. ways.stays solo)
+  leaves_as (Member slot) (Err refusal) solo is = ways.stays solo
+  leaves_as NotMember parsed solo is = ways.stays solo
+  leaves_as (Leaving slot) parsed solo is = ways.stays solo
 
-  leaves_all : (texts : List (List ℕ)) (story : Story) → R story (leave_all texts story).story
-  leaves_all [] story = ways.stays story
-  leaves_all (text ∷ texts) story =
-      ways.goes_on story (leave text story).story (leave_all texts (leave text story).story).story
-      (leaves_as story.membership (share_of text) story refl) (leaves_all texts (leave text story).story)
+  leaves_all : (texts : List (List ℕ)) (solo : SoloState) → R solo (leave_all texts solo).solo
+  leaves_all [] solo = ways.stays solo
+  leaves_all (text ∷ texts) solo =
+      ways.goes_on solo (leave text solo).solo (leave_all texts (leave text solo).solo).solo
+      (leaves_as solo.membership (share_of text) solo refl) (leaves_all texts (leave text solo).solo)
 
-  pub unsubscribes : (refusal : Option ℕ) (unsubscribe : Unsubscribe) (story : Story) → R story (unsubscribe_reply_as refusal unsubscribe story).story
-  unsubscribes (Some code) unsubscribe story = ways.closes story
-  unsubscribes None unsubscribe story = leaves_all unsubscribe.filters story
+  pub unsubscribes : (refusal : Option ℕ) (unsubscribe : Unsubscribe) (solo : SoloState) → R solo (unsubscribe_reply_as refusal unsubscribe solo).solo
+  unsubscribes (Some code) unsubscribe solo = ways.closes solo
+  unsubscribes None unsubscribe solo = leaves_all unsubscribe.filters solo
 
   -- ---- the first packet, and the last
 
-  pub disconnects : (expiry : Option ℕ) (story : Story) → R story (disconnect_reply expiry story).story
-  disconnects None story = ways.closes story
-  disconnects (Some expiry) story =
-      cond_both (is_given_expiry expiry story.terms) (closing (Some (disconnecting 0x82)) story) (closing None (with_expiry expiry story)) (λ reply. R story reply.story)
-      (λ given. ways.closes story)
-      (λ other. ways.goes_on story (with_expiry expiry story) (with_phase Closed (with_expiry expiry story)) (ways.expires expiry story) (ways.closes (with_expiry expiry story)))
+  pub disconnects : (expiry : Option ℕ) (solo : SoloState) → R solo (disconnect_reply expiry solo).solo
+  disconnects None solo = ways.closes solo
+  disconnects (Some expiry) solo =
+      cond_both (is_given_expiry expiry solo.terms) (closing (Some (disconnecting 0x82)) solo) (closing None (with_expiry expiry solo)) (λ reply. R solo reply.solo)
+      (λ given. ways.closes solo)
+      (λ other. ways.goes_on solo (with_expiry expiry solo) (with_phase Closed (with_expiry expiry solo)) (ways.expires expiry solo) (ways.closes (with_expiry expiry solo)))
 
-  attaches : (packet : Packet) (story : Story) → story.phase ≡ Unconnected → R story (attach_reply packet story).story
-  attaches (packets.Connect connect) story is = ways.connects connect story is
-  attaches (packets.Publish publish) story is = ways.closes story
-  attaches (packets.Puback puback) story is = ways.closes story
-  attaches (packets.Subscribe subscribe) story is = ways.closes story
-  attaches (packets.Unsubscribe unsubscribe) story is = ways.closes story
-  attaches packets.Pingreq story is = ways.closes story
-  attaches (packets.Disconnect disconnect) story is = ways.closes story
-  attaches (packets.Connack connack) story is = ways.closes story
-  attaches (packets.Suback suback) story is = ways.closes story
-  attaches (packets.Unsuback unsuback) story is = ways.closes story
-  attaches packets.Pingresp story is = ways.closes story
-  attaches (packets.Foreign kind) story is = ways.closes story
-  attaches (packets.OtherVersion version) story is = ways.closes story
-  attaches packets.WithWill story is = ways.closes story
+  attaches : (packet : Packet) (solo : SoloState) → solo.phase ≡ Unconnected → R solo (attach_reply packet solo).solo
+  attaches (packets.Connect connect) solo is = ways.connects connect solo is
+  attaches (packets.Publish publish) solo is = ways.closes solo
+  attaches (packets.Puback puback) solo is = ways.closes solo
+  attaches (packets.Subscribe subscribe) solo is = ways.closes solo
+  attaches (packets.Unsubscribe unsubscribe) solo is = ways.closes solo
+  attaches packets.Pingreq solo is = ways.closes solo
+  attaches (packets.Disconnect disconnect) solo is = ways.closes solo
+  attaches (packets.Connack connack) solo is = ways.closes solo
+  attaches (packets.Suback suback) solo is = ways.closes solo
+  attaches (packets.Unsuback unsuback) solo is = ways.closes solo
+  attaches packets.Pingresp solo is = ways.closes solo
+  attaches (packets.Foreign kind) solo is = ways.closes solo
+  attaches (packets.OtherVersion version) solo is = ways.closes solo
+  attaches packets.WithWill solo is = ways.closes solo
 
-  pub firsts : (answer : FirstAnswer) (packet : Packet) (story : Story) → story.phase ≡ Unconnected → R story (first_reply_as answer packet story).story
-  firsts first.Close packet story is = ways.closes story
-  firsts (first.Refuse refusal) packet story is = ways.closes story
-  firsts first.Attach packet story is = attaches packet story is
+  pub firsts : (answer : FirstAnswer) (packet : Packet) (solo : SoloState) → solo.phase ≡ Unconnected → R solo (first_reply_as answer packet solo).solo
+  firsts first.Close packet solo is = ways.closes solo
+  firsts (first.Refuse refusal) packet solo is = ways.closes solo
+  firsts first.Attach packet solo is = attaches packet solo is
 
   -- ---- who leaves
 
-  left : (slot : ℕ) (story : Story) → story.membership ≡ Leaving slot → (identifiers : List ℕ) → unacknowledged story ≡ identifiers → R story (with_membership (left_with slot identifiers) story)
-  left slot story is [] none = ways.parts slot story is none
-  left slot story is (identifier ∷ identifiers) some = subst (λ (m : Membership ℕ). R story (with_membership m story)) is (ways.stays story)
+  left : (slot : ℕ) (solo : SoloState) → solo.membership ≡ Leaving slot → (identifiers : List ℕ) → unacknowledged solo ≡ identifiers → R solo (with_membership (left_with slot identifiers) solo)
+  left slot solo is [] none = ways.parts slot solo is none
+  left slot solo is (identifier ∷ identifiers) some = subst (λ (m : Membership ℕ). R solo (with_membership m solo)) is (ways.stays solo)
 
 -- ---- every reply
 
-module _ (R : Story → Story → Type 0) (ways : Ways R) (accepts : Accepts R) (settles : Settles R) where
-  offers : (slots : List ℕ) (message : Message) (story : Story) → AllByRecursion (λ slot. slot < length story.groups) slots → R story (offer_to slots message story).story
-  offers [] message story below = ways.stays story
-  offers (slot ∷ slots) message story below =
-      cond_both (is_full slot story) (offer_to slots message story) (taken_too (offer_to slots message (with_message slot message story))) (λ offered. R story offered.story)
-      (λ full. offers slots message story below.1)
+module _ (R : SoloState → SoloState → Type 0) (ways : Ways R) (accepts : Accepts R) (settles : Settles R) where
+  offers : (slots : List ℕ) (message : Message) (solo : SoloState) → AllByRecursion (λ slot. slot < length solo.groups) slots → R solo (offer_to slots message solo).solo
+  offers [] message solo below = ways.stays solo
+  offers (slot ∷ slots) message solo below =
+      cond_both (is_full slot solo) (offer_to slots message solo) (taken_too (offer_to slots message (with_message slot message solo))) (λ offered. R solo offered.solo)
+      (λ full. offers slots message solo below.1)
       (λ room.
-      ways.goes_on story (with_message slot message story) (offer_to slots message (with_message slot message story)).story
-      (accepts slot message story below.0 room)
-      (offers slots message (with_message slot message story) (below_still slot message story slots below.1)))
+      ways.goes_on solo (with_message slot message solo) (offer_to slots message (with_message slot message solo)).solo
+      (accepts slot message solo below.0 room)
+      (offers slots message (with_message slot message solo) (below_still slot message solo slots below.1)))
 
-  publishes : (answer : PublishAnswer) (publish : Publish) (story : Story) → R story (publish_reply_as answer publish story).story
-  publishes (publishing.Close code) publish story = ways.closes story
-  publishes (publishing.Refuse identifier code) publish story = ways.stays story
-  publishes (publishing.Offer identifier) publish story = offers (matching publish.topic story) (message_of publish) story (matching_below publish.topic story)
+  publishes : (answer : PublishAnswer) (publish : Publish) (solo : SoloState) → R solo (publish_reply_as answer publish solo).solo
+  publishes (publishing.Close code) publish solo = ways.closes solo
+  publishes (publishing.Refuse identifier code) publish solo = ways.stays solo
+  publishes (publishing.Offer identifier) publish solo = offers (matching publish.topic solo) (message_of publish) solo (matching_below publish.topic solo)
 
-  later : (packet : Packet) (story : Story) → R story (later_reply packet story).story
-  later (packets.Publish publish) story = publishes (publish_answer publish) publish story
-  later (packets.Puback puback) story = settles puback.packet_identifier puback.reason_code story
-  later (packets.Subscribe subscribe) story = subscribes R ways (subscribe_refusal subscribe) subscribe story
-  later (packets.Unsubscribe unsubscribe) story = unsubscribes R ways (unsubscribe_refusal unsubscribe) unsubscribe story
-  later packets.Pingreq story = ways.stays story
-  later (packets.Disconnect disconnect) story = disconnects R ways disconnect.properties.session_expiry_interval story
-  later (packets.Connect connect) story = ways.closes story
-  later (packets.Connack connack) story = ways.closes story
-  later (packets.Suback suback) story = ways.closes story
-  later (packets.Unsuback unsuback) story = ways.closes story
-  later packets.Pingresp story = ways.closes story
-  later (packets.Foreign kind) story = ways.closes story
-  later (packets.OtherVersion version) story = ways.closes story
-  later packets.WithWill story = ways.closes story
+  later : (packet : Packet) (solo : SoloState) → R solo (later_reply packet solo).solo
+  later (packets.Publish publish) solo = publishes (publish_answer publish) publish solo
+  later (packets.Puback puback) solo = settles puback.packet_identifier puback.reason_code solo
+  later (packets.Subscribe subscribe) solo = subscribes R ways (subscribe_refusal subscribe) subscribe solo
+  later (packets.Unsubscribe unsubscribe) solo = unsubscribes R ways (unsubscribe_refusal unsubscribe) unsubscribe solo
+  later packets.Pingreq solo = ways.stays solo
+  later (packets.Disconnect disconnect) solo = disconnects R ways disconnect.properties.session_expiry_interval solo
+  later (packets.Connect connect) solo = ways.closes solo
+  later (packets.Connack connack) solo = ways.closes solo
+  later (packets.Suback suback) solo = ways.closes solo
+  later (packets.Unsuback unsuback) solo = ways.closes solo
+  later packets.Pingresp solo = ways.closes solo
+  later (packets.Foreign kind) solo = ways.closes solo
+  later (packets.OtherVersion version) solo = ways.closes solo
+  later packets.WithWill solo = ways.closes solo
 
-  replies : (phase : Phase) (packet : Packet) (story : Story) → story.phase ≡ phase → R story (reply_in phase packet story).story
-  replies Unconnected packet story is = firsts R ways (first_answer packet) packet story is
-  replies Connected packet story is = later packet story
-  replies Closed packet story is = ways.stays story
+  replies : (phase : Phase) (packet : Packet) (solo : SoloState) → solo.phase ≡ phase → R solo (reply_in phase packet solo).solo
+  replies Unconnected packet solo is = firsts R ways (first_answer packet) packet solo is
+  replies Connected packet solo is = later packet solo
+  replies Closed packet solo is = ways.stays solo
 
-  pub replied : (packet : Packet) (story : Story) → R story (reply packet story).story
-  replied packet story = replies story.phase packet story refl
+  pub replied : (packet : Packet) (solo : SoloState) → R solo (reply packet solo).solo
+  replied packet solo = replies solo.phase packet solo refl
 
--- ---- what goes out behind a reply
+-- ---- what goes out after a reply
 
-module _ (R : Story → Story → Type 0) (ways : Ways R) (hands : Hands R) where
-  pub hands_out : (slot : ℕ) (messages : List Message) (story : Story) → story.phase ≡ Connected → story.membership ≡ Member slot → messages ≡ due slot story → R story (hand_out slot messages story).story
-  hands_out slot [] story connected is due' = ways.stays story
-  hands_out slot (message ∷ messages) story connected is due' =
-      let next = with_hand_out slot (least_free (unacknowledged story)) story in
-      let behind = due_behind slot story message messages due' in
-      ways.goes_on story next (hand_out slot messages next).story (hands slot message behind.0 story connected is behind.2 behind.1) (hands_out slot messages next connected is behind.3)
+module _ (R : SoloState → SoloState → Type 0) (ways : Ways R) (hands : Hands R) where
+  pub hands_out : (slot : ℕ) (messages : List Message) (solo : SoloState) → solo.phase ≡ Connected → solo.membership ≡ Member slot → messages ≡ due slot solo → R solo (hand_out slot messages solo).solo
+  hands_out slot [] solo connected is due' = ways.stays solo
+  hands_out slot (message ∷ messages) solo connected is due' =
+      let next = with_hand_out slot (least_free (unacknowledged solo)) solo in
+      let behind = due_behind slot solo message messages due' in
+      ways.goes_on solo next (hand_out slot messages next).solo (hands slot message behind.0 solo connected is behind.2 behind.1) (hands_out slot messages next connected is behind.3)
 
-  delivers_to : (membership : Membership ℕ) (story : Story) → story.phase ≡ Connected → story.membership ≡ membership → R story (deliver_to membership story).story
-  delivers_to NotMember story connected is = ways.stays story
-  delivers_to (Member slot) story connected is = hands_out slot (due slot story) story connected is refl
-  delivers_to (Leaving slot) story connected is = left R ways slot story is (unacknowledged story) refl
+  delivers_to : (membership : Membership ℕ) (solo : SoloState) → solo.phase ≡ Connected → solo.membership ≡ membership → R solo (deliver_to membership solo).solo
+  delivers_to NotMember solo connected is = ways.stays solo
+  delivers_to (Member slot) solo connected is = hands_out slot (due slot solo) solo connected is refl
+  delivers_to (Leaving slot) solo connected is = left R ways slot solo is (unacknowledged solo) refl
 
-  delivers_in : (phase : Phase) (story : Story) → story.phase ≡ phase → R story (deliver_in phase story).story
-  delivers_in Unconnected story is = ways.stays story
-  delivers_in Connected story is = delivers_to story.membership story is refl
-  delivers_in Closed story is = ways.stays story
+  delivers_in : (phase : Phase) (solo : SoloState) → solo.phase ≡ phase → R solo (deliver_in phase solo).solo
+  delivers_in Unconnected solo is = ways.stays solo
+  delivers_in Connected solo is = delivers_to solo.membership solo is refl
+  delivers_in Closed solo is = ways.stays solo
 
-  pub delivered : (story : Story) → R story (deliver story).story
-  delivered story = delivers_in story.phase story refl
+  pub delivered : (solo : SoloState) → R solo (deliver solo).solo
+  delivered solo = delivers_in solo.phase solo refl
 
--- ---- every turn
+-- ---- every step
 
-module _ (R : Story → Story → Type 0) (ways : Ways R) (accepts : Accepts R) (settles : Settles R) (hands : Hands R) where
-  pub turned : (packet : Packet) (story : Story) → R story (turn packet story).story
-  turned packet story = ways.goes_on story (reply packet story).story (turn packet story).story (replied R ways accepts settles packet story) (delivered R ways hands (reply packet story).story)
+module _ (R : SoloState → SoloState → Type 0) (ways : Ways R) (accepts : Accepts R) (settles : Settles R) (hands : Hands R) where
+  pub turned : (packet : Packet) (solo : SoloState) → R solo (solo_step packet solo).solo
+  turned packet solo = ways.goes_on solo (reply packet solo).solo (solo_step packet solo).solo (replied R ways accepts settles packet solo) (delivered R ways hands (reply packet solo).solo)
 
-  pub ran : (packets : List Packet) (story : Story) → R story (turns packets story).story
-  ran [] story = ways.stays story
-  ran (packet ∷ packets) story = ways.goes_on story (turn packet story).story (turns packets (turn packet story).story).story (turned packet story) (ran packets (turn packet story).story)
+  pub ran : (packets : List Packet) (solo : SoloState) → R solo (solo_steps packets solo).solo
+  ran [] solo = ways.stays solo
+  ran (packet ∷ packets) solo = ways.goes_on solo (solo_step packet solo).solo (solo_steps packets (solo_step packet solo).solo).solo (turned packet solo) (ran packets (solo_step packet solo).solo)

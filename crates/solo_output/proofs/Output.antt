@@ -1,4 +1,4 @@
--- What `solo` writes is what the story comes to.
+-- What `solo` writes is what the model comes to.
 use Rattle.std.proofs.Common.{◌≡◌, ℕ, zero, suc, ◌+◌, ◌<◌, ◌≤◌, List, [], ◌∷◌, ◌++◌, length, take, get_or, Option, ◌⊎◌, Result, Ok, Err, inl, inr, refl, sym, ap, ◌∙◌, subst, arith, add-zero, zero-add}
 use Rattle.std.specs.List.{flat_map}
 use Rattle.std.proofs.lemmas.List.{append_assoc, append-nil, take_more, take_all, length-take-le}
@@ -8,15 +8,15 @@ use Rattle.mqtt_fields.specs.declared.fault.StreamFault.{StreamFault}
 use Rattle.mqtt_packet.specs.declared.packet.Packet.{Packet}
 use Rattle.mqtt_wire.specs.Stream.{Reads}
 use Rattle.mqtt_wire.proofs.StreamLaws.{one_reading, exists_reading}
-use Rattle.client_table.specs.Clients.{Said}
+use Rattle.client_table.specs.Clients.{StepOutput}
 use Rattle.local_broker.specs.Broker.{Broker}
 use Rattle.local_server.specs.declared.event.TimedEvent.{TimedEvent}
 use Rattle.local_server.specs.declared.setup.Setup.{Setup}
 use Rattle.local_server.specs.Happening.{HappensAll}
 use Rattle.drive.specs.Streams.{client_script_of}
 use Rattle.drive.specs.Transcripts.{ReportsFirst, client_lines, IsClientOutput, Writes, BeginsTo}
-use Rattle.solo_output.specs.Groups.{Story, Bound, bound, opening}
-use Rattle.solo_output.specs.Replies.{turns}
+use Rattle.solo_output.specs.Groups.{SoloState, Bound, bound, opening}
+use Rattle.solo_output.specs.Replies.{solo_steps}
 use Rattle.solo_output.specs.Report.{report_of, reports_from, reports}
 use Rattle.solo_output.specs.Streams.{stream_of}
 use Rattle.solo_output.specs.Output.{lines_for, solo_output, IsOutputFor}
@@ -27,38 +27,38 @@ use Rattle.solo_output.proofs.Walk.{sent_in, Concluded, run}
 
 -- ---- the reports
 
-reports_push : (slot : ℕ) (groups : List Bound) (last : Bound) (story : Story) → reports_from slot (groups ++ last ∷ []) story ≡ reports_from slot groups story ++ report_of (slot + length groups) last story
-reports_push slot [] last story = append-nil (report_of slot last story) ∙ ap (λ (n : ℕ). report_of n last story) (sym (add-zero slot))
-reports_push slot (group ∷ groups) last story =
+reports_push : (slot : ℕ) (groups : List Bound) (last : Bound) (solo : SoloState) → reports_from slot (groups ++ last ∷ []) solo ≡ reports_from slot groups solo ++ report_of (slot + length groups) last solo
+reports_push slot [] last solo = append-nil (report_of slot last solo) ∙ ap (λ (n : ℕ). report_of n last solo) (sym (add-zero slot))
+reports_push slot (group ∷ groups) last solo =
     let at : slot + 1 + length groups ≡ slot + suc (length groups) = omega arith in
-    ap (λ (l : List ℕ). report_of slot group story ++ l) (reports_push (slot + 1) groups last story)
-    ∙ sym (append_assoc (report_of slot group story) (reports_from (slot + 1) groups story) (report_of (slot + 1 + length groups) last story))
-    ∙ ap (λ (n : ℕ). reports_from slot (group ∷ groups) story ++ report_of n last story) at
+    ap (λ (l : List ℕ). report_of slot group solo ++ l) (reports_push (slot + 1) groups last solo)
+    ∙ sym (append_assoc (report_of slot group solo) (reports_from (slot + 1) groups solo) (report_of (slot + 1 + length groups) last solo))
+    ∙ ap (λ (n : ℕ). reports_from slot (group ∷ groups) solo ++ report_of n last solo) at
 
-first_reports : (story : Story) (b : Broker) → ShowsEnd story b → (many : ℕ) (text : List ℕ) → many ≤ length story.groups → ReportsFirst many b text → text ≡ reports_from 0 (take many story.groups) story
-first_reports story b shows zero text within told = told
-first_reports story b shows (suc slot) text within (earlier, line, before, tells, all) =
-    let less : slot < length story.groups = omega arith in
-    let own = get_or story.groups slot (bound tells.share) in
-    let there = slice_get-get_or story.groups slot (bound tells.share) less in
-    let at : 0 + length (take slot story.groups) ≡ slot = zero-add (length (take slot story.groups)) ∙ length-take-le slot story.groups (omega arith) in
+first_reports : (solo : SoloState) (b : Broker) → ShowsEnd solo b → (many : ℕ) (text : List ℕ) → many ≤ length solo.groups → ReportsFirst many b text → text ≡ reports_from 0 (take many solo.groups) solo
+first_reports solo b shows zero text within told = told
+first_reports solo b shows (suc slot) text within (earlier, line, before, tells, all) =
+    let less : slot < length solo.groups = omega arith in
+    let own = get_or solo.groups slot (bound tells.share) in
+    let there = slice_get-get_or solo.groups slot (bound tells.share) less in
+    let at : 0 + length (take slot solo.groups) ≡ slot = zero-add (length (take slot solo.groups)) ∙ length-take-le slot solo.groups (omega arith) in
     let up : suc slot ≡ slot + 1 = omega arith in
-    let taken : take (suc slot) story.groups ≡ take slot story.groups ++ own ∷ [] = ap (λ (n : ℕ). take n story.groups) up ∙ take_more story.groups slot (bound tells.share) less in
+    let taken : take (suc slot) solo.groups ≡ take slot solo.groups ++ own ∷ [] = ap (λ (n : ℕ). take n solo.groups) up ∙ take_more solo.groups slot (bound tells.share) less in
     all
-    ∙ (λ i. first_reports story b shows slot earlier (omega arith) before i ++ line_told story b shows slot line tells own there i)
-    ∙ ap (λ (n : ℕ). reports_from 0 (take slot story.groups) story ++ report_of n own story) (sym at)
-    ∙ sym (reports_push 0 (take slot story.groups) own story)
-    ∙ ap (λ (l : List Bound). reports_from 0 l story) (sym taken)
+    ∙ (λ i. first_reports solo b shows slot earlier (omega arith) before i ++ line_told solo b shows slot line tells own there i)
+    ∙ ap (λ (n : ℕ). reports_from 0 (take slot solo.groups) solo ++ report_of n own solo) (sym at)
+    ∙ sym (reports_push 0 (take slot solo.groups) own solo)
+    ∙ ap (λ (l : List Bound). reports_from 0 l solo) (sym taken)
 
-all_reports : (story : Story) (b : Broker) (text : List ℕ) → ShowsEnd story b → ReportsFirst (length b.routes) b text → text ≡ reports story
-all_reports story b text shows told =
-    let many : length b.routes ≡ length story.groups = ap length shows.routes ∙ length-shares story.groups in
-    first_reports story b shows (length story.groups) text (omega arith) (subst (λ (n : ℕ). ReportsFirst n b text) many told)
-    ∙ ap (λ (l : List Bound). reports_from 0 l story) (take_all (length story.groups) story.groups (omega arith))
+all_reports : (solo : SoloState) (b : Broker) (text : List ℕ) → ShowsEnd solo b → ReportsFirst (length b.routes) b text → text ≡ reports solo
+all_reports solo b text shows told =
+    let many : length b.routes ≡ length solo.groups = ap length shows.routes ∙ length-shares solo.groups in
+    first_reports solo b shows (length solo.groups) text (omega arith) (subst (λ (n : ℕ). ReportsFirst n b text) many told)
+    ∙ ap (λ (l : List Bound). reports_from 0 l solo) (take_all (length solo.groups) solo.groups (omega arith))
 
 -- ---- the lines of what is sent
 
-lines_are : (said : List Said) → flat_map client_lines said ≡ lines_for (sent_in said)
+lines_are : (said : List StepOutput) → flat_map client_lines said ≡ lines_for (sent_in said)
 lines_are [] = refl
 lines_are (one ∷ said) = ap (λ (l : List ℕ). client_lines one ++ l) (lines_are said) ∙ sym (flat_map-append _ one.packets (sent_in said))
 
@@ -70,7 +70,7 @@ closed setup input output few is =
     let got =
     subst (λ (limit : ℕ). Concluded (opening setup.capacity limit setup.groups) (whole cut_up.pieces) (sent_in t.said) t.last.broker) t.new.max_inflight
     (run setup.capacity setup.groups few cut_up.pieces t.first t.last t.said t.new.broker t.new.clients cut_up.bytes happens) in
-    let behind = turns got.packets (opening setup.capacity setup.max_inflight setup.groups) in
+    let behind = solo_steps got.packets (opening setup.capacity setup.max_inflight setup.groups) in
     record {
       stream = whole cut_up.pieces;
       spelled = cut_up.stream_is;
@@ -80,8 +80,8 @@ closed setup input output few is =
       reads = got.reads;
       text =
           t.whole
-          ∙ (λ i. lines_are t.said i ++ all_reports behind.story t.last.broker t.reports got.shows t.reported i)
-          ∙ ap (λ (l : List Packet). lines_for l ++ reports behind.story) got.sent_are;
+          ∙ (λ i. lines_are t.said i ++ all_reports behind.solo t.last.broker t.reports got.shows t.reported i)
+          ∙ ap (λ (l : List Packet). lines_for l ++ reports behind.solo) got.sent_are;
     }
 
 is_ok : {A E : Type 0} (x y : A) → ◌≡◌ {A = Result A E} (Ok x) (Ok y) → x ≡ y

@@ -1,22 +1,22 @@
--- How the session of the one client shows a story.
+-- How the session of the one client shows a model.
 use Rattle.std.proofs.Common.{◌≡◌, ℕ, min, List, [], ◌∷◌, length, slice_get, Some, refl, sym, ap, ◌∙◌, subst}
 use Rattle.std.proofs.lemmas.Bool.{cond_both}
 use Rattle.group_jobs.specs.declared.message.Message.{Message}
 use Rattle.group_jobs.specs.Stamps.{Held}
 use Rattle.member_window.specs.Contents.{Contents}
 use Rattle.session_desk.specs.declared.row.Row.{Row}
-use Rattle.session_desk.specs.declared.row.Standing.TheVariants.{Lent}
+use Rattle.session_desk.specs.declared.row.Holder.TheVariants.{Lent}
 use Rattle.session_desk.specs.declared.session.Session.{Session}
 use Rattle.session_desk.specs.declared.session.Membership.{Membership}
 use Rattle.session_desk.specs.declared.session.Membership.TheVariants.{NotMember, Member, Leaving}
 use Rattle.session_desk.specs.Rows.{Rows, HasRow}
 use Rattle.session_desk.specs.Sessions.{Who}
 use Rattle.conn_rules.specs.declared.terms.Terms.{Terms}
-use Rattle.conn_engine.specs.declared.standing.Link.{Link}
+use Rattle.conn_engine.specs.declared.phase.ConnectedClient.{ConnectedClient}
 use Rattle.local_broker.specs.Places.{GroupPlace}
 use Rattle.local_broker.specs.Broker.{Broker}
 use Rattle.local_group.specs.Groups.{Group}
-use Rattle.solo_output.specs.Groups.{Story, HandOut, Phase, accepted_in, handed_in, with_hand_out, with_message, with_membership, with_phase, unacknowledged}
+use Rattle.solo_output.specs.Groups.{SoloState, HandOut, Phase, accepted_in, handed_in, with_hand_out, with_message, with_membership, with_phase, unacknowledged}
 use Rattle.solo_output.specs.Groups.Phase.{Connected}
 use Rattle.solo_output.specs.HandOuts.{hand_out, least_free}
 use Rattle.solo_output.specs.Publishing.{is_full, offer_to, taken_too}
@@ -47,53 +47,53 @@ pub record IsLentAs (rows : Rows Held GroupPlace) (who : Who) : Type 0 where
   pub connection : ℕ
   pub has : HasRow rows who.number row
   pub its : row.client ≡ who.client
-  pub stands : row.standing ≡ Lent connection
+  pub stands : row.held_by ≡ Lent connection
 
-pub record ShowsSession (story : Story) (session : Session Held GroupPlace) (b : Broker) : Type 0 where
-  pub broker : ShowsBroker story session.window.owed b
-  pub desk : ShowsDesk story.membership b.desk
-  pub window : ShowsWindow story session.window
-  pub member : session.membership ≡ placed story.membership
-  pub idles : Idles story.membership session.window.owed
-  pub expiry : session.expiry.seconds ≡ story.terms.session_expiry_interval
+pub record ShowsSession (solo : SoloState) (session : Session Held GroupPlace) (b : Broker) : Type 0 where
+  pub broker : ShowsBroker solo session.window.owed b
+  pub desk : ShowsDesk solo.membership b.desk
+  pub window : ShowsWindow solo session.window
+  pub member : session.membership ≡ placed solo.membership
+  pub idles : Idles solo.membership session.window.owed
+  pub expiry : session.expiry.seconds ≡ solo.terms.session_expiry_interval
   pub lent : IsLentAs b.desk.rows session.identity
 
 -- and its connection, which goes on
-pub record ShowsLink (story : Story) (link : Link GroupPlace) (b : Broker) : Type 0 where
-  pub session : ShowsSession story link.session b
-  pub terms : link.terms ≡ story.terms
-  pub phase : story.phase ≡ Connected
+pub record ShowsClient (solo : SoloState) (connected : ConnectedClient GroupPlace) (b : Broker) : Type 0 where
+  pub session : ShowsSession solo connected.session b
+  pub terms : connected.terms ≡ solo.terms
+  pub phase : solo.phase ≡ Connected
 
--- ---- stories that differ in their messages alone
+-- ---- models that differ in their messages alone
 
-pub record Keeps (one other : Story) : Type 0 where
+pub record Keeps (one other : SoloState) : Type 0 where
   pub phase : other.phase ≡ one.phase
   pub terms : other.terms ≡ one.terms
   pub membership : other.membership ≡ one.membership
 
-pub kept : (story : Story) → Keeps story story
-kept story = record { phase = refl; terms = refl; membership = refl }
+pub kept : (solo : SoloState) → Keeps solo solo
+kept solo = record { phase = refl; terms = refl; membership = refl }
 
-pub hand_out_keeps : (slot : ℕ) (messages : List Message) (story : Story) → Keeps story (hand_out slot messages story).story
-hand_out_keeps slot [] story = kept story
-hand_out_keeps slot (message ∷ messages) story =
-    let rest = hand_out_keeps slot messages (with_hand_out slot (least_free (unacknowledged story)) story) in
+pub hand_out_keeps : (slot : ℕ) (messages : List Message) (solo : SoloState) → Keeps solo (hand_out slot messages solo).solo
+hand_out_keeps slot [] solo = kept solo
+hand_out_keeps slot (message ∷ messages) solo =
+    let rest = hand_out_keeps slot messages (with_hand_out slot (least_free (unacknowledged solo)) solo) in
     record { phase = rest.phase; terms = rest.terms; membership = rest.membership }
 
-pub record KeepsHanded (one other : Story) : Type 0 where
+pub record KeepsHanded (one other : SoloState) : Type 0 where
   pub same : Keeps one other
   pub handed_out : other.handed_out ≡ one.handed_out
 
-pub offer_keeps : (slots : List ℕ) (message : Message) (story : Story) → KeepsHanded story (offer_to slots message story).story
-offer_keeps [] message story = record { same = kept story; handed_out = refl }
-offer_keeps (slot ∷ slots) message story =
-    cond_both (is_full slot story) (offer_to slots message story) (taken_too (offer_to slots message (with_message slot message story))) (λ offered. KeepsHanded story offered.story)
-    (λ full. offer_keeps slots message story)
+pub offer_keeps : (slots : List ℕ) (message : Message) (solo : SoloState) → KeepsHanded solo (offer_to slots message solo).solo
+offer_keeps [] message solo = record { same = kept solo; handed_out = refl }
+offer_keeps (slot ∷ slots) message solo =
+    cond_both (is_full slot solo) (offer_to slots message solo) (taken_too (offer_to slots message (with_message slot message solo))) (λ offered. KeepsHanded solo offered.solo)
+    (λ full. offer_keeps slots message solo)
     (λ room.
-    let rest = offer_keeps slots message (with_message slot message story) in
+    let rest = offer_keeps slots message (with_message slot message solo) in
     record { same = record { phase = rest.same.phase; terms = rest.same.terms; membership = rest.same.membership }; handed_out = rest.handed_out })
 
-pub window_kept : (one other : Story) (w : Contents Held) → KeepsHanded one other → ShowsWindow one w → ShowsWindow other w
+pub window_kept : (one other : SoloState) (w : Contents Held) → KeepsHanded one other → ShowsWindow one w → ShowsWindow other w
 window_kept one other w keeps shows =
     record {
       none_waits = shows.none_waits;
@@ -103,7 +103,7 @@ window_kept one other w keeps shows =
     }
 
 -- groups accepted messages, and nothing else happened
-pub session_kept : (one other : Story) (session : Session Held GroupPlace) (old new : Broker) → KeepsHanded one other → ShowsBroker other session.window.owed new → new.desk ≡ old.desk
+pub session_kept : (one other : SoloState) (session : Session Held GroupPlace) (old new : Broker) → KeepsHanded one other → ShowsBroker other session.window.owed new → new.desk ≡ old.desk
     → ShowsSession one session old → ShowsSession other session new
 session_kept one other session old new keeps broker desk shows =
     record {
@@ -118,23 +118,23 @@ session_kept one other session old new keeps broker desk shows =
 
 -- ---- another membership
 
-pub broker_as : (membership : Membership ℕ) (story : Story) (entries : List (ℕ × Held)) (b : Broker) → ((slot : ℕ) → entries_at membership slot entries ≡ entries_at story.membership slot entries)
-    → ShowsBroker story entries b → ShowsBroker (with_membership membership story) entries b
-broker_as membership story entries b same shows =
+pub broker_as : (membership : Membership ℕ) (solo : SoloState) (entries : List (ℕ × Held)) (b : Broker) → ((slot : ℕ) → entries_at membership slot entries ≡ entries_at solo.membership slot entries)
+    → ShowsBroker solo entries b → ShowsBroker (with_membership membership solo) entries b
+broker_as membership solo entries b same shows =
     record {
       routes = shows.routes;
       few = shows.few;
       eight = shows.eight;
       groups = λ slot group there.
-          subst (λ (l : List (ℕ × Held)). ShowsGroup story.capacity slot (accepted_in slot story.groups) (handed_in slot story.handed_out) l group) (sym (same slot)) (shows.groups slot group there);
+          subst (λ (l : List (ℕ × Held)). ShowsGroup solo.capacity slot (accepted_in slot solo.groups) (handed_in slot solo.handed_out) l group) (sym (same slot)) (shows.groups slot group there);
     }
 
-pub window_as : (membership : Membership ℕ) (story : Story) (w : Contents Held) → ShowsWindow story w → ShowsWindow (with_membership membership story) w
-window_as membership story w shows = record { none_waits = shows.none_waits; quota_is = shows.quota_is; opens = shows.opens; not_ending = shows.not_ending }
+pub window_as : (membership : Membership ℕ) (solo : SoloState) (w : Contents Held) → ShowsWindow solo w → ShowsWindow (with_membership membership solo) w
+window_as membership solo w shows = record { none_waits = shows.none_waits; quota_is = shows.quota_is; opens = shows.opens; not_ending = shows.not_ending }
 
 -- the same, where the broker is another that has the same routes and groups
-pub broker_moved : (story : Story) (entries : List (ℕ × Held)) (old new : Broker) → new.routes ≡ old.routes → new.groups ≡ old.groups → ShowsBroker story entries old → ShowsBroker story entries new
-broker_moved story entries old new routes groups shows =
+pub broker_moved : (solo : SoloState) (entries : List (ℕ × Held)) (old new : Broker) → new.routes ≡ old.routes → new.groups ≡ old.groups → ShowsBroker solo entries old → ShowsBroker solo entries new
+broker_moved solo entries old new routes groups shows =
     record {
       routes = routes ∙ shows.routes;
       few = shows.few;
@@ -143,8 +143,8 @@ broker_moved story entries old new routes groups shows =
     }
 
 -- another phase
-pub session_in : (phase : Phase) (story : Story) (session : Session Held GroupPlace) (b : Broker) → ShowsSession story session b → ShowsSession (with_phase phase story) session b
-session_in phase story session b shows =
+pub session_in : (phase : Phase) (solo : SoloState) (session : Session Held GroupPlace) (b : Broker) → ShowsSession solo session b → ShowsSession (with_phase phase solo) session b
+session_in phase solo session b shows =
     record {
       broker = record { routes = shows.broker.routes; few = shows.broker.few; eight = shows.broker.eight; groups = shows.broker.groups };
       desk = shows.desk;

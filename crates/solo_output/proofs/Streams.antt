@@ -3,7 +3,7 @@ use Rattle.std.proofs.Common.{◌≡◌, ◌↔◌, ℕ, zero, suc, ◌+◌, Lis
 use Rattle.hex.specs.Hex.{decode_of}
 use Rattle.hex.specs.declared.error.FromHexError.{FromHexError}
 use Rattle.hex.proofs.HexLemmas.{decode_of-ok}
-use Rattle.line_io.specs.Lines.{lines_of}
+use Rattle.text_io.specs.Lines.{lines_of}
 use Rattle.mqtt_fields.specs.Forms.{AreBytes}
 use Rattle.local_server.specs.declared.event.Event.TheVariants.{Open, Bytes, End}
 use Rattle.local_server.specs.declared.event.TimedEvent.{TimedEvent}
@@ -41,7 +41,7 @@ is_err x y e = cc
 not_ok : {A E : Type 0} (x : A) (y : E) → ◌≡◌ {A = Result A E} (Err y) (Ok x) → ⊥
 not_ok x y e = cc
 
--- a line and those behind it
+-- a line and those after it
 spelled_line : (line : List ℕ) (decoded : Result (List ℕ) FromHexError) (number : ℕ) (events : Result (List TimedEvent) ℕ) (stream : Result (List ℕ) ℕ) (script : List TimedEvent)
     → decode_of line ≡ decoded → ((script : List TimedEvent) → events ≡ Ok script → AreSpelled events stream script) → followed_by (piece_of decoded) number events ≡ Ok script
     → AreSpelled (followed_by (piece_of decoded) number events) (joined decoded number stream) script
@@ -62,7 +62,7 @@ spelled_lines number [] script spells =
 spelled_lines number (line ∷ lines) script spells =
     spelled_line line (decode_of line) number (pieces_from (number + 1) lines) (stream_from (number + 1) lines) script refl (λ later is. spelled_lines (number + 1) lines later is) spells
 
--- a stream in pieces, behind the opening
+-- a stream in pieces, after the opening
 pub record IsCut (input : List ℕ) (events : List TimedEvent) : Type 0 where
   pub pieces : List (List ℕ)
   pub events_are : events ≡ at_once (Open 0) ∷ all_pieces pieces

@@ -9,7 +9,7 @@ use Rattle.group_jobs.specs.declared.message.Message.{Message}
 use Rattle.session_desk.specs.declared.session.Membership.{Membership}
 use Rattle.session_desk.specs.declared.session.Membership.TheVariants.{NotMember, Member, Leaving}
 use Rattle.conn_rules.specs.Packets.{job}
-use Rattle.solo_output.specs.Groups.{Story, HandOut, Phase, accepted_in, handed_in, waiting_in, is_open, settled, unacknowledged, with_message, with_puback, with_hand_out, with_membership}
+use Rattle.solo_output.specs.Groups.{SoloState, HandOut, Phase, accepted_in, handed_in, waiting_in, is_open, settled, unacknowledged, with_message, with_puback, with_hand_out, with_membership}
 use Rattle.solo_output.specs.Groups.Phase.{Unconnected, Connected, Closed}
 use Rattle.solo_output.specs.HandOuts.{least_free, due, hand_out, deliver_to, deliver_in, deliver}
 use Rattle.solo_output.specs.Publishing.{is_full}
@@ -100,38 +100,38 @@ sent_settled slot identifier code (packet ∷ packets) (one ∷ hand_outs) =
 
 -- ---- what was sent so far is that of the hand-outs
 
-pub record IsTold (packets : List Packet) (story : Story) : Type 0 where
-  pub many : length packets ≡ length story.handed_out
-  pub each : (slot : ℕ) → sent_in slot packets story.handed_out ≡ jobs_of (accepted_in slot story.groups) (handed_in slot story.handed_out)
+pub record SentAsHandedOut (packets : List Packet) (solo : SoloState) : Type 0 where
+  pub many : length packets ≡ length solo.handed_out
+  pub each : (slot : ℕ) → sent_in slot packets solo.handed_out ≡ jobs_of (accepted_in slot solo.groups) (handed_in slot solo.handed_out)
 
 -- replies change nothing of it
-abbrev Tells : Story → Story → Type 0
-Tells one two = Kept one → Kept two × ((packets : List Packet) → IsTold packets one → IsTold packets two)
+abbrev Tells : SoloState → SoloState → Type 0
+Tells one two = Kept one → Kept two × ((packets : List Packet) → SentAsHandedOut packets one → SentAsHandedOut packets two)
 
 tells : Ways Tells
 tells =
     record {
-      stays = λ story k. (k, λ packets told. told);
+      stays = λ solo k. (k, λ packets told. told);
       goes_on = λ one two three first later k.
           let behind = first k in
           let last = later behind.0 in
           (last.0, λ packets told. last.1 packets (behind.1 packets told));
-      connects = λ connect story is k. (keeps.connects connect story is k, λ packets told. record { many = told.many; each = told.each });
-      closes = λ story k. (keeps.closes story k, λ packets told. record { many = told.many; each = told.each });
-      expires = λ expiry story k. (keeps.expires expiry story k, λ packets told. record { many = told.many; each = told.each });
-      binds = λ share story none few k. (
-        keeps.binds share story none few k,
+      connects = λ connect solo is k. (keeps.connects connect solo is k, λ packets told. record { many = told.many; each = told.each });
+      closes = λ solo k. (keeps.closes solo k, λ packets told. record { many = told.many; each = told.each });
+      expires = λ expiry solo k. (keeps.expires expiry solo k, λ packets told. record { many = told.many; each = told.each });
+      binds = λ share solo none few k. (
+        keeps.binds share solo none few k,
         λ packets told.
-            record { many = told.many; each = λ slot. told.each slot ∙ ap (λ (l : List Message). jobs_of l (handed_in slot story.handed_out)) (sym (accepted_bound slot share story.groups)) },
+            record { many = told.many; each = λ slot. told.each slot ∙ ap (λ (l : List Message). jobs_of l (handed_in slot solo.handed_out)) (sym (accepted_bound slot share solo.groups)) },
       );
-      joins = λ slot story may within k. (keeps.joins slot story may within k, λ packets told. record { many = told.many; each = told.each });
-      leaves = λ slot story is k. (keeps.leaves slot story is k, λ packets told. record { many = told.many; each = told.each });
-      parts = λ slot story is none k. (keeps.parts slot story is none k, λ packets told. record { many = told.many; each = told.each });
+      joins = λ slot solo may within k. (keeps.joins slot solo may within k, λ packets told. record { many = told.many; each = told.each });
+      leaves = λ slot solo is k. (keeps.leaves slot solo is k, λ packets told. record { many = told.many; each = told.each });
+      parts = λ slot solo is none k. (keeps.parts slot solo is none k, λ packets told. record { many = told.many; each = told.each });
     }
 
-told_accepting : (slot : ℕ) (message : Message) (story : Story) → slot < length story.groups → is_full slot story ≡ false → Tells story (with_message slot message story)
-told_accepting slot message story within room k = (
-  kept_accepting slot message story within room k,
+told_accepting : (slot : ℕ) (message : Message) (solo : SoloState) → slot < length solo.groups → is_full slot solo ≡ false → Tells solo (with_message slot message solo)
+told_accepting slot message solo within room k = (
+  kept_accepting slot message solo within room k,
   λ packets told.
       record {
         many = told.many;
@@ -139,83 +139,83 @@ told_accepting slot message story within room k = (
       },
 )
   where
-    same : (at : ℕ) → jobs_of (accepted_in at (with_message slot message story).groups) (handed_in at story.handed_out) ≡ jobs_of (accepted_in at story.groups) (handed_in at story.handed_out)
+    same : (at : ℕ) → jobs_of (accepted_in at (with_message slot message solo).groups) (handed_in at solo.handed_out) ≡ jobs_of (accepted_in at solo.groups) (handed_in at solo.handed_out)
     same at =
         ⊎_elim
         (λ (is : at ≡ slot).
-        subst (λ (n : ℕ). jobs_of (accepted_in n (with_message slot message story).groups) (handed_in n story.handed_out) ≡ jobs_of (accepted_in n story.groups) (handed_in n story.handed_out)) (sym is)
-        (ap (λ (l : List Message). jobs_of l (handed_in slot story.handed_out)) (accepted_same slot message story.groups within)
-        ∙ jobs_accepting (accepted_in slot story.groups) message (handed_in slot story.handed_out) (k.order slot)))
-        (λ (other : at ≢ slot). ap (λ (l : List Message). jobs_of l (handed_in at story.handed_out)) (accepted_other slot at message story.groups other))
+        subst (λ (n : ℕ). jobs_of (accepted_in n (with_message slot message solo).groups) (handed_in n solo.handed_out) ≡ jobs_of (accepted_in n solo.groups) (handed_in n solo.handed_out)) (sym is)
+        (ap (λ (l : List Message). jobs_of l (handed_in slot solo.handed_out)) (accepted_same slot message solo.groups within)
+        ∙ jobs_accepting (accepted_in slot solo.groups) message (handed_in slot solo.handed_out) (k.order slot)))
+        (λ (other : at ≢ slot). ap (λ (l : List Message). jobs_of l (handed_in at solo.handed_out)) (accepted_other slot at message solo.groups other))
         (cases_eq at slot)
 
-told_settling : (identifier code : ℕ) (story : Story) → Tells story (with_puback identifier code story)
-told_settling identifier code story k = (
-  kept_settling identifier code story k,
+told_settling : (identifier code : ℕ) (solo : SoloState) → Tells solo (with_puback identifier code solo)
+told_settling identifier code solo k = (
+  kept_settling identifier code solo k,
   λ packets told.
       record {
-        many = told.many ∙ sym (length-map story.handed_out (settled identifier code));
+        many = told.many ∙ sym (length-map solo.handed_out (settled identifier code));
         each = λ slot.
-            sent_settled slot identifier code packets story.handed_out ∙ told.each slot
-            ∙ sym (jobs_settled identifier code (accepted_in slot story.groups) (handed_in slot story.handed_out))
-            ∙ ap (jobs_of (accepted_in slot story.groups)) (sym (handed_in_settled identifier code slot story.handed_out));
+            sent_settled slot identifier code packets solo.handed_out ∙ told.each slot
+            ∙ sym (jobs_settled identifier code (accepted_in slot solo.groups) (handed_in slot solo.handed_out))
+            ∙ ap (jobs_of (accepted_in slot solo.groups)) (sym (handed_in_settled identifier code slot solo.handed_out));
       },
 )
 
-pub told_replying : (packet : Packet) (story : Story) → Tells story (reply packet story).story
+pub told_replying : (packet : Packet) (solo : SoloState) → Tells solo (reply packet solo).solo
 told_replying = replied Tells tells told_accepting told_settling
 
 -- ---- a hand-out is told by its packet
 
-told_one : (slot : ℕ) (message : Message) (rest : List Message) (story : Story) (packets : List Packet) → waiting_in slot story ≡ message ∷ rest → IsTold packets story
-    → IsTold (packets ++ job false message (least_free (unacknowledged story)) ∷ []) (with_hand_out slot (least_free (unacknowledged story)) story)
-told_one slot message rest story packets waits told =
-    let next = least_free (unacknowledged story) in
+told_one : (slot : ℕ) (message : Message) (rest : List Message) (solo : SoloState) (packets : List Packet) → waiting_in slot solo ≡ message ∷ rest → SentAsHandedOut packets solo
+    → SentAsHandedOut (packets ++ job false message (least_free (unacknowledged solo)) ∷ []) (with_hand_out slot (least_free (unacknowledged solo)) solo)
+told_one slot message rest solo packets waits told =
+    let next = least_free (unacknowledged solo) in
     let one = handed slot next None in
     let packet = job false message next in
     record {
-      many = omega (arith, told.many, length_push packets packet, length_push story.handed_out one);
+      many = omega (arith, told.many, length_push packets packet, length_push solo.handed_out one);
       each = λ at.
           ⊎_elim
           (λ (is : at ≡ slot).
-          subst (λ (n : ℕ). sent_in n (packets ++ packet ∷ []) (story.handed_out ++ one ∷ []) ≡ jobs_of (accepted_in n story.groups) (handed_in n (story.handed_out ++ one ∷ []))) (sym is)
-          (sent_push slot packets story.handed_out packet one told.many
-          ∙ ap (λ b. sent_in slot packets story.handed_out ++ cond b (packet ∷ []) []) (eq-eqb slot slot refl)
+          subst (λ (n : ℕ). sent_in n (packets ++ packet ∷ []) (solo.handed_out ++ one ∷ []) ≡ jobs_of (accepted_in n solo.groups) (handed_in n (solo.handed_out ++ one ∷ []))) (sym is)
+          (sent_push slot packets solo.handed_out packet one told.many
+          ∙ ap (λ b. sent_in slot packets solo.handed_out ++ cond b (packet ∷ []) []) (eq-eqb slot slot refl)
           ∙ ap (λ (l : List Packet). l ++ packet ∷ []) (told.each slot)
-          ∙ sym (jobs_push (accepted_in slot story.groups) (handed_in slot story.handed_out) message rest one waits)
-          ∙ ap (jobs_of (accepted_in slot story.groups)) (sym (handed_in_push_same story.handed_out slot next))))
+          ∙ sym (jobs_push (accepted_in slot solo.groups) (handed_in slot solo.handed_out) message rest one waits)
+          ∙ ap (jobs_of (accepted_in slot solo.groups)) (sym (handed_in_push_same solo.handed_out slot next))))
           (λ (other : at ≢ slot).
-          sent_push at packets story.handed_out packet one told.many
-          ∙ ap (λ b. sent_in at packets story.handed_out ++ cond b (packet ∷ []) []) (ne_eqb slot at (λ e. other (sym e)))
-          ∙ append-nil (sent_in at packets story.handed_out)
+          sent_push at packets solo.handed_out packet one told.many
+          ∙ ap (λ b. sent_in at packets solo.handed_out ++ cond b (packet ∷ []) []) (ne_eqb slot at (λ e. other (sym e)))
+          ∙ append-nil (sent_in at packets solo.handed_out)
           ∙ told.each at
-          ∙ ap (jobs_of (accepted_in at story.groups)) (sym (handed_in_push_other story.handed_out slot at next (λ e. other (sym e)))))
+          ∙ ap (jobs_of (accepted_in at solo.groups)) (sym (handed_in_push_other solo.handed_out slot at next (λ e. other (sym e)))))
           (cases_eq at slot);
     }
 
-pub told_handing : (slot : ℕ) (messages : List Message) (story : Story) (packets : List Packet) → messages ≡ due slot story → IsTold packets story → IsTold (packets ++ (hand_out slot messages story).sent) (hand_out slot messages story).story
-told_handing slot [] story packets is told = subst (λ (l : List Packet). IsTold l story) (sym (append-nil packets)) told
-told_handing slot (message ∷ messages) story packets is told =
-    let next = least_free (unacknowledged story) in
-    let behind = due_behind slot story message messages is in
-    let later = hand_out slot messages (with_hand_out slot next story) in
-    subst (λ (l : List Packet). IsTold l later.story) (append_assoc packets (job false message next ∷ []) later.sent)
-    (told_handing slot messages (with_hand_out slot next story) (packets ++ job false message next ∷ []) behind.3 (told_one slot message behind.0 story packets behind.1 told))
+pub told_handing : (slot : ℕ) (messages : List Message) (solo : SoloState) (packets : List Packet) → messages ≡ due slot solo → SentAsHandedOut packets solo → SentAsHandedOut (packets ++ (hand_out slot messages solo).sent) (hand_out slot messages solo).solo
+told_handing slot [] solo packets is told = subst (λ (l : List Packet). SentAsHandedOut l solo) (sym (append-nil packets)) told
+told_handing slot (message ∷ messages) solo packets is told =
+    let next = least_free (unacknowledged solo) in
+    let behind = due_behind slot solo message messages is in
+    let later = hand_out slot messages (with_hand_out slot next solo) in
+    subst (λ (l : List Packet). SentAsHandedOut l later.solo) (append_assoc packets (job false message next ∷ []) later.sent)
+    (told_handing slot messages (with_hand_out slot next solo) (packets ++ job false message next ∷ []) behind.3 (told_one slot message behind.0 solo packets behind.1 told))
 
 -- who leaves is handed nothing
-told_left : (slot : ℕ) (story : Story) (packets : List Packet) (membership : Membership ℕ) → IsTold packets story → IsTold packets (with_membership membership story)
-told_left slot story packets membership told = record { many = told.many; each = told.each }
+told_left : (slot : ℕ) (solo : SoloState) (packets : List Packet) (membership : Membership ℕ) → SentAsHandedOut packets solo → SentAsHandedOut packets (with_membership membership solo)
+told_left slot solo packets membership told = record { many = told.many; each = told.each }
 
-delivers_to : (membership : Membership ℕ) (story : Story) (packets : List Packet) → IsTold packets story → IsTold (packets ++ (deliver_to membership story).sent) (deliver_to membership story).story
-delivers_to NotMember story packets told = subst (λ (l : List Packet). IsTold l story) (sym (append-nil packets)) told
-delivers_to (Member slot) story packets told = told_handing slot (due slot story) story packets refl told
-delivers_to (Leaving slot) story packets told =
-    subst (λ (l : List Packet). IsTold l (deliver_to (Leaving slot) story).story) (sym (append-nil packets)) (told_left slot story packets _ told)
+delivers_to : (membership : Membership ℕ) (solo : SoloState) (packets : List Packet) → SentAsHandedOut packets solo → SentAsHandedOut (packets ++ (deliver_to membership solo).sent) (deliver_to membership solo).solo
+delivers_to NotMember solo packets told = subst (λ (l : List Packet). SentAsHandedOut l solo) (sym (append-nil packets)) told
+delivers_to (Member slot) solo packets told = told_handing slot (due slot solo) solo packets refl told
+delivers_to (Leaving slot) solo packets told =
+    subst (λ (l : List Packet). SentAsHandedOut l (deliver_to (Leaving slot) solo).solo) (sym (append-nil packets)) (told_left slot solo packets _ told)
 
-delivers_in : (phase : Phase) (story : Story) (packets : List Packet) → IsTold packets story → IsTold (packets ++ (deliver_in phase story).sent) (deliver_in phase story).story
-delivers_in Unconnected story packets told = subst (λ (l : List Packet). IsTold l story) (sym (append-nil packets)) told
-delivers_in Connected story packets told = delivers_to story.membership story packets told
-delivers_in Closed story packets told = subst (λ (l : List Packet). IsTold l story) (sym (append-nil packets)) told
+delivers_in : (phase : Phase) (solo : SoloState) (packets : List Packet) → SentAsHandedOut packets solo → SentAsHandedOut (packets ++ (deliver_in phase solo).sent) (deliver_in phase solo).solo
+delivers_in Unconnected solo packets told = subst (λ (l : List Packet). SentAsHandedOut l solo) (sym (append-nil packets)) told
+delivers_in Connected solo packets told = delivers_to solo.membership solo packets told
+delivers_in Closed solo packets told = subst (λ (l : List Packet). SentAsHandedOut l solo) (sym (append-nil packets)) told
 
-pub told_delivering : (story : Story) (packets : List Packet) → IsTold packets story → IsTold (packets ++ (deliver story).sent) (deliver story).story
-told_delivering story packets told = delivers_in story.phase story packets told
+pub told_delivering : (solo : SoloState) (packets : List Packet) → SentAsHandedOut packets solo → SentAsHandedOut (packets ++ (deliver solo).sent) (deliver solo).solo
+told_delivering solo packets told = delivers_in solo.phase solo packets told

@@ -1,4 +1,4 @@
--- The run of a server on which the stream of one client comes in pieces is the story of what the stream reads as.
+-- The run of a server on which the stream of one client comes in pieces is the model of what the stream reads as.
 use Rattle.std.proofs.Common.{◌≡◌, ◌⊎◌, ℕ, zero, suc, ◌<◌, ◌≤◌, Bool, true, false, not, List, [], ◌∷◌, ◌++◌, length, replicate, get_or, slice_get, Option, Some, None, Ok, refl, sym, ap, ◌∙◌, subst, ⊎_elim, inl, inr, arith}
 use Rattle.std.specs.List.{flat_map}
 use Rattle.std.specs.Option.{option_to_list}
@@ -22,13 +22,13 @@ use Rattle.conn_supply.specs.declared.reply.Then.{Then}
 use Rattle.conn_supply.specs.declared.reply.Then.TheVariants.{Go, Close}
 use Rattle.conn_engine.specs.declared.input.Input.{Input}
 use Rattle.conn_engine.specs.declared.input.Input.TheVariants as inputs
-use Rattle.conn_engine.specs.declared.standing.Link.{Link}
-use Rattle.conn_engine.specs.declared.standing.Opening.{Opening}
-use Rattle.conn_engine.specs.declared.standing.Standing.{Standing}
-use Rattle.conn_engine.specs.declared.standing.Standing.TheVariants as standings
-use Rattle.conn_engine.specs.Standings.{IsWaiting}
+use Rattle.conn_engine.specs.declared.phase.ConnectedClient.{ConnectedClient}
+use Rattle.conn_engine.specs.declared.phase.Opening.{Opening}
+use Rattle.conn_engine.specs.declared.phase.ConnPhase.{ConnPhase}
+use Rattle.conn_engine.specs.declared.phase.ConnPhase.TheVariants as phases
+use Rattle.conn_engine.specs.Phases.{IsWaiting}
 use Rattle.conn_engine.specs.Step.{Steps}
-use Rattle.client_table.specs.Clients.{ClientState, moment_of, Said, Moves, arrived}
+use Rattle.client_table.specs.Clients.{ClientState, moment_of, StepOutput, ClientSteps, arrived}
 use Rattle.client_table.specs.Cells.{kept, kept_as, InCell}
 use Rattle.client_table.specs.Streams.{longer, fed, IsInFront, Closes, Reads}
 use Rattle.local_group.specs.Groups.{Group}
@@ -39,74 +39,74 @@ use Rattle.local_server.specs.Servers.{ServerState, Clients}
 use Rattle.local_server.specs.declared.event.Event.TheVariants.{Open, Bytes, End}
 use Rattle.local_server.specs.Happening.{DoesIf, HappensAll}
 use Rattle.drive.specs.Streams.{at_once}
-use Rattle.solo_output.specs.Groups.{Story, Phase, opening}
+use Rattle.solo_output.specs.Groups.{SoloState, Phase, opening}
 use Rattle.solo_output.specs.Groups.Phase.{Closed}
-use Rattle.solo_output.specs.HandOuts.{Turn, sends_nothing, deliver_in}
-use Rattle.solo_output.specs.Replies.{reply_in, behind_reply, turn, turns, sent_before, farewell, farewell_in}
+use Rattle.solo_output.specs.HandOuts.{SoloStep, sends_nothing, deliver_in}
+use Rattle.solo_output.specs.Replies.{reply_in, behind_reply, solo_step, solo_steps, sent_before, farewell, farewell_in}
 use Rattle.solo_output.proofs.Brokers.{ShowsBroker}
-use Rattle.solo_output.proofs.Sessions.{slot_at, ShowsLink}
+use Rattle.solo_output.proofs.Sessions.{slot_at, ShowsClient}
 use Rattle.solo_output.proofs.Ends.{ShowsEnd}
 use Rattle.solo_output.proofs.Connects.{opens}
-use Rattle.solo_output.proofs.Turns.{Goes, IsOver, IsLast, Stepped, Parted, first_step, first_last, later_step, later_last}
+use Rattle.solo_output.proofs.SoloSteps.{Goes, IsOver, IsLast, Stepped, Parted, first_step, first_last, later_step, later_last}
 use Rattle.solo_output.proofs.Streams.{all_pieces, whole}
 
 -- what was sent in a run
-abbrev pub sent_in : List Said → List Packet
+abbrev pub sent_in : List StepOutput → List Packet
 sent_in said = flat_map (λ one. one.packets) said
 
--- ---- how the story begins and ends
+-- ---- how the model begins and ends
 
 -- the connection has not begun, or goes on with its session
-abbrev pub Shown : ℕ → List Share → Story → Standing GroupPlace → Broker → Type 0
-Shown capacity shares story standing b =
-    ((opened : Opening) × (standing ≡ standings.Unconnected opened) × (story ≡ opening capacity opened.max_inflight shares) × IsNewBroker capacity shares b)
-    ⊎ ((link : Link GroupPlace) × (standing ≡ standings.Connected link) × ShowsLink story link b)
+abbrev pub Shown : ℕ → List Share → SoloState → ConnPhase GroupPlace → Broker → Type 0
+Shown capacity shares solo phase b =
+    ((opened : Opening) × (phase ≡ phases.Unconnected opened) × (solo ≡ opening capacity opened.max_inflight shares) × IsNewBroker capacity shares b)
+    ⊎ ((connected : ConnectedClient GroupPlace) × (phase ≡ phases.Connected connected) × ShowsClient solo connected b)
 
--- what is sent from a story on is that of the packets and the fault that a stream reads as, and the groups have the fates of the story then
-pub record Concluded (story : Story) (stream : List ℕ) (sent : List Packet) (last : Broker) : Type 0 where
+-- what is sent from a model on is that of the packets and the fault that a stream reads as, and the groups have the fates of the model then
+pub record Concluded (solo : SoloState) (stream : List ℕ) (sent : List Packet) (last : Broker) : Type 0 where
   pub packets : List Packet
   pub rest : List ℕ
   pub fault : Option StreamFault
   pub reads : ReadsAs stream packets rest fault
-  pub sent_are : sent ≡ (turns packets story).sent ++ option_to_list (farewell fault (turns packets story).story)
-  pub shows : ShowsEnd (turns packets story).story last
+  pub sent_are : sent ≡ (solo_steps packets solo).sent ++ option_to_list (farewell fault (solo_steps packets solo).solo)
+  pub shows : ShowsEnd (solo_steps packets solo).solo last
 
--- behind the end nothing is answered
-turn_closed : (packet : Packet) (story : Story) → story.phase ≡ Closed → turn packet story ≡ sends_nothing story
-turn_closed packet story closed =
-    ap (λ (p : Phase). behind_reply (reply_in p packet story)) closed ∙ ap (λ (p : Phase). record { sent = [] ++ (deliver_in p story).sent; story = (deliver_in p story).story }) closed
+-- after the end nothing is answered
+step_closed : (packet : Packet) (solo : SoloState) → solo.phase ≡ Closed → solo_step packet solo ≡ sends_nothing solo
+step_closed packet solo closed =
+    ap (λ (p : Phase). behind_reply (reply_in p packet solo)) closed ∙ ap (λ (p : Phase). record { sent = [] ++ (deliver_in p solo).sent; solo = (deliver_in p solo).solo }) closed
 
-turns_closed : (packets : List Packet) (story : Story) → story.phase ≡ Closed → turns packets story ≡ sends_nothing story
-turns_closed [] story closed = refl
-turns_closed (packet ∷ packets) story closed =
-    ap (λ (t : Turn). sent_before t.sent (turns packets t.story)) (turn_closed packet story closed) ∙ ap (sent_before []) (turns_closed packets story closed)
+steps_closed : (packets : List Packet) (solo : SoloState) → solo.phase ≡ Closed → solo_steps packets solo ≡ sends_nothing solo
+steps_closed [] solo closed = refl
+steps_closed (packet ∷ packets) solo closed =
+    ap (λ (t : SoloStep). sent_before t.sent (solo_steps packets t.solo)) (step_closed packet solo closed) ∙ ap (sent_before []) (steps_closed packets solo closed)
 
 farewell_closed : (fault : Option StreamFault) → farewell_in Closed fault ≡ None
 farewell_closed None = refl
 farewell_closed (Some fault) = refl
 
 -- the connection was closed: whatever comes is not answered
-over : (story : Story) (stream : List ℕ) (last : Broker) → story.phase ≡ Closed → AreBytes stream → ShowsEnd story last → Concluded story stream [] last
-over story stream last closed bytes shows =
+over : (solo : SoloState) (stream : List ℕ) (last : Broker) → solo.phase ≡ Closed → AreBytes stream → ShowsEnd solo last → Concluded solo stream [] last
+over solo stream last closed bytes shows =
     let read = exists_reading stream bytes in
-    let nothing = turns_closed read.0 story closed in
+    let nothing = steps_closed read.0 solo closed in
     record {
       packets = read.0;
       rest = read.1;
       fault = read.2;
       reads = read.3;
-      sent_are = sym (ap (λ (t : Turn). t.sent ++ option_to_list (farewell read.2 t.story)) nothing ∙ ap option_to_list (ap (λ (p : Phase). farewell_in p read.2) closed ∙ farewell_closed read.2));
-      shows = subst (λ (t : Turn). ShowsEnd t.story last) (sym nothing) shows;
+      sent_are = sym (ap (λ (t : SoloStep). t.sent ++ option_to_list (farewell read.2 t.solo)) nothing ∙ ap option_to_list (ap (λ (p : Phase). farewell_in p read.2) closed ∙ farewell_closed read.2));
+      shows = subst (λ (t : SoloStep). ShowsEnd t.solo last) (sym nothing) shows;
     }
 
 -- the last answer
-last_one : (story : Story) (stream : List ℕ) (fault : Option StreamFault) (sent : List Packet) (standing : Standing GroupPlace) (last : Broker) → ReadsAs stream [] stream fault → Parted fault story sent standing last → Concluded story stream sent last
-last_one story stream fault sent standing last reads parted = record { packets = []; rest = stream; fault = fault; reads = reads; sent_are = parted.sent_are; shows = parted.shows }
+last_one : (solo : SoloState) (stream : List ℕ) (fault : Option StreamFault) (sent : List Packet) (phase : ConnPhase GroupPlace) (last : Broker) → ReadsAs stream [] stream fault → Parted fault solo sent phase last → Concluded solo stream sent last
+last_one solo stream fault sent phase last reads parted = record { packets = []; rest = stream; fault = fault; reads = reads; sent_are = parted.sent_are; shows = parted.shows }
 
 -- a packet in front
-one_more : (story : Story) (packet : Packet) (front after stream : List ℕ) (first later : List Packet) (last : Broker) → Spells packet front → stream ≡ front ++ after → first ≡ (turn packet story).sent
-    → Concluded (turn packet story).story after later last → Concluded story stream (first ++ later) last
-one_more story packet front after stream first later last spelled parts is rest =
+one_more : (solo : SoloState) (packet : Packet) (front after stream : List ℕ) (first later : List Packet) (last : Broker) → Spells packet front → stream ≡ front ++ after → first ≡ (solo_step packet solo).sent
+    → Concluded (solo_step packet solo).solo after later last → Concluded solo stream (first ++ later) last
+one_more solo packet front after stream first later last spelled parts is rest =
     record {
       packets = packet ∷ rest.packets;
       rest = rest.rest;
@@ -114,31 +114,31 @@ one_more story packet front after stream first later last spelled parts is rest 
       reads = ((front, after, spelled, parts, rest.reads.0), rest.reads.1);
       sent_are =
           (λ i. is i ++ rest.sent_are i)
-          ∙ sym (append_assoc (turn packet story).sent (turns rest.packets (turn packet story).story).sent (option_to_list (farewell rest.fault (turns rest.packets (turn packet story).story).story)));
+          ∙ sym (append_assoc (solo_step packet solo).sent (solo_steps rest.packets (solo_step packet solo).solo).sent (option_to_list (farewell rest.fault (solo_steps rest.packets (solo_step packet solo).solo).solo)));
       shows = rest.shows;
     }
 
 module _ (capacity : ℕ) (shares : List Share) (few : length shares ≤ 8) where
   -- ---- a step
-  stepped : (story : Story) (standing : Standing GroupPlace) (old : Broker) (now : ℕ) (packet : Packet) (all : List Packet) (next : Then) (standing' : Standing GroupPlace) (new : Broker) → Shown capacity shares story standing old
-      → Steps Calls slot_at old 0 standing now (inputs.Packet packet) all next standing' new → Stepped (turn packet story) all next standing' new
-  stepped story standing old now packet all next standing' new (inl (opened, is, begins, is_new)) does =
-      subst (λ (s : Story). Stepped (turn packet s) all next standing' new) (sym begins)
-      (first_step capacity opened shares old is_new few now packet all next standing' new (subst (λ (s : Standing GroupPlace). Steps Calls slot_at old 0 s now (inputs.Packet packet) all next standing' new) is does))
-  stepped story standing old now packet all next standing' new (inr (link, is, shows)) does =
-      later_step story link old shows now packet all next standing' new (subst (λ (s : Standing GroupPlace). Steps Calls slot_at old 0 s now (inputs.Packet packet) all next standing' new) is does)
+  stepped : (solo : SoloState) (phase : ConnPhase GroupPlace) (old : Broker) (now : ℕ) (packet : Packet) (all : List Packet) (next : Then) (phase' : ConnPhase GroupPlace) (new : Broker) → Shown capacity shares solo phase old
+      → Steps Calls slot_at old 0 phase now (inputs.Packet packet) all next phase' new → Stepped (solo_step packet solo) all next phase' new
+  stepped solo phase old now packet all next phase' new (inl (opened, is, begins, is_new)) does =
+      subst (λ (s : SoloState). Stepped (solo_step packet s) all next phase' new) (sym begins)
+      (first_step capacity opened shares old is_new few now packet all next phase' new (subst (λ (s : ConnPhase GroupPlace). Steps Calls slot_at old 0 s now (inputs.Packet packet) all next phase' new) is does))
+  stepped solo phase old now packet all next phase' new (inr (connected, is, shows)) does =
+      later_step solo connected old shows now packet all next phase' new (subst (λ (s : ConnPhase GroupPlace). Steps Calls slot_at old 0 s now (inputs.Packet packet) all next phase' new) is does)
 
-  parted : (story : Story) (standing : Standing GroupPlace) (old : Broker) (now : ℕ) (fault : Option StreamFault) (input : Input) (all : List Packet) (next : Then) (standing' : Standing GroupPlace) (new : Broker) → Shown capacity shares story standing old
-      → IsLast fault input → Steps Calls slot_at old 0 standing now input all next standing' new → Parted fault story all standing' new
-  parted story standing old now fault input all next standing' new (inl (opened, is, begins, is_new)) ends does =
-      subst (λ (s : Story). Parted fault s all standing' new) (sym begins)
-      (first_last capacity opened shares old is_new few now fault input all next standing' new ends (subst (λ (s : Standing GroupPlace). Steps Calls slot_at old 0 s now input all next standing' new) is does))
-  parted story standing old now fault input all next standing' new (inr (link, is, shows)) ends does =
-      later_last story link old shows now fault input all next standing' new ends (subst (λ (s : Standing GroupPlace). Steps Calls slot_at old 0 s now input all next standing' new) is does)
+  parted : (solo : SoloState) (phase : ConnPhase GroupPlace) (old : Broker) (now : ℕ) (fault : Option StreamFault) (input : Input) (all : List Packet) (next : Then) (phase' : ConnPhase GroupPlace) (new : Broker) → Shown capacity shares solo phase old
+      → IsLast fault input → Steps Calls slot_at old 0 phase now input all next phase' new → Parted fault solo all phase' new
+  parted solo phase old now fault input all next phase' new (inl (opened, is, begins, is_new)) ends does =
+      subst (λ (s : SoloState). Parted fault s all phase' new) (sym begins)
+      (first_last capacity opened shares old is_new few now fault input all next phase' new ends (subst (λ (s : ConnPhase GroupPlace). Steps Calls slot_at old 0 s now input all next phase' new) is does))
+  parted solo phase old now fault input all next phase' new (inr (connected, is, shows)) ends does =
+      later_last solo connected old shows now fault input all next phase' new ends (subst (λ (s : ConnPhase GroupPlace). Steps Calls slot_at old 0 s now input all next phase' new) is does)
 
-  not_waiting : (story : Story) (standing : Standing GroupPlace) (b : Broker) → Shown capacity shares story standing b → IsWaiting standing → ⊥
-  not_waiting story standing b (inl (opened, is, begins, is_new)) waits = absurd (subst IsWaiting is waits)
-  not_waiting story standing b (inr (link, is, shows)) waits = absurd (subst IsWaiting is waits)
+  not_waiting : (solo : SoloState) (phase : ConnPhase GroupPlace) (b : Broker) → Shown capacity shares solo phase b → IsWaiting phase → ⊥
+  not_waiting solo phase b (inl (opened, is, begins, is_new)) waits = absurd (subst IsWaiting is waits)
+  not_waiting solo phase b (inr (connected, is, shows)) waits = absurd (subst IsWaiting is waits)
 
   -- ---- all that is whole is read
   not_go : (next : Then) → next ≡ Go → next ≡ Close → ⊥
@@ -150,30 +150,30 @@ module _ (capacity : ℕ) (shares : List Share) (few : length shares ≤ 8) wher
   left_bytes : (client client' : ClientState GroupPlace) (packet : Packet) (more : List ℕ) → Takes client.unread packet client'.unread → AreBytes (client.unread.bytes ++ more) → AreBytes (client'.unread.bytes ++ more)
   left_bytes client client' packet more taken bytes = back_bytes taken.front (client'.unread.bytes ++ more) (subst AreBytes (in_front client client' packet more taken) bytes)
 
-  -- nothing comes behind the last step
-  alone : (said : Said) (rest : List Said) (later : List Packet) → rest ≡ [] → later ≡ [] → sent_in (said ∷ rest) ++ later ≡ said.packets
+  -- nothing comes after the last step
+  alone : (said : StepOutput) (rest : List StepOutput) (later : List Packet) → rest ≡ [] → later ≡ [] → sent_in (said ∷ rest) ++ later ≡ said.packets
   alone said rest later none nothing = (λ i. (said.packets ++ sent_in (none i)) ++ nothing i) ∙ append-nil (said.packets ++ []) ∙ append-nil said.packets
 
-  closes_by : (input : Input) (story : Story) (client client' : ClientState GroupPlace) (old new : Broker) (now : ℕ) (said : Said) (more : List ℕ) (after : List Packet) (last : Broker)
-      → client.conn.number ≡ 0 → client.unread.fault ≡ None → AreBytes (client.unread.bytes ++ more) → Shown capacity shares story client.conn.standing old
-      → IsInFront client.unread input client'.unread → Closes input said.next → Moves Calls slot_at old client now input said client' new → (client'.conn.standing ≡ standings.Ended → (after ≡ []) × (last ≡ new))
-      → (after ≡ []) × Concluded story (client.unread.bytes ++ more) said.packets last
-  closes_by (inputs.Packet packet) story client client' old new now said more after last number sound bytes shown taken closes moved ended =
-      let steps = subst (λ (n : ℕ). Steps Calls slot_at old n client.conn.standing (moment_of client now) (inputs.Packet packet) said.packets said.next client'.conn.standing new) number moved.stepped in
-      let step = stepped story client.conn.standing old (moment_of client now) packet said.packets said.next client'.conn.standing new shown steps in
+  closes_by : (input : Input) (solo : SoloState) (client client' : ClientState GroupPlace) (old new : Broker) (now : ℕ) (said : StepOutput) (more : List ℕ) (after : List Packet) (last : Broker)
+      → client.conn.number ≡ 0 → client.unread.fault ≡ None → AreBytes (client.unread.bytes ++ more) → Shown capacity shares solo client.conn.phase old
+      → IsInFront client.unread input client'.unread → Closes input said.next → ClientSteps Calls slot_at old client now input said client' new → (client'.conn.phase ≡ phases.Ended → (after ≡ []) × (last ≡ new))
+      → (after ≡ []) × Concluded solo (client.unread.bytes ++ more) said.packets last
+  closes_by (inputs.Packet packet) solo client client' old new now said more after last number sound bytes shown taken closes moved ended =
+      let steps = subst (λ (n : ℕ). Steps Calls slot_at old n client.conn.phase (moment_of client now) (inputs.Packet packet) said.packets said.next client'.conn.phase new) number moved.stepped in
+      let step = stepped solo client.conn.phase old (moment_of client now) packet said.packets said.next client'.conn.phase new shown steps in
       ⊎_elim
-      (λ (goes : Goes (turn packet story).story client'.conn.standing said.next new). absurd (closes goes.2))
-      (λ (is_over : IsOver (turn packet story).story client'.conn.standing said.next new).
+      (λ (goes : Goes (solo_step packet solo).solo client'.conn.phase said.next new). absurd (closes goes.2))
+      (λ (is_over : IsOver (solo_step packet solo).solo client'.conn.phase said.next new).
       let out = ended is_over.0 in
-      let rest = over (turn packet story).story (client'.unread.bytes ++ more) last is_over.2 (left_bytes client client' packet more taken bytes) (subst (ShowsEnd (turn packet story).story) (sym out.1) is_over.3) in (
+      let rest = over (solo_step packet solo).solo (client'.unread.bytes ++ more) last is_over.2 (left_bytes client client' packet more taken bytes) (subst (ShowsEnd (solo_step packet solo).solo) (sym out.1) is_over.3) in (
         out.0,
-        subst (λ (l : List Packet). Concluded story (client.unread.bytes ++ more) l last) (append-nil said.packets)
-            (one_more story packet taken.front (client'.unread.bytes ++ more) (client.unread.bytes ++ more) said.packets [] last taken.spelled (in_front client client' packet more taken) step.sent_are rest),
+        subst (λ (l : List Packet). Concluded solo (client.unread.bytes ++ more) l last) (append-nil said.packets)
+            (one_more solo packet taken.front (client'.unread.bytes ++ more) (client.unread.bytes ++ more) said.packets [] last taken.spelled (in_front client client' packet more taken) step.sent_are rest),
       ))
       step.stands
-  closes_by (inputs.Fault fault) story client client' old new now said more after last number sound bytes shown stops closes moved ended =
-      let steps = subst (λ (n : ℕ). Steps Calls slot_at old n client.conn.standing (moment_of client now) (inputs.Fault fault) said.packets said.next client'.conn.standing new) number moved.stepped in
-      let part = parted story client.conn.standing old (moment_of client now) (Some fault) (inputs.Fault fault) said.packets said.next client'.conn.standing new shown refl steps in
+  closes_by (inputs.Fault fault) solo client client' old new now said more after last number sound bytes shown stops closes moved ended =
+      let steps = subst (λ (n : ℕ). Steps Calls slot_at old n client.conn.phase (moment_of client now) (inputs.Fault fault) said.packets said.next client'.conn.phase new) number moved.stepped in
+      let part = parted solo client.conn.phase old (moment_of client now) (Some fault) (inputs.Fault fault) said.packets said.next client'.conn.phase new shown refl steps in
       let out = ended part.over in
       let at : FaultAt fault client.unread.bytes =
       ⊎_elim
@@ -181,41 +181,41 @@ module _ (capacity : ℕ) (shares : List Share) (few : length shares ≤ 8) wher
       (λ (here : (client.unread.fault ≡ None) × FaultAt fault client.unread.bytes). here.1)
       stops.1 in
       let reads = faulty_stays client.unread.bytes more [] client.unread.bytes fault (front_bytes client.unread.bytes more bytes) (refl, at) in
-      (out.0, last_one story (client.unread.bytes ++ more) (Some fault) said.packets client'.conn.standing last reads (subst (Parted (Some fault) story said.packets client'.conn.standing) (sym out.1) part))
-  closes_by inputs.Tick story client client' old new now said more after last number sound bytes shown front closes moved ended = absurd front
-  closes_by inputs.EndOfInput story client client' old new now said more after last number sound bytes shown front closes moved ended = absurd front
-  closes_by inputs.Closing story client client' old new now said more after last number sound bytes shown front closes moved ended = absurd front
+      (out.0, last_one solo (client.unread.bytes ++ more) (Some fault) said.packets client'.conn.phase last reads (subst (Parted (Some fault) solo said.packets client'.conn.phase) (sym out.1) part))
+  closes_by inputs.Tick solo client client' old new now said more after last number sound bytes shown front closes moved ended = absurd front
+  closes_by inputs.EndOfInput solo client client' old new now said more after last number sound bytes shown front closes moved ended = absurd front
+  closes_by inputs.Closing solo client client' old new now said more after last number sound bytes shown front closes moved ended = absurd front
 
-  pub reads : (said : List Said) (story : Story) (client client' : ClientState GroupPlace) (old new : Broker) (now : ℕ) (more : List ℕ) (later : List Packet) (last : Broker)
-      → client.conn.number ≡ 0 → client.unread.fault ≡ None → AreBytes (client.unread.bytes ++ more) → Shown capacity shares story client.conn.standing old
+  pub reads : (said : List StepOutput) (solo : SoloState) (client client' : ClientState GroupPlace) (old new : Broker) (now : ℕ) (more : List ℕ) (later : List Packet) (last : Broker)
+      → client.conn.number ≡ 0 → client.unread.fault ≡ None → AreBytes (client.unread.bytes ++ more) → Shown capacity shares solo client.conn.phase old
       → Reads Calls slot_at old client now said client' new
-      → ((s : Story) → client'.conn.number ≡ 0 → client'.unread.fault ≡ None → IsOpen client'.unread.bytes → AreBytes (client'.unread.bytes ++ more) → Shown capacity shares s client'.conn.standing new
+      → ((s : SoloState) → client'.conn.number ≡ 0 → client'.unread.fault ≡ None → IsOpen client'.unread.bytes → AreBytes (client'.unread.bytes ++ more) → Shown capacity shares s client'.conn.phase new
       → Concluded s (client'.unread.bytes ++ more) later last)
-      → (client'.conn.standing ≡ standings.Ended → (later ≡ []) × (last ≡ new))
-      → Concluded story (client.unread.bytes ++ more) (sent_in said ++ later) last
-  reads [] story client client' old new now more later last number sound bytes shown (inl waits, same, still) goes ended = absurd (not_waiting story client.conn.standing old shown waits)
-  reads [] story client client' old new now more later last number sound bytes shown (inr (none, open_), same, still) goes ended =
-      subst (λ (c : ClientState GroupPlace). Concluded story (c.unread.bytes ++ more) later last) same
-      (goes story (ap (λ (c : ClientState GroupPlace). c.conn.number) same ∙ number) (ap (λ (c : ClientState GroupPlace). c.unread.fault) same ∙ sound)
+      → (client'.conn.phase ≡ phases.Ended → (later ≡ []) × (last ≡ new))
+      → Concluded solo (client.unread.bytes ++ more) (sent_in said ++ later) last
+  reads [] solo client client' old new now more later last number sound bytes shown (inl waits, same, still) goes ended = absurd (not_waiting solo client.conn.phase old shown waits)
+  reads [] solo client client' old new now more later last number sound bytes shown (inr (none, open_), same, still) goes ended =
+      subst (λ (c : ClientState GroupPlace). Concluded solo (c.unread.bytes ++ more) later last) same
+      (goes solo (ap (λ (c : ClientState GroupPlace). c.conn.number) same ∙ number) (ap (λ (c : ClientState GroupPlace). c.unread.fault) same ∙ sound)
       (subst (λ (c : ClientState GroupPlace). IsOpen c.unread.bytes) (sym same) open_) (subst (λ (c : ClientState GroupPlace). AreBytes (c.unread.bytes ++ more)) (sym same) bytes)
-      (subst (λ (c : ClientState GroupPlace). Shown capacity shares story c.conn.standing new) (sym same) (subst (Shown capacity shares story client.conn.standing) (sym still) shown)))
-  reads (said ∷ rest) story client client' old new now more later last number sound bytes shown (inl (does, none)) goes ended =
-      let got = closes_by does.input story client client' old new now said more later last number sound bytes shown does.front does.closes does.moved ended in
-      subst (λ (l : List Packet). Concluded story (client.unread.bytes ++ more) l last) (sym (alone said rest later none got.0)) got.1
-  reads (said ∷ rest) story client client' old new now more later last number sound bytes shown (inr (between, mid, does, behind)) goes ended =
+      (subst (λ (c : ClientState GroupPlace). Shown capacity shares solo c.conn.phase new) (sym same) (subst (Shown capacity shares solo client.conn.phase) (sym still) shown)))
+  reads (said ∷ rest) solo client client' old new now more later last number sound bytes shown (inl (does, none)) goes ended =
+      let got = closes_by does.input solo client client' old new now said more later last number sound bytes shown does.front does.closes does.moved ended in
+      subst (λ (l : List Packet). Concluded solo (client.unread.bytes ++ more) l last) (sym (alone said rest later none got.0)) got.1
+  reads (said ∷ rest) solo client client' old new now more later last number sound bytes shown (inr (between, mid, does, behind)) goes ended =
       let packet = does.packet in
-      let steps = subst (λ (n : ℕ). Steps Calls slot_at old n client.conn.standing (moment_of client now) (inputs.Packet packet) said.packets said.next between.conn.standing mid) number does.moved.stepped in
-      let step = stepped story client.conn.standing old (moment_of client now) packet said.packets said.next between.conn.standing mid shown steps in
+      let steps = subst (λ (n : ℕ). Steps Calls slot_at old n client.conn.phase (moment_of client now) (inputs.Packet packet) said.packets said.next between.conn.phase mid) number does.moved.stepped in
+      let step = stepped solo client.conn.phase old (moment_of client now) packet said.packets said.next between.conn.phase mid shown steps in
       let left = does.taken.front in
       ⊎_elim
-      (λ (goes_on : Goes (turn packet story).story between.conn.standing said.next mid).
-      let link = goes_on.0 in
+      (λ (goes_on : Goes (solo_step packet solo).solo between.conn.phase said.next mid).
+      let connected = goes_on.0 in
       let rest_of =
-      reads rest (turn packet story).story between client' mid new now more later last (does.moved.same ∙ number) does.taken.goes_on (left_bytes client between packet more does.taken bytes)
-      (inr (link, goes_on.1, goes_on.3)) behind goes ended in
-      subst (λ (l : List Packet). Concluded story (client.unread.bytes ++ more) l last) (sym (append_assoc said.packets (sent_in rest) later))
-      (one_more story packet left (between.unread.bytes ++ more) (client.unread.bytes ++ more) said.packets (sent_in rest ++ later) last does.taken.spelled (in_front client between packet more does.taken) step.sent_are rest_of))
-      (λ (is_over : IsOver (turn packet story).story between.conn.standing said.next mid). absurd (not_go said.next does.goes is_over.1))
+      reads rest (solo_step packet solo).solo between client' mid new now more later last (does.moved.same ∙ number) does.taken.goes_on (left_bytes client between packet more does.taken bytes)
+      (inr (connected, goes_on.1, goes_on.3)) behind goes ended in
+      subst (λ (l : List Packet). Concluded solo (client.unread.bytes ++ more) l last) (sym (append_assoc said.packets (sent_in rest) later))
+      (one_more solo packet left (between.unread.bytes ++ more) (client.unread.bytes ++ more) said.packets (sent_in rest ++ later) last does.taken.spelled (in_front client between packet more does.taken) step.sent_are rest_of))
+      (λ (is_over : IsOver (solo_step packet solo).solo between.conn.phase said.next mid). absurd (not_go said.next does.goes is_over.1))
       step.stands
 
 -- ---- a server on which nothing happens any more
@@ -233,73 +233,73 @@ in_cell old new Becomes cell there does =
     )
 
 -- what nothing makes of a server
-abbrev Stays : ServerState → List Said → ServerState → Type 0
+abbrev Stays : ServerState → List StepOutput → ServerState → Type 0
 Stays old said new = (said ≡ []) × HasCell None new × (new.broker ≡ old.broker)
 
-idle_piece : (b : Bool) (piece : List ℕ) (old new : ServerState) (said : List Said) → HasCell None old → DoesIf b (Bytes 0 piece) old.max_inflight old.broker old.clients new.clock said (Ok tt) new.clients new.broker → Stays old said new
+idle_piece : (b : Bool) (piece : List ℕ) (old new : ServerState) (said : List StepOutput) → HasCell None old → DoesIf b (Bytes 0 piece) old.max_inflight old.broker old.clients new.clock said (Ok tt) new.clients new.broker → Stays old said new
 idle_piece true piece old new said cell does =
     let got = in_cell old.clients new.clients _ None cell does in
     (got.1.0, got.2 ∙ ap (λ (c : Option (ClientState GroupPlace)). Some c) got.1.1, got.1.2)
 idle_piece false piece old new said cell does = (does.0, ap (λ (l : Clients). slice_get l 0) does.2 ∙ cell, does.3)
 
-idle_end : (b : Bool) (old new : ServerState) (said : List Said) → HasCell None old → DoesIf b (End 0) old.max_inflight old.broker old.clients new.clock said (Ok tt) new.clients new.broker → Stays old said new
+idle_end : (b : Bool) (old new : ServerState) (said : List StepOutput) → HasCell None old → DoesIf b (End 0) old.max_inflight old.broker old.clients new.clock said (Ok tt) new.clients new.broker → Stays old said new
 idle_end true old new said cell does =
     let got = in_cell old.clients new.clients _ None cell does in
     (got.1.0, got.2 ∙ ap (λ (c : Option (ClientState GroupPlace)). Some c) got.1.1, got.1.2)
 idle_end false old new said cell does = (does.0, ap (λ (l : Clients). slice_get l 0) does.2 ∙ cell, does.3)
 
-idle : (pieces : List (List ℕ)) (old last : ServerState) (said : List Said) → HasCell None old → HappensAll old (all_pieces pieces) said last → (sent_in said ≡ []) × (last.broker ≡ old.broker)
+idle : (pieces : List (List ℕ)) (old last : ServerState) (said : List StepOutput) → HasCell None old → HappensAll old (all_pieces pieces) said last → (sent_in said ≡ []) × (last.broker ≡ old.broker)
 idle [] old last said cell (mid, now, later, happens, (none, same), all) =
     let one = idle_end (is_open old.broker) old mid now cell happens.does in
     (ap sent_in (all ∙ (λ i. one.0 i ++ none i)), ap (λ (s : ServerState). s.broker) same ∙ one.2)
 idle (piece ∷ pieces) old last said cell (mid, now, later, happens, others, all) =
     let one = idle_piece (is_open old.broker) piece old mid now cell happens.does in
     let rest = idle pieces mid last later one.1 others in
-    (ap sent_in (all ∙ ap (λ (l : List Said). l ++ later) one.0) ∙ rest.0, rest.1 ∙ one.2)
+    (ap sent_in (all ∙ ap (λ (l : List StepOutput). l ++ later) one.0) ∙ rest.0, rest.1 ∙ one.2)
 
 -- ---- the pieces of a stream
 
 -- no group is closed
-open_is : (story : Story) (entries : List (ℕ × Held)) (b : Broker) → ShowsBroker story entries b → is_open b ≡ true
-open_is story entries b shows =
+open_is : (solo : SoloState) (entries : List (ℕ × Held)) (b : Broker) → ShowsBroker solo entries b → is_open b ≡ true
+open_is solo entries b shows =
     list_all-from_AllPass (λ (group : Group). not group.state.closed) b.groups
     (λ at d less.
     (let group = get_or b.groups at d in
     not_from_false group.state.closed (shows.groups at group (slice_get-get_or b.groups at d less)).goes_on))
 
 module _ (capacity : ℕ) (shares : List Share) (few : length shares ≤ 8) where
-  shown_open : (story : Story) (standing : Standing GroupPlace) (b : Broker) → Shown capacity shares story standing b → is_open b ≡ true
-  shown_open story standing b (inl (opened, is, begins, is_new)) = open_is (opening capacity opened.max_inflight shares) [] b (opens capacity opened.max_inflight shares b few is_new)
-  shown_open story standing b (inr (link, is, shows)) = open_is story link.session.window.owed b shows.session.broker
+  shown_open : (solo : SoloState) (phase : ConnPhase GroupPlace) (b : Broker) → Shown capacity shares solo phase b → is_open b ≡ true
+  shown_open solo phase b (inl (opened, is, begins, is_new)) = open_is (opening capacity opened.max_inflight shares) [] b (opens capacity opened.max_inflight shares b few is_new)
+  shown_open solo phase b (inr (connected, is, shows)) = open_is solo connected.session.window.owed b shows.session.broker
 
   -- a client that goes on is kept
-  kept_shown : (story : Story) (client : ClientState GroupPlace) (b : Broker) → Shown capacity shares story client.conn.standing b → kept client ≡ Some client
-  kept_shown story client b (inl (opened, is, begins, is_new)) = ap (λ (s : Standing GroupPlace). kept_as s client) is
-  kept_shown story client b (inr (link, is, shows)) = ap (λ (s : Standing GroupPlace). kept_as s client) is
+  kept_shown : (solo : SoloState) (client : ClientState GroupPlace) (b : Broker) → Shown capacity shares solo client.conn.phase b → kept client ≡ Some client
+  kept_shown solo client b (inl (opened, is, begins, is_new)) = ap (λ (s : ConnPhase GroupPlace). kept_as s client) is
+  kept_shown solo client b (inr (connected, is, shows)) = ap (λ (s : ConnPhase GroupPlace). kept_as s client) is
 
-  kept_ended : (client : ClientState GroupPlace) → client.conn.standing ≡ standings.Ended → kept client ≡ None
-  kept_ended client is = ap (λ (s : Standing GroupPlace). kept_as s client) is
+  kept_ended : (client : ClientState GroupPlace) → client.conn.phase ≡ phases.Ended → kept client ≡ None
+  kept_ended client is = ap (λ (s : ConnPhase GroupPlace). kept_as s client) is
 
   fed_is : (client : ClientState GroupPlace) (piece : List ℕ) → client.unread.fault ≡ None → (fed client piece).unread ≡ record { bytes = client.unread.bytes ++ piece; fault = None }
   fed_is client piece sound = ap (λ (f : Option StreamFault). longer f client.unread.bytes piece) sound
 
-  walk : (pieces : List (List ℕ)) (story : Story) (client : ClientState GroupPlace) (old last : ServerState) (said : List Said) → HasCell (Some client) old → client.conn.number ≡ 0 → client.unread.fault ≡ None → IsOpen client.unread.bytes
-      → AreBytes (client.unread.bytes ++ whole pieces) → Shown capacity shares story client.conn.standing old.broker → HappensAll old (all_pieces pieces) said last
-      → Concluded story (client.unread.bytes ++ whole pieces) (sent_in said) last.broker
-  walk [] story client old last said cell number sound open_ bytes shown (mid, now, later, happens, (none, same), all) =
-      let does = subst (λ (b : Bool). DoesIf b (End 0) old.max_inflight old.broker old.clients mid.clock now (Ok tt) mid.clients mid.broker) (shown_open story client.conn.standing old.broker shown) happens.does in
+  walk : (pieces : List (List ℕ)) (solo : SoloState) (client : ClientState GroupPlace) (old last : ServerState) (said : List StepOutput) → HasCell (Some client) old → client.conn.number ≡ 0 → client.unread.fault ≡ None → IsOpen client.unread.bytes
+      → AreBytes (client.unread.bytes ++ whole pieces) → Shown capacity shares solo client.conn.phase old.broker → HappensAll old (all_pieces pieces) said last
+      → Concluded solo (client.unread.bytes ++ whole pieces) (sent_in said) last.broker
+  walk [] solo client old last said cell number sound open_ bytes shown (mid, now, later, happens, (none, same), all) =
+      let does = subst (λ (b : Bool). DoesIf b (End 0) old.max_inflight old.broker old.clients mid.clock now (Ok tt) mid.clients mid.broker) (shown_open solo client.conn.phase old.broker shown) happens.does in
       let got = (in_cell old.clients mid.clients _ (Some client) cell does).1 in
       let one = got.1.0 in
       let moved = got.1.2 in
-      let steps = subst (λ (n : ℕ). Steps Calls slot_at old.broker n client.conn.standing (moment_of client mid.clock) inputs.EndOfInput one.packets one.next got.0.conn.standing mid.broker) number moved.stepped in
-      let part = parted capacity shares few story client.conn.standing old.broker (moment_of client mid.clock) None inputs.EndOfInput one.packets one.next got.0.conn.standing mid.broker shown tt steps in
+      let steps = subst (λ (n : ℕ). Steps Calls slot_at old.broker n client.conn.phase (moment_of client mid.clock) inputs.EndOfInput one.packets one.next got.0.conn.phase mid.broker) number moved.stepped in
+      let part = parted capacity shares few solo client.conn.phase old.broker (moment_of client mid.clock) None inputs.EndOfInput one.packets one.next got.0.conn.phase mid.broker shown tt steps in
       let sent : sent_in said ≡ one.packets = ap sent_in (all ∙ (λ i. got.1.1 i ++ none i)) ∙ append-nil one.packets in
-      let ended = last_one story client.unread.bytes None one.packets got.0.conn.standing mid.broker (refl, open_) part in
-      subst (λ (l : List ℕ). Concluded story l (sent_in said) last.broker) (sym (append-nil client.unread.bytes))
-      (subst (λ (l : List Packet). Concluded story client.unread.bytes l last.broker) (sym sent)
-      (subst (λ (s : ServerState). Concluded story client.unread.bytes one.packets s.broker) (sym same) ended))
-  walk (piece ∷ pieces) story client old last said cell number sound open_ bytes shown (mid, now, later, happens, others, all) =
-      let does = subst (λ (b : Bool). DoesIf b (Bytes 0 piece) old.max_inflight old.broker old.clients mid.clock now (Ok tt) mid.clients mid.broker) (shown_open story client.conn.standing old.broker shown) happens.does in
+      let ended = last_one solo client.unread.bytes None one.packets got.0.conn.phase mid.broker (refl, open_) part in
+      subst (λ (l : List ℕ). Concluded solo l (sent_in said) last.broker) (sym (append-nil client.unread.bytes))
+      (subst (λ (l : List Packet). Concluded solo client.unread.bytes l last.broker) (sym sent)
+      (subst (λ (s : ServerState). Concluded solo client.unread.bytes one.packets s.broker) (sym same) ended))
+  walk (piece ∷ pieces) solo client old last said cell number sound open_ bytes shown (mid, now, later, happens, others, all) =
+      let does = subst (λ (b : Bool). DoesIf b (Bytes 0 piece) old.max_inflight old.broker old.clients mid.clock now (Ok tt) mid.clients mid.broker) (shown_open solo client.conn.phase old.broker shown) happens.does in
       let cell_of = in_cell old.clients mid.clients _ (Some client) cell does in
       let client' = cell_of.1.0 in
       let now_read = cell_of.1.1 in
@@ -308,13 +308,13 @@ module _ (capacity : ℕ) (shares : List Share) (few : length shares ≤ 8) wher
       let longer_bytes : (fed client piece).unread.bytes ++ whole pieces ≡ client.unread.bytes ++ whole (piece ∷ pieces) =
       ap (λ (u : Unread). u.bytes ++ whole pieces) unread ∙ append_assoc client.unread.bytes piece (whole pieces) in
       let got =
-      reads capacity shares few now story (fed client piece) client' old.broker mid.broker mid.clock (whole pieces) (sent_in later) last.broker number (ap (λ (u : Unread). u.fault) unread)
+      reads capacity shares few now solo (fed client piece) client' old.broker mid.broker mid.clock (whole pieces) (sent_in later) last.broker number (ap (λ (u : Unread). u.fault) unread)
       (subst AreBytes (sym longer_bytes) bytes) shown now_read
       (λ s number' sound' open' bytes' shown'. walk pieces s client' mid last later (there ∙ ap (λ (c : Option (ClientState GroupPlace)). Some c) (kept_shown s client' mid.broker shown')) number' sound' open' bytes' shown' others)
       (λ ended. idle pieces mid last later (there ∙ ap (λ (c : Option (ClientState GroupPlace)). Some c) (kept_ended client' ended)) others) in
-      let sent : sent_in said ≡ sent_in now ++ sent_in later = ap sent_in all ∙ flat_map-append (λ (one : Said). one.packets) now later in
-      subst (λ (l : List ℕ). Concluded story l (sent_in said) last.broker) longer_bytes
-      (subst (λ (l : List Packet). Concluded story ((fed client piece).unread.bytes ++ whole pieces) l last.broker) (sym sent) got)
+      let sent : sent_in said ≡ sent_in now ++ sent_in later = ap sent_in all ∙ flat_map-append (λ (one : StepOutput). one.packets) now later in
+      subst (λ (l : List ℕ). Concluded solo l (sent_in said) last.broker) longer_bytes
+      (subst (λ (l : List Packet). Concluded solo ((fed client piece).unread.bytes ++ whole pieces) l last.broker) (sym sent) got)
 
   abbrev no_client : Option (ClientState GroupPlace)
   no_client = None
@@ -328,7 +328,7 @@ module _ (capacity : ℕ) (shares : List Share) (few : length shares ≤ 8) wher
   no_byte = inl refl
 
   -- from the opening of the connection on
-  pub run : (pieces : List (List ℕ)) (first last : ServerState) (said : List Said) → IsNewBroker capacity shares first.broker → first.clients ≡ replicate 64 None → AreBytes (whole pieces)
+  pub run : (pieces : List (List ℕ)) (first last : ServerState) (said : List StepOutput) → IsNewBroker capacity shares first.broker → first.clients ≡ replicate 64 None → AreBytes (whole pieces)
       → HappensAll first (at_once (Open 0) ∷ all_pieces pieces) said last → Concluded (opening capacity first.max_inflight shares) (whole pieces) (sent_in said) last.broker
   run pieces first last said is_new none bytes (mid, now, later, happens, others, all) =
       let is_open_now = open_is (opening capacity first.max_inflight shares) [] first.broker (opens capacity first.max_inflight shares first.broker few is_new) in
@@ -336,8 +336,8 @@ module _ (capacity : ℕ) (shares : List Share) (few : length shares ≤ 8) wher
       let cell : slice_get first.clients 0 ≡ Some None = ap (λ (l : Clients). slice_get l 0) none ∙ first_none 64 (omega arith) in
       let got = in_cell first.clients mid.clients _ None cell does.0 in
       let opened : Opening = record { at = mid.clock; max_inflight = first.max_inflight } in
-      let client : ClientState GroupPlace = arrived (record { number = 0; latest = mid.clock; standing = standings.Unconnected opened }) in
+      let client : ClientState GroupPlace = arrived (record { number = 0; latest = mid.clock; phase = phases.Unconnected opened }) in
       let there : slice_get mid.clients 0 ≡ Some (Some client) = got.2 ∙ ap (λ (c : Option (ClientState GroupPlace)). Some c) got.1 in
-      let sent : sent_in said ≡ sent_in later = ap sent_in (all ∙ ap (λ (l : List Said). l ++ later) does.2) in
+      let sent : sent_in said ≡ sent_in later = ap sent_in (all ∙ ap (λ (l : List StepOutput). l ++ later) does.2) in
       subst (λ (l : List Packet). Concluded (opening capacity first.max_inflight shares) (whole pieces) l last.broker) (sym sent)
       (walk pieces (opening capacity first.max_inflight shares) client mid last later there refl refl no_byte bytes (inl (opened, refl, refl, subst (IsNewBroker capacity shares) (sym does.1) is_new)) others)

@@ -26,7 +26,7 @@ pub data Phase : Type 0 where
 -- What the client asked for when it connected; how many messages may wait in each group; how many may be unacknowledged, whatever its Receive Maximum; the groups, that of slot n at place n; the slot
 -- of the group whose member the client is, if it is one; and the hand-outs, in order: the first of a slot is that of the first message of
 -- its group, and so on.
-pub record Story : Type 0 where
+pub record SoloState : Type 0 where
   pub phase : Phase
   pub terms : Terms
   pub capacity : ℕ
@@ -45,7 +45,7 @@ abbrev pub bound : Share → Bound
 bound share = record { share = share; accepted = [] }
 
 -- before the first packet, with these shares bound
-abbrev pub opening : ℕ → ℕ → List Share → Story
+abbrev pub opening : ℕ → ℕ → List Share → SoloState
 opening capacity max_inflight shares =
     record { phase = Unconnected; terms = default_terms; capacity = capacity; max_inflight = max_inflight; groups = map bound shares; membership = NotMember; handed_out = [] }
 
@@ -67,8 +67,8 @@ abbrev pub handed_in : ℕ → List HandOut → List HandOut
 handed_in slot hand_outs = filter (λ hand_out. hand_out.slot == slot) hand_outs
 
 -- accepted by the group of this slot and not handed out, the oldest first
-abbrev pub waiting_in : ℕ → Story → List Message
-waiting_in slot story = drop (length (handed_in slot story.handed_out)) (accepted_in slot story.groups)
+abbrev pub waiting_in : ℕ → SoloState → List Message
+waiting_in slot solo = drop (length (handed_in slot solo.handed_out)) (accepted_in slot solo.groups)
 
 -- no PUBACK came
 abbrev pub is_open : HandOut → Bool
@@ -78,8 +78,8 @@ is_open hand_out = is_none hand_out.code
 abbrev pub open_identifiers : List HandOut → List ℕ
 open_identifiers hand_outs = map (λ hand_out. hand_out.identifier) (filter is_open hand_outs)
 
-abbrev pub unacknowledged : Story → List ℕ
-unacknowledged story = open_identifiers story.handed_out
+abbrev pub unacknowledged : SoloState → List ℕ
+unacknowledged solo = open_identifiers solo.handed_out
 
 -- a PUBACK settles the unacknowledged hand-out of its identifier, if there is one
 abbrev pub settled : ℕ → ℕ → HandOut → HandOut
@@ -95,23 +95,23 @@ abbrev pub refuses : Option ℕ → Bool
 refuses None = false
 refuses (Some code) = not (nat_lt code 128)
 
--- what a story becomes
+-- what a model becomes
 
-abbrev pub with_phase : Phase → Story → Story
-with_phase phase story = record story { phase = phase }
+abbrev pub with_phase : Phase → SoloState → SoloState
+with_phase phase solo = record solo { phase = phase }
 
-abbrev pub with_membership : Membership ℕ → Story → Story
-with_membership membership story = record story { membership = membership }
+abbrev pub with_membership : Membership ℕ → SoloState → SoloState
+with_membership membership solo = record solo { membership = membership }
 
-abbrev pub with_message : ℕ → Message → Story → Story
-with_message slot message story = record story { groups = accepting slot message story.groups }
+abbrev pub with_message : ℕ → Message → SoloState → SoloState
+with_message slot message solo = record solo { groups = accepting slot message solo.groups }
 
-abbrev pub with_share : Share → Story → Story
-with_share share story = record story { groups = story.groups ++ bound share ∷ [] }
+abbrev pub with_share : Share → SoloState → SoloState
+with_share share solo = record solo { groups = solo.groups ++ bound share ∷ [] }
 
-abbrev pub with_puback : ℕ → ℕ → Story → Story
-with_puback identifier code story = record story { handed_out = map (settled identifier code) story.handed_out }
+abbrev pub with_puback : ℕ → ℕ → SoloState → SoloState
+with_puback identifier code solo = record solo { handed_out = map (settled identifier code) solo.handed_out }
 
-abbrev pub with_hand_out : ℕ → ℕ → Story → Story
-with_hand_out slot identifier story =
-    record story { handed_out = story.handed_out ++ (record { slot = slot; identifier = identifier; code = None }) ∷ [] }
+abbrev pub with_hand_out : ℕ → ℕ → SoloState → SoloState
+with_hand_out slot identifier solo =
+    record solo { handed_out = solo.handed_out ++ (record { slot = slot; identifier = identifier; code = None }) ∷ [] }

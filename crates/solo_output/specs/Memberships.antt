@@ -10,7 +10,7 @@ use Rattle.mqtt_topic.specs.Routes.{slot_of}
 use Rattle.conn_rules.specs.declared.subscribing.EntryAnswer.TheVariants.{Join}
 use Rattle.conn_rules.specs.Packets.{suback, unsuback}
 use Rattle.conn_rules.specs.Subscribing.{entry_answer, subscribe_refusal, unsubscribe_refusal}
-use Rattle.solo_output.specs.Groups.{Story, shares_of}
+use Rattle.solo_output.specs.Groups.{SoloState, shares_of}
 use Rattle.solo_output.specs.Groups.Phase.{Connected}
 use Rattle.solo_output.specs.Publishing.{Reply}
 
@@ -26,31 +26,31 @@ pub record HasCode (filters : List (List ℕ)) (codes : List ℕ) (code slot : �
 abbrev pub Joins : Packet → Reply → ℕ → Type 0
 Joins (kinds.Subscribe subscribe) reply slot =
     (codes : List ℕ) × (reply.packet ≡ Some (suback subscribe.packet_identifier codes))
-    × HasCode (map (λ entry. entry.filter) subscribe.subscriptions) codes 1 slot (shares_of reply.story.groups)
+    × HasCode (map (λ entry. entry.filter) subscribe.subscriptions) codes 1 slot (shares_of reply.solo.groups)
 Joins _ reply slot = ⊥
 
 -- 3.10.3, 3.11.3: this is an UNSUBSCRIBE, and the UNSUBACK that replies has Success, 00, for that share
 abbrev pub Leaves : Packet → Reply → ℕ → Type 0
 Leaves (kinds.Unsubscribe unsubscribe) reply slot =
     (codes : List ℕ) × (reply.packet ≡ Some (unsuback unsubscribe.packet_identifier codes))
-    × HasCode unsubscribe.filters codes 0 slot (shares_of reply.story.groups)
+    × HasCode unsubscribe.filters codes 0 slot (shares_of reply.solo.groups)
 Leaves _ reply slot = ⊥
 
 -- 3.8.3: a client that is connected sends this SUBSCRIBE, which does not close the connection; it has an entry of this share that is served
-pub record AsksFor (subscribe : Subscribe) (share : Share) (story : Story) : Type 0 where
-  pub connected : story.phase ≡ Connected
+pub record AsksFor (subscribe : Subscribe) (share : Share) (solo : SoloState) : Type 0 where
+  pub connected : solo.phase ≡ Connected
   pub goes_on : subscribe_refusal subscribe ≡ None
   pub place : ℕ
   pub entry : Subscription
   pub asked : slice_get subscribe.subscriptions place ≡ Some entry
-  pub served : entry_answer (is_some subscribe.properties.subscription_identifier) entry story.terms ≡ Join share
+  pub served : entry_answer (is_some subscribe.properties.subscription_identifier) entry solo.terms ≡ Join share
 
 -- 3.10.3: a client that is connected sends this UNSUBSCRIBE, which does not close the connection; it has the text of the share of this slot
-pub record AsksToLeave (unsubscribe : Unsubscribe) (slot : ℕ) (story : Story) : Type 0 where
-  pub connected : story.phase ≡ Connected
+pub record AsksToLeave (unsubscribe : Unsubscribe) (slot : ℕ) (solo : SoloState) : Type 0 where
+  pub connected : solo.phase ≡ Connected
   pub goes_on : unsubscribe_refusal unsubscribe ≡ None
   pub place : ℕ
   pub share : Share
   pub asked : slice_get unsubscribe.filters place ≡ Some share.text
   pub spelled : share_of share.text ≡ Ok share
-  pub its : slot_of share.text (shares_of story.groups) ≡ Some slot
+  pub its : slot_of share.text (shares_of solo.groups) ≡ Some slot

@@ -7,7 +7,7 @@ use Rattle.mqtt_packet.specs.declared.packet.Packet.{Packet}
 use Rattle.mqtt_wire.specs.Stream.{Reads}
 use Rattle.local_server.specs.declared.setup.Setup.{Setup}
 use Rattle.drive.specs.Transcripts.{client_line}
-use Rattle.solo_output.specs.HandOuts.{Turn}
+use Rattle.solo_output.specs.HandOuts.{SoloStep}
 use Rattle.solo_output.specs.Replies.{farewell}
 use Rattle.solo_output.specs.Report.{reports}
 use Rattle.solo_output.specs.Runs.{run_of}
@@ -17,9 +17,9 @@ use Rattle.solo_output.specs.Streams.{stream_of}
 abbrev pub lines_for : List Packet → List ℕ
 lines_for packets = flat_map client_line packets
 
--- behind what all packets brought about: what was sent, the answer to the end of the stream, and the reports
-abbrev pub concluded : Option StreamFault → Turn → List ℕ
-concluded fault turn = lines_for (turn.sent ++ option_to_list (farewell fault turn.story)) ++ reports turn.story
+-- after what all packets brought about: what was sent, the answer to the end of the stream, and the reports
+abbrev pub concluded : Option StreamFault → SoloStep → List ℕ
+concluded fault solo_step = lines_for (solo_step.sent ++ option_to_list (farewell fault solo_step.solo)) ++ reports solo_step.solo
 
 -- on a server that begins so
 abbrev pub solo_output : Setup → List Packet → Option StreamFault → List ℕ

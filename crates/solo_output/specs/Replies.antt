@@ -11,9 +11,9 @@ use Rattle.conn_rules.specs.declared.connecting.FirstAnswer.TheVariants as first
 use Rattle.conn_rules.specs.Connecting.{first_answer, terms_of, is_given_expiry}
 use Rattle.conn_rules.specs.Ending.{fault_code, fault_refusal}
 use Rattle.conn_rules.specs.Packets.{accepting, refusing, disconnect}
-use Rattle.solo_output.specs.Groups.{Story, Phase, with_puback}
+use Rattle.solo_output.specs.Groups.{SoloState, Phase, with_puback}
 use Rattle.solo_output.specs.Groups.Phase.{Unconnected, Connected, Closed}
-use Rattle.solo_output.specs.HandOuts.{Turn, sends_nothing, deliver}
+use Rattle.solo_output.specs.HandOuts.{SoloStep, sends_nothing, deliver}
 use Rattle.solo_output.specs.Publishing.{Reply, answering, closing, publish_reply}
 use Rattle.solo_output.specs.Subscribing.{subscribe_reply, unsubscribe_reply}
 
@@ -23,68 +23,68 @@ assigned_to [] = Some (codes "auto-00000001")
 assigned_to (byte ∷ bytes) = None
 
 -- 3.2: a new session begins, as the CONNECT asks
-abbrev pub begin : Connect → Story → Reply
-begin connect story =
-    answering (accepting false (assigned_to connect.client_identifier)) (record story { phase = Connected; terms = terms_of story.max_inflight connect })
+abbrev pub begin : Connect → SoloState → Reply
+begin connect solo =
+    answering (accepting false (assigned_to connect.client_identifier)) (record solo { phase = Connected; terms = terms_of solo.max_inflight connect })
 
 -- what attaches is a CONNECT
-abbrev pub attach_reply : Packet → Story → Reply
-attach_reply (packets.Connect connect) story = begin connect story
-attach_reply _ story = closing None story
+abbrev pub attach_reply : Packet → SoloState → Reply
+attach_reply (packets.Connect connect) solo = begin connect solo
+attach_reply _ solo = closing None solo
 
 -- the first packet: the connection begins, or is refused, or is closed with no answer
-abbrev pub first_reply_as : FirstAnswer → Packet → Story → Reply
-first_reply_as first.Close packet story = closing None story
-first_reply_as (first.Refuse refusal) packet story = closing (Some (refusing refusal)) story
-first_reply_as first.Attach packet story = attach_reply packet story
+abbrev pub first_reply_as : FirstAnswer → Packet → SoloState → Reply
+first_reply_as first.Close packet solo = closing None solo
+first_reply_as (first.Refuse refusal) packet solo = closing (Some (refusing refusal)) solo
+first_reply_as first.Attach packet solo = attach_reply packet solo
 
-abbrev pub first_reply : Packet → Story → Reply
-first_reply packet story = first_reply_as (first_answer packet) packet story
+abbrev pub first_reply : Packet → SoloState → Reply
+first_reply packet solo = first_reply_as (first_answer packet) packet solo
 
 -- the session has this expiry from now on
-abbrev pub with_expiry : ℕ → Story → Story
-with_expiry expiry story = record story { terms = record story.terms { session_expiry_interval = expiry } }
+abbrev pub with_expiry : ℕ → SoloState → SoloState
+with_expiry expiry solo = record solo { terms = record solo.terms { session_expiry_interval = expiry } }
 
 -- 3.14.2.2.2: an expiry at the end takes the place of the session's, but a session that ends with its connection may not be given one
-abbrev pub disconnect_reply : Option ℕ → Story → Reply
-disconnect_reply None story = closing None story
-disconnect_reply (Some expiry) story =
-    if is_given_expiry expiry story.terms then closing (Some (disconnect 0x82)) story else closing None (with_expiry expiry story)
+abbrev pub disconnect_reply : Option ℕ → SoloState → Reply
+disconnect_reply None solo = closing None solo
+disconnect_reply (Some expiry) solo =
+    if is_given_expiry expiry solo.terms then closing (Some (disconnect 0x82)) solo else closing None (with_expiry expiry solo)
 
 -- the packets that a client sends which has its session; one that it has no business to send, a second CONNECT among it, closes the
 -- connection with 82 (3.1, 4.13)
-abbrev pub later_reply : Packet → Story → Reply
-later_reply (packets.Publish publish) story = publish_reply publish story
-later_reply (packets.Puback puback) story = record { packet = None; story = with_puback puback.packet_identifier puback.reason_code story }
-later_reply (packets.Subscribe subscribe) story = subscribe_reply subscribe story
-later_reply (packets.Unsubscribe unsubscribe) story = unsubscribe_reply unsubscribe story
-later_reply packets.Pingreq story = answering packets.Pingresp story
-later_reply (packets.Disconnect disconnect) story = disconnect_reply disconnect.properties.session_expiry_interval story
-later_reply _ story = closing (Some (disconnect 0x82)) story
+abbrev pub later_reply : Packet → SoloState → Reply
+later_reply (packets.Publish publish) solo = publish_reply publish solo
+later_reply (packets.Puback puback) solo = record { packet = None; solo = with_puback puback.packet_identifier puback.reason_code solo }
+later_reply (packets.Subscribe subscribe) solo = subscribe_reply subscribe solo
+later_reply (packets.Unsubscribe unsubscribe) solo = unsubscribe_reply unsubscribe solo
+later_reply packets.Pingreq solo = answering packets.Pingresp solo
+later_reply (packets.Disconnect disconnect) solo = disconnect_reply disconnect.properties.session_expiry_interval solo
+later_reply _ solo = closing (Some (disconnect 0x82)) solo
 
--- behind the end of the connection nothing is looked at
-abbrev pub reply_in : Phase → Packet → Story → Reply
-reply_in Unconnected packet story = first_reply packet story
-reply_in Connected packet story = later_reply packet story
-reply_in Closed packet story = record { packet = None; story = story }
+-- after the end of the connection nothing is looked at
+abbrev pub reply_in : Phase → Packet → SoloState → Reply
+reply_in Unconnected packet solo = first_reply packet solo
+reply_in Connected packet solo = later_reply packet solo
+reply_in Closed packet solo = record { packet = None; solo = solo }
 
-abbrev pub reply : Packet → Story → Reply
-reply packet story = reply_in story.phase packet story
+abbrev pub reply : Packet → SoloState → Reply
+reply packet solo = reply_in solo.phase packet solo
 
--- what a packet brings about: the reply, and what goes out behind it
-abbrev pub behind_reply : Reply → Turn
-behind_reply answered = record { sent = option_to_list answered.packet ++ (deliver answered.story).sent; story = (deliver answered.story).story }
+-- what a packet brings about: the reply, and what goes out after it
+abbrev pub behind_reply : Reply → SoloStep
+behind_reply answered = record { sent = option_to_list answered.packet ++ (deliver answered.solo).sent; solo = (deliver answered.solo).solo }
 
-abbrev pub turn : Packet → Story → Turn
-turn packet story = behind_reply (reply packet story)
+abbrev pub solo_step : Packet → SoloState → SoloStep
+solo_step packet solo = behind_reply (reply packet solo)
 
 -- what packets bring about, one after another
-abbrev pub sent_before : List Packet → Turn → Turn
+abbrev pub sent_before : List Packet → SoloStep → SoloStep
 sent_before packets later = record later { sent = packets ++ later.sent }
 
-abbrev pub turns : List Packet → Story → Turn
-turns [] story = sends_nothing story
-turns (packet ∷ packets) story = sent_before (turn packet story).sent (turns packets (turn packet story).story)
+abbrev pub solo_steps : List Packet → SoloState → SoloStep
+solo_steps [] solo = sends_nothing solo
+solo_steps (packet ∷ packets) solo = sent_before (solo_step packet solo).sent (solo_steps packets (solo_step packet solo).solo)
 
 -- 4.13.1: a client that is not connected is refused by a CONNACK, or by nothing
 abbrev pub refused_by : Option ConnectRefusal → Option Packet
@@ -98,5 +98,5 @@ farewell_in Connected (Some fault) = Some (disconnect (fault_code fault))
 farewell_in phase None = None
 farewell_in Closed (Some fault) = None
 
-abbrev pub farewell : Option StreamFault → Story → Option Packet
-farewell fault story = farewell_in story.phase fault
+abbrev pub farewell : Option StreamFault → SoloState → Option Packet
+farewell fault solo = farewell_in solo.phase fault

@@ -2,7 +2,7 @@
 use Rattle.std.specs.Prelude.{ℕ, ◌+◌, ◌-◌, ◌==◌, if◌then◌else◌, List, [], ◌∷◌, ◌++◌, length, count_by, codes}
 use Rattle.mqtt_topic.specs.Names.{Share}
 use Rattle.group_jobs.specs.Reports.{labelled}
-use Rattle.solo_output.specs.Groups.{Bound, HandOut, Story, handed_in, open_identifiers, acknowledges, refuses}
+use Rattle.solo_output.specs.Groups.{Bound, HandOut, SoloState, handed_in, open_identifiers, acknowledges, refuses}
 
 -- how many messages of a group have each fate
 pub record Fates : Type 0 where
@@ -31,14 +31,14 @@ line_of share accepted fates =
     ++ labelled (codes " returned ") fates.returned ++ 10 ∷ []
 
 -- the group of this slot
-abbrev pub report_of : ℕ → Bound → Story → List ℕ
-report_of slot group story =
-    line_of group.share (length group.accepted) (counts_of story.terms.session_expiry_interval (length group.accepted) (handed_in slot story.handed_out))
+abbrev pub report_of : ℕ → Bound → SoloState → List ℕ
+report_of slot group solo =
+    line_of group.share (length group.accepted) (counts_of solo.terms.session_expiry_interval (length group.accepted) (handed_in slot solo.handed_out))
 
 -- a line for each of these groups, the first having this slot
-abbrev pub reports_from : ℕ → List Bound → Story → List ℕ
-reports_from slot [] story = []
-reports_from slot (group ∷ groups) story = report_of slot group story ++ reports_from (slot + 1) groups story
+abbrev pub reports_from : ℕ → List Bound → SoloState → List ℕ
+reports_from slot [] solo = []
+reports_from slot (group ∷ groups) solo = report_of slot group solo ++ reports_from (slot + 1) groups solo
 
-abbrev pub reports : Story → List ℕ
-reports story = reports_from 0 story.groups story
+abbrev pub reports : SoloState → List ℕ
+reports solo = reports_from 0 solo.groups solo

@@ -14,43 +14,43 @@ use Rattle.conn_rules.specs.declared.publishing.PublishAnswer.TheVariants as ans
 use Rattle.conn_rules.specs.Packets.{job}
 use Rattle.conn_rules.specs.Publishing.{publish_answer, message_of}
 use Rattle.local_server.specs.declared.setup.Setup.{Setup}
-use Rattle.solo_output.specs.Groups.{Story, Phase, HandOut, opening}
+use Rattle.solo_output.specs.Groups.{SoloState, Phase, HandOut, opening}
 use Rattle.solo_output.specs.Groups.Phase.{Unconnected, Connected, Closed}
-use Rattle.solo_output.specs.HandOuts.{Turn}
+use Rattle.solo_output.specs.HandOuts.{SoloStep}
 use Rattle.solo_output.specs.Publishing.{is_full, matching}
-use Rattle.solo_output.specs.Replies.{turn, turns}
+use Rattle.solo_output.specs.Replies.{solo_step, solo_steps}
 
--- what the client is sent for these packets, and the story behind them
-abbrev pub run_of : Setup → List Packet → Turn
-run_of setup packets = turns packets (opening setup.capacity setup.max_inflight setup.groups)
+-- what the client is sent for these packets, and the model after them
+abbrev pub run_of : Setup → List Packet → SoloStep
+run_of setup packets = solo_steps packets (opening setup.capacity setup.max_inflight setup.groups)
 
 -- ---- what is accepted
 
 -- the slots of the groups that take a message of this topic: those whose filter matches (4.7) and that are not full (profile)
-abbrev pub takers : List ℕ → Story → List ℕ
-takers topic story = filter (λ slot. not (is_full slot story)) (matching topic story)
+abbrev pub takers : List ℕ → SoloState → List ℕ
+takers topic solo = filter (λ slot. not (is_full slot solo)) (matching topic solo)
 
 -- the message of a PUBLISH that is offered, where the group of this slot takes it
-abbrev pub taken_of_offer : PublishAnswer → ℕ → Publish → Story → List Message
-taken_of_offer (answers.Close code) slot publish story = []
-taken_of_offer (answers.Refuse identifier code) slot publish story = []
-taken_of_offer (answers.Offer identifier) slot publish story =
-    if list_any (λ taker. taker == slot) (takers publish.topic story) then message_of publish ∷ [] else []
+abbrev pub taken_of_offer : PublishAnswer → ℕ → Publish → SoloState → List Message
+taken_of_offer (answers.Close code) slot publish solo = []
+taken_of_offer (answers.Refuse identifier code) slot publish solo = []
+taken_of_offer (answers.Offer identifier) slot publish solo =
+    if list_any (λ taker. taker == slot) (takers publish.topic solo) then message_of publish ∷ [] else []
 
 -- what it takes of a packet of a client that is connected
-abbrev pub taken_of_packet : Packet → ℕ → Story → List Message
-taken_of_packet (kinds.Publish publish) slot story = taken_of_offer (publish_answer publish) slot publish story
-taken_of_packet _ slot story = []
+abbrev pub taken_of_packet : Packet → ℕ → SoloState → List Message
+taken_of_packet (kinds.Publish publish) slot solo = taken_of_offer (publish_answer publish) slot publish solo
+taken_of_packet _ slot solo = []
 
-abbrev pub taken_in_phase : Phase → Packet → ℕ → Story → List Message
-taken_in_phase Unconnected packet slot story = []
-taken_in_phase Connected packet slot story = taken_of_packet packet slot story
-taken_in_phase Closed packet slot story = []
+abbrev pub taken_in_phase : Phase → Packet → ℕ → SoloState → List Message
+taken_in_phase Unconnected packet slot solo = []
+taken_in_phase Connected packet slot solo = taken_of_packet packet slot solo
+taken_in_phase Closed packet slot solo = []
 
--- the messages that the group of this slot takes of these packets, in order, each in its own turn
-abbrev pub taken : List Packet → ℕ → Story → List Message
-taken [] slot story = []
-taken (packet ∷ packets) slot story = taken_in_phase story.phase packet slot story ++ taken packets slot (turn packet story).story
+-- the messages that the group of this slot takes of these packets, in order, each in its own step
+abbrev pub taken : List Packet → ℕ → SoloState → List Message
+taken [] slot solo = []
+taken (packet ∷ packets) slot solo = taken_in_phase solo.phase packet slot solo ++ taken packets slot (solo_step packet solo).solo
 
 -- ---- what is sent
 
@@ -90,9 +90,9 @@ pub record IsSettledBy (setup : Setup) (packets : List Packet) (place code : ℕ
   pub puback : Puback
   pub later : List Packet
   pub came : packets ≡ earlier ++ kinds.Puback puback ∷ later
-  pub connected : (run_of setup earlier).story.phase ≡ Connected
+  pub connected : (run_of setup earlier).solo.phase ≡ Connected
   pub hand_out : HandOut
-  pub there : slice_get (run_of setup earlier).story.handed_out place ≡ Some hand_out
+  pub there : slice_get (run_of setup earlier).solo.handed_out place ≡ Some hand_out
   pub unacknowledged : hand_out.code ≡ None
   pub its : puback.packet_identifier ≡ hand_out.identifier
   pub as_told : puback.reason_code ≡ code

@@ -2,9 +2,9 @@
 use Rattle.std.specs.Prelude.{ℕ, ◌+◌, List, [], ◌∷◌, ◌++◌, Result, Ok, Err}
 use Rattle.hex.specs.Hex.{decode_of}
 use Rattle.hex.specs.declared.error.FromHexError.{FromHexError}
-use Rattle.line_io.specs.Lines.{lines_of}
+use Rattle.text_io.specs.Lines.{lines_of}
 
--- the bytes of a line in front of those of the lines behind it, or the number of the first line that is not hex
+-- the bytes of a line in front of those of the lines after it, or the number of the first line that is not hex
 abbrev pub joined : Result (List ℕ) FromHexError → ℕ → Result (List ℕ) ℕ → Result (List ℕ) ℕ
 joined (Err error) number later = Err number
 joined (Ok bytes) number (Ok more) = Ok (bytes ++ more)

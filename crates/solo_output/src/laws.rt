@@ -1,4 +1,4 @@
-//! Laws of the story: it is what a server does, and what it comes to is lawful. Each is the contract of a function that does nothing,
+//! Laws of the model: it is what a server does, and what it comes to is lawful. Each is the contract of a function that does nothing,
 //! stated over the definitions that the contracts of [`solo`](crate::solo) and of [`drive_client`](drive::drive_client) cite.
 ghost use Rattle.std.specs.Prelude.{◌≡◌, ◌≢◌, ◌⊎◌, ◌↔◌, ◌+◌, ◌<◌, ◌≤◌, ℕ, min, List, [], ◌∷◌, ◌++◌, length, take, slice_get, Option, Some, None, Ok, Err};
 ghost use Rattle.std.specs.List.{AllByRecursion};
@@ -23,11 +23,11 @@ ghost use Rattle.conn_rules.specs.Publishing.{publish_answer, puback_code};
 ghost use Rattle.local_server.specs.declared.setup.Setup.{Setup};
 ghost use Rattle.drive.specs.Streams.{client_script_of};
 ghost use Rattle.drive.specs.Transcripts.{IsClientOutput};
-ghost use Rattle.solo_output.specs.Groups.{Story, HandOut, opening, shares_of, accepted_in, handed_in, open_identifiers, waiting_in, unacknowledged};
+ghost use Rattle.solo_output.specs.Groups.{SoloState, HandOut, opening, shares_of, accepted_in, handed_in, open_identifiers, waiting_in, unacknowledged};
 ghost use Rattle.solo_output.specs.Groups.Phase.{Connected, Closed};
 ghost use Rattle.solo_output.specs.HandOuts.{quota, least_free, sends_nothing};
 ghost use Rattle.solo_output.specs.Publishing.{matching};
-ghost use Rattle.solo_output.specs.Replies.{farewell, reply, turn, turns};
+ghost use Rattle.solo_output.specs.Replies.{farewell, reply, solo_step, solo_steps};
 ghost use Rattle.solo_output.specs.Report.{counts_of};
 ghost use Rattle.solo_output.specs.Streams.{stream_of};
 ghost use Rattle.solo_output.specs.Output.{solo_output, IsOutputFor};
@@ -60,7 +60,7 @@ pub fn identifier_law()
     ensures only { (used : List ℕ) (identifier : ℕ) → IsLeastFree used identifier → least_free used ≡ identifier }
 {}
 
-/// **Every run is lawful**: what the story keeps on every setup, whatever packets come, of the client and of each group.
+/// **Every run is lawful**: what the model keeps on every setup, whatever packets come, of the client and of each group.
 ///
 /// - `receive_maximum`: no more hand-outs are unacknowledged than the Receive Maximum of the CONNECT, or than 65,535 where it has none
 ///   (3.1.2.11.3, 4.9), nor than the limit of the setup (profile); and while the client is connected, the quota is the least of these and of 256 (profile). `quota`: nor more than the quota.
@@ -84,54 +84,54 @@ pub fn identifier_law()
 pub fn every_run_is_lawful()
     ensures receive_maximum { (setup : Setup) (connect : Connect) (packets : List Packet) →
         let asked = min setup.max_inflight (or_else 65535 connect.properties.receive_maximum) in
-        let story = (run_of setup (kinds.Connect connect ∷ packets)).story in
-        (length (unacknowledged story) ≤ asked) × (story.phase ≡ Connected → quota story ≡ min asked 256) }
-    ensures quota { (setup : Setup) (packets : List Packet) → let story = (run_of setup packets).story in
-        length (unacknowledged story) ≤ quota story }
-    ensures identifiers { (setup : Setup) (packets : List Packet) → let used = unacknowledged (run_of setup packets).story in
+        let solo = (run_of setup (kinds.Connect connect ∷ packets)).solo in
+        (length (unacknowledged solo) ≤ asked) × (solo.phase ≡ Connected → quota solo ≡ min asked 256) }
+    ensures quota { (setup : Setup) (packets : List Packet) → let solo = (run_of setup packets).solo in
+        length (unacknowledged solo) ≤ quota solo }
+    ensures identifiers { (setup : Setup) (packets : List Packet) → let used = unacknowledged (run_of setup packets).solo in
         AllByRecursion (λ identifier. (1 ≤ identifier) × (identifier ≤ 256)) used × AreDistinct used }
     ensures groups { (setup : Setup) (packets : List Packet) → length setup.groups ≤ 8 → HaveDistinctTexts setup.groups →
-        let shares = shares_of (run_of setup packets).story.groups in (length shares ≤ 8) × HaveDistinctTexts shares }
-    ensures slots { (setup : Setup) (packets more : List Packet) → let story = (run_of setup packets).story in
-        (later : List Share) × (shares_of (turns more story).story.groups ≡ shares_of story.groups ++ later) }
+        let shares = shares_of (run_of setup packets).solo.groups in (length shares ≤ 8) × HaveDistinctTexts shares }
+    ensures slots { (setup : Setup) (packets more : List Packet) → let solo = (run_of setup packets).solo in
+        (later : List Share) × (shares_of (solo_steps more solo).solo.groups ≡ shares_of solo.groups ++ later) }
     ensures accepted { (setup : Setup) (packets : List Packet) (slot : ℕ) →
-        accepted_in slot (run_of setup packets).story.groups ≡ taken packets slot (opening setup.capacity setup.max_inflight setup.groups) }
-    ensures answered { (story : Story) (publish : Publish) (identifier : ℕ) → story.phase ≡ Connected → publish_answer publish ≡ Offer identifier →
-        (reply (kinds.Publish publish) story).packet
-        ≡ Some (puback identifier (puback_code (length (matching publish.topic story)) (length (takers publish.topic story)))) }
-    ensures waiting { (setup : Setup) (packets : List Packet) (slot : ℕ) → let story = (run_of setup packets).story in
-        (length (accepted_in slot story.groups) ≤ life) × (length (waiting_in slot story) ≤ setup.capacity) }
+        accepted_in slot (run_of setup packets).solo.groups ≡ taken packets slot (opening setup.capacity setup.max_inflight setup.groups) }
+    ensures answered { (solo : SoloState) (publish : Publish) (identifier : ℕ) → solo.phase ≡ Connected → publish_answer publish ≡ Offer identifier →
+        (reply (kinds.Publish publish) solo).packet
+        ≡ Some (puback identifier (puback_code (length (matching publish.topic solo)) (length (takers publish.topic solo)))) }
+    ensures waiting { (setup : Setup) (packets : List Packet) (slot : ℕ) → let solo = (run_of setup packets).solo in
+        (length (accepted_in slot solo.groups) ≤ life) × (length (waiting_in slot solo) ≤ setup.capacity) }
     ensures in_order { (setup : Setup) (packets : List Packet) (slot : ℕ) → let run = run_of setup packets in
-        let accepted = accepted_in slot run.story.groups in let hand_outs = handed_in slot run.story.handed_out in
-        (length (published run.sent) ≡ length run.story.handed_out) × (length hand_outs ≤ length accepted)
-        × (sent_in slot (published run.sent) run.story.handed_out ≡ jobs_of accepted hand_outs) }
+        let accepted = accepted_in slot run.solo.groups in let hand_outs = handed_in slot run.solo.handed_out in
+        (length (published run.sent) ≡ length run.solo.handed_out) × (length hand_outs ≤ length accepted)
+        × (sent_in slot (published run.sent) run.solo.handed_out ≡ jobs_of accepted hand_outs) }
     ensures members { (setup : Setup) (packets : List Packet) (packet : Packet) (place : ℕ) (one : HandOut) →
-        let story = (run_of setup packets).story in let next = (turn packet story).story in
-        length story.handed_out ≤ place → slice_get next.handed_out place ≡ Some one →
+        let solo = (run_of setup packets).solo in let next = (solo_step packet solo).solo in
+        length solo.handed_out ≤ place → slice_get next.handed_out place ≡ Some one →
         (next.membership ≡ Member one.slot) × IsLeastFree (open_identifiers (take place next.handed_out)) one.identifier }
-    ensures one_group { (setup : Setup) (packets : List Packet) (place : ℕ) (one : HandOut) → let story = (run_of setup packets).story in
-        slice_get story.handed_out place ≡ Some one → one.code ≡ None → IsInGroup story.membership one.slot }
-    ensures bound { (setup : Setup) (packets : List Packet) (slot : ℕ) → let story = (run_of setup packets).story in
-        IsInGroup story.membership slot → slot < length story.groups }
+    ensures one_group { (setup : Setup) (packets : List Packet) (place : ℕ) (one : HandOut) → let solo = (run_of setup packets).solo in
+        slice_get solo.handed_out place ≡ Some one → one.code ≡ None → IsInGroup solo.membership one.slot }
+    ensures bound { (setup : Setup) (packets : List Packet) (slot : ℕ) → let solo = (run_of setup packets).solo in
+        IsInGroup solo.membership slot → slot < length solo.groups }
     ensures settles { (setup : Setup) (packets : List Packet) (puback : Puback) (place : ℕ) (one : HandOut) →
-        let story = (run_of setup packets).story in story.phase ≡ Connected →
-        slice_get story.handed_out place ≡ Some one → one.code ≡ None → puback.packet_identifier ≡ one.identifier →
-        (settled : HandOut) × (slice_get (turn (kinds.Puback puback) story).story.handed_out place ≡ Some settled)
+        let solo = (run_of setup packets).solo in solo.phase ≡ Connected →
+        slice_get solo.handed_out place ≡ Some one → one.code ≡ None → puback.packet_identifier ≡ one.identifier →
+        (settled : HandOut) × (slice_get (solo_step (kinds.Puback puback) solo).solo.handed_out place ≡ Some settled)
         × IsStill one settled × (settled.code ≡ Some puback.reason_code) }
     ensures settled { (setup : Setup) (packets : List Packet) (place code : ℕ) (one : HandOut) →
-        slice_get (run_of setup packets).story.handed_out place ≡ Some one → one.code ≡ Some code → IsSettledBy setup packets place code }
-    ensures for_good { (setup : Setup) (packets more : List Packet) (place : ℕ) (one : HandOut) → let story = (run_of setup packets).story in
-        slice_get story.handed_out place ≡ Some one →
-        (other : HandOut) × (slice_get (turns more story).story.handed_out place ≡ Some other) × IsStill one other }
-    ensures one_fate { (setup : Setup) (packets : List Packet) (slot : ℕ) → let story = (run_of setup packets).story in
-        let accepted = length (accepted_in slot story.groups) in
-        let fates = counts_of story.terms.session_expiry_interval accepted (handed_in slot story.handed_out) in
+        slice_get (run_of setup packets).solo.handed_out place ≡ Some one → one.code ≡ Some code → IsSettledBy setup packets place code }
+    ensures for_good { (setup : Setup) (packets more : List Packet) (place : ℕ) (one : HandOut) → let solo = (run_of setup packets).solo in
+        slice_get solo.handed_out place ≡ Some one →
+        (other : HandOut) × (slice_get (solo_steps more solo).solo.handed_out place ≡ Some other) × IsStill one other }
+    ensures one_fate { (setup : Setup) (packets : List Packet) (slot : ℕ) → let solo = (run_of setup packets).solo in
+        let accepted = length (accepted_in slot solo.groups) in
+        let fates = counts_of solo.terms.session_expiry_interval accepted (handed_in slot solo.handed_out) in
         fates.acknowledged + fates.refused + fates.held + fates.queued + fates.returned ≡ accepted }
-    ensures eager { (setup : Setup) (packets : List Packet) (slot : ℕ) → let story = (run_of setup packets).story in
-        story.phase ≡ Connected → story.membership ≡ Member slot →
-        (waiting_in slot story ≡ []) ⊎ (length (unacknowledged story) ≡ quota story) }
-    ensures closed { (story : Story) (packets : List Packet) → story.phase ≡ Closed →
-        (turns packets story ≡ sends_nothing story) × ((fault : Option StreamFault) → farewell fault story ≡ None) }
+    ensures eager { (setup : Setup) (packets : List Packet) (slot : ℕ) → let solo = (run_of setup packets).solo in
+        solo.phase ≡ Connected → solo.membership ≡ Member slot →
+        (waiting_in slot solo ≡ []) ⊎ (length (unacknowledged solo) ≡ quota solo) }
+    ensures closed { (solo : SoloState) (packets : List Packet) → solo.phase ≡ Closed →
+        (solo_steps packets solo ≡ sends_nothing solo) × ((fault : Option StreamFault) → farewell fault solo ≡ None) }
 {}
 
 /// **How a client comes into a group, and out of it**, on every setup and whatever packets come (sections 3.8 to 3.11, 4.8.2).
@@ -142,31 +142,31 @@ pub fn every_run_is_lawful()
 /// - `leaves`: the UNSUBACK has 00 only for the share of the member's own group, and the client is then leaving it, or in no group where nothing is
 ///   unacknowledged; `left`, `leaving`: and a member ceases to be one, and a client is leaving, only so. `releases`: a member that asks to leave does
 ///   (3.10.3, 3.11.3).
-/// - `parts`: who is leaving a group is in it behind the next packet too, or in none with nothing unacknowledged; `owes`: and while it is leaving,
+/// - `parts`: who is leaving a group is in it after the next packet too, or in none with nothing unacknowledged; `owes`: and while it is leaving,
 ///   something is unacknowledged (3.10.4).
 pub fn membership_is_lawful()
-    ensures joins { (story : Story) (packet : Packet) (slot : ℕ) → let next = (turn packet story).story in
-        Joins packet (reply packet story) slot → next.membership ≡ Member slot }
-    ensures joined { (story : Story) (packet : Packet) (slot : ℕ) → let next = (turn packet story).story in
-        next.membership ≡ Member slot → (story.membership ≡ Member slot) ⊎ Joins packet (reply packet story) slot }
-    ensures admits { (story : Story) (subscribe : Subscribe) (share : Share) → let packet = kinds.Subscribe subscribe in
-        AsksFor subscribe share story → story.membership ≡ NotMember →
-        (slot_of share.text (shares_of story.groups) ≢ None) ⊎ (length story.groups < most_routes) →
-        (slot : ℕ) × Joins packet (reply packet story) slot }
-    ensures readmits { (story : Story) (subscribe : Subscribe) (share : Share) (slot : ℕ) → let packet = kinds.Subscribe subscribe in
-        AsksFor subscribe share story → IsInGroup story.membership slot → slot_of share.text (shares_of story.groups) ≡ Some slot →
-        Joins packet (reply packet story) slot }
-    ensures leaves { (story : Story) (packet : Packet) (slot : ℕ) → let next = (turn packet story).story in
-        Leaves packet (reply packet story) slot →
-        (story.membership ≡ Member slot) × ((next.membership ≡ Leaving slot) ⊎ ((next.membership ≡ NotMember) × (unacknowledged next ≡ []))) }
-    ensures left { (story : Story) (packet : Packet) (slot : ℕ) → let next = (turn packet story).story in
-        story.membership ≡ Member slot → (next.membership ≡ Member slot) ⊎ Leaves packet (reply packet story) slot }
-    ensures leaving { (story : Story) (packet : Packet) (slot : ℕ) → let next = (turn packet story).story in
-        next.membership ≡ Leaving slot → (story.membership ≡ Leaving slot) ⊎ Leaves packet (reply packet story) slot }
-    ensures releases { (story : Story) (unsubscribe : Unsubscribe) (slot : ℕ) → let packet = kinds.Unsubscribe unsubscribe in
-        AsksToLeave unsubscribe slot story → story.membership ≡ Member slot → Leaves packet (reply packet story) slot }
-    ensures parts { (story : Story) (packet : Packet) (slot : ℕ) → let next = (turn packet story).story in
-        story.membership ≡ Leaving slot → IsInGroup next.membership slot ⊎ ((next.membership ≡ NotMember) × (unacknowledged next ≡ [])) }
-    ensures owes { (setup : Setup) (packets : List Packet) (slot : ℕ) → let story = (run_of setup packets).story in
-        story.membership ≡ Leaving slot → unacknowledged story ≢ [] }
+    ensures joins { (solo : SoloState) (packet : Packet) (slot : ℕ) → let next = (solo_step packet solo).solo in
+        Joins packet (reply packet solo) slot → next.membership ≡ Member slot }
+    ensures joined { (solo : SoloState) (packet : Packet) (slot : ℕ) → let next = (solo_step packet solo).solo in
+        next.membership ≡ Member slot → (solo.membership ≡ Member slot) ⊎ Joins packet (reply packet solo) slot }
+    ensures admits { (solo : SoloState) (subscribe : Subscribe) (share : Share) → let packet = kinds.Subscribe subscribe in
+        AsksFor subscribe share solo → solo.membership ≡ NotMember →
+        (slot_of share.text (shares_of solo.groups) ≢ None) ⊎ (length solo.groups < most_routes) →
+        (slot : ℕ) × Joins packet (reply packet solo) slot }
+    ensures readmits { (solo : SoloState) (subscribe : Subscribe) (share : Share) (slot : ℕ) → let packet = kinds.Subscribe subscribe in
+        AsksFor subscribe share solo → IsInGroup solo.membership slot → slot_of share.text (shares_of solo.groups) ≡ Some slot →
+        Joins packet (reply packet solo) slot }
+    ensures leaves { (solo : SoloState) (packet : Packet) (slot : ℕ) → let next = (solo_step packet solo).solo in
+        Leaves packet (reply packet solo) slot →
+        (solo.membership ≡ Member slot) × ((next.membership ≡ Leaving slot) ⊎ ((next.membership ≡ NotMember) × (unacknowledged next ≡ []))) }
+    ensures left { (solo : SoloState) (packet : Packet) (slot : ℕ) → let next = (solo_step packet solo).solo in
+        solo.membership ≡ Member slot → (next.membership ≡ Member slot) ⊎ Leaves packet (reply packet solo) slot }
+    ensures leaving { (solo : SoloState) (packet : Packet) (slot : ℕ) → let next = (solo_step packet solo).solo in
+        next.membership ≡ Leaving slot → (solo.membership ≡ Leaving slot) ⊎ Leaves packet (reply packet solo) slot }
+    ensures releases { (solo : SoloState) (unsubscribe : Unsubscribe) (slot : ℕ) → let packet = kinds.Unsubscribe unsubscribe in
+        AsksToLeave unsubscribe slot solo → solo.membership ≡ Member slot → Leaves packet (reply packet solo) slot }
+    ensures parts { (solo : SoloState) (packet : Packet) (slot : ℕ) → let next = (solo_step packet solo).solo in
+        solo.membership ≡ Leaving slot → IsInGroup next.membership slot ⊎ ((next.membership ≡ NotMember) × (unacknowledged next ≡ [])) }
+    ensures owes { (setup : Setup) (packets : List Packet) (slot : ℕ) → let solo = (run_of setup packets).solo in
+        solo.membership ≡ Leaving slot → unacknowledged solo ≢ [] }
 {}

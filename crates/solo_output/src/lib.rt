@@ -1,5 +1,5 @@
-//! `solo`, a client's run against a server of its own; and what it writes, as a function of what the client's stream is read as: a story of
-//! lists, without queue, window or session, with laws of what every such story keeps.
+//! `solo`, a client's run against a server of its own; and what it writes, as a function of what the client's stream is read as: a model of
+//! lists, without queue, window or session, with laws of what every such model keeps.
 //!
 //! ```
 //! let stream: &[u8] = b"100F00044D5154540502003C0000027731\n"; // a CONNECT

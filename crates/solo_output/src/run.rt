@@ -6,10 +6,10 @@ ghost use Rattle.solo_output.specs.Output.{IsOutputFor};
 ghost use Rattle.solo_output.specs.Streams.{stream_of};
 
 use drive::drive_client;
-use line_io::RunError;
 use local_server::Setup;
 use std::alloc::Global;
 use std::io::{Read, Write};
+use text_io::RunError;
 
 /// Runs one client against a server: reads its stream as lines of hex digits, a piece a line, and writes a line for each packet
 /// that it is sent; at the end the line of the report of each share that is bound. All happens at the moment 0.

@@ -1,7 +1,7 @@
 //! The clients of a worker: a publisher, and a member of its group.
 ghost use Rattle.std.specs.Prelude.{◌<◌};
 
-use client_table::{ClientTable, Said};
+use client_table::{ClientTable, StepOutput};
 use conn_engine::Opening;
 use conn_supply::{HoldingPlace, Supply};
 use std::alloc::Global;
@@ -20,7 +20,7 @@ pub(crate) struct Clients {
     seen: Seen,
     // What the member was handed, and has not acknowledged.
     identifiers: Vec<u16>,
-    said: Vec<Said>,
+    said: Vec<StepOutput>,
 }
 
 impl Clients {
@@ -100,7 +100,7 @@ impl Clients {
         self.say(supply, table, publisher, &connect(b'p', self.number))
     }
 
-    /// Both come, and so many jobs are published, behind each of which the member has a round; then it takes what is left.
+    /// Both come, and so many jobs are published, after each of which the member has a round; then it takes what is left.
     pub(crate) fn work<P: HoldingPlace, S: Supply<P>>(
         &mut self,
         supply: &mut S,

@@ -16,7 +16,7 @@ use test_broker::worker::{Shift, work_alone};
 /// How many messages may wait in a group.
 const CAPACITY: usize = 1_024;
 
-/// So many jobs, of which so many are out at once; how many bytes were written for them, behind the run.
+/// So many jobs, of which so many are out at once; how many bytes were written for them, after the run.
 #[derive(Drop)]
 struct Jobs {
     window: u16,

@@ -1,4 +1,4 @@
-//! The tests of `shared_supply` of what its groups report at the end: behind workers in threads of their own, and where each growth is refused in turn.
+//! The tests of `shared_supply` of what its groups report at the end: after workers in threads of their own, and where each growth is refused in turn.
 #![tactic(auto)]
 
 #[cfg(test)]

@@ -1,7 +1,7 @@
 //! The clients of a worker: a publisher, and a member of a group.
 ghost use Rattle.std.specs.Prelude.{◌<◌};
 
-use client_table::{ClientTable, Said};
+use client_table::{ClientTable, StepOutput};
 use conn_engine::Opening;
 use conn_supply::{HoldingPlace, Supply};
 use std::alloc::Global;
@@ -12,7 +12,7 @@ use test_broker::visits::{receive, tick};
 /// How many jobs the publisher publishes.
 const ROUNDS: u32 = 400;
 
-/// Behind so many jobs the member goes, with what it holds, and comes again.
+/// After so many jobs the member goes, with what it holds, and comes again.
 const STAY: u32 = 64;
 
 /// A publisher with the connection of an even number, and a member with the next one, over a supply with so many groups; and what they saw.
@@ -24,7 +24,7 @@ pub(crate) struct Pair {
     // What the member was handed, and has not answered.
     identifiers: Vec<u16>,
     answers: u32,
-    said: Vec<Said>,
+    said: Vec<StepOutput>,
 }
 
 impl Pair {

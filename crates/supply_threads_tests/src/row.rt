@@ -12,17 +12,17 @@ use gate_word::Gate;
 use group_jobs::Envelope;
 use group_queue::Nobody;
 use session_desk::Place;
-use shared_supply::{AskedBack, Hall, Wakes};
+use shared_supply::{AskedBack, SharedBroker, Wakes};
 use std::alloc::Global;
 use std::sync::Wait;
 use std::test::Fail;
-use test_broker::broker::{Built, Day, Hand, open, shut};
+use test_broker::broker::{Built, Day, WorkerHandle, open, shut};
 use test_broker::calls::{acknowledge, offer, return_one, take};
 use test_broker::ending::Counts;
 use test_broker::worker::supply_of;
 
 /// What the calls told: the numbers of what was accepted, acknowledged, given back and held, the places' numbers, whom the worker had to wake, whether the
-/// gate was drained, and whether the worker was let in behind that.
+/// gate was drained, and whether the worker was let in after that.
 #[derive(Clone, Copy, Debug, PartialEq, Eq)]
 struct Told {
     accepted: [Option<u64>; 4],
@@ -91,19 +91,19 @@ fn work<B: Broker, S: Supply<BrokerPlace<B>>>(
     Some(Out { near, far, held })
 }
 
-/// The calls of a worker, whose ports come back, before the gate is shut and behind that.
+/// The calls of a worker, whose ports come back, before the gate is shut and after that.
 fn act<B: Broker, N: HistoryName, R: Wait>(
     rt: &R,
     alloc: Global,
     gate: &Gate,
-    hall: &Hall<'_, B, N>,
-    hand: Hand<B>,
+    shared_broker: &SharedBroker<'_, B, N>,
+    handle: WorkerHandle<B>,
     spare: Key<B>,
     told: &mut Told,
 ) -> (Option<Out<B>>, Ports<B>)
     requires { gate.now ≡ B.gate }
 {
-    let mut supply = match supply_of(rt, alloc, hall, hand) {
+    let mut supply = match supply_of(rt, alloc, shared_broker, handle) {
         Ok(supply) => supply,
         Err(ports) => return (None, ports),
     };
@@ -132,28 +132,31 @@ impl Day for Row {
         built: Built<'_, B, N>,
     ) -> Option<(Told, Result<Counts, u16>)> {
         let Built {
-            hall,
-            mut hands,
+            shared_broker,
+            mut handles,
             spare,
             pass: _,
         } = built;
-        let Some(hand) = hands.pop() else {
-            abandon(hall);
+        let Some(handle) = handles.pop() else {
+            abandon(shared_broker);
             return None;
         };
         let mut told = NOTHING;
-        let (out, ports) = act(rt, alloc, gate, &hall, hand, spare, &mut told);
+        let (out, ports) = act(rt, alloc, gate, &shared_broker, handle, spare, &mut told);
         match out {
-            Some(out) => Some((told, end(rt, alloc, hall, ports, out, self.ending)?)),
+            Some(out) => Some((
+                told,
+                end(rt, alloc, shared_broker, ports, out, self.ending)?,
+            )),
             None => {
-                abandon(hall);
+                abandon(shared_broker);
                 None
             }
         }
     }
 }
 
-/// The row; where memory was wanted for what can't be made again by itself, once more.
+/// The row; where an allocation failed for what can't be made again by itself, once more.
 fn tell<R: Wait>(rt: &R, alloc: Global, ending: Ending) -> Option<(Told, Result<Counts, u16>)> {
     let mut row = Row { ending };
     match open(rt, alloc, 8, 1, &mut row) {

@@ -5,11 +5,11 @@ use call_history::HistoryName;
 use group_jobs::{Envelope, Stamp};
 use group_queue::Nobody;
 use session_desk::{All, Desk};
-use shared_supply::Hall;
+use shared_supply::SharedBroker;
 use std::alloc::Global;
 use std::sync::Wait;
 use test_broker::calls::message;
-use test_broker::ending::{Counts, let_go, let_go_of_all, outcome_of};
+use test_broker::ending::{Counts, discard, let_go_of_all, outcome_of};
 use test_broker::worker::keep;
 
 /// With what the groups are ended: without the far place, with an envelope too many, or with all that there is.
@@ -20,14 +20,14 @@ pub(crate) enum Ending {
     Whole,
 }
 
-/// What is out of the desk behind the calls.
+/// What is out of the desk after the calls.
 pub(crate) struct Out<B: Broker> {
     pub(crate) near: BrokerPlace<B>,
     pub(crate) far: BrokerPlace<B>,
     pub(crate) held: Option<Envelope>,
 }
 
-/// All that a desk has; where memory was wanted for that, once more.
+/// All that a desk has; where an allocation failed for that, once more.
 fn all_of<B: Broker>(
     desk: Desk<Envelope, BrokerPlace<B>>,
 ) -> Option<All<Envelope, BrokerPlace<B>>> {
@@ -36,14 +36,14 @@ fn all_of<B: Broker>(
         Err(desk) => match desk.into_all() {
             Ok(all) => Some(all),
             Err(desk) => {
-                desk.abandon_with(&let_go);
+                desk.abandon_with(&discard);
                 None
             }
         },
     }
 }
 
-/// Ends the groups; where memory was wanted for that, once more.
+/// Ends the groups; where an allocation failed for that, once more.
 fn finish<'g, B: Broker<Seen = Nobody>, R: Wait>(
     rt: &R,
     alloc: Global,
@@ -71,7 +71,7 @@ fn finish<'g, B: Broker<Seen = Nobody>, R: Wait>(
     }
 }
 
-/// What became of the messages of the first group, or the number of the refusal to end it; nothing where memory was wanted in a group.
+/// What became of the messages of the first group, or the number of the refusal to end it; nothing where an allocation failed in a group.
 fn first_of(ended: Ended<'_>) -> Option<Result<Counts, u16>> {
     let Ended {
         mut answers,
@@ -95,7 +95,7 @@ fn put(held: &mut Vec<Envelope>, envelope: Option<Envelope>) -> bool {
         Some(envelope) => match held.push(envelope) {
             Ok(()) => true,
             Err(refused) => {
-                let_go(refused.value);
+                discard(refused.value);
                 false
             }
         },
@@ -150,7 +150,7 @@ fn let_go_of_out<B: Broker>(out: Out<B>) {
         held,
     } = out;
     if let Some(envelope) = held {
-        let_go(envelope);
+        discard(envelope);
     }
 }
 
@@ -158,12 +158,12 @@ fn let_go_of_out<B: Broker>(out: Out<B>) {
 pub(crate) fn end<B: Broker<Seen = Nobody>, N: HistoryName, R: Wait>(
     rt: &R,
     alloc: Global,
-    hall: Hall<'_, B, N>,
+    shared_broker: SharedBroker<'_, B, N>,
     ports: Ports<B>,
     out: Out<B>,
     ending: Ending,
 ) -> Option<Result<Counts, u16>> {
-    let (groups, desk, _routes) = hall.into_parts();
+    let (groups, desk, _routes) = shared_broker.into_parts();
     let Some(
         All {
             mut places,
@@ -186,8 +186,8 @@ pub(crate) fn end<B: Broker<Seen = Nobody>, N: HistoryName, R: Wait>(
 }
 
 /// Gives a broker up.
-pub(crate) fn abandon<B: Broker, N: HistoryName>(hall: Hall<'_, B, N>) {
-    let (groups, desk, _routes) = hall.into_parts();
-    desk.into_desk().abandon_with(&let_go);
+pub(crate) fn abandon<B: Broker, N: HistoryName>(shared_broker: SharedBroker<'_, B, N>) {
+    let (groups, desk, _routes) = shared_broker.into_parts();
+    desk.into_desk().abandon_with(&discard);
     groups.abandon();
 }

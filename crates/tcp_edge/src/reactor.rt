@@ -233,7 +233,7 @@ impl Reactor {
     /// # Errors
     ///
     /// [`ReactorError::System`]: the source watches nothing once it is dropped.
-    pub fn let_go<S: Source>(&mut self, number: usize, source: &mut S) -> Result<(), ReactorError>
+    pub fn unwatch<S: Source>(&mut self, number: usize, source: &mut S) -> Result<(), ReactorError>
         requires { IsSeated self.old.seats number }
         ensures lets_go { LetsGo number self.old self.new }
         ensures kept { S.keeps source.old source.new }

@@ -93,7 +93,7 @@ fn is_short_of(error: &io::Error) -> bool
 
 /// What it means that the system accepted no connection, for this reason.
 ///
-/// A want of memory (ENOMEM), of descriptors (EMFILE, ENFILE) or of buffers (ENOBUFS) passes: the listener is idle. Whoever waits stays in its
+/// A lack of memory (ENOMEM), of descriptors (EMFILE, ENFILE) or of buffers (ENOBUFS) passes: the listener is idle. Whoever waits stays in its
 /// queue, and no event tells of it again, so the listener is asked again at the next wait. `None` is a connection that was gone already:
 /// another one may wait. Each other reason is a failure.
 pub fn not_accepted(error: &io::Error) -> Option<Arrival<Socket<TcpStream>>>

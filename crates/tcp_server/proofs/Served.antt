@@ -2,10 +2,10 @@
 use Rattle.std.proofs.Common.{◌≡◌, ℕ, List, ◌++◌, get_or, map, Option, Result, Ok, Err, sym, ap, subst, ◌∙◌, append_assoc, inl, inr, arith}
 use Rattle.std.proofs.lemmas.Option.{slice_get-get_or}
 use Rattle.std.specs.Io.KnownBytes.{Appends}
-use Rattle.line_io.proofs.PassingLaws.{Appends-then, Keeps-refl}
-use Rattle.line_io.specs.Passing.{Begins}
-use Rattle.line_io.specs.declared.error.RunError.{RunError}
-use Rattle.line_io.specs.declared.error.RunError.TheVariants.{ReadFailed, TooManyReads, WriteFailed, Network, Memory, Unfinished, Line}
+use Rattle.text_io.proofs.PassingLaws.{Appends-then, Keeps-refl}
+use Rattle.text_io.specs.Passing.{Begins}
+use Rattle.text_io.specs.declared.error.RunError.{RunError}
+use Rattle.text_io.specs.declared.error.RunError.TheVariants.{ReadFailed, TooManyReads, WriteFailed, Network, Memory, Unfinished, Line}
 use Rattle.mqtt_topic.specs.Names.{Share}
 use Rattle.gate_word.specs.Seats.{GateId}
 use Rattle.group_queue.specs.declared.witness.Nobody.{Nobody}

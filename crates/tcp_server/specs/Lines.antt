@@ -1,8 +1,8 @@
 -- What is written of the groups of a broker by their answers, and how these decide its end.
 use Rattle.std.specs.Prelude.{List, [], All, Any, Contains, IsOk, Result, Ok, Err, ⊤, zip, flat_map, ℕ}
 use Rattle.mqtt_topic.specs.Names.{Share}
-use Rattle.line_io.specs.declared.error.RunError.{RunError}
-use Rattle.line_io.specs.declared.error.RunError.TheVariants.{ReadFailed, TooManyReads, WriteFailed, Network, Memory, Unfinished as NotKnown, Line}
+use Rattle.text_io.specs.declared.error.RunError.{RunError}
+use Rattle.text_io.specs.declared.error.RunError.TheVariants.{ReadFailed, TooManyReads, WriteFailed, Network, Memory, Unfinished as NotKnown, Line}
 use Rattle.group_jobs.specs.Reports.{report_line}
 use Rattle.group_jobs.specs.declared.report.Report.{Report}
 use Rattle.group_queue.specs.declared.error.FinishError.{FinishError}

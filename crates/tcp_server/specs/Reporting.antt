@@ -1,7 +1,7 @@
 -- What is written of the groups of a broker that has ended.
 use Rattle.std.specs.Prelude.{ℕ, ◌≡◌, ◌<◌, List, map, All, Option, None, Result}
 use Rattle.mqtt_topic.specs.Names.{Share}
-use Rattle.line_io.specs.declared.error.RunError.{RunError}
+use Rattle.text_io.specs.declared.error.RunError.{RunError}
 use Rattle.group_jobs.specs.Stamps.{Held}
 use Rattle.group_jobs.specs.declared.report.Report.{Report}
 use Rattle.session_desk.specs.Calls.{Call}

@@ -2,23 +2,22 @@
 ghost use Rattle.std.specs.Prelude.{◌≡◌, ◌≤◌, true, [], All, length, map, vec_capacity, Ok, IfOk, IfErr};
 ghost use Rattle.std.specs.Io.KnownBytes.{IsAtEnd};
 ghost use Rattle.broker_groups.specs.Naming.{AreUnsent};
-ghost use Rattle.line_io.specs.declared.error.RunError.TheVariants.{Memory};
+ghost use Rattle.text_io.specs.declared.error.RunError.TheVariants.{Memory};
 ghost use Rattle.tcp_server.specs.Lines.{lines_of, report_of, EndsBy};
 ghost use Rattle.tcp_server.specs.Reporting.{AreReportsAt, HaveCapacity};
 
-use crate::crew::Crew;
 use crate::listening::Awaited;
 use crate::reporting::{end_by, let_go_of_all, lines, reports_in};
 use crate::serving::Served;
+use crate::setup::WorkerSetup;
 use crate::watching::Watching;
 use broker_groups::{Broker, BrokerPlace, Ended, Ports};
 use call_history::HistoryName;
 use conn_rules::MaxInflight;
 use group_queue::Nobody;
-use line_io::RunError;
 use mqtt_topic::Routes;
-use shared_desk::DeskPass;
-use shared_supply::Hall;
+use shared_desk::DeskView;
+use shared_supply::SharedBroker;
 use std::alloc::Global;
 use std::io::Read;
 use std::net::Net;
@@ -27,9 +26,10 @@ use std::sync::Wait;
 use std::sync::atomic::AtomicBool;
 use std::thread::Threads;
 use tcp_edge::{TcpSource, Until};
+use text_io::RunError;
 use threaded_broker::{Outcome, serve};
 use transport::OpenCrossing;
-use worker_connections::Hand;
+use worker_connections::WorkerHandle;
 use worker_pool::{Closer, SourceEnd};
 
 /// Who shuts the gate of a broker: who takes its connections, who watches its input, and who ends it.
@@ -62,23 +62,23 @@ pub(crate) fn attend<
 >(
     rt: &R,
     alloc: Global,
-    hall: Hall<'_, B, N>,
+    shared_broker: SharedBroker<'_, B, N>,
     groups: &Routes,
-    hands: Vec<Hand<B>>,
+    handles: Vec<WorkerHandle<B>>,
     room: Vec<Ports<B>>,
-    crew: Crew<'_, R>,
+    setup: WorkerSetup<'_, R>,
     source: Awaited<TcpSource>,
     max_inflight: MaxInflight,
     closers: Closers<'_, B>,
     input: &mut I,
-    pass: &mut DeskPass<BrokerPlace<B>, N>,
+    pass: &mut DeskView<BrokerPlace<B>, N>,
 ) -> Result<Reported, RunError>
     requires capacity { HaveCapacity B.group (B.group 0).capacity }
-    requires hands { (1 ≤ length hands.items) × (length hands.items ≤ 64) }
-    requires room { (room.items ≡ []) × (length hands.items ≤ vec_capacity room) }
-    requires crew { length crew.gear.items ≡ length hands.items }
-    requires unsent { All (λ hand. AreUnsent hand.ports) hands.items }
-    ensures reported { IfOk result (λ reported. AreReportsAt reported.end (B.group 0).capacity (length hands.items) max_inflight groups.now reported.text.items) }
+    requires handles { (1 ≤ length handles.items) × (length handles.items ≤ 64) }
+    requires room { (room.items ≡ []) × (length handles.items ≤ vec_capacity room) }
+    requires setup { length setup.worker_io.items ≡ length handles.items }
+    requires unsent { All (λ handle. AreUnsent handle.ports) handles.items }
+    ensures reported { IfOk result (λ reported. AreReportsAt reported.end (B.group 0).capacity (length handles.items) max_inflight groups.now reported.text.items) }
     ensures read { IfOk result (λ reported. reported.end ≡ Ok Served.Ended → IsAtEnd (I.remaining input.new)) }
     ensures cause { IfErr result (λ error. error ≡ Memory) }
 {
@@ -94,15 +94,15 @@ pub(crate) fn attend<
         is_read: false,
     };
     let source = Until::new(source, &ends);
-    let Crew { gear, alarms } = crew;
+    let WorkerSetup { worker_io, alarms } = setup;
     let Ok(outcome) = serve(
         rt,
         alloc,
-        hall,
+        shared_broker,
         groups.shares(),
-        hands,
+        handles,
         room,
-        gear,
+        worker_io,
         alarms,
         source,
         max_inflight,
@@ -156,7 +156,7 @@ fn tell<S: Drop, Q: Drop>(
     }
 }
 
-/// How a broker came to its end; no thread for one of its workers is want of memory.
+/// How a broker came to its end; no thread for one of its workers is lack of memory.
 fn end_of(source: SourceEnd, is_read: bool) -> Result<Served, RunError>
     ensures ended { IfOk result (λ served. served ≡ Served.Ended → is_read ≡ true) }
     ensures cause { IfErr result (λ error. error ≡ Memory) }

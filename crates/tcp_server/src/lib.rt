@@ -5,11 +5,11 @@
 
 mod attending;
 mod broker;
-mod crew;
 mod elapsed;
 mod listening;
 mod reporting;
 mod serving;
+mod setup;
 mod socket_poller;
 mod watching;
 

@@ -2,14 +2,14 @@
 ghost use Rattle.std.specs.Prelude.{◌≡◌, ◌≤◌, ◌++◌, ◌∷◌, ◌⊎◌, List, [], map, length, vec_capacity, Result, Err, IfOk, IfErr, OnOk};
 ghost use Rattle.group_jobs.specs.declared.report.Report.{Report as GroupReport};
 ghost use Rattle.group_queue.specs.declared.error.FinishError.{FinishError as Refusal};
-ghost use Rattle.line_io.specs.declared.error.RunError.TheVariants.{Memory, Unfinished as NotKnown};
+ghost use Rattle.text_io.specs.declared.error.RunError.TheVariants.{Memory, Unfinished as NotKnown};
 ghost use Rattle.tcp_server.specs.Lines.{line_of, lines_of, report_of, EndsBy};
 
 use group_jobs::{Envelope, Report};
 use group_queue::{FinishError, Unfinished};
-use line_io::RunError;
 use mqtt_topic::Share;
 use std::alloc::Global;
+use text_io::RunError;
 
 /// Lets go of a message.
 fn let_go_of(envelope: Envelope) {

@@ -11,14 +11,13 @@ ghost use Rattle.broker_groups.specs.Naming.{IsOfBroker};
 
 use crate::attending::{Closers, Reported, attend};
 use crate::broker::{OpenBroker, open, take_seat};
-use crate::crew::crew_of;
 use crate::listening::Awaited;
+use crate::setup::worker_setup;
 use broker_groups::{Broker, BrokerName, BrokerPlace, Opened, Witnessed};
 use call_history::HistoryName;
 use conn_rules::MaxInflight;
 use gate_word::{Gate, GateSeat};
 use group_queue::Nobody;
-use line_io::{RunError, write_all};
 use mqtt_topic::Routes;
 use shared_desk::OpenedDesk;
 use std::alloc::Global;
@@ -29,7 +28,8 @@ use std::rt::Clock as SystemClock;
 use std::sync::Wait;
 use std::thread::Threads;
 use tcp_edge::{ReactorError, TcpSource};
-use threaded_broker::give_up;
+use text_io::{RunError, write_all};
+use threaded_broker::abandon;
 use worker_pool::Closer;
 
 /// How a broker that was served came to its end.
@@ -243,25 +243,25 @@ fn live_with<
 {
     let mut seats = seats;
     let OpenBroker {
-        hall,
-        hands,
+        shared_broker,
+        handles,
         room,
         mut pass,
     } = open::<B, N, R>(rt, alloc, gate, &mut seats, opened, desk, workers)?;
     let closers = closers_of(gate, &mut seats);
-    let Some(crew) = crew_of(rt, alloc, hands.len()) else {
-        give_up(hall, room);
+    let Some(setup) = worker_setup(rt, alloc, handles.len()) else {
+        abandon(shared_broker, room);
         return Err(RunError::Memory);
     };
     match write_all(output, line) {
         Ok(()) => attend(
             rt,
             alloc,
-            hall,
+            shared_broker,
             groups,
-            hands,
+            handles,
             room,
-            crew,
+            setup,
             source,
             max_inflight,
             closers,
@@ -269,7 +269,7 @@ fn live_with<
             &mut pass,
         ),
         Err(error) => {
-            give_up(hall, room);
+            abandon(shared_broker, room);
             Err(error)
         }
     }

@@ -31,7 +31,7 @@ impl Poller<Socket<TcpStream>> for SocketPoller {
         let mut transport = transport;
         if let Some(number) = number {
             if self.reactor.has(number) {
-                let _refused = self.reactor.let_go(number, &mut transport);
+                let _refused = self.reactor.unwatch(number, &mut transport);
             }
         }
     }

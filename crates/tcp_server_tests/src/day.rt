@@ -3,7 +3,6 @@ ghost use Rattle.std.specs.Prelude.{◌≤◌};
 
 use crate::input::Held;
 use conn_rules::MaxInflight;
-use line_io::RunError;
 use mqtt_topic::Routes;
 use std::alloc::Global;
 use std::net::{Ipv4Addr, Net, TcpListener, TcpStream};
@@ -13,6 +12,7 @@ use std::sync::atomic::{AtomicBool, Ordering};
 use std::thread;
 use std::thread::Threads;
 use tcp_server::serve_at;
+use text_io::RunError;
 
 /// What clients do.
 pub(crate) trait Day: Sync {
@@ -55,7 +55,7 @@ pub(crate) fn live<
     Night { saw, ended, output }
 }
 
-/// What clients do, and the flag behind it. Whether all came as it should.
+/// What clients do, and the flag after it. Whether all came as it should.
 fn pass<R: Net<Listener = TcpListener, Stream = TcpStream> + Clock, D: Day>(
     rt: &R,
     alloc: Global,

@@ -7,7 +7,7 @@ pub(crate) fn connect(digit: u8) -> [u8; 17] {
     bytes
 }
 
-/// A CONNECT of the client w1, whose session lives for an hour behind its connection.
+/// A CONNECT of the client w1, whose session lives for an hour after its connection.
 pub(crate) const CONNECT_FOR_AN_HOUR: [u8; 22] =
     *b"\x10\x14\x00\x04MQTT\x05\x00\x00\x3C\x05\x11\x00\x00\x0E\x10\x00\x02w1";
 

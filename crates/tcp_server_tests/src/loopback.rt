@@ -5,7 +5,6 @@ use crate::client::{connect, ends, gets, send};
 use crate::day::{Day, live};
 use crate::frames;
 use conn_rules::MaxInflight;
-use line_io::RunError;
 use mqtt_topic::Routes;
 use std::alloc::Global;
 use std::io::Read;
@@ -16,6 +15,7 @@ use std::sync::Wait;
 use std::sync::atomic::{AtomicBool, Ordering};
 use std::thread::Threads;
 use tcp_server::serve_at;
+use text_io::RunError;
 
 /// A job is published, taken, acknowledged; a PINGREQ is answered; and then the broker closes.
 struct OneJob;

@@ -1,4 +1,4 @@
--- Where one message is out at a place and is settled or given back, none is out behind that.
+-- Where one message is out at a place and is settled or given back, none is out after that.
 use Rattle.std.proofs.Common.{List, [], ◌∷◌, refl}
 use Rattle.group_jobs.specs.Stamps.{Held}
 use Rattle.conn_supply.specs.Holding.{SpendsOut}

@@ -7,26 +7,26 @@ use broker_groups::{Broker, BrokerName, BrokerPlace, Key, Named, Opened, Ports, 
 use call_history::HistoryName;
 use gate_word::{Gate, GateSeat};
 use group_queue::Nobody;
-use shared_desk::{DeskPass, OpenedDesk};
+use shared_desk::{DeskView, OpenedDesk};
 use shared_routes::SharedRoutes;
-use shared_supply::Hall;
+use shared_supply::SharedBroker;
 use std::alloc::Global;
 use std::marker::Brand;
 use std::sync::Wait;
 
 /// What a worker has of a broker.
 #[derive(Drop)]
-pub struct Hand<B: Broker> {
+pub struct WorkerHandle<B: Broker> {
     pub key: Key<B>,
     pub ports: Ports<B>,
 }
 
-/// A broker that is open: its hall, what each worker has, a key for who shuts the gate, and a pass of its desk for who ends it.
+/// A broker that is open: its shared broker, what each worker has, a key for who shuts the gate, and a pass of its desk for who ends it.
 pub struct Built<'g, B: Broker, N: HistoryName> {
-    pub hall: Hall<'g, B, N>,
-    pub hands: Vec<Hand<B>>,
+    pub shared_broker: SharedBroker<'g, B, N>,
+    pub handles: Vec<WorkerHandle<B>>,
     pub spare: Key<B>,
-    pub pass: DeskPass<BrokerPlace<B>, N>,
+    pub pass: DeskView<BrokerPlace<B>, N>,
 }
 
 /// What is done with a broker from its opening to its end.
@@ -34,7 +34,7 @@ pub trait Day {
     /// What is told of it.
     type Told;
 
-    /// Does it, and ends the broker. Where memory was wanted for that, nothing is told.
+    /// Does it, and ends the broker. Where an allocation failed for that, nothing is told.
     fn pass<B: Broker<Seen = Nobody>, N: HistoryName, R: Wait>(
         &mut self,
         rt: &R,
@@ -68,28 +68,28 @@ fn take_key<B: Broker>(gate: &Gate, seats: &mut Vec<GateSeat>) -> Option<Key<B>>
 }
 
 /// What each worker has: a seat and ports.
-fn deal<B: Broker>(
+fn take_ports<B: Broker>(
     alloc: Global,
     gate: &Gate,
     seats: &mut Vec<GateSeat>,
     ports: Vec<Ports<B>>,
-) -> Vec<Hand<B>>
+) -> Vec<WorkerHandle<B>>
     requires gate { gate.now ≡ B.gate }
     requires seats { AreSeatsOf gate.now seats.old.items }
 {
-    let mut hands = Vec::new(alloc);
+    let mut handles = Vec::new(alloc);
     let mut left = ports;
-    'hands: while let Some(ports) = left.pop() {
+    'handles: while let Some(ports) = left.pop() {
         if let Some(key) = take_key(gate, seats) {
-            if let Err(refused) = hands.push(Hand { key, ports }) {
+            if let Err(refused) = handles.push(WorkerHandle { key, ports }) {
                 drop(refused);
             }
         }
     }
-    hands
+    handles
 }
 
-/// Names what was opened, and furnishes the desk. Where memory is wanted, the groups are given up.
+/// Names what was opened, and furnishes the desk. Where an allocation fails, the groups are given up.
 pub fn build<'g, B: Broker<Seen = Nobody>, N: HistoryName, R: Wait>(
     rt: &R,
     alloc: Global,
@@ -123,11 +123,11 @@ pub fn build<'g, B: Broker<Seen = Nobody>, N: HistoryName, R: Wait>(
     };
     let (desk, mut pass) = desk.name::<N>();
     desk.take_places(rt, &mut pass, places);
-    let hands = deal(alloc, gate, &mut seats, ports);
-    let hall = Hall::new(gate, groups, desk, SharedRoutes::new(alloc));
+    let handles = take_ports(alloc, gate, &mut seats, ports);
+    let shared_broker = SharedBroker::new(gate, groups, desk, SharedRoutes::new(alloc));
     Some(Built {
-        hall,
-        hands,
+        shared_broker,
+        handles,
         spare,
         pass,
     })

@@ -3,7 +3,7 @@ ghost use Rattle.std.specs.Prelude.{◌≡◌, ◌≤◌};
 ghost use Rattle.gate_word.specs.Seats.{AreSeatsOf};
 ghost use Rattle.broker_groups.specs.Naming.{IsOfBroker};
 
-use crate::broker::{Built, Hand, build};
+use crate::broker::{Built, WorkerHandle, build};
 use crate::ending::{Counts, end};
 use crate::seen::Seen;
 use crate::worker::{keep, supply_of};
@@ -13,7 +13,7 @@ use conn_supply::Supply;
 use gate_word::{Gate, GateSeat};
 use group_queue::Nobody;
 use shared_desk::OpenedDesk;
-use shared_supply::Hall;
+use shared_supply::SharedBroker;
 use std::alloc::Global;
 use std::marker::Brand;
 use std::sync::Wait;
@@ -23,7 +23,7 @@ use std::time::{Clock, Duration, Instant};
 
 /// What each worker does.
 pub trait Crew {
-    /// Does it over the worker's supply, and tells what the worker's clients saw; nothing where memory was wanted. Workers are numbered from 0 on.
+    /// Does it over the worker's supply, and tells what the worker's clients saw; nothing where an allocation failed. Workers are numbered from 0 on.
     fn work<B: Broker, S: Supply<BrokerPlace<B>>>(
         &self,
         alloc: Global,
@@ -36,7 +36,7 @@ pub trait Crew {
 #[derive(Drop)]
 struct Job<B: Broker> {
     number: u8,
-    hand: Hand<B>,
+    handle: WorkerHandle<B>,
 }
 
 /// What became of all workers.
@@ -68,12 +68,12 @@ struct OneBack<B: Broker> {
 fn work<B: Broker, N: HistoryName, C: Crew, R: Wait>(
     rt: &R,
     alloc: Global,
-    hall: &Hall<'_, B, N>,
+    shared_broker: &SharedBroker<'_, B, N>,
     crew: &C,
     job: Job<B>,
 ) -> OneBack<B> {
-    let Job { number, hand } = job;
-    match supply_of(rt, alloc, hall, hand) {
+    let Job { number, handle } = job;
+    match supply_of(rt, alloc, shared_broker, handle) {
         Ok(supply) => {
             let mut supply = supply;
             let seen = crew.work(alloc, &mut supply, number);
@@ -85,11 +85,11 @@ fn work<B: Broker, N: HistoryName, C: Crew, R: Wait>(
 }
 
 /// The workers that are to work.
-fn jobs_of<B: Broker>(alloc: Global, hands: Vec<Hand<B>>) -> Vec<Job<B>> {
+fn jobs_of<B: Broker>(alloc: Global, handles: Vec<WorkerHandle<B>>) -> Vec<Job<B>> {
     let mut jobs = Vec::new(alloc);
     let mut number = 0u8;
-    for hand in hands {
-        if let Err(refused) = jobs.push(Job { number, hand }) {
+    for handle in handles {
+        if let Err(refused) = jobs.push(Job { number, handle }) {
             drop(refused);
         }
         number = number.wrapping_add(1);
@@ -115,17 +115,23 @@ fn together<B: Broker>(alloc: Global, backs: Vec<OneBack<B>>) -> Back<B> {
     }
 }
 
-/// All workers work, each in a thread of its own; where memory is wanted for the threads, no ports come back.
+/// All workers work, each in a thread of its own; where an allocation fails for the threads, no ports come back.
 fn work_all<
     B: Broker<Seen = Nobody> + Send + Sync,
     N: HistoryName + Send + Sync,
     C: Crew + Sync,
     R: Threads + Wait + Sync,
->(rt: &R, alloc: Global, hall: &Hall<'_, B, N>, hands: Vec<Hand<B>>, crew: &C) -> Back<B> {
+>(
+    rt: &R,
+    alloc: Global,
+    shared_broker: &SharedBroker<'_, B, N>,
+    handles: Vec<WorkerHandle<B>>,
+    crew: &C,
+) -> Back<B> {
     match thread::map_vec(
         rt,
-        jobs_of(alloc, hands),
-        &|job| { work(rt, alloc, hall, crew, job) },
+        jobs_of(alloc, handles),
+        &|job| { work(rt, alloc, shared_broker, crew, job) },
     ) {
         Ok(backs) => together(alloc, backs),
         Err(_) => Back {
@@ -135,7 +141,7 @@ fn work_all<
     }
 }
 
-/// All workers of a broker work, and it ends; where memory was wanted for that, nothing is told.
+/// All workers of a broker work, and it ends; where an allocation failed for that, nothing is told.
 fn live<M: BrokerName + Send + Sync, C: Crew + Sync, R: Threads + Wait + Clock + Sync>(
     rt: &R,
     alloc: Global,
@@ -182,15 +188,15 @@ fn live_with<
     requires desk { desk ≡ N.history }
 {
     let Built {
-        hall,
-        hands,
+        shared_broker,
+        handles,
         spare: _,
         mut pass,
     } = build::<B, N, R>(rt, alloc, gate, seats, opened, desk, workers)?;
     let start = Instant::now(rt).ok();
-    let Back { seen, ports } = work_all(rt, alloc, &hall, hands, crew);
+    let Back { seen, ports } = work_all(rt, alloc, &shared_broker, handles, crew);
     let took = since(rt, start);
-    match end(rt, alloc, hall, ports, &mut pass) {
+    match end(rt, alloc, shared_broker, ports, &mut pass) {
         Some(counts) => Some(Worked { seen, counts, took }),
         None => None,
     }

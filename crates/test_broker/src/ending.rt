@@ -4,8 +4,8 @@ use broker_groups::{Broker, BrokerPlace, Ended, Ports};
 use call_history::HistoryName;
 use group_jobs::{Envelope, Report};
 use group_queue::{Nobody, Unfinished};
-use shared_desk::DeskPass;
-use shared_supply::Hall;
+use shared_desk::DeskView;
+use shared_supply::SharedBroker;
 use std::alloc::Global;
 use std::sync::Wait;
 
@@ -45,7 +45,7 @@ pub fn outcome_of(answer: Result<Report, Unfinished<'_>>) -> Result<Counts, u16>
 }
 
 /// Lets go of a message.
-pub fn let_go(envelope: Envelope) {
+pub fn discard(envelope: Envelope) {
     let _parts = envelope.open();
 }
 
@@ -53,7 +53,7 @@ pub fn let_go(envelope: Envelope) {
 pub fn let_go_of_all(envelopes: Vec<Envelope>) {
     let mut envelopes = envelopes;
     'envelopes: while let Some(envelope) = envelopes.pop() {
-        let_go(envelope);
+        discard(envelope);
     }
     envelopes.destroy_empty();
 }
@@ -75,15 +75,15 @@ fn count(alloc: Global, ended: Ended<'_>) -> Vec<Counts> {
     all
 }
 
-/// Ends a broker, and counts its groups' messages; where memory was wanted for that, nothing is told.
+/// Ends a broker, and counts its groups' messages; where an allocation failed for that, nothing is told.
 pub fn end<B: Broker<Seen = Nobody>, N: HistoryName, R: Wait>(
     rt: &R,
     alloc: Global,
-    hall: Hall<'_, B, N>,
+    shared_broker: SharedBroker<'_, B, N>,
     ports: Vec<Ports<B>>,
-    pass: &mut DeskPass<BrokerPlace<B>, N>,
+    pass: &mut DeskView<BrokerPlace<B>, N>,
 ) -> Option<Vec<Counts>> {
-    match hall.finish(rt, alloc, ports, pass) {
+    match shared_broker.finish(rt, alloc, ports, pass) {
         Ok(ended) => Some(count(alloc, ended)),
         Err(left) => {
             left.abandon();

@@ -1,6 +1,6 @@
 //! What the clients of a worker see.
 
-use client_table::Said;
+use client_table::StepOutput;
 use mqtt_packet::{Delivery, Packet, ReasonCode};
 
 /// What the clients of a worker saw: how many jobs were accepted, acknowledged and refused.
@@ -29,7 +29,7 @@ impl Seen {
     }
 
     /// Reads what was said: PUBACKs go to the publisher alone, PUBLISHes to the member, whose identifiers are kept.
-    pub fn read(&mut self, said: &[Said], identifiers: &mut Vec<u16>) -> Option<()> {
+    pub fn read(&mut self, said: &[StepOutput], identifiers: &mut Vec<u16>) -> Option<()> {
         for step in said {
             self.read_packets(step.packets(), identifiers)?;
         }

@@ -1,20 +1,20 @@
 //! Pieces and moments of a worker's clients, each in a visit of its own. Once the gate was shut, nothing happens.
 ghost use Rattle.std.specs.Prelude.{◌<◌};
 
-use client_table::{ClientTable, Said};
+use client_table::{ClientTable, StepOutput};
 use conn_supply::{HoldingPlace, NoMemory, Supply};
 
 /// A piece comes over a connection.
 ///
 /// # Errors
 ///
-/// Want of memory.
+/// Out of memory.
 pub fn receive<P: HoldingPlace, S: Supply<P>>(
     supply: &mut S,
     table: &mut ClientTable<P>,
     connection: u8,
     piece: &[u8],
-    said: &mut Vec<Said>,
+    said: &mut Vec<StepOutput>,
 ) -> Result<(), NoMemory>
     requires { connection < 64 }
 {
@@ -30,12 +30,12 @@ pub fn receive<P: HoldingPlace, S: Supply<P>>(
 ///
 /// # Errors
 ///
-/// Want of memory.
+/// Out of memory.
 pub fn tick<P: HoldingPlace, S: Supply<P>>(
     supply: &mut S,
     table: &mut ClientTable<P>,
     connection: u8,
-    said: &mut Vec<Said>,
+    said: &mut Vec<StepOutput>,
 ) -> Result<(), NoMemory>
     requires { connection < 64 }
 {

@@ -1,14 +1,14 @@
 //! A worker of a broker, and the day of one that works alone.
 ghost use Rattle.std.specs.Prelude.{◌≡◌};
 
-use crate::broker::{Built, Hand};
+use crate::broker::{Built, WorkerHandle};
 use crate::ending::{Counts, end};
 use broker_groups::{Broker, BrokerPlace, Key, Ports};
 use call_history::HistoryName;
 use conn_supply::Supply;
 use gate_word::Gate;
 use group_queue::Nobody;
-use shared_supply::{Hall, SharedSupply};
+use shared_supply::{SharedBroker, SharedSupply};
 use std::alloc::Global;
 use std::sync::Wait;
 
@@ -25,16 +25,16 @@ pub trait Shift {
         requires { gate.now ≡ B.gate };
 }
 
-/// The supply of a worker. Where memory is wanted for it, its ports come back.
+/// The supply of a worker. Where an allocation fails for it, its ports come back.
 pub fn supply_of<'a, 'g, B: Broker, N: HistoryName, R: Wait>(
     rt: &'a R,
     alloc: Global,
-    hall: &'a Hall<'g, B, N>,
-    hand: Hand<B>,
+    shared_broker: &'a SharedBroker<'g, B, N>,
+    handle: WorkerHandle<B>,
 ) -> Result<SharedSupply<'a, 'g, B, N, R>, Ports<B>> {
-    let Hand { key, ports } = hand;
-    match hall.know_routes(alloc) {
-        Ok(known) => Ok(SharedSupply::new(rt, alloc, hall, key, ports, known)),
+    let WorkerHandle { key, ports } = handle;
+    match shared_broker.observe_routes(alloc) {
+        Ok(known) => Ok(SharedSupply::new(rt, alloc, shared_broker, key, ports, known)),
         Err(_) => Err(ports),
     }
 }
@@ -44,14 +44,14 @@ fn work<B: Broker, N: HistoryName, H: Shift, R: Wait>(
     rt: &R,
     alloc: Global,
     gate: &Gate,
-    hall: &Hall<'_, B, N>,
-    hand: Hand<B>,
+    shared_broker: &SharedBroker<'_, B, N>,
+    handle: WorkerHandle<B>,
     spare: Key<B>,
     shift: &mut H,
 ) -> Ports<B>
     requires { gate.now ≡ B.gate }
 {
-    match supply_of(rt, alloc, hall, hand) {
+    match supply_of(rt, alloc, shared_broker, handle) {
         Ok(supply) => {
             let mut supply = supply;
             shift.work(alloc, &mut supply, gate, spare);
@@ -73,16 +73,19 @@ pub fn work_alone<B: Broker<Seen = Nobody>, N: HistoryName, H: Shift, R: Wait>(
     requires { gate.now ≡ B.gate }
 {
     let Built {
-        hall,
-        mut hands,
+        shared_broker,
+        mut handles,
         spare,
         mut pass,
     } = built;
     let mut ports = Vec::new(alloc);
-    if let Some(hand) = hands.pop() {
-        keep(&mut ports, work(rt, alloc, gate, &hall, hand, spare, shift));
+    if let Some(handle) = handles.pop() {
+        keep(
+            &mut ports,
+            work(rt, alloc, gate, &shared_broker, handle, spare, shift),
+        );
     }
-    end(rt, alloc, hall, ports, &mut pass)
+    end(rt, alloc, shared_broker, ports, &mut pass)
 }
 
 /// Puts a worker's ports to the others.

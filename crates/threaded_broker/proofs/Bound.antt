@@ -108,7 +108,7 @@ take_whole : (xs : List Share) → take (length xs) xs ≡ xs
 take_whole [] = refl
 take_whole (x ∷ xs) = ap (λ ys. x ∷ ys) (take_whole xs)
 
--- a list is its first element and those behind
+-- a list is its first element and those after
 pub whole_of : (all : List Share) (share default : Share) → 0 < length all → get_or all 0 default ≡ share → share ∷ take (length all - 1) (drop 1 all) ≡ all
 whole_of [] share default some is = absurd (omega arith)
 whole_of (one ∷ rest) share default some is =

@@ -5,7 +5,7 @@ use broker_groups::{Broker, Ports};
 use gate_word::Drained;
 use std::sync::Wait;
 use std::thread;
-use worker_connections::Hand;
+use worker_connections::WorkerHandle;
 use worker_pool::Closer;
 
 /// Shuts the gate, and looks until nobody is inside.
@@ -22,14 +22,17 @@ pub(crate) fn close<B: Broker, R: Wait>(rt: &R, closer: &mut Closer<'_, B>) -> D
     unreachable!()
 }
 
-/// The ports of all workers, in the order of their hands. There is room for them.
-pub(crate) fn ports_of<B: Broker>(hands: Vec<Hand<B>>, room: Vec<Ports<B>>) -> Vec<Ports<B>>
-    requires { (room.items ≡ []) × (length hands.items ≤ vec_capacity room) }
-    ensures { result.items ≡ map (λ hand. hand.ports) hands.items }
+/// The ports of all workers, in the order of their handles. There is room for them.
+pub(crate) fn ports_of<B: Broker>(
+    handles: Vec<WorkerHandle<B>>,
+    room: Vec<Ports<B>>,
+) -> Vec<Ports<B>>
+    requires { (room.items ≡ []) × (length handles.items ≤ vec_capacity room) }
+    ensures { result.items ≡ map (λ handle. handle.ports) handles.items }
 {
     let mut ports = room;
-    for hand in hands {
-        ports.push_reserved(hand.ports);
+    for handle in handles {
+        ports.push_reserved(handle.ports);
     }
     ports
 }

@@ -7,4 +7,4 @@ mod closing;
 mod serving;
 mod shares;
 
-pub use serving::{Closed, Outcome, give_up, serve, serve_until_closed};
+pub use serving::{Closed, Outcome, abandon, serve, serve_until_closed};

@@ -12,7 +12,7 @@ use crate::closing::{close, ports_of};
 use crate::shares::{bind_all, copy_all};
 use bell::Wake;
 use broker_groups::{Broker, BrokerPlace, Ended, Ports};
-use broker_worker::Gear;
+use broker_worker::WorkerIo;
 use call_history::HistoryName;
 use conn_rules::MaxInflight;
 use conn_supply::NoMemory;
@@ -20,14 +20,14 @@ use final_report::end_broker;
 use gate_word::Drained;
 use group_queue::{LawfulWitness, Witness};
 use mqtt_topic::Share;
-use shared_desk::DeskPass;
-use shared_supply::{Hall, StillOpen};
+use shared_desk::DeskView;
+use shared_supply::{SharedBroker, StillOpen};
 use std::alloc::Global;
 use std::rt::Clock as SystemClock;
 use std::sync::Wait;
 use std::thread::Threads;
 use transport::{Clock, Crossing, Source, Transport};
-use worker_connections::{Hand, Poller, ServedCounts};
+use worker_connections::{Poller, ServedCounts, WorkerHandle};
 use worker_pool::{Closer, Pooled, Taken, Unbegun, Watch, run};
 
 /// What became of a broker that was served to its end.
@@ -48,7 +48,7 @@ pub struct Outcome<'g, V: Witness, S, Q> {
 
 /// A broker that was served, whose gate is drained.
 pub struct Closed<'g, B: Broker, N: HistoryName, S, Q> {
-    pub hall: Hall<'g, B, N>,
+    pub shared_broker: SharedBroker<'g, B, N>,
     /// The ports of all its workers.
     pub ports: Vec<Ports<B>>,
     /// The shares that are bound, in the order of their slots.
@@ -66,7 +66,7 @@ pub struct Closed<'g, B: Broker, N: HistoryName, S, Q> {
 /// Serves the connections of a source with the workers of a broker, each in a thread of its own, until the source has ended or failed, the broker's gate is
 /// shut, and all connections have ended; then ends its groups. Who watches is given the input, and shuts the gate and ends the source, in a thread of its own. There is room for the
 /// ports of all workers. The shares that are given are bound before the first connection is served, in their order. The client of each connection has at most so many
-/// messages unacknowledged, whatever its Receive Maximum. Nothing was published through the ports of the hands before.
+/// messages unacknowledged, whatever its Receive Maximum. Nothing was published through the ports of the handles before.
 ///
 /// The pass knows in the end all calls that were made of the broker's desk, of which what it knew before is the beginning (`history`), and so is what each worker knew. They
 /// led to the sessions, places and messages with which the groups end.
@@ -90,7 +90,7 @@ pub struct Closed<'g, B: Broker, N: HistoryName, S, Q> {
 ///
 /// # Errors
 ///
-/// Want of memory. What became of the messages is not known then.
+/// Lack of memory. What became of the messages is not known then.
 pub fn serve<
     'g,
     B: Broker + Send + Sync,
@@ -107,11 +107,11 @@ pub fn serve<
 >(
     rt: &R,
     alloc: Global,
-    hall: Hall<'g, B, N>,
+    shared_broker: SharedBroker<'g, B, N>,
     shares: &[Share],
-    hands: Vec<Hand<B>>,
+    handles: Vec<WorkerHandle<B>>,
     room: Vec<Ports<B>>,
-    gear: Vec<Gear<T, Q, C>>,
+    worker_io: Vec<WorkerIo<T, Q, C>>,
     alarms: Vec<W>,
     source: S,
     max_inflight: MaxInflight,
@@ -120,16 +120,16 @@ pub fn serve<
     stopper: Closer<'_, B>,
     watch: &mut D,
     input: &mut I,
-    pass: &mut DeskPass<BrokerPlace<B>, N>,
+    pass: &mut DeskView<BrokerPlace<B>, N>,
 ) -> Result<Outcome<'g, B::Seen, S, Q>, NoMemory>
 where
     B::Seen: LawfulWitness + Send + Sync,
-    requires workers { (1 ≤ length hands.items) × (length hands.items ≤ 64) }
-    requires gear { length gear.items ≡ length hands.items }
-    requires room { (room.items ≡ []) × (length hands.items ≤ vec_capacity room) }
-    requires unsent { All (λ hand. AreUnsent hand.ports) hands.items }
+    requires workers { (1 ≤ length handles.items) × (length handles.items ≤ 64) }
+    requires worker_io { length worker_io.items ≡ length handles.items }
+    requires room { (room.items ≡ []) × (length handles.items ≤ vec_capacity room) }
+    requires unsent { All (λ handle. AreUnsent handle.ports) handles.items }
     ensures headline { IfOk result (λ outcome. (came : List T) × Gave S.arrived source came outcome.taken.source × (outcome.taken.came ≡ length came)
-        × KeepsTheHeadline B.group B.Seen.Witness T.counts T.given T.accepted (length hands.items) max_inflight came pass.new outcome.ended.answers.items outcome.ended.strangers.items outcome.served.items (map Q.closed outcome.pollers.items)) }
+        × KeepsTheHeadline B.group B.Seen.Witness T.counts T.given T.accepted (length handles.items) max_inflight came pass.new outcome.ended.answers.items outcome.ended.strangers.items outcome.served.items (map Q.closed outcome.pollers.items)) }
     ensures history { IsPrefix pass.old pass.new }
     ensures closed { IfOk result (λ outcome. outcome.drained ≡ B.gate) }
     ensures taken { IfOk result (λ outcome. (S.tally outcome.taken.source).arrivals ≡ (S.tally source).arrivals + outcome.taken.came) }
@@ -139,11 +139,11 @@ where
     let closed = serve_until_closed(
         rt,
         alloc,
-        hall,
+        shared_broker,
         shares,
-        hands,
+        handles,
         room,
-        gear,
+        worker_io,
         alarms,
         source,
         max_inflight,
@@ -155,7 +155,7 @@ where
         pass,
     )?;
     let Closed {
-        hall,
+        shared_broker,
         ports,
         shares,
         served,
@@ -163,7 +163,7 @@ where
         pollers,
         drained,
     } = closed;
-    let ended = end(rt, alloc, &drained, hall, ports, pass)?;
+    let ended = end(rt, alloc, &drained, shared_broker, ports, pass)?;
     Ok(Outcome {
         ended,
         shares,
@@ -175,7 +175,7 @@ where
 }
 
 /// The same until the broker is closed: its gate is drained, and all that its workers had came back. So who ends it has its ports, places and messages in hands: those of
-/// [`Hall::empty`] and these ports go to `end_groups` of `final_report`.
+/// [`SharedBroker::empty`] and these ports go to `end_groups` of `final_report`.
 ///
 /// # Errors
 ///
@@ -196,11 +196,11 @@ pub fn serve_until_closed<
 >(
     rt: &R,
     alloc: Global,
-    hall: Hall<'g, B, N>,
+    shared_broker: SharedBroker<'g, B, N>,
     shares: &[Share],
-    hands: Vec<Hand<B>>,
+    handles: Vec<WorkerHandle<B>>,
     room: Vec<Ports<B>>,
-    gear: Vec<Gear<T, Q, C>>,
+    worker_io: Vec<WorkerIo<T, Q, C>>,
     alarms: Vec<W>,
     source: S,
     max_inflight: MaxInflight,
@@ -209,15 +209,15 @@ pub fn serve_until_closed<
     stopper: Closer<'_, B>,
     watch: &mut D,
     input: &mut I,
-    pass: &mut DeskPass<BrokerPlace<B>, N>,
+    pass: &mut DeskView<BrokerPlace<B>, N>,
 ) -> Result<Closed<'g, B, N, S, Q>, NoMemory>
 where
     B::Seen: Send + Sync,
-    requires workers { (1 ≤ length hands.items) × (length hands.items ≤ 64) }
-    requires gear { length gear.items ≡ length hands.items }
-    requires room { (room.items ≡ []) × (length hands.items ≤ vec_capacity room) }
-    requires unsent { All (λ hand. AreUnsent hand.ports) hands.items }
-    ensures ports { IfOk result (λ closed. length closed.ports.items ≡ length hands.items) }
+    requires workers { (1 ≤ length handles.items) × (length handles.items ≤ 64) }
+    requires worker_io { length worker_io.items ≡ length handles.items }
+    requires room { (room.items ≡ []) × (length handles.items ≤ vec_capacity room) }
+    requires unsent { All (λ handle. AreUnsent handle.ports) handles.items }
+    ensures ports { IfOk result (λ closed. length closed.ports.items ≡ length handles.items) }
     ensures run { IfOk result (λ closed. (came : List T) × Gave S.arrived source came closed.taken.source × (closed.taken.came ≡ length came)
         × RunsUntilClosed B.group B.Seen.Witness T.counts T.given T.accepted max_inflight came pass.new closed.ports.items closed.served.items (map Q.closed closed.pollers.items)) }
     ensures history { IsPrefix pass.old pass.new }
@@ -230,10 +230,10 @@ where
     let ran = run_bound(
         rt,
         alloc,
-        &hall,
+        &shared_broker,
         shares,
-        hands,
-        gear,
+        handles,
+        worker_io,
         alarms,
         source,
         max_inflight,
@@ -247,14 +247,14 @@ where
     match ran {
         Ok(Ran { pooled, shares }) => {
             let Pooled {
-                hands,
+                handles,
                 served,
                 taken,
                 pollers,
             } = pooled;
             Ok(Closed {
-                hall,
-                ports: ports_of(hands, room),
+                shared_broker,
+                ports: ports_of(handles, room),
                 shares,
                 served,
                 taken,
@@ -262,8 +262,8 @@ where
                 drained,
             })
         }
-        Err(hands) => {
-            give_up(hall, ports_of(hands, room));
+        Err(handles) => {
+            abandon(shared_broker, ports_of(handles, room));
             Err(NoMemory)
         }
     }
@@ -275,7 +275,7 @@ struct Ran<B: Broker, S, Q> {
     shares: Vec<Share>,
 }
 
-/// Binds the shares, and runs the pool. Where memory is wanted, what its workers had of the broker comes back.
+/// Binds the shares, and runs the pool. Where an allocation fails, what its workers had of the broker comes back.
 fn run_bound<
     B: Broker + Send + Sync,
     N: HistoryName + Send + Sync,
@@ -291,10 +291,10 @@ fn run_bound<
 >(
     rt: &R,
     alloc: Global,
-    hall: &Hall<'_, B, N>,
+    shared_broker: &SharedBroker<'_, B, N>,
     shares: &[Share],
-    hands: Vec<Hand<B>>,
-    gear: Vec<Gear<T, Q, C>>,
+    handles: Vec<WorkerHandle<B>>,
+    worker_io: Vec<WorkerIo<T, Q, C>>,
     alarms: Vec<W>,
     source: S,
     max_inflight: MaxInflight,
@@ -302,33 +302,33 @@ fn run_bound<
     closer: Closer<'_, B>,
     watch: &mut D,
     input: &mut I,
-    pass: &mut DeskPass<BrokerPlace<B>, N>,
-) -> Result<Ran<B, S, Q>, Vec<Hand<B>>>
+    pass: &mut DeskView<BrokerPlace<B>, N>,
+) -> Result<Ran<B, S, Q>, Vec<WorkerHandle<B>>>
 where
     B::Seen: Send + Sync,
-    requires workers { (1 ≤ length hands.items) × (length hands.items ≤ 64) }
-    requires gear { length gear.items ≡ length hands.items }
-    requires unsent { All (λ hand. AreUnsent hand.ports) hands.items }
-    ensures hands { MatchResult result (λ ran. length ran.pooled.hands.items ≡ length hands.items) (λ back. length back.items ≡ length hands.items) }
+    requires workers { (1 ≤ length handles.items) × (length handles.items ≤ 64) }
+    requires worker_io { length worker_io.items ≡ length handles.items }
+    requires unsent { All (λ handle. AreUnsent handle.ports) handles.items }
+    ensures handles { MatchResult result (λ ran. length ran.pooled.handles.items ≡ length handles.items) (λ back. length back.items ≡ length handles.items) }
     ensures taken { IfOk result (λ ran. (S.tally ran.pooled.taken.source).arrivals ≡ (S.tally source).arrivals + ran.pooled.taken.came) }
     ensures served { IfOk result (λ ran. (came : List T) × Gave S.arrived source came ran.pooled.taken.source × (ran.pooled.taken.came ≡ length came)
-        × AreServed B.group B.Seen.Witness T.counts T.given T.accepted (arrivals max_inflight came) pass.new (map (λ hand. hand.ports) ran.pooled.hands.items) ran.pooled.served.items (map Q.closed ran.pooled.pollers.items)) }
+        × AreServed B.group B.Seen.Witness T.counts T.given T.accepted (arrivals max_inflight came) pass.new (map (λ handle. handle.ports) ran.pooled.handles.items) ran.pooled.served.items (map Q.closed ran.pooled.pollers.items)) }
     ensures told { IsPrefix pass.old pass.new }
     ensures watched { IfOk result (λ _. D.has_watched watch.old watch.new input.old input.new) }
     ensures shares { IfOk result (λ ran. All (IsBoundIn ran.shares.items) shares.now) }
 {
-    let Ok(mut known) = hall.know_routes(alloc) else {
-        return Err(hands);
+    let Ok(mut known) = shared_broker.observe_routes(alloc) else {
+        return Err(handles);
     };
     let Ok(()) = bind_all(alloc, &mut known, shares) else {
-        return Err(hands);
+        return Err(handles);
     };
     match run(
         rt,
         alloc,
-        hall,
-        hands,
-        gear,
+        shared_broker,
+        handles,
+        worker_io,
         alarms,
         source,
         max_inflight,
@@ -339,13 +339,13 @@ where
         pass,
     ) {
         Ok(pooled) => {
-            known.learn();
+            known.refresh();
             match copy_all(alloc, &known) {
                 Ok(shares) => Ok(Ran { pooled, shares }),
-                Err(_) => Err(pooled.hands),
+                Err(_) => Err(pooled.handles),
             }
         }
-        Err(Unbegun { hands, source: _ }) => Err(hands),
+        Err(Unbegun { handles, source: _ }) => Err(handles),
     }
 }
 
@@ -354,9 +354,9 @@ fn end<'g, B: Broker, N: HistoryName, R: Wait>(
     rt: &R,
     alloc: Global,
     drained: &Drained,
-    hall: Hall<'g, B, N>,
+    shared_broker: SharedBroker<'g, B, N>,
     ports: Vec<Ports<B>>,
-    pass: &mut DeskPass<BrokerPlace<B>, N>,
+    pass: &mut DeskView<BrokerPlace<B>, N>,
 ) -> Result<Ended<'g, B::Seen>, NoMemory>
 where
     B::Seen: LawfulWitness,
@@ -364,7 +364,7 @@ where
     ensures before { IsPrefix pass.old pass.new }
     ensures kept { IfOk result (λ ended. KeptItsPromisesBehind B.group pass.new ports.items ended.answers.items ended.strangers.items) }
 {
-    match end_broker(rt, alloc, drained, hall, ports, pass) {
+    match end_broker(rt, alloc, drained, shared_broker, ports, pass) {
         Ok(ended) => Ok(ended),
         Err(left) => {
             left.abandon();
@@ -374,8 +374,11 @@ where
 }
 
 /// Gives a broker up, without a word of what became of its messages.
-pub fn give_up<B: Broker, N: HistoryName>(hall: Hall<'_, B, N>, ports: Vec<Ports<B>>) {
-    let (groups, desk, routes) = hall.into_parts();
+pub fn abandon<B: Broker, N: HistoryName>(
+    shared_broker: SharedBroker<'_, B, N>,
+    ports: Vec<Ports<B>>,
+) {
+    let (groups, desk, routes) = shared_broker.into_parts();
     let left = StillOpen::Desk {
         desk: desk.into_desk(),
         groups,

@@ -5,23 +5,23 @@ ghost use Rattle.broker_groups.specs.Naming.{AreUnsent, IsOfBroker};
 
 use crate::in_memory::{AlwaysReady, Meeting, NothingToWatch, Silent};
 use broker_groups::{Broker, BrokerName, BrokerPlace, Ended, Key, Named, Opened, Ports, Witnessed};
-use broker_worker::Gear;
+use broker_worker::WorkerIo;
 use call_history::HistoryName;
 use conn_rules::MaxInflight;
 use gate_word::{Gate, GateSeat};
 use group_jobs::Envelope;
 use group_queue::Nobody;
-use shared_desk::{DeskPass, OpenedDesk};
+use shared_desk::{DeskView, OpenedDesk};
 use shared_routes::SharedRoutes;
-use shared_supply::Hall;
+use shared_supply::SharedBroker;
 use std::alloc::{AllocError, Global};
 use std::marker::Brand;
 use std::rt::Clock;
 use std::sync::Wait;
 use std::thread::Threads;
-use threaded_broker::{Outcome, give_up, serve};
+use threaded_broker::{Outcome, abandon, serve};
 use transport::{Scripted, SetClock, Source};
-use worker_connections::Hand;
+use worker_connections::WorkerHandle;
 use worker_pool::Closer;
 
 /// How many messages each group has room for.
@@ -37,7 +37,7 @@ pub(crate) struct Told {
 }
 
 /// Lets go of a message.
-fn let_go(envelope: Envelope) {
+fn discard(envelope: Envelope) {
     let _parts = envelope.open();
 }
 
@@ -58,7 +58,7 @@ fn count_reports(ended: Ended<'_>) -> usize {
     }
     answers.destroy_empty();
     'strangers: while let Some(envelope) = strangers.pop() {
-        let_go(envelope);
+        discard(envelope);
     }
     strangers.destroy_empty();
     reports
@@ -105,50 +105,54 @@ fn take_seat(gate: &Gate, seats: &mut Vec<GateSeat>) -> Option<GateSeat>
 }
 
 /// What a worker has, by the last seat.
-fn hand_of<B: Broker>(gate: &Gate, seats: &mut Vec<GateSeat>, ports: Ports<B>) -> Option<Hand<B>>
+fn hand_of<B: Broker>(
+    gate: &Gate,
+    seats: &mut Vec<GateSeat>,
+    ports: Ports<B>,
+) -> Option<WorkerHandle<B>>
     requires gate { gate.now ≡ B.gate }
     requires seats { AreSeatsOf gate.now seats.old.items }
     ensures seats { AreSeatsOf gate.now seats.new.items }
-    ensures ports { IfSome result (λ hand. hand.ports ≡ ports) }
+    ensures ports { IfSome result (λ handle. handle.ports ≡ ports) }
 {
     let key = Key::of(take_seat(gate, seats)?);
-    Some(Hand { key, ports })
+    Some(WorkerHandle { key, ports })
 }
 
 /// What each worker has: a seat and ports. `None` where memory is refused.
-fn deal<B: Broker>(
+fn take_ports<B: Broker>(
     alloc: Global,
     gate: &Gate,
     seats: &mut Vec<GateSeat>,
     ports: Vec<Ports<B>>,
-) -> Option<Vec<Hand<B>>>
+) -> Option<Vec<WorkerHandle<B>>>
     requires gate { gate.now ≡ B.gate }
     requires seats { AreSeatsOf gate.now seats.old.items }
     requires unsent { All AreUnsent ports.items }
     ensures seats { AreSeatsOf gate.now seats.new.items }
-    ensures unsent { IfSome result (λ hands. All (λ hand. AreUnsent hand.ports) hands.items) }
+    ensures unsent { IfSome result (λ handles. All (λ handle. AreUnsent handle.ports) handles.items) }
 {
-    let mut hands = Vec::with_capacity(alloc, ports.len()).ok()?;
+    let mut handles = Vec::with_capacity(alloc, ports.len()).ok()?;
     let mut left = ports;
-    'hands: while let Some(ports) = left.pop() {
-        let hand = hand_of(gate, seats, ports)?;
-        hands.push_reserved(hand);
+    'handles: while let Some(ports) = left.pop() {
+        let handle = hand_of(gate, seats, ports)?;
+        handles.push_reserved(handle);
     }
-    Some(hands)
+    Some(handles)
 }
 
 /// Where each of so many workers waits, and its clock.
-fn gear_for(
+fn worker_io_for(
     alloc: Global,
     workers: usize,
-) -> Result<(Vec<Gear<Scripted, AlwaysReady, SetClock>>, Vec<Silent>), AllocError> {
-    let mut gear = Vec::with_capacity(alloc, workers)?;
+) -> Result<(Vec<WorkerIo<Scripted, AlwaysReady, SetClock>>, Vec<Silent>), AllocError> {
+    let mut worker_io = Vec::with_capacity(alloc, workers)?;
     let mut alarms = Vec::with_capacity(alloc, workers)?;
     for _ in 0..workers {
-        gear.push(Gear::new(AlwaysReady::new(alloc)?, SetClock { moment: 0 }))?;
+        worker_io.push(WorkerIo::new(AlwaysReady::new(alloc)?, SetClock { moment: 0 }))?;
         alarms.push(Silent)?;
     }
-    Ok((gear, alarms))
+    Ok((worker_io, alarms))
 }
 
 /// Who takes connections, and who ends the broker.
@@ -173,36 +177,36 @@ fn attend<
 >(
     rt: &R,
     alloc: Global,
-    hall: Hall<'_, B, N>,
-    hands: Vec<Hand<B>>,
+    shared_broker: SharedBroker<'_, B, N>,
+    handles: Vec<WorkerHandle<B>>,
     workers: u8,
     source: S,
     accepting: Closer<'_, B>,
     ending: Closer<'_, B>,
-    pass: &mut DeskPass<BrokerPlace<B>, N>,
+    pass: &mut DeskView<BrokerPlace<B>, N>,
 ) -> Option<Told>
-    requires { All (λ hand. AreUnsent hand.ports) hands.items }
+    requires { All (λ handle. AreUnsent handle.ports) handles.items }
 {
-    let (Ok(room), Ok((gear, alarms))) = (
-        Vec::with_capacity(alloc, hands.len()),
-        gear_for(alloc, hands.len()),
+    let (Ok(room), Ok((worker_io, alarms))) = (
+        Vec::with_capacity(alloc, handles.len()),
+        worker_io_for(alloc, handles.len()),
     ) else {
-        give_up(hall, Vec::new(alloc));
+        abandon(shared_broker, Vec::new(alloc));
         return None;
     };
-    if hands.is_empty() || hands.len() > 64 || gear.len() != hands.len() {
-        give_up(hall, Vec::new(alloc));
+    if handles.is_empty() || handles.len() > 64 || worker_io.len() != handles.len() {
+        abandon(shared_broker, Vec::new(alloc));
         return None;
     }
     let crossing = Meeting::new(rt, workers);
     let served = serve(
         rt,
         alloc,
-        hall,
+        shared_broker,
         &[],
-        hands,
+        handles,
         room,
-        gear,
+        worker_io,
         alarms,
         source,
         MaxInflight::most(),
@@ -279,16 +283,24 @@ fn live_with<
     };
     let (desk, mut pass) = desk.name::<N>();
     desk.take_places(rt, &mut pass, places);
-    let hall = Hall::new(gate, groups, desk, SharedRoutes::new(alloc));
-    let (Some(hands), Some((accepting, ending))) = (
-        deal(alloc, gate, seats, ports),
+    let shared_broker = SharedBroker::new(gate, groups, desk, SharedRoutes::new(alloc));
+    let (Some(handles), Some((accepting, ending))) = (
+        take_ports(alloc, gate, seats, ports),
         closers(gate, seats),
     ) else {
-        give_up(hall, Vec::new(alloc));
+        abandon(shared_broker, Vec::new(alloc));
         return None;
     };
     attend(
-        rt, alloc, hall, hands, workers, source, accepting, ending, &mut pass,
+        rt,
+        alloc,
+        shared_broker,
+        handles,
+        workers,
+        source,
+        accepting,
+        ending,
+        &mut pass,
     )
 }
 

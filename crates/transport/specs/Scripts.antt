@@ -32,7 +32,7 @@ abbrev pub new_script : List ℕ → List ReadTurn → List WriteTurn → ℕ �
 new_script input reads writes room =
     record { input = input; given = 0; reads = reads; reads_made = 0; writes = writes; writes_made = 0; output = []; room = room; counts = record { failures = 0; ends = 0; idles = 0 } }
 
--- the turn behind this one, while there is one
+-- the turn after this one, while there is one
 abbrev pub next_place : {X : Type 0} → List X → ℕ → ℕ
 next_place turns made = if nat_lt made (length turns) then made + 1 else made
 
@@ -43,7 +43,7 @@ some_bytes count = if nat_eq count 0 then got.Idle else got.Bytes count
 abbrev pub some_written : ℕ → Put
 some_written count = if nat_eq count 0 then put.Idle else put.Wrote count
 
--- what a read gives at its turn, with so much room in its buffer, and so many bytes left: behind the last turn all that fits, and then the end
+-- what a read gives at its turn, with so much room in its buffer, and so many bytes left: after the last turn all that fits, and then the end
 abbrev pub got_at : Option ReadTurn → ℕ → ℕ → Got
 got_at (Some (reading.AtMost count)) room left = some_bytes (min count (min room left))
 got_at (Some reading.Idle) room left = got.Idle
@@ -51,7 +51,7 @@ got_at (Some reading.End) room left = got.End
 got_at (Some reading.Failed) room left = got.Failed
 got_at None room left = if nat_eq left 0 then got.End else got.Bytes (min room left)
 
--- what a write takes at its turn, of so many bytes, with room for so many: behind the last turn all that fits, and it fails where nothing does
+-- what a write takes at its turn, of so many bytes, with room for so many: after the last turn all that fits, and it fails where nothing does
 abbrev pub put_at : Option WriteTurn → ℕ → ℕ → Put
 put_at (Some (writing.AtMost count)) size room = some_written (min count (min size room))
 put_at (Some writing.Idle) size room = put.Idle

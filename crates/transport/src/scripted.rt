@@ -11,7 +11,7 @@ use crate::turns::{ReadTurn, WriteTurn, next_turn, read_at, write_at};
 use std::alloc::{AllocError, Global};
 use std::marker::Model;
 
-/// A transport whose peer sends these bytes, and whose calls answer as a script says, turn by turn. Behind its last turn a
+/// A transport whose peer sends these bytes, and whose calls answer as a script says, turn by turn. After its last turn a
 /// read gives what is left and then the end, and a write takes what there is memory for and then fails.
 #[derive(Drop)]
 pub struct Scripted {

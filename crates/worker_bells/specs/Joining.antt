@@ -1,45 +1,45 @@
--- Whose hands are at whose bells: who rings for a group reaches each worker that listens there.
+-- Whose ringers are at whose bells: who rings for a group reaches each worker that listens there.
 use Rattle.std.specs.Prelude.{◌≡◌, ◌⊎◌, ◌<◌, ℕ, List, [], ◌∷◌, ◌++◌, Some, slice_get}
 use Rattle.bell.specs.Handles.{BellId}
-use Rattle.worker_bells.specs.Ringing.{EarState, HandState, OutfitState}
+use Rattle.worker_bells.specs.Ringing.{ListeningState, RingingState, WorkerBellsState}
 
--- one of these hands is at the bell of this ear, for the same group
-pub record Reaches (hands : List HandState) (ear : EarState) : Type 0 where
+-- one of these ringers is at the bell of this listener, for the same group
+pub record Reaches (ringings : List RingingState) (listening : ListeningState) : Type 0 where
   pub at : ℕ
-  pub hand : HandState
-  pub has : slice_get hands at ≡ Some hand
-  pub bell : hand.hand.bell ≡ ear.ear.bell
-  pub slot : hand.slot ≡ ear.slot
+  pub ringing : RingingState
+  pub has : slice_get ringings at ≡ Some ringing
+  pub bell : ringing.ringing.bell ≡ listening.listening.bell
+  pub slot : ringing.slot ≡ listening.slot
 
--- the hands of each of these workers reach each ear of each of them
-abbrev pub AreJoined : List OutfitState → Type 0
-AreJoined outfits =
-    (i j k : ℕ) (one other : OutfitState) (ear : EarState) → slice_get outfits i ≡ Some one → slice_get outfits j ≡ Some other → slice_get other.ears k ≡ Some ear
-    → Reaches one.hands ear
+-- the ringers of each of these workers reach each listener of each of them
+abbrev pub AreJoined : List WorkerBellsState → Type 0
+AreJoined all_own_bells =
+    (i j k : ℕ) (one other : WorkerBellsState) (listening : ListeningState) → slice_get all_own_bells i ≡ Some one → slice_get all_own_bells j ≡ Some other → slice_get other.listenings k ≡ Some listening
+    → Reaches one.ringings listening
 
--- an ear at this bell, and for the group of this slot
-abbrev pub IsEarAt : BellId → ℕ → EarState → Type 0
-IsEarAt bell slot ear = (ear.ear.bell ≡ bell.word) × (ear.slot ≡ slot)
+-- a listener at this bell, and for the group of this slot
+abbrev pub IsListeningAt : BellId → ℕ → ListeningState → Type 0
+IsListeningAt bell slot listening = (listening.listening.bell ≡ bell.word) × (listening.slot ≡ slot)
 
--- they reach each ear but those at this bell
-abbrev pub AreJoinedBut : BellId → ℕ → List OutfitState → Type 0
-AreJoinedBut bell slot outfits =
-    (i j k : ℕ) (one other : OutfitState) (ear : EarState) → slice_get outfits i ≡ Some one → slice_get outfits j ≡ Some other → slice_get other.ears k ≡ Some ear
-    → Reaches one.hands ear ⊎ IsEarAt bell slot ear
+-- they reach each listener but those at this bell
+abbrev pub AreJoinedBut : BellId → ℕ → List WorkerBellsState → Type 0
+AreJoinedBut bell slot all_own_bells =
+    (i j k : ℕ) (one other : WorkerBellsState) (listening : ListeningState) → slice_get all_own_bells i ≡ Some one → slice_get all_own_bells j ≡ Some other → slice_get other.listenings k ≡ Some listening
+    → Reaches one.ringings listening ⊎ IsListeningAt bell slot listening
 
--- a hand at this bell, and for the group of this slot
-abbrev pub IsHandAt : BellId → ℕ → HandState → Type 0
-IsHandAt bell slot hand = (hand.hand.bell ≡ bell.word) × (hand.slot ≡ slot)
+-- a ringer at this bell, and for the group of this slot
+abbrev pub IsRingingAt : BellId → ℕ → RingingState → Type 0
+IsRingingAt bell slot ringing = (ringing.ringing.bell ≡ bell.word) × (ringing.slot ≡ slot)
 
 -- the first of them, so many, have one
-abbrev pub HaveHandsAt : BellId → ℕ → ℕ → List OutfitState → Type 0
-HaveHandsAt bell slot count outfits =
-    (i : ℕ) (one : OutfitState) → i < count → slice_get outfits i ≡ Some one
-    → (at : ℕ) × (hand : HandState) × (slice_get one.hands at ≡ Some hand) × IsHandAt bell slot hand
+abbrev pub HaveRingingsAt : BellId → ℕ → ℕ → List WorkerBellsState → Type 0
+HaveRingingsAt bell slot count all_own_bells =
+    (i : ℕ) (one : WorkerBellsState) → i < count → slice_get all_own_bells i ≡ Some one
+    → (at : ℕ) × (ringing : RingingState) × (slice_get one.ringings at ≡ Some ringing) × IsRingingAt bell slot ringing
 
--- an ear more, at this bell; a hand more
-abbrev pub HasEarMore : BellId → ℕ → List EarState → List EarState → Type 0
-HasEarMore bell slot old new = (ear : EarState) × IsEarAt bell slot ear × (new ≡ old ++ ear ∷ [])
+-- a listener more, at this bell; a ringer more
+abbrev pub HasListeningMore : BellId → ℕ → List ListeningState → List ListeningState → Type 0
+HasListeningMore bell slot old new = (listening : ListeningState) × IsListeningAt bell slot listening × (new ≡ old ++ listening ∷ [])
 
-abbrev pub HasHandMore : BellId → ℕ → List HandState → List HandState → Type 0
-HasHandMore bell slot old new = (hand : HandState) × IsHandAt bell slot hand × (new ≡ old ++ hand ∷ [])
+abbrev pub HasRingingMore : BellId → ℕ → List RingingState → List RingingState → Type 0
+HasRingingMore bell slot old new = (ringing : RingingState) × IsRingingAt bell slot ringing × (new ≡ old ++ ringing ∷ [])

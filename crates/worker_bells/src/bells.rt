@@ -1,14 +1,14 @@
 //! The bell of a group, as a worker has it.
 ghost use Rattle.std.specs.Prelude.{◌≡◌, true, length};
 ghost use Rattle.std.specs.Arc.{arc_value};
-ghost use Rattle.worker_bells.specs.Ringing.{HasSettled, Hears, IsEarOfSame, RingsFor};
+ghost use Rattle.worker_bells.specs.Ringing.{HasSettled, Hears, IsListeningOfSame, RingsFor};
 
 use bell::{Bell, Listener, Ringer, Wake};
 use std::alloc::Global;
 use std::marker::Model;
 use std::sync::Arc;
 
-/// A worker's ear at the bell of a group. Contracts see it as an `EarState`.
+/// A worker's listener at the bell of a group. Contracts see it as a `ListeningState`.
 #[derive(Drop)]
 pub struct Listening {
     bell: Arc<Bell, Global>,
@@ -25,20 +25,20 @@ pub struct Listening {
 
 impl Model for Listening {
     ghost use Rattle.std.specs.Prelude.{◌≡◌, true, false};
-    ghost use Rattle.worker_bells.specs.Ringing.{EarState, HasListened, HasSettled};
+    ghost use Rattle.worker_bells.specs.Ringing.{ListeningState, HasListened, HasSettled};
 
-    ghost Value = { EarState };
+    ghost Value = { ListeningState };
 
-    ghost view = { λ l. record { slot = l.slot; ear = l.listener } };
+    ghost view = { λ l. record { slot = l.slot; listening = l.listener } };
 
     ghost invariant = { λ l. (l.is_settled ≡ true → HasSettled l.listener) × (l.is_settled ≡ false → HasListened l.listener) };
 }
 
 impl Listening {
-    /// An ear at the bell of the group of this slot: it listens.
+    /// A listener at the bell of the group of this slot: it listens.
     pub fn new(bell: Arc<Bell, Global>, listener: Listener, slot: usize) -> Listening
         requires { listener.bell ≡ (arc_value bell).word }
-        ensures { (result.slot ≡ slot) × (result.ear.bell ≡ listener.bell) }
+        ensures { (result.slot ≡ slot) × (result.listening.bell ≡ listener.bell) }
     {
         let mut listener = listener;
         bell.listen(&mut listener);
@@ -76,11 +76,11 @@ impl Listening {
         called
     }
 
-    /// At the end of a turn behind which members wait: it is idle from now on. Whether the worker may wait: it rang for nobody since it was heard last, and
+    /// At the end of a turn after which members wait: it is idle from now on. Whether the worker may wait: it rang for nobody since it was heard last, and
     /// nothing is noted for the group's members that they were not served since.
     pub fn settle(&mut self) -> bool
-        ensures settled { result ≡ true → HasSettled self.new.ear }
-        ensures same { IsEarOfSame self.old self.new }
+        ensures settled { result ≡ true → HasSettled self.new.listening }
+        ensures same { IsListeningOfSame self.old self.new }
     {
         if self.is_rung {
             return false;
@@ -124,7 +124,7 @@ impl Listening {
     }
 }
 
-/// A worker's hand at the bell of a group. Contracts see it as a `HandState`.
+/// A worker's ringer at the bell of a group. Contracts see it as a `RingingState`.
 #[derive(Drop)]
 pub struct Ringing<W> {
     bell: Arc<Bell, Global>,
@@ -139,15 +139,15 @@ pub struct Ringing<W> {
 
 impl<W> Model for Ringing<W> {
     ghost use Rattle.std.specs.Arc.{arc_value};
-    ghost use Rattle.worker_bells.specs.Ringing.{HandState};
+    ghost use Rattle.worker_bells.specs.Ringing.{RingingState};
 
-    ghost Value = { HandState };
+    ghost Value = { RingingState };
 
-    ghost view = { λ r. record { slot = r.slot; workers = (arc_value r.bell).workers; hand = r.ringer } };
+    ghost view = { λ r. record { slot = r.slot; workers = (arc_value r.bell).workers; ringing = r.ringer } };
 }
 
 impl<W: Wake> Ringing<W> {
-    /// A hand at the bell of the group of this slot, whose listeners, the workers from this number on, these alarms wake.
+    /// A ringer at the bell of the group of this slot, whose listeners, the workers from this number on, these alarms wake.
     pub fn new(
         bell: Arc<Bell, Global>,
         ringer: Ringer,
@@ -157,7 +157,7 @@ impl<W: Wake> Ringing<W> {
     ) -> Ringing<W>
         requires own { ringer.bell ≡ (arc_value bell).word }
         requires all { length (arc_value alarms).items ≡ (arc_value bell).workers }
-        ensures { (result.slot ≡ slot) × (result.hand.bell ≡ ringer.bell) }
+        ensures { (result.slot ≡ slot) × (result.ringing.bell ≡ ringer.bell) }
     {
         Ringing {
             bell,

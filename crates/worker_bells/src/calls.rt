@@ -17,7 +17,7 @@ const INVITED: u64 = 4;
 
 /// What others tell a worker.
 #[derive(Drop)]
-struct Post {
+struct Mailbox {
     calls: AtomicU64,
     // How many connections it has, and how many were sent for it.
     open: AtomicU64,
@@ -25,10 +25,10 @@ struct Post {
     waits: AtomicU64,
 }
 
-impl Post {
+impl Mailbox {
     /// That of a worker that has no connection.
-    fn new() -> Post {
-        Post {
+    fn new() -> Mailbox {
+        Mailbox {
             calls: AtomicU64::new(0),
             open: AtomicU64::new(0),
             waits: AtomicU64::new(0),
@@ -49,8 +49,8 @@ pub struct Calls {
 
 /// The workers of a broker, as each of them knows the others.
 #[derive(Drop)]
-pub struct Roster<W> {
-    posts: Vec<Post>,
+pub struct Mailboxes<W> {
+    mailboxes: Vec<Mailbox>,
     alarms: Vec<Arc<Vec<W>, Global>>,
     // How many connections a worker has at most.
     share: u64,
@@ -61,23 +61,23 @@ pub struct Roster<W> {
     hints: Hints,
 }
 
-impl<W: Wake> Roster<W> {
+impl<W: Wake> Mailboxes<W> {
     /// So many workers, of whom none has a connection; these alarms wake them, in their order.
     ///
     /// # Errors
     ///
-    /// Want of memory.
-    pub fn open(alloc: Global, count: usize, alarms: Vec<W>) -> Result<Roster<W>, NoMemory>
+    /// Out of memory.
+    pub fn open(alloc: Global, count: usize, alarms: Vec<W>) -> Result<Mailboxes<W>, NoMemory>
     where
         W: Drop,
     {
-        let mut posts = Vec::with_capacity(alloc, count)?;
+        let mut mailboxes = Vec::with_capacity(alloc, count)?;
         for _ in 0..count {
-            posts.push(Post::new())?;
+            mailboxes.push(Mailbox::new())?;
         }
-        Ok(Roster {
-            posts,
-            alarms: wards_of(alloc, alarms)?,
+        Ok(Mailboxes {
+            mailboxes,
+            alarms: bell_groups_of(alloc, alarms)?,
             share: u64::from(share_of(count)),
             begun: AtomicU64::new(0),
             underway: AtomicU64::new(0),
@@ -92,7 +92,7 @@ impl<W: Wake> Roster<W> {
 
     /// How many workers there are.
     pub fn len(&self) -> usize {
-        self.posts.len()
+        self.mailboxes.len()
     }
 
     /// What they tell one another of their members.
@@ -107,13 +107,13 @@ impl<W: Wake> Roster<W> {
 
     /// Whether each of them has begun.
     pub fn has_begun(&self) -> bool {
-        self.begun.load(Ordering::SeqCst) >= self.posts.len() as u64
+        self.begun.load(Ordering::SeqCst) >= self.mailboxes.len() as u64
     }
 
     /// Wakes a worker.
     fn wake(&self, worker: usize) {
-        if let Some(ward) = self.alarms.get(worker / MOST_WORKERS) {
-            if let Some(alarm) = ward.get(worker % MOST_WORKERS) {
+        if let Some(bell_group) = self.alarms.get(worker / MOST_WORKERS) {
+            if let Some(alarm) = bell_group.get(worker % MOST_WORKERS) {
                 alarm.wake();
             }
         }
@@ -121,8 +121,8 @@ impl<W: Wake> Roster<W> {
 
     /// Calls a worker.
     fn call(&self, worker: usize, call: u64) {
-        if let Some(post) = self.posts.get(worker) {
-            let _before = post.calls.fetch_or(call, Ordering::SeqCst);
+        if let Some(mailbox) = self.mailboxes.get(worker) {
+            let _before = mailbox.calls.fetch_or(call, Ordering::SeqCst);
             self.wake(worker);
         }
     }
@@ -134,9 +134,9 @@ impl<W: Wake> Roster<W> {
 
     /// A session is free: workers of whose connections one waits for a session look whether it is theirs.
     pub fn call_waiting(&self) {
-        for worker in 0..self.posts.len() {
-            if let Some(post) = self.posts.get(worker) {
-                if post.waits.load(Ordering::SeqCst) > 0 {
+        for worker in 0..self.mailboxes.len() {
+            if let Some(mailbox) = self.mailboxes.get(worker) {
+                if mailbox.waits.load(Ordering::SeqCst) > 0 {
                     self.call(worker, ALL_DUE);
                 }
             }
@@ -145,24 +145,24 @@ impl<W: Wake> Roster<W> {
 
     /// Each connection of every worker is to go on.
     pub fn call_everybody(&self) {
-        for worker in 0..self.posts.len() {
+        for worker in 0..self.mailboxes.len() {
             self.call(worker, ALL_DUE);
         }
     }
 
     /// The broker closes.
     pub fn close(&self) {
-        for worker in 0..self.posts.len() {
+        for worker in 0..self.mailboxes.len() {
             self.call(worker, CLOSING);
         }
     }
 
     /// A connection was sent for this worker, which may receive one more from now on.
     pub fn invite(&self, worker: usize) {
-        if let Some(post) = self.posts.get(worker) {
+        if let Some(mailbox) = self.mailboxes.get(worker) {
             let _underway = self.underway.fetch_add(1, Ordering::SeqCst);
-            let _count = post.open.fetch_add(1, Ordering::SeqCst);
-            let _before = post.calls.fetch_add(INVITED, Ordering::SeqCst);
+            let _count = mailbox.open.fetch_add(1, Ordering::SeqCst);
+            let _before = mailbox.calls.fetch_add(INVITED, Ordering::SeqCst);
             self.wake(worker);
         }
     }
@@ -179,22 +179,22 @@ impl<W: Wake> Roster<W> {
 
     /// A connection of this worker has ended.
     pub fn leave(&self, worker: usize) {
-        if let Some(post) = self.posts.get(worker) {
-            let _count = post.open.fetch_sub(1, Ordering::SeqCst);
+        if let Some(mailbox) = self.mailboxes.get(worker) {
+            let _count = mailbox.open.fetch_sub(1, Ordering::SeqCst);
         }
     }
 
     /// Whether a connection of this worker waits for a session.
     pub fn note_waiting(&self, worker: usize, waits: bool) {
-        if let Some(post) = self.posts.get(worker) {
-            post.waits.store(u64::from(waits), Ordering::SeqCst);
+        if let Some(mailbox) = self.mailboxes.get(worker) {
+            mailbox.waits.store(u64::from(waits), Ordering::SeqCst);
         }
     }
 
     /// What a worker was called for since it asked last.
     pub fn take_calls(&self, worker: usize) -> Calls {
-        let word = match self.posts.get(worker) {
-            Some(post) => post.calls.swap(0, Ordering::SeqCst),
+        let word = match self.mailboxes.get(worker) {
+            Some(mailbox) => mailbox.calls.swap(0, Ordering::SeqCst),
             None => 0,
         };
         Calls {
@@ -208,9 +208,9 @@ impl<W: Wake> Roster<W> {
     pub fn least_full(&self) -> Option<usize> {
         let mut least = self.share;
         let mut found = None;
-        for worker in 0..self.posts.len() {
-            if let Some(post) = self.posts.get(worker) {
-                let open = post.open.load(Ordering::SeqCst);
+        for worker in 0..self.mailboxes.len() {
+            if let Some(mailbox) = self.mailboxes.get(worker) {
+                let open = mailbox.open.load(Ordering::SeqCst);
                 if open < least {
                     least = open;
                     found = Some(worker);
@@ -230,18 +230,21 @@ impl<W: Wake> Roster<W> {
 }
 
 /// The alarms of 32 workers each.
-fn wards_of<W: Drop>(alloc: Global, alarms: Vec<W>) -> Result<Vec<Arc<Vec<W>, Global>>, NoMemory> {
-    let mut wards = Vec::new(alloc);
-    let mut ward = Vec::new(alloc);
+fn bell_groups_of<W: Drop>(
+    alloc: Global,
+    alarms: Vec<W>,
+) -> Result<Vec<Arc<Vec<W>, Global>>, NoMemory> {
+    let mut bell_groups = Vec::new(alloc);
+    let mut bell_group = Vec::new(alloc);
     for alarm in alarms {
-        ward.push(alarm)?;
-        if ward.len() == MOST_WORKERS {
-            wards.push(Arc::new(alloc, ward)?)?;
-            ward = Vec::new(alloc);
+        bell_group.push(alarm)?;
+        if bell_group.len() == MOST_WORKERS {
+            bell_groups.push(Arc::new(alloc, bell_group)?)?;
+            bell_group = Vec::new(alloc);
         }
     }
-    if !ward.is_empty() {
-        wards.push(Arc::new(alloc, ward)?)?;
+    if !bell_group.is_empty() {
+        bell_groups.push(Arc::new(alloc, bell_group)?)?;
     }
-    Ok(wards)
+    Ok(bell_groups)
 }

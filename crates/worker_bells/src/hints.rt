@@ -50,7 +50,7 @@ impl Hints {
     ///
     /// # Errors
     ///
-    /// Want of memory.
+    /// Out of memory.
     pub fn new(alloc: Global, workers: usize) -> Result<Hints, AllocError> {
         let mut words = Vec::new(alloc);
         for _ in 0..workers {

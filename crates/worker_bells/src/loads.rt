@@ -240,7 +240,7 @@ const MOST_LEAD: u32 = 4;
 
 /// How many messages each member that a worker has in a group was handed on the average, in 1,024ths, counted from 0 again at 2^32.
 ///
-/// Workers compare theirs where members of several have as few messages: so each is handed as many in the long run. What a worker is behind is not made up for
+/// Workers compare theirs where members of several have as few messages: so each is handed as many in the long run. What a worker is after is not made up for
 /// without end, nor is what it is ahead: no two are more than four messages apart ([`Average::near`]).
 #[derive(Clone, Copy, Debug, PartialEq, Eq)]
 pub struct Average {

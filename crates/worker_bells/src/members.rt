@@ -1,22 +1,22 @@
 //! Which of a worker's connections would be handed a job, and which wait for a session.
 ghost use Rattle.std.specs.Prelude.{◌≡◌, ◌<◌, ◌≤◌, ◌+◌, ℕ, false, length, replicate, slice_set, slice_index_or};
-ghost use Rattle.worker_bells.specs.Wishing.{IsWished, no_wish, none_or_one};
+ghost use Rattle.worker_bells.specs.Wishing.{IsWished, no_interest, none_or_one};
 
 use crate::loads::{HeldCounts, Load};
 use std::marker::Model;
 
 /// What a connection would do if others did something.
 #[derive(Clone, Copy, Debug, PartialEq, Eq)]
-pub struct Wish {
+pub struct Interest {
     /// The slot of the group that it would be handed a job of.
     pub takes: Option<u8>,
     /// It waits for a session.
     pub waits: bool,
 }
 
-impl Wish {
+impl Interest {
     /// That of no connection.
-    pub const NONE: Wish = Wish {
+    pub const NONE: Interest = Interest {
         takes: None,
         waits: false,
     };
@@ -39,10 +39,10 @@ impl Held {
     };
 }
 
-/// The wishes of a worker's connections, by their cells. Contracts see them as that list.
+/// The interests of a worker's connections, by their cells. Contracts see them as that list.
 #[derive(Drop)]
 pub struct Members {
-    wishes: Vec<Wish>,
+    interests: Vec<Interest>,
     // How many would be handed a job of each group.
     takers: [u32; 8],
     waiting: u32,
@@ -58,25 +58,25 @@ pub struct Members {
 
 impl Model for Members {
     ghost use Rattle.std.specs.Prelude.{List};
-    ghost use Rattle.worker_bells.specs.declared.members.Wish.{Wish};
+    ghost use Rattle.worker_bells.specs.declared.members.Interest.{Interest};
     ghost use Rattle.worker_bells.specs.Wishing.{AreCounted};
 
-    ghost Value = { List Wish };
+    ghost Value = { List Interest };
 
-    ghost view = { λ m. m.wishes.items };
+    ghost view = { λ m. m.interests.items };
 
-    ghost invariant = { λ m. AreCounted m.takers m.wishes.items };
+    ghost invariant = { λ m. AreCounted m.takers m.interests.items };
 }
 
 impl Members {
-    /// No connection has a wish, and none has anything.
-    pub fn new(wishes: Vec<Wish>, held: Vec<Held>) -> Members
-        requires few { length wishes.items ≤ 65535 }
-        requires none { wishes.items ≡ replicate (length wishes.items) no_wish }
-        ensures { result ≡ wishes.items }
+    /// No connection has an interest, and none has anything.
+    pub fn new(interests: Vec<Interest>, held: Vec<Held>) -> Members
+        requires few { length interests.items ≤ 65535 }
+        requires none { interests.items ≡ replicate (length interests.items) no_interest }
+        ensures { result ≡ interests.items }
     {
         Members {
-            wishes,
+            interests,
             takers: [0; 8],
             waiting: 0,
             held,
@@ -86,26 +86,26 @@ impl Members {
         }
     }
 
-    /// Notes the wish of the connection in a cell.
-    pub fn note(&mut self, cell: usize, wish: Wish)
-        ensures { self.new ≡ slice_set self.old cell wish }
+    /// Notes the interest of the connection in a cell.
+    pub fn note(&mut self, cell: usize, interest: Interest)
+        ensures { self.new ≡ slice_set self.old cell interest }
     {
-        let Some(place) = self.wishes.get_mut(cell) else {
+        let Some(place) = self.interests.get_mut(cell) else {
             return;
         };
         let old = *place;
-        *place = wish;
-        if old != wish {
+        *place = interest;
+        if old != interest {
             mark(&mut self.changed, old.takes);
-            mark(&mut self.changed, wish.takes);
+            mark(&mut self.changed, interest.takes);
             self.top = self.top.max(cell.saturating_add(1));
         }
         one_less(&mut self.takers, old.takes);
-        one_more(&mut self.takers, wish.takes);
+        one_more(&mut self.takers, interest.takes);
         if old.waits {
             self.waiting = self.waiting.saturating_sub(1);
         }
-        if wish.waits {
+        if interest.waits {
             self.waiting = self.waiting.saturating_add(1);
         }
     }
@@ -124,9 +124,9 @@ impl Members {
 
     /// Whether the connection in this cell would be.
     pub fn takes(&self, cell: usize, slot: usize) -> bool {
-        match self.wishes.get(cell) {
+        match self.interests.get(cell) {
             Some(
-                Wish {
+                Interest {
                     takes: Some(taken),
                     waits: _,
                 },
@@ -180,8 +180,8 @@ impl Members {
     fn mark_changed(&mut self, cell: usize)
         ensures { self.new ≡ self.old }
     {
-        if let Some(wish) = self.wishes.get(cell) {
-            mark(&mut self.changed, wish.takes);
+        if let Some(interest) = self.interests.get(cell) {
+            mark(&mut self.changed, interest.takes);
         }
     }
 
@@ -218,7 +218,7 @@ impl Members {
         }
     }
 
-    /// The cell that comes so many behind this one, where the first cell comes behind the last.
+    /// The cell that comes so many after this one, where the first cell comes after the last.
     pub fn cell_behind(&self, first: usize, step: usize) -> usize {
         let cell = first.saturating_add(step);
         if cell < self.top {

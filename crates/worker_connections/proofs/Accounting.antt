@@ -4,9 +4,9 @@ use Rattle.transport.specs.declared.counts.Counts.{Counts}
 use Rattle.group_queue.specs.Places.{PlaceState}
 use Rattle.conn_service.specs.declared.served.Served.TheVariants.{Memory}
 use Rattle.conn_service.specs.Services.{ServiceState}
-use Rattle.service_table.specs.Cells.{ended_by, occupied}
-use Rattle.service_table.specs.declared.turned.Turned.{Turned}
-use Rattle.service_table.specs.declared.turned.Turned.TheVariants.{Vacant, Goes, Ended}
+use Rattle.worker_connections.specs.Cells.{ended_by, occupied}
+use Rattle.worker_connections.specs.declared.cell_outcome.CellOutcome.{CellOutcome}
+use Rattle.worker_connections.specs.declared.cell_outcome.CellOutcome.TheVariants.{Vacant, Goes, Ended}
 use Rattle.worker_connections.specs.declared.served.ServedCounts.{ServedCounts}
 use Rattle.worker_connections.specs.Arrivals.{ArrivedState}
 use Rattle.worker_connections.specs.Counting.{counted, counted_behind, none_served}
@@ -20,9 +20,9 @@ module _ {T : Type 0} where
   pub fresh : (cells : Table T) → occupied cells ≡ 0 → IsAccounted 0 cells none_served
   fresh cells none = record { endings = []; counted = refl; all = omega (arith, none) }
 
-  -- behind a round those that have ended are counted
-  pub behind_round : (received : ℕ) (cells cells' : Table T) (served served' : ServedCounts) (turned : Turned T) → IsAccounted received cells served
-      → occupied cells ≡ occupied cells' + ended_by turned → served' ≡ counted_behind turned served → IsAccounted received cells' served'
+  -- after a round those that have ended are counted
+  pub behind_round : (received : ℕ) (cells cells' : Table T) (served served' : ServedCounts) (cell_outcome : CellOutcome T) → IsAccounted received cells served
+      → occupied cells ≡ occupied cells' + ended_by cell_outcome → served' ≡ counted_behind cell_outcome served → IsAccounted received cells' served'
   behind_round received cells cells' served served' Vacant old fewer counts_it =
       record { endings = old.endings; counted = counts_it ∙ old.counted; all = omega (arith, old.all, fewer) }
   behind_round received cells cells' served served' (Goes round) old fewer counts_it =

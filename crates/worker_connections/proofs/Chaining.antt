@@ -7,9 +7,9 @@ use Rattle.broker_groups.specs.Answers.{Sights}
 use Rattle.broker_groups.specs.Naming.{AreUnsent}
 use Rattle.group_queue.specs.Places.{PlaceState}
 use Rattle.conn_service.specs.Services.{ServiceState}
-use Rattle.service_table.specs.Cells.{InCell, Turns}
-use Rattle.service_table.specs.declared.turned.Turned.{Turned}
-use Rattle.service_table.specs.declared.turned.Turned.TheVariants.{Vacant, Goes, Ended}
+use Rattle.worker_connections.specs.Cells.{InCell, Turns}
+use Rattle.worker_connections.specs.declared.cell_outcome.CellOutcome.{CellOutcome}
+use Rattle.worker_connections.specs.declared.cell_outcome.CellOutcome.TheVariants.{Vacant, Goes, Ended}
 use Rattle.shared_supply.specs.Calls.{Calls}
 use Rattle.shared_supply.specs.Waking.{KeepsAtMost, no_wakes, one_called}
 use Rattle.shared_supply.specs.Workers.{Worker, Begins, Leaves, is_visiting}
@@ -18,7 +18,7 @@ use Rattle.worker_connections.specs.Arrivals.{ArrivedState}
 use Rattle.worker_connections.specs.Closing.{HasClosedNone, and_closed, closed_after}
 use Rattle.worker_connections.specs.Counting.{counted_behind, none_served}
 use Rattle.worker_connections.specs.Serving.{TakesIn}
-use Rattle.worker_connections.specs.Chains.{Deed, Opened, Closed, Allowed, Went, Passed, Called, Told, ToldAll, RunState, Makes, MakesAll, HasRunTo, came_in, came_by}
+use Rattle.worker_connections.specs.Chains.{Deed, Opened, Closed, Allowed, MadeRound, Passed, Called, Notified, NotifiedAll, RunState, Makes, MakesAll, HasRunTo, came_in, came_by}
 
 module _ {T : Type 0} (group : ℕ → GroupId) (seen : Sights) (counts : T → Counts) (given accepted : T → Option (List ℕ)) where
   abbrev Table : Type 0
@@ -67,14 +67,14 @@ module _ {T : Type 0} (group : ℕ → GroupId) (seen : Sights) (counts : T → 
 
   -- the connection in a cell went on by a round
   goes : (supply supply' : Worker) (cells cells' : Table) (received : List (ArrivedState T)) (served served' : ServedCounts) (closed closed' : Option (List T)) (now cell : ℕ)
-      (before after : Option (ServiceState PlaceState T)) (turned : Turned T) → slice_get cells cell ≡ Some before → cells' ≡ slice_set cells cell after
-      → Turns (Calls group seen) Begins Leaves is_visiting (λ (p : PlaceState). p.group) counts given accepted now before supply turned after supply'
-      → served' ≡ counted_behind turned served → closed' ≡ closed_after turned closed
+      (before after : Option (ServiceState PlaceState T)) (cell_outcome : CellOutcome T) → slice_get cells cell ≡ Some before → cells' ≡ slice_set cells cell after
+      → Turns (Calls group seen) Begins Leaves is_visiting (λ (p : PlaceState). p.group) counts given accepted now before supply cell_outcome after supply'
+      → served' ≡ counted_behind cell_outcome served → closed' ≡ closed_after cell_outcome closed
       → (deed : Deed T) × Makes group seen counts given accepted deed (record { supply = supply; cells = cells; received = received; served = served; closed = closed })
       (record { supply = supply'; cells = cells'; received = received; served = served'; closed = closed' })
-  goes supply supply' cells cells' received served served' closed closed' now cell None after turned has is made counted_is closed_is =
-      let same : served' ≡ served = subst (λ (t : Turned T). served' ≡ counted_behind t served) made.0 counted_is in
-      let unclosed : closed' ≡ closed = subst (λ (t : Turned T). closed' ≡ closed_after t closed) made.0 closed_is in (
+  goes supply supply' cells cells' received served served' closed closed' now cell None after cell_outcome has is made counted_is closed_is =
+      let same : served' ≡ served = subst (λ (t : CellOutcome T). served' ≡ counted_behind t served) made.0 counted_is in
+      let unclosed : closed' ≡ closed = subst (λ (t : CellOutcome T). closed' ≡ closed_after t closed) made.0 closed_is in (
         Passed cell,
         (
           record { before = None; after = after; has = has; becomes = (refl, made.1); is = is },
@@ -83,7 +83,7 @@ module _ {T : Type 0} (group : ℕ → GroupId) (seen : Sights) (counts : T → 
       )
   goes supply supply' cells cells' received served served' closed closed' now cell (Some service) after Vacant has is made counted_is closed_is = absurd made.2
   goes supply supply' cells cells' received served served' closed closed' now cell (Some service) after (Goes round) has is made counted_is closed_is = (
-    Went cell now made.1.led.acts None,
+    MadeRound cell now made.1.led.acts None,
     (
       record {
         before = Some service;
@@ -96,7 +96,7 @@ module _ {T : Type 0} (group : ℕ → GroupId) (seen : Sights) (counts : T → 
     ),
   )
   goes supply supply' cells cells' received served served' closed closed' now cell (Some service) after (Ended how transport) has is made counted_is closed_is = (
-    Went cell now made.1.led.acts (Some how),
+    MadeRound cell now made.1.led.acts (Some how),
     (
       record {
         before = Some service;
@@ -118,14 +118,14 @@ module _ {T : Type 0} (group : ℕ → GroupId) (seen : Sights) (counts : T → 
   )
 
   -- so many messages were allowed, and then it went on by a round
-  pub went : (supply allowed supply' : Worker) (most : ℕ) (cells cells' : Table) (received : List (ArrivedState T)) (served served' : ServedCounts) (closed closed' : Option (List T)) (now cell : ℕ)
-      (turned : Turned T) → HasRunTo group seen counts given accepted (record { supply = supply; cells = cells; received = received; served = served; closed = closed })
+  pub outcome : (supply allowed supply' : Worker) (most : ℕ) (cells cells' : Table) (received : List (ArrivedState T)) (served served' : ServedCounts) (closed closed' : Option (List T)) (now cell : ℕ)
+      (cell_outcome : CellOutcome T) → HasRunTo group seen counts given accepted (record { supply = supply; cells = cells; received = received; served = served; closed = closed })
       → allowed ≡ record supply { allowance = most }
-      → InCell cells cell (λ before after. Turns (Calls group seen) Begins Leaves is_visiting (λ (p : PlaceState). p.group) counts given accepted now before allowed turned after supply') cells'
-      → served' ≡ counted_behind turned served → closed' ≡ closed_after turned closed
+      → InCell cells cell (λ before after. Turns (Calls group seen) Begins Leaves is_visiting (λ (p : PlaceState). p.group) counts given accepted now before allowed cell_outcome after supply') cells'
+      → served' ≡ counted_behind cell_outcome served → closed' ≡ closed_after cell_outcome closed
       → HasRunTo group seen counts given accepted (record { supply = supply'; cells = cells'; received = received; served = served'; closed = closed' })
-  went supply allowed supply' most cells cells' received served served' closed closed' now cell turned ran allows made counted_is closed_is =
-      let deed = goes allowed supply' cells cells' received served served' closed closed' now cell made.before made.after turned made.has made.is made.becomes counted_is closed_is in
+  outcome supply allowed supply' most cells cells' received served served' closed closed' now cell cell_outcome ran allows made counted_is closed_is =
+      let deed = goes allowed supply' cells cells' received served served' closed closed' now cell made.before made.after cell_outcome made.has made.is made.becomes counted_is closed_is in
       runs_on deed.0 _ _
       (runs_on (Allowed most) _ (record { supply = allowed; cells = cells; received = received; served = served; closed = closed }) ran
       (λ i. record { supply = allows i; cells = cells; received = received; served = served; closed = closed })) deed.1
@@ -144,7 +144,7 @@ module _ {T : Type 0} (group : ℕ → GroupId) (seen : Sights) (counts : T → 
       → HasRunTo group seen counts given accepted (record { supply = supply; cells = cells; received = received; served = served; closed = closed })
       → HasRunTo group seen counts given accepted (record { supply = supply'; cells = cells; received = received; served = served; closed = closed })
   told_on most others supply supply' cells received served closed keeps is ran =
-      runs_on (Told most others) _ _ ran (keeps, λ i. record { supply = is i; cells = cells; received = received; served = served; closed = closed })
+      runs_on (Notified most others) _ _ ran (keeps, λ i. record { supply = is i; cells = cells; received = received; served = served; closed = closed })
 
   -- it told others all that they wait for
   pub told_all_on : (supply supply' : Worker) (cells : Table) (received : List (ArrivedState T)) (served : ServedCounts) (closed : Option (List T))
@@ -152,7 +152,7 @@ module _ {T : Type 0} (group : ℕ → GroupId) (seen : Sights) (counts : T → 
       → HasRunTo group seen counts given accepted (record { supply = supply; cells = cells; received = received; served = served; closed = closed })
       → HasRunTo group seen counts given accepted (record { supply = supply'; cells = cells; received = received; served = served; closed = closed })
   told_all_on supply supply' cells received served closed is ran =
-      runs_on ToldAll _ _ ran (λ i. record { supply = is i; cells = cells; received = received; served = served; closed = closed })
+      runs_on NotifiedAll _ _ ran (λ i. record { supply = is i; cells = cells; received = received; served = served; closed = closed })
 
   -- it waited at its poller, which closed nothing
   pub waits_on : (supply : Worker) (cells : Table) (received : List (ArrivedState T)) (served : ServedCounts) (closed closed' : Option (List T)) → closed' ≡ closed
@@ -166,11 +166,11 @@ module _ {T : Type 0} (group : ℕ → GroupId) (seen : Sights) (counts : T → 
   came_one (Opened arrived cell now) old new does = ap (λ (s : RunState T). s.received) does.3
   came_one (Closed arrived) old new does = ap (λ (s : RunState T). s.received) does.2
   came_one (Allowed most) old new does = ap (λ (s : RunState T). s.received) does ∙ sym (append-nil old.received)
-  came_one (Went cell now acts how) old new does = ap (λ (s : RunState T). s.received) does.1 ∙ sym (append-nil old.received)
+  came_one (MadeRound cell now acts how) old new does = ap (λ (s : RunState T). s.received) does.1 ∙ sym (append-nil old.received)
   came_one (Passed cell) old new does = ap (λ (s : RunState T). s.received) does.1 ∙ sym (append-nil old.received)
   came_one (Called slot) old new does = ap (λ (s : RunState T). s.received) does ∙ sym (append-nil old.received)
-  came_one (Told most others) old new does = ap (λ (s : RunState T). s.received) does.1 ∙ sym (append-nil old.received)
-  came_one ToldAll old new does = ap (λ (s : RunState T). s.received) does ∙ sym (append-nil old.received)
+  came_one (Notified most others) old new does = ap (λ (s : RunState T). s.received) does.1 ∙ sym (append-nil old.received)
+  came_one NotifiedAll old new does = ap (λ (s : RunState T). s.received) does ∙ sym (append-nil old.received)
 
   pub came_all : (deeds : List (Deed T)) (old new : RunState T) → MakesAll group seen counts given accepted deeds old new → new.received ≡ old.received ++ came_by deeds
   came_all [] old new does = ap (λ (s : RunState T). s.received) does ∙ sym (append-nil old.received)

@@ -7,3 +7,5 @@ pub mod Swept
 pub mod Ticking
 pub mod Wished
 pub mod Publishing
+pub mod Occupied
+pub mod Turning

@@ -4,8 +4,8 @@ use Rattle.std.specs.List.{AllByRecursion}
 use Rattle.std.proofs.lemmas.List.Elements.{All-set}
 use Rattle.transport.specs.declared.counts.Counts.{Counts}
 use Rattle.transport.specs.Counting.{no_counts}
-use Rattle.conn_supply.specs.Facts.{Fact}
-use Rattle.conn_engine.specs.declared.standing.Opening.{Opening}
+use Rattle.conn_supply.specs.SupplyCalls.{SupplyCall}
+use Rattle.conn_engine.specs.declared.phase.Opening.{Opening}
 use Rattle.conn_service.specs.declared.served.Served.{Served}
 use Rattle.conn_service.specs.Services.{ServiceState, opened}
 use Rattle.conn_service.specs.Acts.{Act, Others}
@@ -13,15 +13,15 @@ use Rattle.conn_service.specs.Lives.{DoesAll, LivesBy, Rounds}
 use Rattle.group_queue.specs.Ports.{GroupId}
 use Rattle.broker_groups.specs.Answers.{Sights}
 use Rattle.group_queue.specs.Places.{PlaceState}
-use Rattle.service_table.specs.Cells.{Opens}
+use Rattle.worker_connections.specs.Cells.{Opens}
 use Rattle.shared_supply.specs.Calls.{Calls}
 use Rattle.shared_supply.specs.Workers.{Begins, Leaves, is_visiting}
 use Rattle.worker_connections.specs.Arrivals.{ArrivedState, opening_at}
-use Rattle.worker_connections.specs.Chains.{Deed, Opened, Closed, Allowed, Went, Passed, Called, Told, ToldAll, LeavesCell, Makes, MakesAll, RunState, came_in, came_by}
+use Rattle.worker_connections.specs.Chains.{Deed, Opened, Closed, Allowed, MadeRound, Passed, Called, Notified, NotifiedAll, LeavesCell, Makes, MakesAll, RunState, came_in, came_by}
 use Rattle.worker_connections.specs.Lives.{HasLived, IfLived}
 use Rattle.worker_connections.proofs.Parts.{at_cell, both_parts}
 
-module _ {S P T : Type 0} (call : S → Fact P → S → Type 0) (begins ends : S → S → Type 0) (visiting : S → Bool) (slot_of : P → ℕ)
+module _ {S P T : Type 0} (call : S → SupplyCall P → S → Type 0) (begins ends : S → S → Type 0) (visiting : S → Bool) (slot_of : P → ℕ)
     (counts : T → Counts) (given accepted : T → Option (List ℕ)) where
   -- acts, what others do, and further acts
   both : (these those : List Act) (old mid new : ServiceState P T) (supply between again supply' : S)
@@ -95,7 +95,7 @@ module _ {T : Type 0} (group : ℕ → GroupId) (seen : Sights) (counts : T → 
   abbrev AllLived : List (Option (ServiceState PlaceState T)) → Type 0
   AllLived cells = All Lived cells
 
-  -- behind a round it lives on in its cell, or has left that
+  -- after a round it lives on in its cell, or has left that
   left : (how : Option Served) (behind : ServiceState PlaceState T) (after : Option (ServiceState PlaceState T)) → LeavesCell how behind after → Lived (Some behind) → Lived after
   left None behind after leaves lived = subst Lived (sym leaves) lived
   left (Some how) behind after leaves lived = subst Lived (sym leaves.2) tt
@@ -110,7 +110,7 @@ module _ {T : Type 0} (group : ℕ → GroupId) (seen : Sights) (counts : T → 
       (does.1.counts_are ∙ fresh.0) made.becomes) all)
   lives (Closed arrived) old new fresh does all = subst (λ (s : RunState T). AllLived s.cells) (sym does.2) all
   lives (Allowed most) old new fresh does all = subst (λ (s : RunState T). AllLived s.cells) (sym does) all
-  lives (Went cell now acts how) old new fresh does all =
+  lives (MadeRound cell now acts how) old new fresh does all =
       let made = does.0 in
       let goes = made.becomes in
       let first = subst Lived goes.here (at_cell Lived old.cells cell made.before all made.has) in
@@ -122,8 +122,8 @@ module _ {T : Type 0} (group : ℕ → GroupId) (seen : Sights) (counts : T → 
       let made = does.0 in
       subst AllLived (sym made.is) (All-set Lived old.cells cell made.after (subst Lived (sym made.becomes.1) tt) all)
   lives (Called slot) old new fresh does all = subst (λ (s : RunState T). AllLived s.cells) (sym does) all
-  lives (Told most others) old new fresh does all = subst (λ (s : RunState T). AllLived s.cells) (sym does.1) all
-  lives ToldAll old new fresh does all = subst (λ (s : RunState T). AllLived s.cells) (sym does) all
+  lives (Notified most others) old new fresh does all = subst (λ (s : RunState T). AllLived s.cells) (sym does.1) all
+  lives NotifiedAll old new fresh does all = subst (λ (s : RunState T). AllLived s.cells) (sym does) all
 
   -- **Each connection has its life in the run**: at each state of it, the connection in a cell was led there by rounds from its opening, with others between them
   pub lives_all : (deeds : List (Deed T)) (old new : RunState T) → AllByRecursion (λ (arrived : ArrivedState T). counts arrived.transport ≡ no_counts) (came_by deeds)

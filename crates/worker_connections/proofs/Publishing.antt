@@ -25,15 +25,15 @@ use Rattle.conn_supply.specs.declared.reply.Reply.{Reply}
 use Rattle.conn_supply.specs.declared.reply.Then.{Then}
 use Rattle.conn_supply.specs.declared.reply.Then.TheVariants.{Go, Close, Kicked as TakenOver}
 use Rattle.conn_supply.specs.declared.supply.OfferRefusal.{OfferRefusal}
-use Rattle.conn_supply.specs.Facts.{Fact}
-use Rattle.conn_supply.specs.Facts.Fact.{Attach, Withdraw, Kicked, Park, ParkAsIs, Keep, Bury, Sweep, LendPlace, TakePlace, Bind, Find, Match, Offer, MayTake, Take, TakeBack, Settle, GiveBack}
+use Rattle.conn_supply.specs.SupplyCalls.{SupplyCall}
+use Rattle.conn_supply.specs.SupplyCalls.SupplyCall.{Attach, Withdraw, Kicked, Park, ParkAsIs, Keep, Bury, Sweep, LendPlace, TakePlace, Bind, Find, Match, Offer, MayTake, Take, TakeBack, Settle, GiveBack}
 use Rattle.conn_supply.specs.Publishing.{Offers, AnswersPublish}
 use Rattle.conn_supply.specs.Replies.{acknowledging}
 use Rattle.conn_engine.specs.declared.input.Input.{Input}
 use Rattle.conn_engine.specs.declared.input.Input.TheVariants as inputs
-use Rattle.conn_engine.specs.declared.standing.Link.{Link}
-use Rattle.conn_engine.specs.declared.standing.Standing.{Standing}
-use Rattle.conn_engine.specs.declared.standing.Standing.TheVariants.{Unconnected, Waiting, Connected, Ended}
+use Rattle.conn_engine.specs.declared.phase.ConnectedClient.{ConnectedClient}
+use Rattle.conn_engine.specs.declared.phase.ConnPhase.{ConnPhase}
+use Rattle.conn_engine.specs.declared.phase.ConnPhase.TheVariants.{Unconnected, Waiting, Connected, Ended}
 use Rattle.conn_engine.specs.Step.{AnswersFirst, AnswersPacket, AnswersUnlessKicked, Concludes, FailsToStep, Hands, Reacts, Steps as StepsTo}
 use Rattle.conn_laws.specs.Calls.{offer_of, offered, MakesAll as MakesCalls, OffersToEach, OffersNone, OffersToSome}
 use Rattle.conn_laws.proofs.Calling.{Plain, parted}
@@ -46,7 +46,7 @@ use Rattle.conn_service.specs.Services.{ServiceState}
 use Rattle.conn_service.specs.Visits.{Stand, Outside, Inside, Behind, Parting, Parted, Treads, Walks}
 use Rattle.shared_supply.specs.Calls.{Calls, missing}
 use Rattle.shared_supply.specs.Workers.{Worker, Begins, Leaves, is_visiting}
-use Rattle.worker_connections.specs.Chains.{Deed, Opened, Closed, Allowed, Went, Passed, Called, Told, ToldAll, IsRun, Makes, MakesAll, Run, RunState}
+use Rattle.worker_connections.specs.Chains.{Deed, Opened, Closed, Allowed, MadeRound, Passed, Called, Notified, NotifiedAll, IsRun, Makes, MakesAll, Run, RunState}
 use Rattle.worker_connections.specs.Publishing.{IsPromised, IsPublished, IsPublishedBy, Publishes, PublishesAll, PublishesAt, PublishesSome, PutsInto, PutsSome, acts_in}
 
 -- nothing is found in front of a list, and nothing in it
@@ -82,18 +82,18 @@ module _ (group : ℕ → GroupId) (seen : Sights) where
   missed_ports false worker = refl
 
   -- a call offers a message, or leaves the ports as they were
-  pub record IsOfferOf (fact : Fact PlaceState) (old new : List PortState) : Type 0 where
+  pub record IsOfferOf (supply_call : SupplyCall PlaceState) (old new : List PortState) : Type 0 where
     pub slot : ℕ
     pub connection : ℕ
     pub message : Message
     pub answer : Result Stamp OfferRefusal
-    pub is : offer_of fact ≡ Some (slot, connection, message)
+    pub is : offer_of supply_call ≡ Some (slot, connection, message)
     pub offers : OffersTo group seen.saw_main old slot message answer new
 
-  abbrev OffersOrStays : Fact PlaceState → List PortState → List PortState → Type 0
-  OffersOrStays fact old new = ((offer_of fact ≡ None) × (new ≡ old)) ⊎ IsOfferOf fact old new
+  abbrev OffersOrStays : SupplyCall PlaceState → List PortState → List PortState → Type 0
+  OffersOrStays supply_call old new = ((offer_of supply_call ≡ None) × (new ≡ old)) ⊎ IsOfferOf supply_call old new
 
-  called : (fact : Fact PlaceState) (old new : Worker) → Calls group seen old fact new → OffersOrStays fact old.ports new.ports
+  called : (supply_call : SupplyCall PlaceState) (old new : Worker) → Calls group seen old supply_call new → OffersOrStays supply_call old.ports new.ports
   called (Attach request answer) old new is = inl (refl, ap (λ (w : Worker). w.ports) is.1)
   called (Withdraw connection) old new is = inl (refl, ap (λ (w : Worker). w.ports) is.1)
   called (Kicked connection answer) old new (inl same) = inl (refl, ap (λ (w : Worker). w.ports) same.1)
@@ -117,36 +117,36 @@ module _ (group : ℕ → GroupId) (seen : Sights) where
   called (Settle place place' envelope fate) old new is = inl (refl, ap (λ (w : Worker). w.ports) is.2 ∙ missed_ports is.0 old)
   called (GiveBack place place' envelope answer) old new is = inl (refl, ap (λ (w : Worker). w.ports) is.1)
 
-  stays : (fact : Fact PlaceState) (old new : List PortState) → OffersOrStays fact old new → offer_of fact ≡ None → new ≡ old
-  stays fact old new (inl same) none = same.1
-  stays fact old new (inr offer) none = let never : Some (offer.slot, offer.connection, offer.message) ≡ None = sym offer.is ∙ none in absurd (cc never)
+  stays : (supply_call : SupplyCall PlaceState) (old new : List PortState) → OffersOrStays supply_call old new → offer_of supply_call ≡ None → new ≡ old
+  stays supply_call old new (inl same) none = same.1
+  stays supply_call old new (inr offer) none = let never : Some (offer.slot, offer.connection, offer.message) ≡ None = sym offer.is ∙ none in absurd (cc never)
 
   -- calls that offer nothing
-  all_stay : (facts : List (Fact PlaceState)) (old new : Worker) → offered facts ≡ [] → MakesCalls (Calls group seen) old facts new → new.ports ≡ old.ports
+  all_stay : (supply_calls : List (SupplyCall PlaceState)) (old new : Worker) → offered supply_calls ≡ [] → MakesCalls (Calls group seen) old supply_calls new → new.ports ≡ old.ports
   all_stay [] old new none made = ap (λ (w : Worker). w.ports) made
-  all_stay (fact ∷ facts) old new none made =
-      let parts = none_found (offer_of fact) (offered facts) none in
-      all_stay facts made.0 new parts.1 made.2 ∙ stays fact old.ports made.0.ports (called fact old made.0 made.1) parts.0
+  all_stay (supply_call ∷ supply_calls) old new none made =
+      let parts = none_found (offer_of supply_call) (offered supply_calls) none in
+      all_stay supply_calls made.0 new parts.1 made.2 ∙ stays supply_call old.ports made.0.ports (called supply_call old made.0 made.1) parts.0
 
   plain : {given : List Message} (old new : Worker) → Plain (Calls group seen) given old new → new.ports ≡ old.ports
-  plain old new calls = all_stay calls.facts old new calls.offers calls.made
+  plain old new calls = all_stay calls.supply_calls old new calls.offers calls.made
 
   -- the first of some calls, of which the others put a message into what is left of these slots
-  put_first : (fact : Fact PlaceState) (facts : List (Fact PlaceState)) (slots : List ℕ) (number : ℕ) (message : Message) (ports mid ports' : List PortState)
-      → OffersOrStays fact ports mid → cons_option (offer_of fact) (offered facts) ≡ map (λ (slot : ℕ). (slot, number, message)) slots
-      → ((rest : List ℕ) → offered facts ≡ map (λ (slot : ℕ). (slot, number, message)) rest → PutsSome group seen mid message rest ports') → PutsSome group seen ports message slots ports'
-  put_first fact facts slots number message ports mid ports' (inl same) offers others =
-      let Found : Option (ℕ × ℕ × Message) → Type 0 = λ found. cons_option found (offered facts) ≡ map (λ (slot : ℕ). (slot, number, message)) slots in
+  put_first : (supply_call : SupplyCall PlaceState) (supply_calls : List (SupplyCall PlaceState)) (slots : List ℕ) (number : ℕ) (message : Message) (ports mid ports' : List PortState)
+      → OffersOrStays supply_call ports mid → cons_option (offer_of supply_call) (offered supply_calls) ≡ map (λ (slot : ℕ). (slot, number, message)) slots
+      → ((rest : List ℕ) → offered supply_calls ≡ map (λ (slot : ℕ). (slot, number, message)) rest → PutsSome group seen mid message rest ports') → PutsSome group seen ports message slots ports'
+  put_first supply_call supply_calls slots number message ports mid ports' (inl same) offers others =
+      let Found : Option (ℕ × ℕ × Message) → Type 0 = λ found. cons_option found (offered supply_calls) ≡ map (λ (slot : ℕ). (slot, number, message)) slots in
       subst (λ (those : List PortState). PutsSome group seen those message slots ports') same.1 (others slots (subst Found same.0 offers))
-  put_first fact facts [] number message ports mid ports' (inr offer) offers others =
-      let Found : Option (ℕ × ℕ × Message) → Type 0 = λ found. cons_option found (offered facts) ≡ [] in
+  put_first supply_call supply_calls [] number message ports mid ports' (inr offer) offers others =
+      let Found : Option (ℕ × ℕ × Message) → Type 0 = λ found. cons_option found (offered supply_calls) ≡ [] in
       let never = subst Found offer.is offers in
       absurd (cc never)
-  put_first fact facts (slot ∷ slots) number message ports mid ports' (inr offer) offers others =
-      let Found : Option (ℕ × ℕ × Message) → Type 0 = λ found. cons_option found (offered facts) ≡ (slot, number, message) ∷ map (λ (slot : ℕ). (slot, number, message)) slots in
+  put_first supply_call supply_calls (slot ∷ slots) number message ports mid ports' (inr offer) offers others =
+      let Found : Option (ℕ × ℕ × Message) → Type 0 = λ found. cons_option found (offered supply_calls) ≡ (slot, number, message) ∷ map (λ (slot : ℕ). (slot, number, message)) slots in
       let is = subst Found offer.is offers in
       let heads : (offer.slot, offer.connection, offer.message) ≡ (slot, number, message) = cc is in
-      let tails : offered facts ≡ map (λ (slot : ℕ). (slot, number, message)) slots = cc is in (
+      let tails : offered supply_calls ≡ map (λ (slot : ℕ). (slot, number, message)) slots = cc is in (
         offer.answer,
         mid,
         subst (λ (n : ℕ). OffersTo group seen.saw_main ports n message offer.answer mid) (ap (λ (o : ℕ × ℕ × Message). o.0) heads)
@@ -155,13 +155,13 @@ module _ (group : ℕ → GroupId) (seen : Sights) where
       )
 
   -- calls that offer a message to these slots
-  some_put : (facts : List (Fact PlaceState)) (slots : List ℕ) (number : ℕ) (message : Message) (old new : Worker)
-      → offered facts ≡ map (λ (slot : ℕ). (slot, number, message)) slots → MakesCalls (Calls group seen) old facts new → PutsSome group seen old.ports message slots new.ports
+  some_put : (supply_calls : List (SupplyCall PlaceState)) (slots : List ℕ) (number : ℕ) (message : Message) (old new : Worker)
+      → offered supply_calls ≡ map (λ (slot : ℕ). (slot, number, message)) slots → MakesCalls (Calls group seen) old supply_calls new → PutsSome group seen old.ports message slots new.ports
   some_put [] [] number message old new offers made = ap (λ (w : Worker). w.ports) made
   some_put [] (slot ∷ slots) number message old new offers made = absurd (cc offers)
-  some_put (fact ∷ facts) slots number message old new offers made =
-      put_first fact facts slots number message old.ports made.0.ports new.ports (called fact old made.0 made.1) offers
-      (λ rest found. some_put facts rest number message made.0 new found made.2)
+  some_put (supply_call ∷ supply_calls) slots number message old new offers made =
+      put_first supply_call supply_calls slots number message old.ports made.0.ports new.ports (called supply_call old made.0 made.1) offers
+      (λ rest found. some_put supply_calls rest number message made.0 new found made.2)
 
   -- a message is offered to each of these slots
   all_put : (slots : List ℕ) (number : ℕ) (message : Message) (taken : ℕ) (old new : Worker) → Offers (Calls group seen) old number message slots taken new
@@ -171,25 +171,25 @@ module _ (group : ℕ → GroupId) (seen : Sights) where
       (offers.0, offers.1.ports, offers.2, offers.3, offers.4.0, offers.5, all_put slots number message offers.3 offers.1 new offers.6, offers.7)
 
   -- a packet that promises nothing
-  abbrev IsNoPromise : Option Packet → Standing PlaceState → Type 0
+  abbrev IsNoPromise : Option Packet → ConnPhase PlaceState → Type 0
   IsNoPromise None between = between ≡ Ended
   IsNoPromise (Some packet) between = (identifier : ℕ) → packet ≢ puback identifier 0
 
   -- what a PUBLISH made of the ports, and its reply
-  abbrev Reply_to : Publish → List PortState → Standing PlaceState → Reply → List PortState → Type 0
+  abbrev Reply_to : Publish → List PortState → ConnPhase PlaceState → Reply → List PortState → Type 0
   Reply_to publish ports between reply ports' =
       ((identifier : ℕ) × (publish_answer publish ≡ answers.Offer identifier) × (slots : List ℕ) × (taken : ℕ) × PutsInto group seen ports (message_of publish) slots taken ports'
       × (reply ≡ acknowledging identifier (puback_code (length slots) taken)))
       ⊎ ((ports' ≡ ports) × IsNoPromise reply.packet between)
 
   -- no promise, by the packet of the reply
-  silent : (reply : Reply) (packet : Packet) (between : Standing PlaceState) → reply.packet ≡ Some packet → ((identifier : ℕ) → packet ≢ puback identifier 0) → IsNoPromise reply.packet between
+  silent : (reply : Reply) (packet : Packet) (between : ConnPhase PlaceState) → reply.packet ≡ Some packet → ((identifier : ℕ) → packet ≢ puback identifier 0) → IsNoPromise reply.packet between
   silent reply packet between is never = subst (λ (it : Option Packet). IsNoPromise it between) (sym is) never
 
-  over : (reply : Reply) (between : Standing PlaceState) → reply.packet ≡ None → between ≡ Ended → IsNoPromise reply.packet between
+  over : (reply : Reply) (between : ConnPhase PlaceState) → reply.packet ≡ None → between ≡ Ended → IsNoPromise reply.packet between
   over reply between is ended = subst (λ (it : Option Packet). IsNoPromise it between) (sym is) ended
 
-  first_answered : (answer : FirstAnswer) (old new : Worker) (number max_inflight now : ℕ) (publish : Publish) (between : Standing PlaceState) (reply : Reply)
+  first_answered : (answer : FirstAnswer) (old new : Worker) (number max_inflight now : ℕ) (publish : Publish) (between : ConnPhase PlaceState) (reply : Reply)
       → AnswersFirst (Calls group seen) slot_of answer old number max_inflight now (packets.Publish publish) between reply new → Reply_to publish old.ports between reply new.ports
   first_answered first.Close old new number max_inflight now publish between reply is =
       inr (ap (λ (w : Worker). w.ports) is.1, over reply between (ap (λ (r : Reply). r.packet) is.0.told) is.0.over)
@@ -197,13 +197,13 @@ module _ (group : ℕ → GroupId) (seen : Sights) where
       inr (ap (λ (w : Worker). w.ports) is.1, silent reply _ between (ap (λ (r : Reply). r.packet) is.0.told) (λ identifier same. cc same))
   first_answered first.Attach old new number max_inflight now publish between reply is = let never = is.1 in absurd (cc never)
 
-  concluded : (next : Then) (old new : Worker) (link : Link PlaceState) (now : ℕ) (standing : Standing PlaceState) → Concludes (Calls group seen) slot_of old link now next standing new
+  concluded : (next : Then) (old new : Worker) (connected : ConnectedClient PlaceState) (now : ℕ) (phase : ConnPhase PlaceState) → Concludes (Calls group seen) slot_of old connected now next phase new
       → new.ports ≡ old.ports
-  concluded Go old new link now standing concludes = ap (λ (w : Worker). w.ports) concludes.1
-  concluded Close old new link now standing concludes = plain old new (parted (Calls group seen) old new link.session now concludes.0)
-  concluded TakenOver old new link now standing concludes = plain old new (parted (Calls group seen) old new link.session now concludes.0)
+  concluded Go old new connected now phase concludes = ap (λ (w : Worker). w.ports) concludes.1
+  concluded Close old new connected now phase concludes = plain old new (parted (Calls group seen) old new connected.session now concludes.0)
+  concluded TakenOver old new connected now phase concludes = plain old new (parted (Calls group seen) old new connected.session now concludes.0)
 
-  published : (answer : PublishAnswer) (old mid new : Worker) (number : ℕ) (publish : Publish) (between : Standing PlaceState) (reply : Reply) → publish_answer publish ≡ answer
+  published : (answer : PublishAnswer) (old mid new : Worker) (number : ℕ) (publish : Publish) (between : ConnPhase PlaceState) (reply : Reply) → publish_answer publish ≡ answer
       → AnswersPublish (Calls group seen) old number publish answer reply mid → new.ports ≡ mid.ports → Reply_to publish old.ports between reply new.ports
   published (answers.Close code) old mid new number publish between reply answered is kept =
       inr (kept ∙ ap (λ (w : Worker). w.ports) is.1, silent reply _ between (ap (λ (r : Reply). r.packet) is.0) (λ identifier same. cc same))
@@ -225,42 +225,42 @@ module _ (group : ℕ → GroupId) (seen : Sights) where
         is.replied,
       )
 
-  packet_answered : (was_kicked : Bool) (old new : Worker) (number now : ℕ) (link : Link PlaceState) (publish : Publish) (between : Standing PlaceState) (reply : Reply)
-      → AnswersUnlessKicked (Calls group seen) slot_of was_kicked old link now (AnswersPacket (Calls group seen) slot_of old number link now (packets.Publish publish)) between reply new
+  packet_answered : (was_kicked : Bool) (old new : Worker) (number now : ℕ) (connected : ConnectedClient PlaceState) (publish : Publish) (between : ConnPhase PlaceState) (reply : Reply)
+      → AnswersUnlessKicked (Calls group seen) slot_of was_kicked old connected now (AnswersPacket (Calls group seen) slot_of old number connected now (packets.Publish publish)) between reply new
       → Reply_to publish old.ports between reply new.ports
-  packet_answered true old new number now link publish between reply is =
-      inr (plain old new (parted (Calls group seen) old new link.session now is.1.0), silent reply _ between (ap (λ (r : Reply). r.packet) is.0) (λ identifier same. cc same))
-  packet_answered false old new number now link publish between reply is =
+  packet_answered true old new number now connected publish between reply is =
+      inr (plain old new (parted (Calls group seen) old new connected.session now is.1.0), silent reply _ between (ap (λ (r : Reply). r.packet) is.0) (λ identifier same. cc same))
+  packet_answered false old new number now connected publish between reply is =
       published (publish_answer publish) old is.1 new number publish between reply refl is.2.0 (concluded reply.next is.1 new is.0 now between is.3)
 
-  reacted : (standing : Standing PlaceState) (publish : Publish) (old new : Worker) (number now : ℕ) (between : Standing PlaceState) (reply : Reply)
-      → Reacts (Calls group seen) slot_of old number standing now (inputs.Packet (packets.Publish publish)) between reply new → Reply_to publish old.ports between reply new.ports
+  reacted : (phase : ConnPhase PlaceState) (publish : Publish) (old new : Worker) (number now : ℕ) (between : ConnPhase PlaceState) (reply : Reply)
+      → Reacts (Calls group seen) slot_of old number phase now (inputs.Packet (packets.Publish publish)) between reply new → Reply_to publish old.ports between reply new.ports
   reacted (Unconnected opened) publish old new number now between reply is =
       first_answered (first_answer (packets.Publish publish)) old new number opened.max_inflight now publish between reply is
   reacted (Waiting request ticks) publish old new number now between reply is = absurd is
-  reacted (Connected link) publish old new number now between reply is =
+  reacted (Connected connected) publish old new number now between reply is =
       let asked = stays (Kicked number is.0) old.ports is.1.ports (called (Kicked number is.0) old is.1 is.2) refl in
-      subst (λ (ports : List PortState). Reply_to publish ports between reply new.ports) asked (packet_answered is.0 is.1 new number now link publish between reply is.3)
+      subst (λ (ports : List PortState). Reply_to publish ports between reply new.ports) asked (packet_answered is.0 is.1 new number now connected publish between reply is.3)
   reacted Ended publish old new number now between reply is =
       inr (ap (λ (w : Worker). w.ports) is.1, over reply between (ap (λ (r : Reply). r.packet) is.0.told) is.0.over)
 
   -- no promise stands in front of what is sent
-  unpromised : (packet : Option Packet) (between standing : Standing PlaceState) (old new : Worker) (these sent : List Packet) → IsNoPromise packet between
-      → Hands (Calls group seen) slot_of old between sent standing new → these ≡ option_to_list packet ++ sent → ¬ IsPromised these
-  unpromised None between standing old new these sent never hands is promised =
-      let none = (subst (λ (s : Standing PlaceState). Hands (Calls group seen) slot_of old s sent standing new) never hands).0 in
+  unpromised : (packet : Option Packet) (between phase : ConnPhase PlaceState) (old new : Worker) (these sent : List Packet) → IsNoPromise packet between
+      → Hands (Calls group seen) slot_of old between sent phase new → these ≡ option_to_list packet ++ sent → ¬ IsPromised these
+  unpromised None between phase old new these sent never handles is promised =
+      let none = (subst (λ (s : ConnPhase PlaceState). Hands (Calls group seen) slot_of old s sent phase new) never handles).0 in
       let some = sym promised.2 ∙ is ∙ none in
       cc some
-  unpromised (Some packet) between standing old new these sent never hands is promised =
+  unpromised (Some packet) between phase old new these sent never handles is promised =
       let same = sym is ∙ promised.2 in
       never promised.0 (cc same)
 
   -- a step of a PUBLISH
-  of_publish : (old new : Worker) (number now : ℕ) (standing standing' : Standing PlaceState) (publish : Publish) (these : List Packet) (next : Then)
-      → StepsTo (Calls group seen) slot_of old number standing now (inputs.Packet (packets.Publish publish)) these next standing' new
+  of_publish : (old new : Worker) (number now : ℕ) (phase phase' : ConnPhase PlaceState) (publish : Publish) (these : List Packet) (next : Then)
+      → StepsTo (Calls group seen) slot_of old number phase now (inputs.Packet (packets.Publish publish)) these next phase' new
       → PublishesAt group seen (inputs.Packet (packets.Publish publish)) these old.ports new.ports
-  of_publish old new number now standing standing' publish these next steps =
-      let handed = plain steps.mid new (handed_behind (Calls group seen) slot_of steps.between steps.mid new steps.sent standing' steps.hands) in
+  of_publish old new number now phase phase' publish these next steps =
+      let handed = plain steps.mid new (handed_behind (Calls group seen) slot_of steps.between steps.mid new steps.sent phase' steps.handles) in
       ⊎_elim
       (λ (it : (identifier : ℕ) × (publish_answer publish ≡ answers.Offer identifier) × (slots : List ℕ) × (taken : ℕ) × PutsInto group seen old.ports (message_of publish) slots taken steps.mid.ports
       × (steps.reply ≡ acknowledging identifier (puback_code (length slots) taken))).
@@ -278,54 +278,54 @@ module _ (group : ℕ → GroupId) (seen : Sights) where
         },
       ))
       (λ (it : (steps.mid.ports ≡ old.ports) × IsNoPromise steps.reply.packet steps.between).
-      inr (handed ∙ it.0, λ other is. unpromised steps.reply.packet steps.between standing' steps.mid new these steps.sent it.1 steps.hands steps.written))
-      (reacted standing publish old steps.mid number now steps.between steps.reply steps.reacts)
+      inr (handed ∙ it.0, λ other is. unpromised steps.reply.packet steps.between phase' steps.mid new these steps.sent it.1 steps.handles steps.written))
+      (reacted phase publish old steps.mid number now steps.between steps.reply steps.reacts)
 
   -- a step of any other input
-  of_other : (input : Input) (old new : Worker) (number now : ℕ) (standing standing' : Standing PlaceState) (these : List Packet) (next : Then)
-      → ((publish : Publish) → input ≡ inputs.Packet (packets.Publish publish) → ⊥) → StepsTo (Calls group seen) slot_of old number standing now input these next standing' new
+  of_other : (input : Input) (old new : Worker) (number now : ℕ) (phase phase' : ConnPhase PlaceState) (these : List Packet) (next : Then)
+      → ((publish : Publish) → input ≡ inputs.Packet (packets.Publish publish) → ⊥) → StepsTo (Calls group seen) slot_of old number phase now input these next phase' new
       → PublishesAt group seen input these old.ports new.ports
-  of_other input old new number now standing standing' these next never steps =
-      let calls = stepped (Calls group seen) slot_of old new number now standing standing' input these next steps in
+  of_other input old new number now phase phase' these next never steps =
+      let calls = stepped (Calls group seen) slot_of old new number now phase phase' input these next steps in
       ⊎_elim
-      (λ (each : OffersToEach number input calls.facts). absurd (never each.publish each.came))
-      (λ (nothing : OffersNone standing input calls.facts next). inr (all_stay calls.facts old new nothing.offers calls.made, λ publish is. absurd (never publish is)))
+      (λ (each : OffersToEach number input calls.supply_calls). absurd (never each.publish each.came))
+      (λ (nothing : OffersNone phase input calls.supply_calls next). inr (all_stay calls.supply_calls old new nothing.offers calls.made, λ publish is. absurd (never publish is)))
       calls.offers
 
-  at_packet : (packet : Packet) (old new : Worker) (number now : ℕ) (standing standing' : Standing PlaceState) (these : List Packet) (next : Then)
-      → StepsTo (Calls group seen) slot_of old number standing now (inputs.Packet packet) these next standing' new → PublishesAt group seen (inputs.Packet packet) these old.ports new.ports
-  at_packet (packets.Publish publish) old new number now standing standing' these next steps = of_publish old new number now standing standing' publish these next steps
-  at_packet (packets.Puback puback) old new number now standing standing' these next steps = of_other _ old new number now standing standing' these next (λ publish is. cc is) steps
-  at_packet (packets.Subscribe subscribe) old new number now standing standing' these next steps = of_other _ old new number now standing standing' these next (λ publish is. cc is) steps
-  at_packet (packets.Unsubscribe unsubscribe) old new number now standing standing' these next steps = of_other _ old new number now standing standing' these next (λ publish is. cc is) steps
-  at_packet packets.Pingreq old new number now standing standing' these next steps = of_other _ old new number now standing standing' these next (λ publish is. cc is) steps
-  at_packet (packets.Disconnect disconnect) old new number now standing standing' these next steps = of_other _ old new number now standing standing' these next (λ publish is. cc is) steps
-  at_packet (packets.Connect connect) old new number now standing standing' these next steps = of_other _ old new number now standing standing' these next (λ publish is. cc is) steps
-  at_packet (packets.Connack connack) old new number now standing standing' these next steps = of_other _ old new number now standing standing' these next (λ publish is. cc is) steps
-  at_packet (packets.Suback suback) old new number now standing standing' these next steps = of_other _ old new number now standing standing' these next (λ publish is. cc is) steps
-  at_packet (packets.Unsuback unsuback) old new number now standing standing' these next steps = of_other _ old new number now standing standing' these next (λ publish is. cc is) steps
-  at_packet packets.Pingresp old new number now standing standing' these next steps = of_other _ old new number now standing standing' these next (λ publish is. cc is) steps
-  at_packet (packets.Foreign kind) old new number now standing standing' these next steps = of_other _ old new number now standing standing' these next (λ publish is. cc is) steps
-  at_packet (packets.OtherVersion version) old new number now standing standing' these next steps = of_other _ old new number now standing standing' these next (λ publish is. cc is) steps
-  at_packet packets.WithWill old new number now standing standing' these next steps = of_other _ old new number now standing standing' these next (λ publish is. cc is) steps
+  at_packet : (packet : Packet) (old new : Worker) (number now : ℕ) (phase phase' : ConnPhase PlaceState) (these : List Packet) (next : Then)
+      → StepsTo (Calls group seen) slot_of old number phase now (inputs.Packet packet) these next phase' new → PublishesAt group seen (inputs.Packet packet) these old.ports new.ports
+  at_packet (packets.Publish publish) old new number now phase phase' these next steps = of_publish old new number now phase phase' publish these next steps
+  at_packet (packets.Puback puback) old new number now phase phase' these next steps = of_other _ old new number now phase phase' these next (λ publish is. cc is) steps
+  at_packet (packets.Subscribe subscribe) old new number now phase phase' these next steps = of_other _ old new number now phase phase' these next (λ publish is. cc is) steps
+  at_packet (packets.Unsubscribe unsubscribe) old new number now phase phase' these next steps = of_other _ old new number now phase phase' these next (λ publish is. cc is) steps
+  at_packet packets.Pingreq old new number now phase phase' these next steps = of_other _ old new number now phase phase' these next (λ publish is. cc is) steps
+  at_packet (packets.Disconnect disconnect) old new number now phase phase' these next steps = of_other _ old new number now phase phase' these next (λ publish is. cc is) steps
+  at_packet (packets.Connect connect) old new number now phase phase' these next steps = of_other _ old new number now phase phase' these next (λ publish is. cc is) steps
+  at_packet (packets.Connack connack) old new number now phase phase' these next steps = of_other _ old new number now phase phase' these next (λ publish is. cc is) steps
+  at_packet (packets.Suback suback) old new number now phase phase' these next steps = of_other _ old new number now phase phase' these next (λ publish is. cc is) steps
+  at_packet (packets.Unsuback unsuback) old new number now phase phase' these next steps = of_other _ old new number now phase phase' these next (λ publish is. cc is) steps
+  at_packet packets.Pingresp old new number now phase phase' these next steps = of_other _ old new number now phase phase' these next (λ publish is. cc is) steps
+  at_packet (packets.Foreign kind) old new number now phase phase' these next steps = of_other _ old new number now phase phase' these next (λ publish is. cc is) steps
+  at_packet (packets.OtherVersion version) old new number now phase phase' these next steps = of_other _ old new number now phase phase' these next (λ publish is. cc is) steps
+  at_packet packets.WithWill old new number now phase phase' these next steps = of_other _ old new number now phase phase' these next (λ publish is. cc is) steps
 
-  at_input : (input : Input) (old new : Worker) (number now : ℕ) (standing standing' : Standing PlaceState) (these : List Packet) (next : Then)
-      → StepsTo (Calls group seen) slot_of old number standing now input these next standing' new → PublishesAt group seen input these old.ports new.ports
-  at_input (inputs.Packet packet) old new number now standing standing' these next steps = at_packet packet old new number now standing standing' these next steps
-  at_input (inputs.Fault fault) old new number now standing standing' these next steps = of_other _ old new number now standing standing' these next (λ publish is. cc is) steps
-  at_input inputs.Tick old new number now standing standing' these next steps = of_other _ old new number now standing standing' these next (λ publish is. cc is) steps
-  at_input inputs.EndOfInput old new number now standing standing' these next steps = of_other _ old new number now standing standing' these next (λ publish is. cc is) steps
-  at_input inputs.Closing old new number now standing standing' these next steps = of_other _ old new number now standing standing' these next (λ publish is. cc is) steps
+  at_input : (input : Input) (old new : Worker) (number now : ℕ) (phase phase' : ConnPhase PlaceState) (these : List Packet) (next : Then)
+      → StepsTo (Calls group seen) slot_of old number phase now input these next phase' new → PublishesAt group seen input these old.ports new.ports
+  at_input (inputs.Packet packet) old new number now phase phase' these next steps = at_packet packet old new number now phase phase' these next steps
+  at_input (inputs.Fault fault) old new number now phase phase' these next steps = of_other _ old new number now phase phase' these next (λ publish is. cc is) steps
+  at_input inputs.Tick old new number now phase phase' these next steps = of_other _ old new number now phase phase' these next (λ publish is. cc is) steps
+  at_input inputs.EndOfInput old new number now phase phase' these next steps = of_other _ old new number now phase phase' these next (λ publish is. cc is) steps
+  at_input inputs.Closing old new number now phase phase' these next steps = of_other _ old new number now phase phase' these next (λ publish is. cc is) steps
 
   -- a step in which an allocation failed
-  at_failed : (input : Input) (old new : Worker) (number now : ℕ) (standing : Standing PlaceState) → FailsToStep (Calls group seen) slot_of old number standing now input new
+  at_failed : (input : Input) (old new : Worker) (number now : ℕ) (phase : ConnPhase PlaceState) → FailsToStep (Calls group seen) slot_of old number phase now input new
       → PublishesSome group seen input old.ports new.ports
-  at_failed input old new number now standing fails =
-      let calls = failed (Calls group seen) slot_of old new number now standing input fails in
+  at_failed input old new number now phase fails =
+      let calls = failed (Calls group seen) slot_of old new number now phase input fails in
       ⊎_elim
-      (λ (some : OffersToSome number input calls.facts).
-      inl (some.publish, some.came, (some.slots, some_put calls.facts some.slots number (message_of some.publish) old new some.offers calls.made)))
-      (λ (nothing : offered calls.facts ≡ []). inr (all_stay calls.facts old new nothing calls.made))
+      (λ (some : OffersToSome number input calls.supply_calls).
+      inl (some.publish, some.came, (some.slots, some_put calls.supply_calls some.slots number (message_of some.publish) old new some.offers calls.made)))
+      (λ (nothing : offered calls.supply_calls ≡ []). inr (all_stay calls.supply_calls old new nothing calls.made))
       calls.offers
 
   -- a connection that is given up
@@ -334,13 +334,13 @@ module _ (group : ℕ → GroupId) (seen : Sights) where
       ⊎_elim
       (λ (it : (publish : Publish) × (inputs.EndOfInput ≡ inputs.Packet (packets.Publish publish)) × IsPublished group seen publish moved.0.packets old.ports new.ports). let never = it.1 in absurd (cc never))
       (λ (it : (new.ports ≡ old.ports) × ((publish : Publish) → inputs.EndOfInput ≡ inputs.Packet (packets.Publish publish) → ¬ IsPromised moved.0.packets)). it.0)
-      (at_input inputs.EndOfInput old new client.conn.number (moment_of client now) client.conn.standing client'.conn.standing moved.0.packets moved.0.next moved.1.stepped)
+      (at_input inputs.EndOfInput old new client.conn.number (moment_of client now) client.conn.phase client'.conn.phase moved.0.packets moved.0.next moved.1.stepped)
   given_up old new client client' now (inr fails) =
       ⊎_elim
       (λ (it : (publish : Publish) × (inputs.EndOfInput ≡ inputs.Packet (packets.Publish publish)) × ((slots : List ℕ) × PutsSome group seen old.ports (message_of publish) slots new.ports)).
       let never = it.1 in absurd (cc never))
       (λ (same : new.ports ≡ old.ports). same)
-      (at_failed inputs.EndOfInput old new client.conn.number (moment_of client now) client.conn.standing fails.failed)
+      (at_failed inputs.EndOfInput old new client.conn.number (moment_of client now) client.conn.phase fails.failed)
 
   -- what others do is in no round
   no_others : (now : ℕ) (from to : Stand) → Treads now from Others to → ⊥
@@ -364,11 +364,11 @@ module _ (group : ℕ → GroupId) (seen : Sights) where
     acted (Reads size got bytes) old new supply supply' now from to does treads = ap (λ (w : Worker). w.ports) does.same
     acted (Writes at put) old new supply supply' now from to does treads = ap (λ (w : Worker). w.ports) does.same
     acted (Steps at input these next) old new supply supply' now from to does treads =
-        at_input input supply supply' old.client.conn.number (moment_of old.client at) old.client.conn.standing new.client.conn.standing these next does.moved.stepped
+        at_input input supply supply' old.client.conn.number (moment_of old.client at) old.client.conn.phase new.client.conn.phase these next does.moved.stepped
     acted (Loses at input these next) old new supply supply' now from to does treads =
-        at_input input supply supply' old.client.conn.number (moment_of old.client at) old.client.conn.standing new.client.conn.standing these next does.moved.stepped
+        at_input input supply supply' old.client.conn.number (moment_of old.client at) old.client.conn.phase new.client.conn.phase these next does.moved.stepped
     acted (Fails at input) old new supply supply' now from to does treads =
-        at_failed input supply supply' old.client.conn.number (moment_of old.client at) old.client.conn.standing does.failed.failed
+        at_failed input supply supply' old.client.conn.number (moment_of old.client at) old.client.conn.phase does.failed.failed
     acted (Starves got bytes) old new supply supply' now from to does treads = ap (λ (w : Worker). w.ports) does.same
     acted (IsFull at) old new supply supply' now from to does treads = given_up supply supply' old.client new.client at does.given_up
     acted IsStopped old new supply supply' now from to does treads = ap (λ (w : Worker). w.ports) does.same
@@ -387,14 +387,14 @@ module _ (group : ℕ → GroupId) (seen : Sights) where
     done (Opened arrived cell now) old new does = ap (λ (s : RunState T). s.supply.ports) does.3
     done (Closed arrived) old new does = ap (λ (s : RunState T). s.supply.ports) does.2
     done (Allowed most) old new does = ap (λ (s : RunState T). s.supply.ports) does
-    done (Went cell now acts how) old new does =
+    done (MadeRound cell now acts how) old new does =
         let goes = does.0.becomes in
         subst (λ (those : List Act). PublishesAll group seen those old.supply.ports new.supply.ports) (sym goes.acts_are)
         (walked goes.round.led.acts goes.service goes.behind old.supply new.supply now Outside Behind goes.round.led.does goes.round.led.walks)
     done (Passed cell) old new does = ap (λ (s : RunState T). s.supply.ports) does.1
     done (Called slot) old new does = ap (λ (s : RunState T). s.supply.ports) does
-    done (Told most others) old new does = ap (λ (s : RunState T). s.supply.ports) does.1
-    done ToldAll old new does = ap (λ (s : RunState T). s.supply.ports) does
+    done (Notified most others) old new does = ap (λ (s : RunState T). s.supply.ports) does.1
+    done NotifiedAll old new does = ap (λ (s : RunState T). s.supply.ports) does
 
     done_all : (deeds : List (Deed T)) (old new : RunState T) → MakesAll group seen counts given accepted deeds old new
         → PublishesAll group seen (flat_map acts_in deeds) old.supply.ports new.supply.ports

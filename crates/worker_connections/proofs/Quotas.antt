@@ -7,8 +7,8 @@ use Rattle.transport.specs.declared.counts.Counts.{Counts}
 use Rattle.group_queue.specs.Ports.{GroupId}
 use Rattle.broker_groups.specs.Answers.{Sights}
 use Rattle.group_queue.specs.Places.{PlaceState}
-use Rattle.conn_engine.specs.declared.standing.Opening.{Opening}
-use Rattle.conn_engine.specs.declared.standing.Standing.{Standing}
+use Rattle.conn_engine.specs.declared.phase.Opening.{Opening}
+use Rattle.conn_engine.specs.declared.phase.ConnPhase.{ConnPhase}
 use Rattle.conn_laws.specs.Quotas.{IsWithinLimit, IsWithinQuota}
 use Rattle.conn_laws.proofs.Limits as limits
 use Rattle.conn_laws.proofs.Quotas as quotas
@@ -16,22 +16,22 @@ use Rattle.conn_service.specs.declared.served.Served.{Served}
 use Rattle.conn_service.specs.Services.{ServiceState}
 use Rattle.conn_service.specs.Acts.{Act}
 use Rattle.conn_service.specs.Lives.{DoesAll}
-use Rattle.conn_service.proofs.Standings.{kept_on}
-use Rattle.service_table.specs.Cells.{Opens}
+use Rattle.conn_service.proofs.Phases.{kept_on}
+use Rattle.worker_connections.specs.Cells.{Opens}
 use Rattle.shared_supply.specs.Calls.{Calls}
 use Rattle.shared_supply.specs.Workers.{Worker, Begins, Leaves, is_visiting}
 use Rattle.worker_connections.specs.Arrivals.{ArrivedState, opening_at}
 use Rattle.worker_connections.proofs.Chaining.{came_all}
 use Rattle.worker_connections.proofs.Parts.{at_cell, both_parts}
-use Rattle.worker_connections.specs.Chains.{Deed, Opened, Closed, Allowed, Went, Passed, Called, Told, ToldAll, IsRun, KeepsReceiveMaximum, LeavesCell, Makes, MakesAll, Run, RunState, came_in, came_by}
+use Rattle.worker_connections.specs.Chains.{Deed, Opened, Closed, Allowed, MadeRound, Passed, Called, Notified, NotifiedAll, IsRun, KeepsReceiveMaximum, LeavesCell, Makes, MakesAll, Run, RunState, came_in, came_by}
 
 -- it has no more unacknowledged than its Receive Maximum, and than this limit
-abbrev Within : ℕ → Standing PlaceState → Type 0
-Within limit standing = IsWithinQuota standing × IsWithinLimit limit standing
+abbrev Within : ℕ → ConnPhase PlaceState → Type 0
+Within limit phase = IsWithinQuota phase × IsWithinLimit limit phase
 
 abbrev IfWithin : {T : Type 0} → ℕ → Option (ServiceState PlaceState T) → Type 0
 IfWithin limit None = ⊤
-IfWithin limit (Some service) = Within limit service.client.conn.standing
+IfWithin limit (Some service) = Within limit service.client.conn.phase
 
 -- its client may have no more than so many unacknowledged
 abbrev IsLimited : {T : Type 0} → ℕ → ArrivedState T → Type 0
@@ -41,23 +41,23 @@ opened_within : {T : Type 0} (limit : ℕ) (opening : Opening) (watched : T) (be
     → Opens opening watched before after → IfWithin limit after
 opened_within limit opening watched before None few opens = tt
 opened_within {T = T} limit opening watched before (Some service) few opens =
-    subst (λ (s : ServiceState PlaceState T). Within limit s.client.conn.standing) (sym opens.1) (tt, few)
+    subst (λ (s : ServiceState PlaceState T). Within limit s.client.conn.phase) (sym opens.1) (tt, few)
 
 left_within : {T : Type 0} (limit : ℕ) (how : Option Served) (behind : ServiceState PlaceState T) (after : Option (ServiceState PlaceState T)) → LeavesCell how behind after
-    → Within limit behind.client.conn.standing → IfWithin limit after
+    → Within limit behind.client.conn.phase → IfWithin limit after
 left_within {T = T} limit None behind after leaves within = subst (λ (cell : Option (ServiceState PlaceState T)). IfWithin limit cell) (sym leaves) within
 left_within {T = T} limit (Some how) behind after leaves within = subst (λ (cell : Option (ServiceState PlaceState T)). IfWithin limit cell) (sym leaves.2) tt
 
 module _ {T : Type 0} (group : ℕ → GroupId) (seen : Sights) (counts : T → Counts) (given accepted : T → Option (List ℕ)) where
-  within_all : (limit : ℕ) (acts : List Act) (old new : ServiceState PlaceState T) (supply supply' : Worker) → Within limit old.client.conn.standing
-      → DoesAll (Calls group seen) Begins Leaves is_visiting (λ (p : PlaceState). p.group) counts given accepted acts old supply new supply' → Within limit new.client.conn.standing
-  within_all limit [] old new supply supply' within does = subst (λ (s : ServiceState PlaceState T). Within limit s.client.conn.standing) (sym does.0) within
+  within_all : (limit : ℕ) (acts : List Act) (old new : ServiceState PlaceState T) (supply supply' : Worker) → Within limit old.client.conn.phase
+      → DoesAll (Calls group seen) Begins Leaves is_visiting (λ (p : PlaceState). p.group) counts given accepted acts old supply new supply' → Within limit new.client.conn.phase
+  within_all limit [] old new supply supply' within does = subst (λ (s : ServiceState PlaceState T). Within limit s.client.conn.phase) (sym does.0) within
   within_all limit (act ∷ acts) old new supply supply' within does =
       within_all limit acts does.0 new does.1 supply'
       (kept_on (Calls group seen) Begins Leaves is_visiting (λ (p : PlaceState). p.group) counts given accepted (Within limit) (tt, tt)
-      (λ number now standing standing' input sent next from to stepped kept. (
-        quotas.within (Calls group seen) (λ (p : PlaceState). p.group) number now standing standing' input sent next from to stepped kept.0,
-        limits.within (Calls group seen) (λ (p : PlaceState). p.group) limit number now standing standing' input sent next from to stepped kept.1,
+      (λ number now phase phase' input sent next from to stepped kept. (
+        quotas.within (Calls group seen) (λ (p : PlaceState). p.group) number now phase phase' input sent next from to stepped kept.0,
+        limits.within (Calls group seen) (λ (p : PlaceState). p.group) limit number now phase phase' input sent next from to stepped kept.1,
       ))
       act old does.0 supply does.1 within does.2) does.3
 
@@ -69,7 +69,7 @@ module _ {T : Type 0} (group : ℕ → GroupId) (seen : Sights) (counts : T → 
       (All-set (IfWithin limit) old.cells cell made.after (opened_within limit (opening_at now arrived) does.0 made.before made.after few.0 made.becomes) all)
   keeps limit (Closed arrived) old new few does all = subst (λ (s : RunState T). All (IfWithin limit) s.cells) (sym does.2) all
   keeps limit (Allowed most) old new few does all = subst (λ (s : RunState T). All (IfWithin limit) s.cells) (sym does) all
-  keeps limit (Went cell now acts how) old new few does all =
+  keeps limit (MadeRound cell now acts how) old new few does all =
       let made = does.0 in
       let goes = made.becomes in
       let first = subst (λ (c : Option (ServiceState PlaceState T)). IfWithin limit c) goes.here (at_cell (IfWithin limit) old.cells cell made.before all made.has) in
@@ -82,8 +82,8 @@ module _ {T : Type 0} (group : ℕ → GroupId) (seen : Sights) (counts : T → 
       subst (λ (cells : List (Option (ServiceState PlaceState T))). All (IfWithin limit) cells) (sym made.is)
       (All-set (IfWithin limit) old.cells cell made.after (subst (λ (c : Option (ServiceState PlaceState T)). IfWithin limit c) (sym made.becomes.1) tt) all)
   keeps limit (Called slot) old new few does all = subst (λ (s : RunState T). All (IfWithin limit) s.cells) (sym does) all
-  keeps limit (Told most others) old new few does all = subst (λ (s : RunState T). All (IfWithin limit) s.cells) (sym does.1) all
-  keeps limit ToldAll old new few does all = subst (λ (s : RunState T). All (IfWithin limit) s.cells) (sym does) all
+  keeps limit (Notified most others) old new few does all = subst (λ (s : RunState T). All (IfWithin limit) s.cells) (sym does.1) all
+  keeps limit NotifiedAll old new few does all = subst (λ (s : RunState T). All (IfWithin limit) s.cells) (sym does) all
 
   keeps_all : (limit : ℕ) (deeds : List (Deed T)) (old new : RunState T) → AllByRecursion (IsLimited limit) (came_by deeds) → MakesAll group seen counts given accepted deeds old new
       → All (IfWithin limit) old.cells → All (IfWithin limit) new.cells

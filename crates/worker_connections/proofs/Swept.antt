@@ -7,12 +7,12 @@ use Rattle.std.proofs.lemmas.Bool.{cases_eq}
 use Rattle.std.proofs.lemmas.List.Elements.{All-set, All-replicate}
 use Rattle.std.proofs.lemmas.List.{get_or-set_same, get_or-set_other, get_or_default}
 use Rattle.transport.specs.declared.counts.Counts.{Counts}
-use Rattle.conn_supply.specs.Facts.{Fact}
-use Rattle.conn_engine.specs.declared.standing.Opening.{Opening}
+use Rattle.conn_supply.specs.SupplyCalls.{SupplyCall}
+use Rattle.conn_engine.specs.declared.phase.Opening.{Opening}
 use Rattle.conn_service.specs.Services.{ServiceState}
-use Rattle.service_table.specs.Cells.{InCell, Opens, Tells, Turns}
-use Rattle.service_table.specs.declared.turned.Turned.{Turned}
-use Rattle.service_table.specs.declared.turned.Turned.TheVariants.{Vacant, Goes, Ended}
+use Rattle.worker_connections.specs.Cells.{InCell, Opens, Tells, Turns}
+use Rattle.worker_connections.specs.declared.cell_outcome.CellOutcome.{CellOutcome}
+use Rattle.worker_connections.specs.declared.cell_outcome.CellOutcome.TheVariants.{Vacant, Goes, Ended}
 use Rattle.worker_connections.specs.declared.sweeps.Sweeps.{Sweeps}
 use Rattle.group_queue.specs.Places.{PlaceState}
 use Rattle.worker_connections.specs.declared.served.ServedCounts.{ServedCounts}
@@ -91,7 +91,7 @@ module _ {P T : Type 0} where
       subst (λ (those : List (Option (ServiceState P T))). IfFreshSince since (get_or those cell None)) (sym is)
       (subst (IfFreshSince since) (sym (get_or-set_same cells cell after None (slice_get_within cells cell before has))) fresh)
 
-  -- behind one that was opened
+  -- after one that was opened
   opened_one : (cells cells' : List (Option (ServiceState P T))) (cell : ℕ) (opening : Opening) (transport : T) (sweeps : Sweeps) → opening.at ≡ sweeps.latest → AreSwept sweeps cells
       → InCell cells cell (Opens opening transport) cells' → AreSwept sweeps cells'
   opened_one cells cells' cell opening transport sweeps at are made =
@@ -122,32 +122,32 @@ module _ {P T : Type 0} where
           (λ (other : k ≢ cell). are.some k (omega (arith, before_it k cell other below, is)))
           (cases_eq k cell)
 
-module _ {S P T : Type 0} (call : S → Fact P → S → Type 0) (begins ends : S → S → Type 0) (visiting : S → Bool) (slot_of : P → ℕ)
+module _ {S P T : Type 0} (call : S → SupplyCall P → S → Type 0) (begins ends : S → S → Type 0) (visiting : S → Bool) (slot_of : P → ℕ)
     (counts : T → Counts) (given accepted : T → Option (List ℕ)) where
   -- what a round tells
-  tells : (turned : Turned T) (service : ServiceState P T) (now : ℕ) (after : Option (ServiceState P T)) → Tells turned service now after → IfFreshSince now after
+  tells : (cell_outcome : CellOutcome T) (service : ServiceState P T) (now : ℕ) (after : Option (ServiceState P T)) → Tells cell_outcome service now after → IfFreshSince now after
   tells Vacant service now after told = absurd told
   tells (Goes round) service now after told = subst (IfFreshSince now) (sym told.1) (now, omega arith, inr (round, told.0))
   tells (Ended how transport) service now after told = subst (IfFreshSince now) (sym told.2) tt
 
   -- a connection goes on by a round
-  pub turns : (now : ℕ) (before : Option (ServiceState P T)) (supply : S) (turned : Turned T) (after : Option (ServiceState P T)) (supply' : S)
-      → Turns call begins ends visiting slot_of counts given accepted now before supply turned after supply' → IfFreshSince now after
-  turns now None supply turned after supply' made = subst (IfFreshSince now) (sym made.1) tt
-  turns now (Some service) supply turned after supply' made = tells turned made.0 now after made.2
+  pub turns : (now : ℕ) (before : Option (ServiceState P T)) (supply : S) (cell_outcome : CellOutcome T) (after : Option (ServiceState P T)) (supply' : S)
+      → Turns call begins ends visiting slot_of counts given accepted now before supply cell_outcome after supply' → IfFreshSince now after
+  turns now None supply cell_outcome after supply' made = subst (IfFreshSince now) (sym made.1) tt
+  turns now (Some service) supply cell_outcome after supply' made = tells cell_outcome made.0 now after made.2
 
-  -- behind a round that is noted
-  pub rounds : (cells cells' : List (Option (ServiceState P T))) (cell count : ℕ) (supply supply' : S) (turned : Turned T) (old new : Sweeps) → AreSwept old cells
-      → InCell cells cell (λ before after. Turns call begins ends visiting slot_of counts given accepted old.latest before supply turned after supply') cells'
+  -- after a round that is noted
+  pub rounds : (cells cells' : List (Option (ServiceState P T))) (cell count : ℕ) (supply supply' : S) (cell_outcome : CellOutcome T) (old new : Sweeps) → AreSwept old cells
+      → InCell cells cell (λ before after. Turns call begins ends visiting slot_of counts given accepted old.latest before supply cell_outcome after supply') cells'
       → count ≡ length cells' → Notes cell count old new → AreSwept new cells'
-  rounds cells cells' cell count supply supply' turned old new are made long notes =
-      let fresh = turns old.latest made.before supply turned made.after supply' made.becomes in
+  rounds cells cells' cell count supply supply' cell_outcome old new are made long notes =
+      let fresh = turns old.latest made.before supply cell_outcome made.after supply' made.becomes in
       noted cells' cell old new
       (touched cells cells' cell made.before made.after old are made.has made.is fresh)
       (here cells cells' cell made.before made.after old.latest made.has made.is fresh)
       (subst (λ n. Notes cell n old new) long notes)
 
--- behind one that came
+-- after one that came
 pub came_one : {T : Type 0} (counts : T → Counts) (given accepted : T → Option (List ℕ)) (arrived : ArrivedState T) (cells cells' : List (Option (ServiceState PlaceState T)))
     (served served' : ServedCounts) (closed closed' : Option (List T)) (sweeps : Sweeps) → AreSwept sweeps cells
     → TakesIn counts given accepted sweeps.latest arrived cells served closed cells' served' closed' → AreSwept sweeps cells'

@@ -1,9 +1,9 @@
--- A sweep that began comes to its end, and behind it each connection has its Ticks.
+-- A sweep that began comes to its end, and after it each connection has its Ticks.
 use Rattle.std.proofs.Common.{◌≡◌, ◌<◌, ◌≤◌, ◌+◌, ◌-◌, ℕ, Bool, true, false, List, [], Option, Some, None, refl, sym, ap, ◌∙◌, inl, inr, arith}
 use Rattle.std.proofs.lemmas.List.Elements.{All-weaker}
 use Rattle.conn_service.specs.declared.served.Round.{Round}
 use Rattle.conn_service.specs.declared.served.Round.TheVariants as rounds
-use Rattle.conn_service.specs.Services.{ServiceState, IsTold}
+use Rattle.conn_service.specs.Services.{ServiceState, Describes}
 use Rattle.worker_connections.specs.declared.sweeps.Sweeps.{Sweeps}
 use Rattle.worker_connections.specs.Serving.{ConnectionsState, Rounds}
 use Rattle.worker_connections.specs.Sweeping.{AreSwept, AreTicked, Begins, HasGone, IfFreshSince, IfTicked, IsInTime, KeepsMoment, Notes, WentOnAt, sweep_period}
@@ -22,7 +22,7 @@ goes gone count old new within (inl part) (inr (inl more)) =
 goes gone count old new within (inl part) (inr (inr last)) =
     inr (last.1, ap (λ (s : Sweeps). s.swept) last.2 ∙ part.2 ∙ sym (ap (λ (s : Sweeps). s.latest) last.2))
 
--- behind the last cell all went on at the worker's moment
+-- after the last cell all went on at the worker's moment
 pub whole : (count : ℕ) (sweeps : Sweeps) → HasGone count count sweeps → IsInTime sweeps
 whole count sweeps (inl part) = absurd (omega (arith, part.0))
 whole count sweeps (inr swept) = omega (arith, swept.1)
@@ -42,7 +42,7 @@ note_keeps cell count old new le (inl same) = record { latest = ap (λ (s : Swee
 note_keeps cell count old new le (inr (inl more)) = record { latest = ap (λ (s : Sweeps). s.latest) more.2; begun = ap (λ (s : Sweeps). s.begun) more.2; swept = omega (arith, ap (λ (s : Sweeps). s.swept) more.2) }
 note_keeps cell count old new le (inr (inr last)) = record { latest = ap (λ (s : Sweeps). s.latest) last.2; begun = ap (λ (s : Sweeps). s.begun) last.2; swept = omega (arith, ap (λ (s : Sweeps). s.swept) last.2, le) }
 
--- rounds behind rounds
+-- rounds after rounds
 pub rounds_on : {T : Type 0} (a b c : ConnectionsState T) → Rounds a b → Rounds b c → Rounds a c
 rounds_on a b c first then = record {
   stays = then.stays ∙ first.stays;
@@ -52,7 +52,7 @@ rounds_on a b c first then = record {
 
 module _ {P T : Type 0} where
   -- who went on at a moment had a Tick not long before it
-  told_in_time : (round : Round) (service : ServiceState P T) (moment : ℕ) → IsTold round service moment → service.ending ≡ None → service.outgoing ≡ [] → moment - service.ticked < sweep_period
+  told_in_time : (round : Round) (service : ServiceState P T) (moment : ℕ) → Describes round service moment → service.ending ≡ None → service.outgoing ≡ [] → moment - service.ticked < sweep_period
   told_in_time rounds.More service moment told going none = told.2
   told_in_time rounds.Reading service moment told going none = told.3.1
   told_in_time rounds.Writing service moment told going none = absurd (told.1 none)

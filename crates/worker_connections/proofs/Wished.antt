@@ -9,12 +9,12 @@ use Rattle.std.proofs.lemmas.Option.{slice_get_within, get_or_from_slice_get}
 use Rattle.transport.specs.declared.counts.Counts.{Counts}
 use Rattle.group_queue.specs.Places.{PlaceState}
 use Rattle.conn_engine.specs.Looking.{TakesAt}
-use Rattle.conn_engine.specs.declared.standing.Opening.{Opening}
-use Rattle.conn_engine.specs.declared.standing.Standing.{Standing}
-use Rattle.conn_engine.specs.declared.standing.Standing.TheVariants.{Unconnected, Waiting, Connected, Ended}
+use Rattle.conn_engine.specs.declared.phase.Opening.{Opening}
+use Rattle.conn_engine.specs.declared.phase.ConnPhase.{ConnPhase}
+use Rattle.conn_engine.specs.declared.phase.ConnPhase.TheVariants.{Unconnected, Waiting, Connected, Ended}
 use Rattle.conn_service.specs.Services.{ServiceState, opened}
-use Rattle.service_table.specs.Cells.{InCell, Opens, TakesFrom}
-use Rattle.worker_bells.specs.declared.members.Wish.{Wish}
+use Rattle.worker_connections.specs.Cells.{InCell, Opens, TakesFrom}
+use Rattle.worker_bells.specs.declared.members.Interest.{Interest}
 use Rattle.worker_connections.specs.declared.served.ServedCounts.{ServedCounts}
 use Rattle.worker_connections.specs.Arrivals.{ArrivedState, opening_at}
 use Rattle.worker_connections.specs.Members.{AreWished, HasTaker, TakesIn}
@@ -23,10 +23,10 @@ use Rattle.worker_bells.specs.Wishing.{IsWished}
 use Rattle.worker_bells.proofs.Places.{others_stay, put_there}
 
 -- a client has one place
-takes_same : (standing : Standing PlaceState) (one other : PlaceState) → TakesAt standing one → TakesAt standing other → one ≡ other
+takes_same : (phase : ConnPhase PlaceState) (one other : PlaceState) → TakesAt phase one → TakesAt phase other → one ≡ other
 takes_same (Unconnected opened) one other takes takes' = absurd takes
 takes_same (Waiting request ticks) one other takes takes' = absurd takes
-takes_same (Connected link) one other takes takes' = cc (takes.0, takes'.0)
+takes_same (Connected connected) one other takes takes' = cc (takes.0, takes'.0)
 takes_same Ended one other takes takes' = absurd takes
 
 some_is : {X : Type 0} (x y : X) → Some x ≡ Some y → x ≡ y
@@ -34,11 +34,11 @@ some_is x y same = cc
 
 module _ {T : Type 0} where
   -- what is noted of a client tells its group
-  wish_tells : (service : ServiceState PlaceState T) (place : PlaceState) (taken : Option ℕ) → TakesFrom (λ (p : PlaceState). p.group) (Some service) taken
-      → TakesAt service.client.conn.standing place → taken ≡ Some place.group
-  wish_tells service place None none takes = absurd (none place takes)
-  wish_tells service place (Some slot) some takes =
-      ap (λ (n : ℕ). Some n) (sym some.2 ∙ ap (λ (p : PlaceState). p.group) (takes_same service.client.conn.standing some.0 place some.1 takes))
+  interest_tells : (service : ServiceState PlaceState T) (place : PlaceState) (taken : Option ℕ) → TakesFrom (λ (p : PlaceState). p.group) (Some service) taken
+      → TakesAt service.client.conn.phase place → taken ≡ Some place.group
+  interest_tells service place None none takes = absurd (none place takes)
+  interest_tells service place (Some slot) some takes =
+      ap (λ (n : ℕ). Some n) (sym some.2 ∙ ap (λ (p : PlaceState). p.group) (takes_same service.client.conn.phase some.0 place some.1 takes))
 
   -- the client in a cell is a member with room of just the group that is told
   pub would_take : (cells : List (Option (ServiceState PlaceState T))) (cell slot taken : ℕ) (here : Option (ServiceState PlaceState T)) → slice_get cells cell ≡ Some here
@@ -51,31 +51,31 @@ module _ {T : Type 0} where
   would_not_take cells cell slot taken here has tells other takes =
       let is : here ≡ Some takes.service = some_is here (Some takes.service) (sym has ∙ takes.here) in
       let told = subst (λ (c : Option (ServiceState PlaceState T)). TakesFrom (λ (p : PlaceState). p.group) c taken) is tells in
-      other (wish_tells takes.service takes.place taken told takes.takes ∙ ap (λ (n : ℕ). Some n) takes.group)
+      other (interest_tells takes.service takes.place taken told takes.takes ∙ ap (λ (n : ℕ). Some n) takes.group)
 
   -- no cell has a connection
-  pub none_wished : (count : ℕ) (cells : List (Option (ServiceState PlaceState T))) (wishes : List Wish) → cells ≡ replicate count None → AreWished cells wishes
-  none_wished count cells wishes free cell service place has takes =
+  pub none_wished : (count : ℕ) (cells : List (Option (ServiceState PlaceState T))) (interests : List Interest) → cells ≡ replicate count None → AreWished cells interests
+  none_wished count cells interests free cell service place has takes =
       let IsNone : Option (ServiceState PlaceState T) → Type 0 = λ c. c ≡ None in
       let all = All-replicate IsNone count None refl in
       let has' = subst (λ (cs : List (Option (ServiceState PlaceState T))). slice_get cs cell ≡ Some (Some service)) free has in
       let none = subst IsNone (get_or_from_slice_get (replicate count None) cell (Some service) None has') (all cell None (slice_get_within (replicate count None) cell (Some service) has')) in
       absurd (cc none)
 
-  opened_takes : (service : ServiceState PlaceState T) (number : ℕ) (opening : Opening) (transport : T) (place : PlaceState) → service ≡ opened number opening transport → TakesAt service.client.conn.standing place → ⊥
+  opened_takes : (service : ServiceState PlaceState T) (number : ℕ) (opening : Opening) (transport : T) (place : PlaceState) → service ≡ opened number opening transport → TakesAt service.client.conn.phase place → ⊥
   opened_takes service number opening transport place is takes =
-      subst (λ (s : ServiceState PlaceState T). TakesAt s.client.conn.standing place) is takes
+      subst (λ (s : ServiceState PlaceState T). TakesAt s.client.conn.phase place) is takes
 
   opened_one : (opening : Opening) (transport : T) (before after : Option (ServiceState PlaceState T)) (service : ServiceState PlaceState T) (place : PlaceState) → Opens opening transport before after
-      → after ≡ Some service → TakesAt service.client.conn.standing place → ⊥
+      → after ≡ Some service → TakesAt service.client.conn.phase place → ⊥
   opened_one opening transport before None service place opened_so is takes = absurd opened_so.1
   opened_one opening transport before (Some other) service place opened_so is takes =
       opened_takes service other.client.conn.number opening transport place (sym (some_is other service is) ∙ opened_so.1) takes
 
   -- one that is opened would not be handed a job
-  wished_opened : (cells cells' : List (Option (ServiceState PlaceState T))) (wishes : List Wish) (cell : ℕ) (opening : Opening) (transport : T) → AreWished cells wishes
-      → InCell cells cell (Opens opening transport) cells' → AreWished cells' wishes
-  wished_opened cells cells' wishes cell opening transport are made k service place has takes =
+  wished_opened : (cells cells' : List (Option (ServiceState PlaceState T))) (interests : List Interest) (cell : ℕ) (opening : Opening) (transport : T) → AreWished cells interests
+      → InCell cells cell (Opens opening transport) cells' → AreWished cells' interests
+  wished_opened cells cells' interests cell opening transport are made k service place has takes =
       let has' = subst (λ (cs : List (Option (ServiceState PlaceState T))). slice_get cs k ≡ Some (Some service)) made.is has in
       ⊎_elim
       (λ (is : k ≡ cell).
@@ -87,41 +87,41 @@ module _ {T : Type 0} where
 
   -- nor would one that came
   pub wished_came : (counts : T → Counts) (given accepted : T → Option (List ℕ)) (arrived : ArrivedState T) (cells cells' : List (Option (ServiceState PlaceState T)))
-      (served served' : ServedCounts) (closed closed' : Option (List T)) (wishes : List Wish) (now : ℕ) → length wishes ≡ length cells
-      → AreWished cells wishes → TakesInOne counts given accepted now arrived cells served closed cells' served' closed' → (length wishes ≡ length cells') × AreWished cells' wishes
-  wished_came counts given accepted arrived cells cells' served served' closed closed' wishes now long are (inl opened) = (
+      (served served' : ServedCounts) (closed closed' : Option (List T)) (interests : List Interest) (now : ℕ) → length interests ≡ length cells
+      → AreWished cells interests → TakesInOne counts given accepted now arrived cells served closed cells' served' closed' → (length interests ≡ length cells') × AreWished cells' interests
+  wished_came counts given accepted arrived cells cells' served served' closed closed' interests now long are (inl opened) = (
     omega (arith, long, ap length opened.1.2.is, length-set cells opened.0 opened.1.2.after),
-    wished_opened cells cells' wishes opened.0 (opening_at now arrived) opened.1.0 are opened.1.2,
+    wished_opened cells cells' interests opened.0 (opening_at now arrived) opened.1.0 are opened.1.2,
   )
-  wished_came counts given accepted arrived cells cells' served served' closed closed' wishes now long are (inr refused) =
-      subst (λ those. (length wishes ≡ length those) × AreWished those wishes) (sym refused.0.0) (long, are)
+  wished_came counts given accepted arrived cells cells' served served' closed closed' interests now long are (inr refused) =
+      subst (λ those. (length interests ≡ length those) × AreWished those interests) (sym refused.0.0) (long, are)
 
-  -- behind a round the wish of the connection in its cell is noted
-  pub wished_noted : (cells cells' : List (Option (ServiceState PlaceState T))) (wishes wishes' : List Wish) (cell : ℕ) (before after : Option (ServiceState PlaceState T)) (wish : Wish)
-      → length wishes ≡ length cells → AreWished cells wishes → slice_get cells cell ≡ Some before → cells' ≡ slice_set cells cell after
-      → TakesFrom (λ (p : PlaceState). p.group) (get_or cells' cell None) wish.takes → wishes' ≡ slice_set wishes cell wish → AreWished cells' wishes'
-  wished_noted cells cells' wishes wishes' cell before after wish long are has is tells noted k service place here takes =
+  -- after a round the wish of the connection in its cell is noted
+  pub wished_noted : (cells cells' : List (Option (ServiceState PlaceState T))) (interests interests' : List Interest) (cell : ℕ) (before after : Option (ServiceState PlaceState T)) (interest : Interest)
+      → length interests ≡ length cells → AreWished cells interests → slice_get cells cell ≡ Some before → cells' ≡ slice_set cells cell after
+      → TakesFrom (λ (p : PlaceState). p.group) (get_or cells' cell None) interest.takes → interests' ≡ slice_set interests cell interest → AreWished cells' interests'
+  wished_noted cells cells' interests interests' cell before after interest long are has is tells noted k service place here takes =
       let within = slice_get_within cells cell before has in
       let here' = subst (λ (cs : List (Option (ServiceState PlaceState T))). slice_get cs k ≡ Some (Some service)) is here in
-      let Told : List Wish → Type 0 = λ ws. (w : Wish) × (slice_get ws k ≡ Some w) × (w.takes ≡ Some place.group) in
+      let Told : List Interest → Type 0 = λ ws. (w : Interest) × (slice_get ws k ≡ Some w) × (w.takes ≡ Some place.group) in
       subst Told (sym noted) (⊎_elim
       (λ (same : k ≡ cell).
       let at_cell = subst (λ n. slice_get (slice_set cells cell after) n ≡ Some (Some service)) same here' in
       let after_is = some_is after (Some service) (sym (put_there cells cell after within) ∙ at_cell) in
       let cell_is : get_or cells' cell None ≡ Some service =
       ap (λ (cs : List (Option (ServiceState PlaceState T))). get_or cs cell None) is ∙ (get_or-set_same cells cell after None within ∙ after_is) in
-      let told = subst (λ (c : Option (ServiceState PlaceState T)). TakesFrom (λ (p : PlaceState). p.group) c wish.takes) cell_is tells in (
-        wish,
-        subst (λ n. slice_get (slice_set wishes cell wish) n ≡ Some wish) (sym same) (put_there wishes cell wish (omega (arith, long, within))),
-        wish_tells service place wish.takes told takes,
+      let told = subst (λ (c : Option (ServiceState PlaceState T)). TakesFrom (λ (p : PlaceState). p.group) c interest.takes) cell_is tells in (
+        interest,
+        subst (λ n. slice_get (slice_set interests cell interest) n ≡ Some interest) (sym same) (put_there interests cell interest (omega (arith, long, within))),
+        interest_tells service place interest.takes told takes,
       ))
       (λ (other : k ≢ cell).
       let was = are k service place (sym (others_stay cells cell k after other) ∙ here') takes in
-      (was.0, others_stay wishes cell k wish other ∙ was.1, was.2))
+      (was.0, others_stay interests cell k interest other ∙ was.1, was.2))
       (cases_eq k cell))
 
   -- whoever has room stands among the wishes
-  pub has_wish : (cells : List (Option (ServiceState PlaceState T))) (wishes : List Wish) (slot : ℕ) → AreWished cells wishes → HasTaker slot cells → IsWished slot wishes
-  has_wish cells wishes slot are taker =
+  pub has_interest : (cells : List (Option (ServiceState PlaceState T))) (interests : List Interest) (slot : ℕ) → AreWished cells interests → HasTaker slot cells → IsWished slot interests
+  has_interest cells interests slot are taker =
       let told = are taker.cell taker.service taker.place taker.here taker.takes in
       (taker.cell, told.0, told.1, told.2 ∙ ap (λ (n : ℕ). Some n) taker.group)

@@ -1,7 +1,7 @@
 -- A connection on its way to a worker, and as the worker watches it.
 use Rattle.std.specs.Prelude.{◌≡◌, ℕ, List, Option}
 use Rattle.transport.specs.declared.counts.Counts.{Counts}
-use Rattle.conn_engine.specs.declared.standing.Opening.{Opening}
+use Rattle.conn_engine.specs.declared.phase.Opening.{Opening}
 
 -- its transport, and the most messages that its client may have unacknowledged
 pub record ArrivedState (T : Type 0) : Type 0 where

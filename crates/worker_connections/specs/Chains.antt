@@ -7,13 +7,13 @@ use Rattle.broker_groups.specs.Answers.{Sights}
 use Rattle.broker_groups.specs.Naming.{AreUnsent}
 use Rattle.group_queue.specs.Places.{PlaceState}
 use Rattle.conn_laws.specs.Quotas.{IsWithinLimit, IsWithinQuota}
-use Rattle.conn_engine.specs.declared.standing.Standing.TheVariants.{Ended}
+use Rattle.conn_engine.specs.declared.phase.ConnPhase.TheVariants.{Ended}
 use Rattle.conn_service.specs.declared.served.Served.{Served}
 use Rattle.conn_service.specs.declared.served.Served.TheVariants.{Memory}
 use Rattle.conn_service.specs.Acts.{Act}
 use Rattle.conn_service.specs.Services.{ServiceState}
 use Rattle.conn_service.specs.Lives.{DoesAll, Rounds}
-use Rattle.service_table.specs.Cells.{InCell, Opens, occupied}
+use Rattle.worker_connections.specs.Cells.{InCell, Opens, occupied}
 use Rattle.shared_supply.specs.Calls.{Calls}
 use Rattle.shared_supply.specs.Waking.{KeepsAtMost, no_wakes, one_called}
 use Rattle.shared_supply.specs.Workers.{Worker, Begins, Leaves, is_visiting}
@@ -31,15 +31,15 @@ pub data Deed (T : Type 0) : Type 0 where
   -- so many messages at most are to be handed out from now on
   Allowed : (most : ℕ) → Deed T
   -- the connection in this cell went on by a round at this moment, of these acts; and ended so and was closed, if it did
-  Went : (cell now : ℕ) → (acts : List Act) → (how : Option Served) → Deed T
+  MadeRound : (cell now : ℕ) → (acts : List Act) → (how : Option Served) → Deed T
   -- nobody was in the cell
   Passed : (cell : ℕ) → Deed T
   -- another worker called it for a message of the group of this slot
   Called : (slot : ℕ) → Deed T
   -- of the messages that others may wait for it kept so many of each group at most, and told others of these
-  Told : (most others : List ℕ) → Deed T
+  Notified : (most others : List ℕ) → Deed T
   -- it told others all that they wait for
-  ToldAll : Deed T
+  NotifiedAll : Deed T
 
 -- what a worker has: what it asks, its connections, those that came, in order, how connections ended, and which transports it closed, each as it was then, in order;
 -- `None` where its poller does not tell that
@@ -66,10 +66,10 @@ pub record IsFirst {T : Type 0} (state : RunState T) : Type 0 where
   pub none_closed : HasClosedNone state.closed
   pub none_sent : AreUnsent state.supply.ports
 
--- behind a round: it goes on in its cell, or has ended so and left it
+-- after a round: it goes on in its cell, or has ended so and left it
 abbrev pub LeavesCell : {T : Type 0} → Option Served → ServiceState PlaceState T → Option (ServiceState PlaceState T) → Type 0
 LeavesCell None behind after = after ≡ Some behind
-LeavesCell (Some how) behind after = (behind.ending ≡ Some how) × (behind.client.conn.standing ≡ Ended) × (after ≡ None)
+LeavesCell (Some how) behind after = (behind.ending ≡ Some how) × (behind.client.conn.phase ≡ Ended) × (after ≡ None)
 
 module _ {T : Type 0} (group : ℕ → GroupId) (seen : Sights) (counts : T → Counts) (given accepted : T → Option (List ℕ)) where
   -- a round of a connection of a broker with these groups, in which nobody else uses its worker's supply
@@ -97,15 +97,15 @@ module _ {T : Type 0} (group : ℕ → GroupId) (seen : Sights) (counts : T → 
       (watched : T) × IsWatched counts given accepted arrived.transport watched
       × (new ≡ record old { received = old.received ++ arrived ∷ []; served = counted Memory old.served; closed = and_closed watched old.closed })
   Makes (Allowed most) old new = new ≡ record old { supply = record old.supply { allowance = most } }
-  Makes (Went cell now acts how) old new =
+  Makes (MadeRound cell now acts how) old new =
       InCell old.cells cell (λ before after. GoesOn now acts how before old.supply old.closed after new.supply new.closed) new.cells
       × (new ≡ record old { supply = new.supply; cells = new.cells; served = counted_if how old.served; closed = new.closed })
   Makes (Passed cell) old new =
       InCell old.cells cell (λ before after. (before ≡ None) × (after ≡ None)) new.cells × (new ≡ record old { cells = new.cells })
   Makes (Called slot) old new = new ≡ record old { supply = record old.supply { wakes = one_called slot old.supply.wakes } }
-  Makes (Told most others) old new =
+  Makes (Notified most others) old new =
       KeepsAtMost most others old.supply.wakes new.supply.wakes × (new ≡ record old { supply = record old.supply { wakes = new.supply.wakes } })
-  Makes ToldAll old new = new ≡ record old { supply = record old.supply { wakes = no_wakes } }
+  Makes NotifiedAll old new = new ≡ record old { supply = record old.supply { wakes = no_wakes } }
 
   -- these deeds, one after the other
   abbrev pub MakesAll : List (Deed T) → RunState T → RunState T → Type 0
@@ -135,7 +135,7 @@ module _ {T : Type 0} (group : ℕ → GroupId) (seen : Sights) (counts : T → 
         → (cell : ℕ) (service : ServiceState PlaceState T) → slice_get mid.cells cell ≡ Some (Some service)
         → (acts : List Act) (later : ServiceState PlaceState T) (supply supply' : Worker)
         → DoesAll (Calls group seen) Begins Leaves is_visiting (λ (p : PlaceState). p.group) counts given accepted acts service supply later supply'
-        → IsWithinQuota later.client.conn.standing × IsWithinLimit limit later.client.conn.standing
+        → IsWithinQuota later.client.conn.phase × IsWithinLimit limit later.client.conn.phase
 
 -- the connections that came by a deed, and by these
 abbrev pub came_in : {T : Type 0} → Deed T → List (ArrivedState T)

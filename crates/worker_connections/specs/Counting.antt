@@ -2,8 +2,8 @@
 use Rattle.std.specs.Prelude.{ℕ, ◌+◌, min, List, [], ◌∷◌, Option, Some, None}
 use Rattle.conn_service.specs.declared.served.Served.{Served}
 use Rattle.conn_service.specs.declared.served.Served.TheVariants.{Ended, Read, Write, Memory, NoCrossing, Stalled}
-use Rattle.service_table.specs.declared.turned.Turned.{Turned}
-use Rattle.service_table.specs.declared.turned.Turned.TheVariants as turns
+use Rattle.worker_connections.specs.declared.cell_outcome.CellOutcome.{CellOutcome}
+use Rattle.worker_connections.specs.declared.cell_outcome.CellOutcome.TheVariants as turns
 use Rattle.worker_connections.specs.declared.served.ServedCounts.{ServedCounts}
 
 -- one more, up to 2^64 - 1
@@ -27,8 +27,8 @@ abbrev pub counted_if : Option Served → ServedCounts → ServedCounts
 counted_if None counts = counts
 counted_if (Some how) counts = counted how counts
 
--- behind a round, which may have ended one
-abbrev pub counted_behind : {T : Type 0} → Turned T → ServedCounts → ServedCounts
+-- after a round, which may have ended one
+abbrev pub counted_behind : {T : Type 0} → CellOutcome T → ServedCounts → ServedCounts
 counted_behind turns.Vacant counts = counts
 counted_behind (turns.Goes round) counts = counts
 counted_behind (turns.Ended how transport) counts = counted how counts

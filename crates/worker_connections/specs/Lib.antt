@@ -7,3 +7,4 @@ pub mod Members
 pub mod Serving
 pub mod Sweeping
 pub mod Publishing
+pub mod Cells

@@ -2,12 +2,12 @@
 use Rattle.std.specs.Prelude.{◌≡◌, ℕ, ⊤, Bool, List, Option, Some, None}
 use Rattle.transport.specs.declared.counts.Counts.{Counts}
 use Rattle.transport.specs.Counting.{no_counts}
-use Rattle.conn_supply.specs.Facts.{Fact}
-use Rattle.conn_engine.specs.declared.standing.Opening.{Opening}
+use Rattle.conn_supply.specs.SupplyCalls.{SupplyCall}
+use Rattle.conn_engine.specs.declared.phase.Opening.{Opening}
 use Rattle.conn_service.specs.Services.{ServiceState, opened}
 use Rattle.conn_service.specs.Lives.{Lives}
 
-module _ {S P T : Type 0} (call : S → Fact P → S → Type 0) (begins ends : S → S → Type 0) (visiting : S → Bool) (slot_of : P → ℕ)
+module _ {S P T : Type 0} (call : S → SupplyCall P → S → Type 0) (begins ends : S → S → Type 0) (visiting : S → Bool) (slot_of : P → ℕ)
     (counts : T → Counts) (given accepted : T → Option (List ℕ)) where
   -- rounds led a connection here from its opening, over a transport of which nothing was asked before
   pub record HasLived (service : ServiceState P T) : Type 0 where

@@ -17,7 +17,7 @@ use Rattle.conn_supply.specs.Publishing.{Took}
 use Rattle.conn_engine.specs.declared.input.Input.{Input}
 use Rattle.conn_engine.specs.declared.input.Input.TheVariants as inputs
 use Rattle.conn_service.specs.Acts.{Act, Steps, Loses, Fails}
-use Rattle.worker_connections.specs.Chains.{Deed, Went, Run}
+use Rattle.worker_connections.specs.Chains.{Deed, MadeRound, Run}
 
 -- these packets begin with a PUBACK of success
 abbrev pub IsPromised : List Packet → Type 0
@@ -25,7 +25,7 @@ IsPromised sent = (identifier : ℕ) × (others : List Packet) × (sent ≡ puba
 
 -- the rounds of a worker, act by act
 abbrev pub acts_in : {T : Type 0} → Deed T → List Act
-acts_in (Went cell now acts how) = acts
+acts_in (MadeRound cell now acts how) = acts
 acts_in _ = []
 
 module _ (group : ℕ → GroupId) (seen : Sights) where

@@ -8,17 +8,17 @@ use Rattle.conn_channel.specs.Ends.{ReceiverState}
 use Rattle.conn_service.specs.declared.served.Served.{Served}
 use Rattle.conn_service.specs.declared.served.Served.TheVariants.{Memory}
 use Rattle.conn_service.specs.Services.{ServiceState}
-use Rattle.service_table.specs.Cells.{FollowsIn, InCell, Opens, Turns as TurnsIn, occupied}
-use Rattle.service_table.specs.declared.turned.Turned.{Turned}
-use Rattle.service_table.specs.declared.turned.Turned.TheVariants.{Vacant, Goes, Ended}
+use Rattle.worker_connections.specs.Cells.{FollowsIn, InCell, Opens, Turns as TurnsIn, occupied}
+use Rattle.worker_connections.specs.declared.cell_outcome.CellOutcome.{CellOutcome}
+use Rattle.worker_connections.specs.declared.cell_outcome.CellOutcome.TheVariants.{Vacant, Goes, Ended}
 use Rattle.conn_service.specs.declared.served.Direction.{Direction}
 use Rattle.conn_service.specs.declared.served.Round.{Round}
 use Rattle.shared_supply.specs.Calls.{Calls}
 use Rattle.shared_supply.specs.Waking.{no_wakes}
 use Rattle.shared_supply.specs.Workers.{Worker, Begins, Leaves, is_visiting}
 use Rattle.shared_supply.specs.declared.wakes.Wakes.{Wakes}
-use Rattle.worker_connections.specs.declared.connections.Went.{Went}
-use Rattle.worker_connections.specs.declared.connections.Went.TheVariants as went
+use Rattle.worker_connections.specs.declared.connections.RoundOutcome.{RoundOutcome}
+use Rattle.worker_connections.specs.declared.connections.RoundOutcome.TheVariants as outcome
 use Rattle.worker_connections.specs.declared.served.ServedCounts.{ServedCounts}
 use Rattle.worker_connections.specs.declared.sweeps.Sweeps.{Sweeps}
 use Rattle.worker_connections.specs.Arrivals.{ArrivedState, IsWatched, opening_at}
@@ -72,7 +72,7 @@ pub record AreFresh {T : Type 0} (receiver : ReceiverState (ArrivedState T)) (po
 abbrev pub StaysOf : {T : Type 0} → ConnectionsState T → ConnectionsState T → Type 0
 StaysOf old new = new.receiver.channel ≡ old.receiver.channel
 
--- behind a round too, which leaves the worker's moment and the number of cells as they are
+-- after a round too, which leaves the worker's moment and the number of cells as they are
 pub record Rounds {T : Type 0} (old new : ConnectionsState T) : Type 0 where
   pub stays : StaysOf old new
   pub keeps : KeepsMoment old.sweeps new.sweeps
@@ -98,22 +98,22 @@ TakesIn counts given accepted now arrived old served closed new served' closed' 
     ((cell : ℕ) × Admits counts given accepted now arrived old closed (Some cell) new closed' × (served' ≡ served))
     ⊎ (Admits counts given accepted now arrived old closed None new closed' × (served' ≡ counted Memory served))
 
--- what a connection waits for behind a round; none where there is none, or it has ended
-abbrev pub round_of : {T : Type 0} → Turned T → Option Round
+-- what a connection waits for after a round; none where there is none, or it has ended
+abbrev pub round_of : {T : Type 0} → CellOutcome T → Option Round
 round_of Vacant = None
 round_of (Goes round) = Some round
 round_of (Ended how transport) = None
 
-abbrev pub round_told : Went → Option Round
-round_told went.Nowhere = None
-round_told (went.On round) = Some round
-round_told went.ToItsEnd = None
+abbrev pub round_told : RoundOutcome → Option Round
+round_told outcome.Nowhere = None
+round_told (outcome.On round) = Some round
+round_told outcome.ToItsEnd = None
 
 -- what is told of a round that was made in a cell
-abbrev pub Tells : {T : Type 0} → Turned T → Went → Type 0
-Tells Vacant told = told ≡ went.Nowhere
-Tells (Goes round) told = told ≡ went.On round
-Tells (Ended how transport) told = told ≡ went.ToItsEnd
+abbrev pub Tells : {T : Type 0} → CellOutcome T → RoundOutcome → Type 0
+Tells Vacant told = told ≡ outcome.Nowhere
+Tells (Goes round) told = told ≡ outcome.On round
+Tells (Ended how transport) told = told ≡ outcome.ToItsEnd
 
 -- those that have ended, the latest first, are counted by their endings; together with those in the cells they are as many as were received
 pub record IsAccounted {T : Type 0} (received : ℕ) (cells : List (Option (ServiceState PlaceState T))) (served : ServedCounts) : Type 0 where
@@ -129,8 +129,8 @@ pub record AreCounted (received : ℕ) (served : ServedCounts) : Type 0 where
 
 module _ {T : Type 0} (group : ℕ → GroupId) (seen : Sights) (counts : T → Counts) (given accepted : T → Option (List ℕ)) where
   -- the connection in a cell, where there is one, went by a round this way at the worker's moment, and so many messages at most were handed to its client
-  pub record GoesBy (cell : ℕ) (direction : Direction) (most : ℕ) (turned : Turned T) (old new : ConnectionsState T) : Type 0 where
+  pub record GoesBy (cell : ℕ) (direction : Direction) (most : ℕ) (cell_outcome : CellOutcome T) (old new : ConnectionsState T) : Type 0 where
     pub turns : InCell old.cells cell
         (λ one other. TurnsIn (Calls group seen) Begins Leaves is_visiting (λ (p : PlaceState). p.group) counts given accepted old.sweeps.latest one
-        (record old.supply { allowance = most }) turned other new.supply) new.cells
-    pub way : InCell old.cells cell (λ one other. FollowsIn given accepted direction old.sweeps.latest one turned other) new.cells
+        (record old.supply { allowance = most }) cell_outcome other new.supply) new.cells
+    pub way : InCell old.cells cell (λ one other. FollowsIn given accepted direction old.sweeps.latest one cell_outcome other) new.cells

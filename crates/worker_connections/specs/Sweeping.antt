@@ -1,8 +1,8 @@
 -- When the connections of a worker went on: each does so at least every 50 milliseconds of its worker's clock, and has a Tick at least every 100.
 use Rattle.std.specs.Prelude.{◌≡◌, ◌≢◌, ◌⊎◌, ℕ, ◌+◌, ◌-◌, ◌<◌, ◌≤◌, max, ⊤, List, [], Option, Some, None, All, slice_index_or}
-use Rattle.conn_engine.specs.declared.standing.Opening.{Opening}
+use Rattle.conn_engine.specs.declared.phase.Opening.{Opening}
 use Rattle.conn_service.specs.declared.served.Round.{Round}
-use Rattle.conn_service.specs.Services.{ServiceState, opened, IsTold}
+use Rattle.conn_service.specs.Services.{ServiceState, opened, Describes}
 use Rattle.worker_connections.specs.declared.sweeps.Sweeps.{Sweeps}
 
 -- the connections of a worker go on at least every so many milliseconds
@@ -31,14 +31,14 @@ Begins count old new =
     ((count ≡ 0) × (new ≡ record old { swept = old.latest; begun = old.latest; gone = 0 }))
     ⊎ ((count ≢ 0) × (new ≡ record old { begun = old.latest; gone = 0 }))
 
--- the connection in a cell, of so many, went on at the worker's moment, or the cell is free: behind the last one that is lacking the sweep is whole
+-- the connection in a cell, of so many, went on at the worker's moment, or the cell is free: after the last one that is lacking the sweep is whole
 abbrev pub Notes : (cell count : ℕ) → Sweeps → Sweeps → Type 0
 Notes cell count old new =
     ((cell ≢ old.gone) × (new ≡ old))
     ⊎ (((cell ≡ old.gone) × (cell + 1 < count) × (new ≡ record old { gone = cell + 1 }))
     ⊎ ((cell ≡ old.gone) × (count ≤ cell + 1) × (new ≡ record old { swept = old.begun; gone = 0 })))
 
--- where a sweep began at the worker's moment, the first `gone` of so many cells went on since, and behind the last one it is whole
+-- where a sweep began at the worker's moment, the first `gone` of so many cells went on since, and after the last one it is whole
 abbrev pub HasGone : (gone count : ℕ) → Sweeps → Type 0
 HasGone gone count sweeps =
     ((gone < count) × (sweeps.gone ≡ gone) × (sweeps.begun ≡ sweeps.latest)) ⊎ ((count ≤ gone) × (sweeps.swept ≡ sweeps.latest))
@@ -53,7 +53,7 @@ module _ {P T : Type 0} where
   -- it was opened at this moment, or a round at it told what it waits for: where it does not wait to write, its latest Tick was then less than 50 milliseconds ago
   abbrev pub WentOnAt : ServiceState P T → ℕ → Type 0
   WentOnAt service moment =
-      ((transport : T) × (opening : Opening) × (opening.at ≡ moment) × (service ≡ opened service.client.conn.number opening transport)) ⊎ ((round : Round) × IsTold round service moment)
+      ((transport : T) × (opening : Opening) × (opening.at ≡ moment) × (service ≡ opened service.client.conn.number opening transport)) ⊎ ((round : Round) × Describes round service moment)
 
   -- the connection in a cell, where there is one, went on at this moment or later
   abbrev pub IfFreshSince : ℕ → Option (ServiceState P T) → Type 0

@@ -4,13 +4,14 @@ ghost use Rattle.worker_connections.specs.Closing.{closed_after};
 ghost use Rattle.worker_connections.specs.Serving.{Admits, TakesIn, Tells};
 
 use crate::arrived::Arrived;
-use crate::connections::{Came, Went};
+use crate::cell_outcome::CellOutcome;
+use crate::connections::{Admission, RoundOutcome};
 use crate::poller::Poller;
 use crate::served::ServedCounts;
+use crate::table::ServiceTable;
 use broker_groups::{Broker, BrokerPlace};
 use conn_engine::Opening;
 use conn_service::Served;
-use service_table::{ServiceTable, Turned};
 use transport::Transport;
 
 /// Opens a connection that came, at this moment; where it can't, it closes it and counts it as ended.
@@ -20,14 +21,14 @@ pub(crate) fn take_in<B: Broker, T: Transport, Q: Poller<T>>(
     poller: &mut Q,
     arrived: Arrived<T>,
     now: u64,
-) -> Came
+) -> Admission
     ensures { TakesIn T.counts T.given T.accepted now arrived table.old served.old (Q.closed poller.old) table.new served.new (Q.closed poller.new) }
 {
     match admit(table, poller, arrived, now) {
-        Some(cell) => Came::Opened(cell),
+        Some(cell) => Admission::Opened(cell),
         None => {
             served.count(Served::Memory);
-            Came::Refused
+            Admission::Refused
         }
     }
 }
@@ -67,17 +68,17 @@ fn admit<B: Broker, T: Transport, Q: Poller<T>>(
 pub(crate) fn settle<T: Transport, Q: Poller<T>>(
     poller: &mut Q,
     cell: usize,
-    turned: Turned<T>,
-) -> Went
-    ensures told { Tells turned result }
-    ensures closed { Q.closed poller.new ≡ closed_after turned (Q.closed poller.old) }
+    cell_outcome: CellOutcome<T>,
+) -> RoundOutcome
+    ensures told { Tells cell_outcome result }
+    ensures closed { Q.closed poller.new ≡ closed_after cell_outcome (Q.closed poller.old) }
 {
-    match turned {
-        Turned::Vacant => Went::Nowhere,
-        Turned::Goes(round) => Went::On(round),
-        Turned::Ended(_, transport) => {
+    match cell_outcome {
+        CellOutcome::Vacant => RoundOutcome::Nowhere,
+        CellOutcome::Goes(round) => RoundOutcome::On(round),
+        CellOutcome::Ended(_, transport) => {
             poller.close(Some(cell), transport);
-            Went::ToItsEnd
+            RoundOutcome::ToItsEnd
         }
     }
 }

@@ -2,8 +2,8 @@
 ghost use Rattle.std.specs.Prelude.{◌≡◌, ◌<◌, ◌+◌, ℕ, [], None, true, false, replicate, length};
 ghost use Rattle.group_queue.specs.Places.{PlaceState};
 ghost use Rattle.broker_groups.specs.Naming.{AreUnsent};
-ghost use Rattle.service_table.specs.Cells.{FollowsIn, InCell, Turns, ended_by, occupied};
-ghost use Rattle.service_table.specs.declared.turned.Turned.{Turned as AnyTurned};
+ghost use Rattle.worker_connections.specs.Cells.{FollowsIn, InCell, Turns, ended_by, occupied};
+ghost use Rattle.worker_connections.specs.declared.cell_outcome.CellOutcome.{CellOutcome as AnyOutcome};
 ghost use Rattle.shared_supply.specs.Calls.{Calls};
 ghost use Rattle.shared_supply.specs.Waking.{KeepsAtMost, no_wakes};
 ghost use Rattle.shared_supply.specs.Workers.{Begins as BeginsVisit, Leaves as LeavesVisit, is_visiting};
@@ -16,17 +16,18 @@ ghost use Rattle.worker_connections.specs.Sweeping.{AreTicked, Begins, HasGone, 
 
 use crate::admitting::{settle, take_in};
 use crate::arrived::Arrived;
-use crate::hand::Hand;
-use crate::noting::{note_held, note_wish};
+use crate::cell_outcome::CellOutcome;
+use crate::handle::WorkerHandle;
+use crate::noting::{note_held, note_interest};
 use crate::poller::Poller;
 use crate::served::ServedCounts;
 use crate::sweeps::Sweeps;
+use crate::table::ServiceTable;
 use broker_groups::{Broker, BrokerPlace};
 use call_history::HistoryName;
 use conn_channel::{Received, Receiver};
 use conn_service::{Direction, Round};
-use service_table::{ServiceTable, Turned};
-use shared_desk::DeskPass;
+use shared_desk::DeskView;
 use shared_supply::{SharedSupply, Tally, Wakes};
 use std::marker::Model;
 use std::sync::Wait;
@@ -76,19 +77,19 @@ impl<'a, 'g, B: Broker, N: HistoryName, T: Transport + Drop, Q: Poller<T>, R: Wa
 /// What the connections of a worker give back.
 pub struct Returned<B: Broker, N: HistoryName, T: Transport + Drop, Q> {
     /// What they had of the broker.
-    pub hand: Hand<B>,
+    pub handle: WorkerHandle<B>,
     /// Their end of the channel.
     pub receiver: Receiver<Arrived<T>>,
     /// How they ended.
     pub served: ServedCounts,
     /// What they know of the calls of the broker's desk.
-    pub pass: DeskPass<BrokerPlace<B>, N>,
+    pub pass: DeskView<BrokerPlace<B>, N>,
     /// Where their worker waited, which closed their transports.
     pub poller: Q,
 }
 
 /// What came through the channel.
-pub enum Came {
+pub enum Admission {
     /// A connection, which is open in this cell.
     Opened(usize),
     /// A connection that was not opened, and has ended.
@@ -100,7 +101,7 @@ pub enum Came {
 }
 
 /// What a round made of a cell.
-pub enum Went {
+pub enum RoundOutcome {
     /// There is no connection in it.
     Nowhere,
     /// Its connection goes on, and waits for this.
@@ -287,13 +288,13 @@ impl<'a, 'g, B: Broker, N: HistoryName, T: Transport + Drop, Q: Poller<T>, R: Wa
 
     /// Receives what comes through the channel. A connection is watched by the poller and opened at the worker's moment; where an allocation for it fails, or the
     /// system does not watch it, it is closed and has ended at once.
-    pub fn receive(&mut self, rt: &R) -> Came
+    pub fn receive(&mut self, rt: &R) -> Admission
         ensures same { StaysOf self.old self.new }
         ensures sweeps { self.new.sweeps ≡ self.old.sweeps }
         ensures supply { self.new.supply ≡ self.old.supply }
     {
         if self.receiver.is_ended() {
-            return Came::Nothing;
+            return Admission::Nothing;
         }
         let now = self.sweeps.latest;
         match self.receiver.receive(rt) {
@@ -306,8 +307,8 @@ impl<'a, 'g, B: Broker, N: HistoryName, T: Transport + Drop, Q: Poller<T>, R: Wa
                     now,
                 )
             }
-            Received::EndMark => Came::EndMark,
-            Received::Nothing => Came::Nothing,
+            Received::EndMark => Admission::EndMark,
+            Received::Nothing => Admission::Nothing,
         }
     }
 
@@ -321,14 +322,14 @@ impl<'a, 'g, B: Broker, N: HistoryName, T: Transport + Drop, Q: Poller<T>, R: Wa
         buffer: &mut [u8],
         direction: Direction,
         most: u32,
-    ) -> Went
+    ) -> RoundOutcome
         requires room { 0 < length buffer.old }
         ensures goes { Rounds self.old self.new }
         ensures notes { cell < length self.old.cells → Notes cell (length self.old.cells) self.old.sweeps self.new.sweeps }
-        ensures made { cell < length self.old.cells → (turned : AnyTurned T) × Tells turned result × GoesBy B.group B.Seen.Witness T.counts T.given T.accepted cell direction most turned self.old self.new }
+        ensures made { cell < length self.old.cells → (cell_outcome : AnyOutcome T) × Tells cell_outcome result × GoesBy B.group B.Seen.Witness T.counts T.given T.accepted cell direction most cell_outcome self.old self.new }
     {
         if cell >= self.table.len() {
-            return Went::Nowhere;
+            return RoundOutcome::Nowhere;
         }
         self.go_on(cell, crossing, worker, buffer, direction, most)
     }
@@ -342,16 +343,16 @@ impl<'a, 'g, B: Broker, N: HistoryName, T: Transport + Drop, Q: Poller<T>, R: Wa
         buffer: &mut [u8],
         direction: Direction,
         most: u32,
-    ) -> Went
+    ) -> RoundOutcome
         requires cell { cell < length self.old.cells }
         requires room { 0 < length buffer.old }
         ensures goes { Rounds self.old self.new }
         ensures notes { Notes cell (length self.old.cells) self.old.sweeps self.new.sweeps }
-        ensures made { (turned : AnyTurned T) × Tells turned result × GoesBy B.group B.Seen.Witness T.counts T.given T.accepted cell direction most turned self.old self.new }
+        ensures made { (cell_outcome : AnyOutcome T) × Tells cell_outcome result × GoesBy B.group B.Seen.Witness T.counts T.given T.accepted cell direction most cell_outcome self.old self.new }
     {
         let now = self.sweeps.latest;
         self.supply.allow(most);
-        let turned = turn(
+        let cell_outcome = make_round(
             &mut self.table,
             &mut self.supply,
             cell,
@@ -361,11 +362,17 @@ impl<'a, 'g, B: Broker, N: HistoryName, T: Transport + Drop, Q: Poller<T>, R: Wa
             buffer,
             direction,
         );
-        self.served.count_behind(&turned);
+        self.served.count_behind(&cell_outcome);
         self.sweeps.note(cell, self.table.len());
-        note_wish(&self.table, cell, &mut self.members);
-        note_held(&self.table, cell, direction, &turned, &mut self.members);
-        settle(&mut self.poller, cell, turned)
+        note_interest(&self.table, cell, &mut self.members);
+        note_held(
+            &self.table,
+            cell,
+            direction,
+            &cell_outcome,
+            &mut self.members,
+        );
+        settle(&mut self.poller, cell, cell_outcome)
     }
 
     /// What they had of the broker and know of its desk, the end of the channel, how they ended, and where their worker waited: these are what their run has come to. Any
@@ -376,7 +383,7 @@ impl<'a, 'g, B: Broker, N: HistoryName, T: Transport + Drop, Q: Poller<T>, R: Wa
         ensures counted { live self.entry ≡ 0 → AreCounted (length self.entry.receiver.received) result.served }
         ensures closed { Q.closed result.poller ≡ self.entry.closed }
         ensures ran { HasRunTo B.group B.Seen.Witness T.counts T.given T.accepted (run_of self.entry) }
-        ensures ports { live self.entry ≡ 0 → result.hand.ports ≡ self.entry.supply.ports }
+        ensures ports { live self.entry ≡ 0 → result.handle.ports ≡ self.entry.supply.ports }
         ensures desk { live self.entry ≡ 0 → result.pass ≡ self.entry.supply.desk }
     {
         let Connections {
@@ -392,7 +399,7 @@ impl<'a, 'g, B: Broker, N: HistoryName, T: Transport + Drop, Q: Poller<T>, R: Wa
         abandon(table, &mut supply);
         let (key, ports, pass) = supply.into_parts();
         Returned {
-            hand: Hand { key, ports },
+            handle: WorkerHandle { key, ports },
             receiver,
             served,
             pass,
@@ -402,7 +409,7 @@ impl<'a, 'g, B: Broker, N: HistoryName, T: Transport + Drop, Q: Poller<T>, R: Wa
 }
 
 /// The connection in a cell goes on by a round this way, at this moment.
-fn turn<'a, 'g, B: Broker, N: HistoryName, T: Transport, R: Wait, X: Crossing>(
+fn make_round<'a, 'g, B: Broker, N: HistoryName, T: Transport, R: Wait, X: Crossing>(
     table: &mut ServiceTable<BrokerPlace<B>, T>,
     supply: &mut SharedSupply<'a, 'g, B, N, R>,
     cell: usize,
@@ -411,7 +418,7 @@ fn turn<'a, 'g, B: Broker, N: HistoryName, T: Transport, R: Wait, X: Crossing>(
     now: u64,
     buffer: &mut [u8],
     direction: Direction,
-) -> Turned<T>
+) -> CellOutcome<T>
     requires cell { cell < length table.old }
     requires room { 0 < length buffer.old }
     ensures turns { InCell table.old cell (λ before after. Turns (Calls B.group B.Seen.Witness) BeginsVisit LeavesVisit is_visiting (λ (p : PlaceState). p.group) T.counts T.given T.accepted now before supply.old result after supply.new) table.new }

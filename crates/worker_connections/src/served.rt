@@ -2,8 +2,8 @@
 ghost use Rattle.std.specs.Prelude.{◌≡◌};
 ghost use Rattle.worker_connections.specs.Counting.{counted, counted_behind};
 
+use crate::cell_outcome::CellOutcome;
 use conn_service::Served;
-use service_table::Turned;
 
 /// How many connections ended in each way, up to `u64::MAX`.
 #[derive(Clone, Copy, Debug, PartialEq, Eq)]
@@ -14,7 +14,7 @@ pub struct ServedCounts {
     pub read: u64,
     /// 902: a write failed.
     pub write: u64,
-    /// 903: memory was wanted, also to open them, or the system refused to watch them.
+    /// 903: an allocation failed, also to open them, or the system refused to watch them.
     pub memory: u64,
     /// 904: the crossing let nothing pass.
     pub no_crossing: u64,
@@ -48,10 +48,10 @@ impl ServedCounts {
     }
 
     /// Counts the connection that a round ended, if it ended one.
-    pub fn count_behind<T>(&mut self, turned: &Turned<T>)
-        ensures { self.new ≡ counted_behind turned.now self.old }
+    pub fn count_behind<T>(&mut self, cell_outcome: &CellOutcome<T>)
+        ensures { self.new ≡ counted_behind cell_outcome.now self.old }
     {
-        if let Turned::Ended(served, _) = turned {
+        if let CellOutcome::Ended(served, _) = cell_outcome {
             self.count(*served);
         }
     }

@@ -63,7 +63,7 @@ module _ {T S : Type 0} (tally : S → Tally) (arrived : S → Option (List T)) 
     each = ap (λ (t : Tally). t.arrivals) counted;
   }
 
-  -- and behind that more
+  -- and after that more
   pub more : (old mid new : AcceptorState T S) → HasAccepted tally arrived old mid → HasAccepted tally arrived mid new → HasAccepted tally arrived old new
   more old mid new one two =
       let theirs : arrivals mid.max_inflight two.came ≡ arrivals old.max_inflight two.came = ap (λ n. arrivals n two.came) one.limit in

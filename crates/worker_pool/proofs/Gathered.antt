@@ -12,7 +12,7 @@ use Rattle.group_queue.specs.Places.{PlaceState}
 use Rattle.conn_channel.specs.Ends.{IsSettled, ReceiverState, SenderState, end_marks_received_by, lists_of, received_by}
 use Rattle.conn_channel.specs.Interleavings.{IsInterleaving}
 use Rattle.conn_service.specs.declared.served.Served.{Served}
-use Rattle.service_table.specs.Cells.{occupied}
+use Rattle.worker_connections.specs.Cells.{occupied}
 use Rattle.worker_connections.specs.declared.served.ServedCounts.{ServedCounts}
 use Rattle.worker_connections.specs.Arrivals.{ArrivedState}
 use Rattle.worker_connections.specs.Chains.{HasRunTo, IsWholeRun, Run, RunState}

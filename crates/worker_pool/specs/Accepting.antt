@@ -14,7 +14,7 @@ pub record AcceptorState (T S : Type 0) : Type 0 where
 abbrev pub arrivals : {T : Type 0} → ℕ → List T → List (ArrivedState T)
 arrivals max_inflight transports = map (λ transport. record { transport = transport; max_inflight = max_inflight }) transports
 
--- a source gave these, in this order, behind what it had given
+-- a source gave these, in this order, after what it had given
 abbrev pub Gave : {T S : Type 0} → (S → Option (List T)) → S → List T → S → Type 0
 Gave arrived old came new = arrived new ≡ option_map (λ those. those ++ came) (arrived old)
 

@@ -5,7 +5,7 @@ ghost use Rattle.worker_pool.specs.Accepting.{HasAccepted, OnlyMarks};
 
 use bell::Wake;
 use broker_groups::Broker;
-use broker_worker::Roster;
+use broker_worker::Mailboxes;
 use conn_channel::Sender;
 use conn_rules::MaxInflight;
 use gate_word::{Drained, Gate, GateSeat};
@@ -102,7 +102,7 @@ impl<'a, B: Broker> Closer<'a, B> {
 pub(crate) struct Acceptor<'a, B: Broker, T: Transport + Drop, S: Source<T>, W> {
     source: S,
     sender: Sender<Arrived<T>>,
-    roster: &'a Roster<W>,
+    mailboxes: &'a Mailboxes<W>,
     closer: Closer<'a, B>,
     max_inflight: MaxInflight,
     is_closed: bool,
@@ -128,7 +128,7 @@ impl<'a, B: Broker, T: Transport + Drop, S: Source<T>, W> Acceptor<'a, B, T, S, 
     pub(crate) fn new(
         source: S,
         sender: Sender<Arrived<T>>,
-        roster: &'a Roster<W>,
+        mailboxes: &'a Mailboxes<W>,
         closer: Closer<'a, B>,
         max_inflight: MaxInflight,
     ) -> Acceptor<'a, B, T, S, W>
@@ -138,7 +138,7 @@ impl<'a, B: Broker, T: Transport + Drop, S: Source<T>, W> Acceptor<'a, B, T, S, 
         Acceptor {
             source,
             sender,
-            roster,
+            mailboxes,
             closer,
             max_inflight,
             is_closed: false,
@@ -163,7 +163,7 @@ impl<'a, B: Broker, T: Transport + Drop, S: Source<T>, W> Acceptor<'a, B, T, S, 
         let Acceptor {
             source,
             sender,
-            roster: _,
+            mailboxes: _,
             closer: _,
             max_inflight: _,
             is_closed: _,
@@ -189,7 +189,7 @@ impl<'a, B: Broker, T: Transport + Drop, S: Source<T>, W: Wake> Acceptor<'a, B, 
     fn accept_begun<R: Wait + Clock>(&mut self, rt: &R)
         ensures { HasAccepted S.tally S.arrived self.old self.new }
     {
-        if all_begin(rt, self.roster) {
+        if all_begin(rt, self.mailboxes) {
             self.end = self.accept(rt);
         }
     }
@@ -208,7 +208,7 @@ impl<'a, B: Broker, T: Transport + Drop, S: Source<T>, W: Wake> Acceptor<'a, B, 
         ensures { HasAccepted S.tally S.arrived self.old self.new }
     {
         'arrivals: for _ in rt.forever() {
-            match self.roster.least_full() {
+            match self.mailboxes.least_full() {
                 Some(worker) => {
                     if let Some(end) = self.accept_one(rt, worker) {
                         return end;
@@ -235,7 +235,7 @@ impl<'a, B: Broker, T: Transport + Drop, S: Source<T>, W: Wake> Acceptor<'a, B, 
                 self.came += 1;
                 let arrived = Arrived::new(transport, self.max_inflight);
                 deliver(rt, &mut self.sender, arrived);
-                self.roster.invite(worker);
+                self.mailboxes.invite(worker);
                 None
             }
             Arrival::Idle => None,
@@ -249,15 +249,15 @@ impl<'a, B: Broker, T: Transport + Drop, S: Source<T>, W: Wake> Acceptor<'a, B, 
         ensures { HasAccepted S.tally S.arrived self.old self.new }
     {
         self.is_closed = true;
-        self.roster.close();
-        send_marks(rt, &mut self.sender, self.roster.len());
+        self.mailboxes.close();
+        send_marks(rt, &mut self.sender, self.mailboxes.len());
     }
 }
 
 /// Waits until every worker has begun, but no longer than ten seconds. Whether they have.
-fn all_begin<W: Wake, R: Clock>(rt: &R, roster: &Roster<W>) -> bool {
+fn all_begin<W: Wake, R: Clock>(rt: &R, mailboxes: &Mailboxes<W>) -> bool {
     for _ in 0..MOST_BEGIN_PAUSES {
-        if roster.has_begun() {
+        if mailboxes.has_begun() {
             return true;
         }
         thread::sleep(rt, Duration::from_millis(BEGIN_PAUSE));

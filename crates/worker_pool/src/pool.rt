@@ -13,24 +13,24 @@ use crate::running::run_all;
 use crate::watching::Watch;
 use bell::Wake;
 use broker_groups::{Broker, BrokerPlace};
-use broker_worker::{Gear, Kit, Roster, Worker};
+use broker_worker::{Mailboxes, Worker, WorkerIo, WorkerParts};
 use call_history::HistoryName;
 use conn_channel::{Receiver, Sender};
 use conn_rules::MaxInflight;
-use shared_desk::DeskPass;
-use shared_supply::Hall;
+use shared_desk::DeskView;
+use shared_supply::SharedBroker;
 use std::alloc::Global;
 use std::rt::Clock as SystemClock;
 use std::sync::Wait;
 use std::thread::Threads;
 use transport::{Clock, Crossing, Source, Transport};
-use worker_connections::{Arrived, Hand, Poller, Returned, ServedCounts};
+use worker_connections::{Arrived, Poller, Returned, ServedCounts, WorkerHandle};
 
 /// What a pool gives back.
 #[derive(Drop)]
 pub struct Pooled<B: Broker, S, Q> {
     /// What its workers had of the broker.
-    pub hands: Vec<Hand<B>>,
+    pub handles: Vec<WorkerHandle<B>>,
     /// How the connections of each worker ended.
     pub served: Vec<ServedCounts>,
     /// Where they came from, and how many.
@@ -39,16 +39,16 @@ pub struct Pooled<B: Broker, S, Q> {
     pub pollers: Vec<Q>,
 }
 
-/// A pool that was not begun, for want of memory: no connection was taken. What its workers were to have comes back.
+/// A pool that was not begun, for lack of memory: no connection was taken. What its workers were to have comes back.
 pub struct Unbegun<B: Broker, S> {
-    pub hands: Vec<Hand<B>>,
+    pub handles: Vec<WorkerHandle<B>>,
     pub source: S,
 }
 
-/// Serves the connections of a source with as many workers as there are hands, each in a thread of its own, until the source has ended or failed, the
-/// broker's gate is shut, and all connections have ended. A thread of its own takes the connections, and another one watches the input. The gear and the
-/// alarms are in the order of workers: a worker waits at its gear's poller, which its alarm wakes. Where the source fails, the gate is shut. The client of each
-/// connection has at most so many messages unacknowledged. Nothing was published through the ports of the hands before.
+/// Serves the connections of a source with as many workers as there are handles, each in a thread of its own, until the source has ended or failed, the
+/// broker's gate is shut, and all connections have ended. A thread of its own takes the connections, and another one watches the input. The pollers and clocks and the
+/// alarms are in the order of workers: a worker waits at its poller, which its alarm wakes. Where the source fails, the gate is shut. The client of each
+/// connection has at most so many messages unacknowledged. Nothing was published through the ports of the handles before.
 ///
 /// All that workers had of the broker comes back, and so do their pollers, with what they closed. Each connection that the source gave came to one worker, once, and is in
 /// its run, from its opening to its end (`served`). The pass knows then what each worker knew of the calls of the desk.
@@ -71,9 +71,9 @@ pub fn run<
 >(
     rt: &R,
     alloc: Global,
-    hall: &Hall<'_, B, N>,
-    hands: Vec<Hand<B>>,
-    gear: Vec<Gear<T, Q, C>>,
+    shared_broker: &SharedBroker<'_, B, N>,
+    handles: Vec<WorkerHandle<B>>,
+    worker_io: Vec<WorkerIo<T, Q, C>>,
     alarms: Vec<W>,
     source: S,
     max_inflight: MaxInflight,
@@ -81,17 +81,17 @@ pub fn run<
     closer: Closer<'_, B>,
     watch: &mut D,
     input: &mut I,
-    me: &mut DeskPass<BrokerPlace<B>, N>,
+    me: &mut DeskView<BrokerPlace<B>, N>,
 ) -> Result<Pooled<B, S, Q>, Unbegun<B, S>>
 where
     B::Seen: Send + Sync,
-    requires workers { (1 ≤ length hands.items) × (length hands.items ≤ 64) }
-    requires gear { length gear.items ≡ length hands.items }
-    requires unsent { All (λ hand. AreUnsent hand.ports) hands.items }
-    ensures hands { MatchResult result (λ pooled. length pooled.hands.items ≡ length hands.items) (λ unbegun. length unbegun.hands.items ≡ length hands.items) }
+    requires workers { (1 ≤ length handles.items) × (length handles.items ≤ 64) }
+    requires worker_io { length worker_io.items ≡ length handles.items }
+    requires unsent { All (λ handle. AreUnsent handle.ports) handles.items }
+    ensures handles { MatchResult result (λ pooled. length pooled.handles.items ≡ length handles.items) (λ unbegun. length unbegun.handles.items ≡ length handles.items) }
     ensures taken { IfOk result (λ pooled. (S.tally pooled.taken.source).arrivals ≡ (S.tally source).arrivals + pooled.taken.came) }
     ensures served { IfOk result (λ pooled. (came : List T) × Gave S.arrived source came pooled.taken.source × (pooled.taken.came ≡ length came)
-        × AreServed B.group B.Seen.Witness T.counts T.given T.accepted (arrivals max_inflight came) me.new (map (λ hand. hand.ports) pooled.hands.items) pooled.served.items (map Q.closed pooled.pollers.items)) }
+        × AreServed B.group B.Seen.Witness T.counts T.given T.accepted (arrivals max_inflight came) me.new (map (λ handle. handle.ports) pooled.handles.items) pooled.served.items (map Q.closed pooled.pollers.items)) }
     ensures counted { IfOk result (λ pooled. pooled.taken.came < 2 ^ 64 → pooled.taken.came ≡ total_in pooled.served.items) }
     ensures watched { IfOk result (λ _. D.has_watched watch.old watch.new input.old input.new) }
     ensures untouched { IfErr result (λ unbegun. unbegun.source ≡ source) }
@@ -99,30 +99,46 @@ where
 {
     let Ok(
         Provision {
-            roster,
+            mailboxes,
             sender,
-            kits,
+            all_worker_parts,
             receivers,
             served,
             pollers,
         },
-    ) = provide(alloc, gear, alarms)
+    ) = provide(alloc, worker_io, alarms)
     else {
-        return Err(Unbegun { hands, source });
+        return Err(Unbegun { handles, source });
     };
-    let (workers, hands) = match hire(rt, alloc, hall, hands, kits, &roster, crossing, &sender) {
+    let (workers, handles) = match hire(
+        rt,
+        alloc,
+        shared_broker,
+        handles,
+        all_worker_parts,
+        &mailboxes,
+        crossing,
+        &sender,
+    ) {
         Ok(hired) => hired,
-        Err(hands) => return Err(Unbegun { hands, source }),
+        Err(handles) => return Err(Unbegun { handles, source }),
     };
-    let mut acceptor = Acceptor::new(source, sender, &roster, closer, max_inflight);
+    let mut acceptor = Acceptor::new(source, sender, &mailboxes, closer, max_inflight);
     let mut workers = workers;
     run_all(rt, &mut acceptor, watch, input, &mut workers);
     Ok(retire(
-        hall, acceptor, workers, hands, receivers, served, pollers, me,
+        shared_broker,
+        acceptor,
+        workers,
+        handles,
+        receivers,
+        served,
+        pollers,
+        me,
     ))
 }
 
-/// Hires a worker for each hand, with a kit, who receives from the channel of this sender. Where memory is wanted for one of them, all hands come back.
+/// Hires a worker for each handle, with its parts, who receives from the channel of this sender. Where an allocation fails for one of them, all handles come back.
 fn hire<
     'a,
     'g,
@@ -137,44 +153,58 @@ fn hire<
 >(
     rt: &'a R,
     alloc: Global,
-    hall: &'a Hall<'g, B, N>,
-    hands: Vec<Hand<B>>,
-    kits: Vec<Kit<T, Q, W, C>>,
-    roster: &'a Roster<W>,
+    shared_broker: &'a SharedBroker<'g, B, N>,
+    handles: Vec<WorkerHandle<B>>,
+    all_worker_parts: Vec<WorkerParts<T, Q, W, C>>,
+    mailboxes: &'a Mailboxes<W>,
     crossing: &'a X,
     sender: &Sender<Arrived<T>>,
-) -> Result<(Vec<Worker<'a, 'g, B, N, T, Q, W, X, C, R>>, Vec<Hand<B>>), Vec<Hand<B>>>
-    requires count { length hands.items ≤ 64 }
-    requires kits { length kits.items ≡ length hands.items }
-    requires unsent { All (λ hand. AreUnsent hand.ports) hands.items }
-    requires each { All (λ kit. kit ≡ new_receiver sender.now.channel) kits.items }
-    ensures hired { IfOk result (λ made. (length made.0.items ≡ length hands.items) × All (IsHired sender.now.channel) made.0.items) }
-    ensures hands { IfOk result (λ made. (made.1.items ≡ []) × (length hands.items ≤ vec_capacity made.1)) }
-    ensures back { IfErr result (λ back. length back.items ≡ length hands.items) }
+) -> Result<
+    (
+        Vec<Worker<'a, 'g, B, N, T, Q, W, X, C, R>>,
+        Vec<WorkerHandle<B>>,
+    ),
+    Vec<WorkerHandle<B>>,
+>
+    requires count { length handles.items ≤ 64 }
+    requires all_worker_parts { length all_worker_parts.items ≡ length handles.items }
+    requires unsent { All (λ handle. AreUnsent handle.ports) handles.items }
+    requires each { All (λ worker_parts. worker_parts ≡ new_receiver sender.now.channel) all_worker_parts.items }
+    ensures hired { IfOk result (λ made. (length made.0.items ≡ length handles.items) × All (IsHired sender.now.channel) made.0.items) }
+    ensures handles { IfOk result (λ made. (made.1.items ≡ []) × (length handles.items ≤ vec_capacity made.1)) }
+    ensures back { IfErr result (λ back. length back.items ≡ length handles.items) }
 {
-    let mut hands = hands;
-    let mut kits = kits;
-    let Ok(mut workers) = Vec::with_capacity(alloc, hands.len()) else {
-        return Err(hands);
+    let mut handles = handles;
+    let mut all_worker_parts = all_worker_parts;
+    let Ok(mut workers) = Vec::with_capacity(alloc, handles.len()) else {
+        return Err(handles);
     };
-    'kits: while let Some(kit) = kits.pop() {
-        let Some(hand) = hands.pop() else {
+    'all_worker_parts: while let Some(worker_parts) = all_worker_parts.pop() {
+        let Some(handle) = handles.pop() else {
             unreachable!()
         };
-        match Worker::begin(rt, alloc, hall, hand, kit, roster, crossing) {
+        match Worker::begin(
+            rt,
+            alloc,
+            shared_broker,
+            handle,
+            worker_parts,
+            mailboxes,
+            crossing,
+        ) {
             Ok(worker) => workers.push_reserved(worker),
-            Err(hand) => {
-                hands.push_reserved(hand);
-                let_go(workers, &mut hands);
-                return Err(hands);
+            Err(handle) => {
+                handles.push_reserved(handle);
+                release(workers, &mut handles);
+                return Err(handles);
             }
         }
     }
-    Ok((workers, hands))
+    Ok((workers, handles))
 }
 
-/// Lets workers go. What they had of the broker is put to the hands.
-fn let_go<
+/// Lets workers go. What they had of the broker is put to the handles.
+fn release<
     'a,
     'g,
     B: Broker,
@@ -185,21 +215,21 @@ fn let_go<
     X: Crossing,
     C: Clock + Drop,
     R: Wait,
->(workers: Vec<Worker<'a, 'g, B, N, T, Q, W, X, C, R>>, hands: &mut Vec<Hand<B>>)
-    requires { length hands.old.items + length workers.items ≤ vec_capacity hands.old }
-    ensures { length hands.new.items ≡ length hands.old.items + length workers.entry.items }
+>(workers: Vec<Worker<'a, 'g, B, N, T, Q, W, X, C, R>>, handles: &mut Vec<WorkerHandle<B>>)
+    requires { length handles.old.items + length workers.items ≤ vec_capacity handles.old }
+    ensures { length handles.new.items ≡ length handles.old.items + length workers.entry.items }
 {
     let mut workers = workers;
     'workers: while let Some(worker) = workers.pop() {
         let Returned {
-            hand,
+            handle,
             receiver: _,
             served: _,
             pass: _,
             poller,
         } = worker.into_parts();
         drop(poller);
-        hands.push_reserved(hand);
+        handles.push_reserved(handle);
     }
     workers.destroy_empty();
 }
@@ -218,37 +248,37 @@ fn retire<
     C: Clock + Drop,
     R: Wait,
 >(
-    hall: &Hall<'g, B, N>,
+    shared_broker: &SharedBroker<'g, B, N>,
     acceptor: Acceptor<'a, B, T, S, W>,
     workers: Vec<Worker<'a, 'g, B, N, T, Q, W, X, C, R>>,
-    hands: Vec<Hand<B>>,
+    handles: Vec<WorkerHandle<B>>,
     receivers: Vec<Receiver<Arrived<T>>>,
     served: Vec<ServedCounts>,
     pollers: Vec<Q>,
-    me: &mut DeskPass<BrokerPlace<B>, N>,
+    me: &mut DeskView<BrokerPlace<B>, N>,
 ) -> Pooled<B, S, Q>
     requires workers { All (HasServed acceptor.sender.channel) workers.items }
     requires count { (1 ≤ length workers.items) × (length workers.items ≡ acceptor.sender.receivers) }
-    requires hands { (hands.items ≡ []) × (length workers.items ≤ vec_capacity hands) }
+    requires handles { (handles.items ≡ []) × (length workers.items ≤ vec_capacity handles) }
     requires receivers { (receivers.items ≡ []) × (length workers.items ≤ vec_capacity receivers) }
     requires served { (served.items ≡ []) × (length workers.items ≤ vec_capacity served) }
     requires pollers { (pollers.items ≡ []) × (length workers.items ≤ vec_capacity pollers) }
-    ensures hands { length result.hands.items ≡ length workers.entry.items }
+    ensures handles { length result.handles.items ≡ length workers.entry.items }
     ensures source { result.taken.source ≡ acceptor.entry.source }
     ensures came { result.taken.came ≡ length acceptor.entry.sender.sent }
-    ensures served { AreServed B.group B.Seen.Witness T.counts T.given T.accepted acceptor.entry.sender.sent me.new (map (λ hand. hand.ports) result.hands.items) result.served.items (map Q.closed result.pollers.items) }
+    ensures served { AreServed B.group B.Seen.Witness T.counts T.given T.accepted acceptor.entry.sender.sent me.new (map (λ handle. handle.ports) result.handles.items) result.served.items (map Q.closed result.pollers.items) }
     ensures counted { CountsAll result.taken.came result.served.items }
     ensures told { IsPrefix me.old me.new }
 {
-    let mut hands = hands;
+    let mut handles = handles;
     let mut receivers = receivers;
     let mut served = served;
     let mut pollers = pollers;
     gather(
-        hall,
+        shared_broker,
         workers,
         acceptor.sender(),
-        &mut hands,
+        &mut handles,
         &mut receivers,
         &mut served,
         &mut pollers,
@@ -257,7 +287,7 @@ fn retire<
     let (sender, taken) = acceptor.into_parts();
     sender.settle(receivers);
     Pooled {
-        hands,
+        handles,
         served,
         taken,
         pollers,
@@ -277,45 +307,45 @@ fn gather<
     C: Clock + Drop,
     R: Wait,
 >(
-    hall: &Hall<'g, B, N>,
+    shared_broker: &SharedBroker<'g, B, N>,
     workers: Vec<Worker<'a, 'g, B, N, T, Q, W, X, C, R>>,
     sender: &Sender<Arrived<T>>,
-    hands: &mut Vec<Hand<B>>,
+    handles: &mut Vec<WorkerHandle<B>>,
     receivers: &mut Vec<Receiver<Arrived<T>>>,
     served: &mut Vec<ServedCounts>,
     pollers: &mut Vec<Q>,
-    me: &mut DeskPass<BrokerPlace<B>, N>,
+    me: &mut DeskView<BrokerPlace<B>, N>,
 )
     requires workers { All (HasServed sender.now.channel) workers.items }
-    requires hands { length hands.old.items + length workers.items ≤ vec_capacity hands.old }
+    requires handles { length handles.old.items + length workers.items ≤ vec_capacity handles.old }
     requires receivers { length receivers.old.items + length workers.items ≤ vec_capacity receivers.old }
     requires served { length served.old.items + length workers.items ≤ vec_capacity served.old }
     requires pollers { length pollers.old.items + length workers.items ≤ vec_capacity pollers.old }
     requires of { AreOf sender.now.channel receivers.old.items }
     requires all { AreAllCounted receivers.old.items served.old.items }
-    requires ended { HaveEnded B.group B.Seen.Witness T.counts T.given T.accepted (map (λ hand. hand.ports) hands.old.items) receivers.old.items served.old.items (map Q.closed pollers.old.items) me.old }
-    ensures hands { length hands.new.items ≡ length hands.old.items + length workers.entry.items }
+    requires ended { HaveEnded B.group B.Seen.Witness T.counts T.given T.accepted (map (λ handle. handle.ports) handles.old.items) receivers.old.items served.old.items (map Q.closed pollers.old.items) me.old }
+    ensures handles { length handles.new.items ≡ length handles.old.items + length workers.entry.items }
     ensures receivers { length receivers.new.items ≡ length receivers.old.items + length workers.entry.items }
     ensures of { AreOf sender.now.channel receivers.new.items }
     ensures marks { end_marks_received_by receivers.new.items ≡ end_marks_received_by receivers.old.items + length workers.entry.items }
     ensures all { AreAllCounted receivers.new.items served.new.items }
-    ensures ended { HaveEnded B.group B.Seen.Witness T.counts T.given T.accepted (map (λ hand. hand.ports) hands.new.items) receivers.new.items served.new.items (map Q.closed pollers.new.items) me.new }
+    ensures ended { HaveEnded B.group B.Seen.Witness T.counts T.given T.accepted (map (λ handle. handle.ports) handles.new.items) receivers.new.items served.new.items (map Q.closed pollers.new.items) me.new }
     ensures told { IsPrefix me.old me.new }
 {
     let mut workers = workers;
     'workers: while let Some(worker) = workers.pop() {
         let Returned {
-            hand,
+            handle,
             receiver,
             served: counts,
             pass,
             poller,
         } = worker.into_parts();
-        hands.push_reserved(hand);
+        handles.push_reserved(handle);
         receivers.push_reserved(receiver);
         served.push_reserved(counts);
         pollers.push_reserved(poller);
-        hall.meet(me, pass);
+        shared_broker.agree(me, pass);
     }
     workers.destroy_empty();
 }

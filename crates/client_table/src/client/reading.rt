@@ -2,11 +2,11 @@
 ghost use Rattle.std.specs.Prelude.{◌≡◌, ◌<◌, ◌++◌, ◌⊎◌, ◌∷◌, [], List, MatchResult, true, vec_capacity, vec_len};
 ghost use Rattle.conn_engine.specs.Step.{IsNoPacket, IsWanted, NeedsVisit};
 ghost use Rattle.conn_engine.specs.declared.input.Input.TheVariants as inputs;
-ghost use Rattle.client_table.specs.Clients.{ClientState, Said as Words, Moves, FailsToMove, IsGivenUp};
+ghost use Rattle.client_table.specs.Clients.{ClientState, StepOutput as Output, ClientSteps, ClientFailsToStep, IsGivenUp};
 ghost use Rattle.client_table.specs.Streams.{fed, reading_behind, ReadsAs, FailsToReadOne, Reads, FailsToRead, Ticks, FailsToTick, Leaves};
 
 use crate::client::Client;
-use crate::said::Said;
+use crate::step_output::StepOutput;
 use conn_engine::Input;
 use conn_supply::{HoldingPlace, NoMemory, Supply, Then};
 use mqtt_fields::Fault;
@@ -38,7 +38,7 @@ impl Reading {
 
 impl<P: HoldingPlace> Client<P> {
     /// Takes a further piece of its stream, which may be empty, and steps its connection by each packet that is whole, at this
-    /// moment in milliseconds, within a visit of the supply. What each step wrote goes behind what was said before.
+    /// moment in milliseconds, within a visit of the supply. What each step wrote goes after what was said before.
     ///
     /// # Errors
     ///
@@ -49,10 +49,10 @@ impl<P: HoldingPlace> Client<P> {
         supply: &mut S,
         now: u64,
         piece: &[u8],
-        said: &mut Vec<Said>,
+        said: &mut Vec<StepOutput>,
     ) -> Result<(), NoMemory>
         requires visiting { S.visiting supply.old ≡ true }
-        ensures received { (more : List Words) × (said.new.items ≡ said.old.items ++ more)
+        ensures received { (more : List Output) × (said.new.items ≡ said.old.items ++ more)
             × MatchResult result
             (λ _. Reads S.call P.slot_of supply.old (fed self.old piece.now) now more self.new supply.new)
             (λ _. (IsGivenUp S.call P.slot_of supply.old self.old now inputs.EndOfInput self.new supply.new × (more ≡ []))
@@ -77,10 +77,10 @@ impl<P: HoldingPlace> Client<P> {
         &mut self,
         supply: &mut S,
         now: u64,
-        said: &mut Vec<Said>,
+        said: &mut Vec<StepOutput>,
     ) -> Result<(), NoMemory>
         requires visiting { S.visiting supply.old ≡ true }
-        ensures read { (more : List Words) × (said.new.items ≡ said.old.items ++ more)
+        ensures read { (more : List Output) × (said.new.items ≡ said.old.items ++ more)
             × MatchResult result
             (λ _. Reads S.call P.slot_of supply.old self.old now more self.new supply.new)
             (λ _. FailsToRead S.call P.slot_of supply.old self.old now more self.new supply.new) }
@@ -102,7 +102,7 @@ impl<P: HoldingPlace> Client<P> {
         &mut self,
         supply: &mut S,
         now: u64,
-        said: &mut Vec<Said>,
+        said: &mut Vec<StepOutput>,
     ) -> Result<Reading, NoMemory>
         requires visiting { S.visiting supply.old ≡ true }
         ensures read { MatchResult result
@@ -142,22 +142,22 @@ impl<P: HoldingPlace> Client<P> {
         supply: &mut S,
         now: u64,
         input: Input,
-        said: &mut Vec<Said>,
+        said: &mut Vec<StepOutput>,
     ) -> Result<Then, NoMemory>
-        requires wanted { IsWanted self.old.conn.standing input }
+        requires wanted { IsWanted self.old.conn.phase input }
         requires room { vec_len said.old < vec_capacity said.old }
         requires visiting { NeedsVisit input → S.visiting supply.old ≡ true }
         ensures stepped { MatchResult result
-            (λ next. (words : Words) × (words.next ≡ next) × (said.new.items ≡ said.old.items ++ (words ∷ []))
-            × Moves S.call P.slot_of supply.old self.old now input words self.new supply.new)
-            (λ _. (said.new ≡ said.old) × FailsToMove S.call P.slot_of supply.old self.old now input self.new supply.new) }
+            (λ next. (output : Output) × (output.next ≡ next) × (said.new.items ≡ said.old.items ++ (output ∷ []))
+            × ClientSteps S.call P.slot_of supply.old self.old now input output self.new supply.new)
+            (λ _. (said.new ≡ said.old) × ClientFailsToStep S.call P.slot_of supply.old self.old now input self.new supply.new) }
         ensures unread { self.new.unread ≡ self.old.unread }
         ensures visiting { S.visiting supply.new ≡ S.visiting supply.old }
     {
         match self.conn.step(supply, now, input, &mut self.packets) {
             Ok(next) => {
                 let packets = take_all(self.alloc, &mut self.packets);
-                said.push_reserved(Said::new(self.number, packets, next));
+                said.push_reserved(StepOutput::new(self.number, packets, next));
                 Ok(next)
             }
             Err(NoMemory) => Err(NoMemory),
@@ -175,10 +175,10 @@ impl<P: HoldingPlace> Client<P> {
         &mut self,
         supply: &mut S,
         now: u64,
-        said: &mut Vec<Said>,
+        said: &mut Vec<StepOutput>,
     ) -> Result<(), NoMemory>
         requires visiting { S.visiting supply.old ≡ true }
-        ensures ticked { (more : List Words) × (said.new.items ≡ said.old.items ++ more)
+        ensures ticked { (more : List Output) × (said.new.items ≡ said.old.items ++ more)
             × MatchResult result
             (λ _. Ticks S.call P.slot_of supply.old self.old now more self.new supply.new)
             (λ _. FailsToTick S.call P.slot_of supply.old self.old now more self.new supply.new) }
@@ -204,7 +204,7 @@ impl<P: HoldingPlace> Client<P> {
         &mut self,
         supply: &mut S,
         now: u64,
-        said: &mut Vec<Said>,
+        said: &mut Vec<StepOutput>,
     ) -> Result<(), NoMemory>
         ensures ended { Leaves S.call P.slot_of supply.old self.old now inputs.EndOfInput said.old.items result said.new.items self.new supply.new }
         ensures visiting { S.visiting supply.new ≡ S.visiting supply.old }
@@ -221,7 +221,7 @@ impl<P: HoldingPlace> Client<P> {
         &mut self,
         supply: &mut S,
         now: u64,
-        said: &mut Vec<Said>,
+        said: &mut Vec<StepOutput>,
     ) -> Result<(), NoMemory>
         ensures closed { Leaves S.call P.slot_of supply.old self.old now inputs.Closing said.old.items result said.new.items self.new supply.new }
         ensures visiting { S.visiting supply.new ≡ S.visiting supply.old }
@@ -245,7 +245,7 @@ impl<P: HoldingPlace> Client<P> {
         supply: &mut S,
         now: u64,
         input: Input,
-        said: &mut Vec<Said>,
+        said: &mut Vec<StepOutput>,
     ) -> Result<(), NoMemory>
         requires wanted { IsNoPacket input }
         requires quiet { ¬ NeedsVisit input }

@@ -2,7 +2,7 @@
 ghost use Rattle.std.specs.Prelude.{◌<◌};
 
 use crate::refused::refusing::{Refused, Refusing};
-use client_table::{ClientTable, Said};
+use client_table::{ClientTable, StepOutput};
 use conn_engine::Opening;
 use conn_supply::{NoMemory, Supply};
 use local_broker::LocalPlace;
@@ -15,23 +15,23 @@ use std::process::Abort;
 const CLIENTS: u8 = 3;
 
 /// A broker with its clients, and what was said in the last event.
-pub(crate) struct Hall {
+pub(crate) struct SharedBroker {
     supply: Refusing,
     clients: ClientTable<LocalPlace>,
-    said: Vec<Said>,
+    said: Vec<StepOutput>,
     // The moment of what happens next, in milliseconds.
     now: u64,
     alloc: Global,
 }
 
-impl Hall {
+impl SharedBroker {
     /// A new broker, which refuses these calls, and three connections.
-    pub(crate) fn open(rt: &impl Abort, alloc: Global, refused: Refused) -> Hall {
+    pub(crate) fn open(rt: &impl Abort, alloc: Global, refused: Refused) -> SharedBroker {
         let mut clients = ClientTable::new(alloc).expect(rt, "memory");
         for number in 0..CLIENTS {
             clients.open(number, Opening::plain(0));
         }
-        Hall {
+        SharedBroker {
             supply: Refusing::open(alloc, Routes::new(alloc), refused).expect(rt, "memory"),
             clients,
             said: Vec::new(alloc),
@@ -61,7 +61,7 @@ impl Hall {
         self.compare(rt, written);
     }
 
-    /// A piece comes, and memory is wanted for one of its packets: these bytes are written of those before it.
+    /// A piece comes, and an allocation fails for one of its packets: these bytes are written of those before it.
     pub(crate) fn bytes_refused(
         &mut self,
         rt: &impl Abort,
@@ -85,7 +85,7 @@ impl Hall {
         self.compare(rt, written);
     }
 
-    /// Time goes on for a connection, and memory is wanted for what it is handed: nothing is written.
+    /// Time goes on for a connection, and an allocation fails for what it is handed: nothing is written.
     pub(crate) fn tick_refused(&mut self, rt: &impl Abort, number: u8)
         requires { number < 64 }
     {
@@ -147,7 +147,7 @@ impl Hall {
 
     /// Lets go of the broker and its clients.
     pub(crate) fn abandon(self) {
-        let Hall {
+        let SharedBroker {
             mut supply,
             clients,
             said: _,

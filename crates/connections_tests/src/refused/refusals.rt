@@ -1,6 +1,6 @@
 //! Memory refused in turn for each message that is offered, taken and given back: nothing is lost, and nothing is doubled unseen. And a clock that
 //! goes back.
-use crate::refused::acting::Hall;
+use crate::refused::acting::SharedBroker;
 use crate::refused::refusing::Refused;
 
 /// A CONNECT of client `w1`, whose session ends with its connection.
@@ -78,34 +78,34 @@ fn each_give_back(rt: HostRuntime) {
             give_back: *number,
             ..Refused::NONE
         };
-        let mut hall = Hall::open(&rt, rt.alloc(), refused);
-        hall.bytes(&rt, 0, MEMBER, &[NEW]);
-        hall.bytes(&rt, 0, SUBSCRIBE, &[SUBACK]);
-        hall.bytes(&rt, 2, PUBLISHER, &[NEW]);
-        hall.bytes(&rt, 2, JOBS, &TAKEN);
-        hall.tick(&rt, 0, &[FRESH]);
-        hall.bytes(&rt, 0, DISCONNECT, &[]);
-        hall.report(&rt, left);
-        hall.bytes(&rt, 1, OTHER_MEMBER, &[NEW]);
-        hall.bytes(&rt, 2, PINGREQ, &[PINGRESP]);
-        hall.report(&rt, left);
-        hall.tick(&rt, 2, &[]);
-        hall.report(
+        let mut shared_broker = SharedBroker::open(&rt, rt.alloc(), refused);
+        shared_broker.bytes(&rt, 0, MEMBER, &[NEW]);
+        shared_broker.bytes(&rt, 0, SUBSCRIBE, &[SUBACK]);
+        shared_broker.bytes(&rt, 2, PUBLISHER, &[NEW]);
+        shared_broker.bytes(&rt, 2, JOBS, &TAKEN);
+        shared_broker.tick(&rt, 0, &[FRESH]);
+        shared_broker.bytes(&rt, 0, DISCONNECT, &[]);
+        shared_broker.report(&rt, left);
+        shared_broker.bytes(&rt, 1, OTHER_MEMBER, &[NEW]);
+        shared_broker.bytes(&rt, 2, PINGREQ, &[PINGRESP]);
+        shared_broker.report(&rt, left);
+        shared_broker.tick(&rt, 2, &[]);
+        shared_broker.report(
             &rt,
             "$share/g/job accepted 3 acknowledged 0 refused 0 held 0 queued 0 returned 3\n",
         );
-        hall.bytes(&rt, 1, SUBSCRIBE, &[SUBACK, FRESH]);
-        hall.report(
+        shared_broker.bytes(&rt, 1, SUBSCRIBE, &[SUBACK, FRESH]);
+        shared_broker.report(
             &rt,
             "$share/g/job accepted 3 acknowledged 0 refused 0 held 3 queued 0 returned 0\n",
         );
-        hall.abandon();
+        shared_broker.abandon();
     }
 }
 
 // w1, whose session is kept, is to be handed three jobs, and memory is refused for the n-th: nothing is written, and the connection has ended. When
 // it comes back, those that it was handed before are sent again, and the others for the first time. The first take of all, which finds nothing, is
-// that behind its SUBSCRIBE.
+// that after its SUBSCRIBE.
 #[test]
 fn each_take(rt: HostRuntime) {
     for (take, again) in (2..=4).zip(AGAIN) {
@@ -113,19 +113,19 @@ fn each_take(rt: HostRuntime) {
             take,
             ..Refused::NONE
         };
-        let mut hall = Hall::open(&rt, rt.alloc(), refused);
-        hall.bytes(&rt, 0, KEPT_MEMBER, &[NEW]);
-        hall.bytes(&rt, 0, SUBSCRIBE, &[SUBACK]);
-        hall.bytes(&rt, 2, PUBLISHER, &[NEW]);
-        hall.bytes(&rt, 2, JOBS, &TAKEN);
-        hall.tick_refused(&rt, 0);
-        hall.reopen(0);
-        hall.bytes(&rt, 0, KEPT_MEMBER, &[RESUMED, again]);
-        hall.report(
+        let mut shared_broker = SharedBroker::open(&rt, rt.alloc(), refused);
+        shared_broker.bytes(&rt, 0, KEPT_MEMBER, &[NEW]);
+        shared_broker.bytes(&rt, 0, SUBSCRIBE, &[SUBACK]);
+        shared_broker.bytes(&rt, 2, PUBLISHER, &[NEW]);
+        shared_broker.bytes(&rt, 2, JOBS, &TAKEN);
+        shared_broker.tick_refused(&rt, 0);
+        shared_broker.reopen(0);
+        shared_broker.bytes(&rt, 0, KEPT_MEMBER, &[RESUMED, again]);
+        shared_broker.report(
             &rt,
             "$share/g/job accepted 3 acknowledged 0 refused 0 held 3 queued 0 returned 0\n",
         );
-        hall.abandon();
+        shared_broker.abandon();
     }
 }
 
@@ -151,13 +151,13 @@ fn each_offer(rt: HostRuntime) {
             offer: number,
             ..Refused::NONE
         };
-        let mut hall = Hall::open(&rt, rt.alloc(), refused);
-        hall.bytes(&rt, 0, MEMBER, &[NEW]);
-        hall.bytes(&rt, 0, SUBSCRIBE, &[SUBACK]);
-        hall.bytes(&rt, 2, PUBLISHER, &[NEW]);
-        hall.bytes_refused(&rt, 2, JOBS, written);
-        hall.report(&rt, report);
-        hall.abandon();
+        let mut shared_broker = SharedBroker::open(&rt, rt.alloc(), refused);
+        shared_broker.bytes(&rt, 0, MEMBER, &[NEW]);
+        shared_broker.bytes(&rt, 0, SUBSCRIBE, &[SUBACK]);
+        shared_broker.bytes(&rt, 2, PUBLISHER, &[NEW]);
+        shared_broker.bytes_refused(&rt, 2, JOBS, written);
+        shared_broker.report(&rt, report);
+        shared_broker.abandon();
     }
 }
 
@@ -165,17 +165,17 @@ fn each_offer(rt: HostRuntime) {
 // and is told so when 90 seconds have gone by since.
 #[test]
 fn a_clock_that_goes_back(rt: HostRuntime) {
-    let mut hall = Hall::open(&rt, rt.alloc(), Refused::NONE);
-    hall.bytes(&rt, 2, PUBLISHER, &[NEW]);
-    hall.at(89_999);
-    hall.tick(&rt, 2, &[]);
-    hall.at(50_000);
-    hall.bytes(&rt, 2, PINGREQ, &[PINGRESP]);
-    hall.at(140_000);
-    hall.tick(&rt, 2, &[]);
-    hall.at(179_998);
-    hall.tick(&rt, 2, &[]);
-    hall.at(179_999);
-    hall.tick(&rt, 2, &[b"\xE0\x01\x8D"]);
-    hall.abandon();
+    let mut shared_broker = SharedBroker::open(&rt, rt.alloc(), Refused::NONE);
+    shared_broker.bytes(&rt, 2, PUBLISHER, &[NEW]);
+    shared_broker.at(89_999);
+    shared_broker.tick(&rt, 2, &[]);
+    shared_broker.at(50_000);
+    shared_broker.bytes(&rt, 2, PINGREQ, &[PINGRESP]);
+    shared_broker.at(140_000);
+    shared_broker.tick(&rt, 2, &[]);
+    shared_broker.at(179_998);
+    shared_broker.tick(&rt, 2, &[]);
+    shared_broker.at(179_999);
+    shared_broker.tick(&rt, 2, &[b"\xE0\x01\x8D"]);
+    shared_broker.abandon();
 }

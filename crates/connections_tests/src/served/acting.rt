@@ -64,7 +64,7 @@ impl Clock for Moments {
 
 /// What comes over a connection, how its transport answers, for how many bytes it has room, and when.
 #[derive(Clone, Copy)]
-pub(crate) struct Play<'a> {
+pub(crate) struct Scenario<'a> {
     pub(crate) input: &'a [u8],
     pub(crate) reads: &'a [ReadTurn],
     pub(crate) writes: &'a [WriteTurn],
@@ -72,10 +72,10 @@ pub(crate) struct Play<'a> {
     pub(crate) moments: &'static [u64],
 }
 
-impl Play<'static> {
+impl Scenario<'static> {
     /// A transport that gives the bytes of three packets, one with each read, and takes what it is given, all at the moment 0.
-    pub(crate) fn whole() -> Play<'static> {
-        Play {
+    pub(crate) fn whole() -> Scenario<'static> {
+        Scenario {
             input: STREAM,
             reads: PACKETS,
             writes: &[],
@@ -86,17 +86,17 @@ impl Play<'static> {
 }
 
 /// A scripted transport.
-pub(crate) fn scripted(rt: &impl Abort, alloc: Global, play: Play<'_>) -> Scripted
+pub(crate) fn scripted(rt: &impl Abort, alloc: Global, scenario: Scenario<'_>) -> Scripted
     ensures { result.counts ≡ no_counts }
 {
     let (Ok(input), Ok(reads), Ok(writes)) = (
-        play.input.to_vec(alloc),
-        play.reads.to_vec(alloc),
-        play.writes.to_vec(alloc),
+        scenario.input.to_vec(alloc),
+        scenario.reads.to_vec(alloc),
+        scenario.writes.to_vec(alloc),
     ) else {
         panic!(rt; "out of memory");
     };
-    match Scripted::new(alloc, input, reads, writes, play.room) {
+    match Scripted::new(alloc, input, reads, writes, scenario.room) {
         Ok(scripted) => scripted,
         Err(_) => panic!(rt; "out of memory"),
     }
@@ -123,15 +123,15 @@ pub(crate) fn reports(rt: &impl Abort, alloc: Global, supply: &LocalSupply, repo
     }
 }
 
-/// Serves the connection of a play over this broker; how it ended, and its transport.
+/// Serves the connection of a scenario over this broker; how it ended, and its transport.
 pub(crate) fn serve_over<R: Abort + Wait>(
     rt: &R,
     alloc: Global,
     supply: &mut LocalSupply,
-    play: Play<'_>,
+    scenario: Scenario<'_>,
 ) -> (Served, Scripted) {
-    let mut clock = Moments::of(play.moments);
-    let transport = scripted(rt, alloc, play);
+    let mut clock = Moments::of(scenario.moments);
+    let transport = scripted(rt, alloc, scenario);
     serve(
         rt,
         alloc,
@@ -145,14 +145,14 @@ pub(crate) fn serve_over<R: Abort + Wait>(
     )
 }
 
-/// Serves the connection of a play over a broker of its own; how it ended, and its transport.
+/// Serves the connection of a scenario over a broker of its own; how it ended, and its transport.
 pub(crate) fn serve_alone<R: Abort + Wait>(
     rt: &R,
     alloc: Global,
-    play: Play<'_>,
+    scenario: Scenario<'_>,
 ) -> (Served, Scripted) {
     let mut supply = broker(rt, alloc);
-    let (served, transport) = serve_over(rt, alloc, &mut supply, play);
+    let (served, transport) = serve_over(rt, alloc, &mut supply, scenario);
     supply.abandon();
     (served, transport)
 }
@@ -167,15 +167,15 @@ pub(crate) fn assert_served(rt: &impl Abort, served: Served, wanted: Served) {
     assert_eq!(rt; served, wanted);
 }
 
-/// A play ends so, and these bytes are written, one part after the other.
+/// A scenario ends so, and these bytes are written, one part after the other.
 pub(crate) fn serves<R: Abort + Wait>(
     rt: &R,
     alloc: Global,
-    play: Play<'_>,
+    scenario: Scenario<'_>,
     served: Served,
     written: &[u8],
 ) {
-    let (how, transport) = serve_alone(rt, alloc, play);
+    let (how, transport) = serve_alone(rt, alloc, scenario);
     assert_served(rt, how, served);
     assert_written(rt, transport.output(), written);
 }

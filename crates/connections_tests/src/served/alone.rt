@@ -2,14 +2,14 @@
 ghost use Rattle.std.specs.Prelude.{⊤};
 
 use crate::served::acting::{
-    ANSWERS, CONNACK, CONNECT, Moments, Play, assert_served, broker, scripted, serves,
+    ANSWERS, CONNACK, CONNECT, Moments, Scenario, assert_served, broker, scripted, serves,
 };
 use conn_rules::MaxInflight;
 use conn_service::{Served, serve};
 use std::test::Fail;
 use transport::{Crossing, ReadTurn};
 
-/// What follows the CONNECT, and what is written behind the CONNACK: a length of four bytes that all go on is malformed, and so is one in more bytes
+/// What follows the CONNECT, and what is written after the CONNACK: a length of four bytes that all go on is malformed, and so is one in more bytes
 /// than needed; one of more than 65,536 is too large (1.5.5, 4.13).
 const FAULTS: [(&[u8], &[u8]); 4] = [
     (b"\x82\xFF\xFF\xFF", b""),
@@ -25,11 +25,11 @@ fn faults(rt: HostRuntime) -> Result<(), Fail> {
         input.extend_from_slice(bytes)?;
         let mut written = CONNACK.to_vec(rt.alloc())?;
         written.extend_from_slice(wanted)?;
-        let play = Play {
+        let scenario = Scenario {
             input: &input,
-            ..Play::whole()
+            ..Scenario::whole()
         };
-        serves(&rt, rt.alloc(), play, Served::Ended, &written);
+        serves(&rt, rt.alloc(), scenario, Served::Ended, &written);
     }
     Ok(())
 }
@@ -39,11 +39,11 @@ fn faults(rt: HostRuntime) -> Result<(), Fail> {
 fn every_cutting(rt: HostRuntime) -> Result<(), Fail> {
     for size in 1..=48usize {
         let reads = vec![in rt.alloc(); ReadTurn::AtMost(size); 48]?;
-        let play = Play {
+        let scenario = Scenario {
             reads: &reads,
-            ..Play::whole()
+            ..Scenario::whole()
         };
-        serves(&rt, rt.alloc(), play, Served::Ended, ANSWERS);
+        serves(&rt, rt.alloc(), scenario, Served::Ended, ANSWERS);
     }
     Ok(())
 }
@@ -51,13 +51,13 @@ fn every_cutting(rt: HostRuntime) -> Result<(), Fail> {
 /// A client is silent for one and a half times its Keep Alive of 60 seconds (3.1.2.10).
 #[test]
 fn silence(rt: HostRuntime) {
-    let play = Play {
+    let scenario = Scenario {
         reads: &[ReadTurn::AtMost(17), ReadTurn::Idle],
         moments: &[0, 0, 90_000],
-        ..Play::whole()
+        ..Scenario::whole()
     };
     let written = b"\x20\x0E\x00\x00\x0B\x24\x01\x25\x00\x27\x00\x01\x00\x00\x29\x00\xE0\x01\x8D";
-    serves(&rt, rt.alloc(), play, Served::Ended, written);
+    serves(&rt, rt.alloc(), scenario, Served::Ended, written);
 }
 
 /// A crossing that lets nobody pass.
@@ -75,7 +75,7 @@ impl Crossing for ShutCrossing {
 #[test]
 fn no_crossing(rt: HostRuntime) {
     let mut supply = broker(&rt, rt.alloc());
-    let transport = scripted(&rt, rt.alloc(), Play::whole());
+    let transport = scripted(&rt, rt.alloc(), Scenario::whole());
     let mut clock = Moments::of(&[0]);
     let (served, transport) = serve(
         &rt,

@@ -1,8 +1,7 @@
-//! Streams that end behind each byte, and streams in which each byte is replaced: what is written is what `solo` writes.
-use crate::served::acting::{Play, STREAM, assert_served, assert_written, serve_alone};
+//! Streams that end after each byte, and streams in which each byte is replaced: what is written is what `solo` writes.
+use crate::served::acting::{STREAM, Scenario, assert_served, assert_written, serve_alone};
 use conn_rules::MaxInflight;
 use conn_service::Served;
-use line_io::RunError;
 use local_server::Setup;
 use mqtt_topic::Routes;
 use solo_output::solo;
@@ -10,6 +9,7 @@ use std::alloc::{AllocError, Global};
 use std::process::Abort;
 use std::sync::Wait;
 use std::test::Fail;
+use text_io::RunError;
 
 /// What `solo` writes of a stream: lines of hex digits, and reports.
 fn solo_lines(alloc: Global, stream: &[u8]) -> Result<Vec<u8>, RunError> {
@@ -44,11 +44,11 @@ fn writes_as_solo<R: Abort + Wait>(rt: &R, alloc: Global, stream: &[u8]) {
     let Ok(wanted) = digits_in(alloc, &lines) else {
         panic!(rt; "out of memory");
     };
-    let play = Play {
+    let scenario = Scenario {
         input: stream,
-        ..Play::whole()
+        ..Scenario::whole()
     };
-    let (served, transport) = serve_alone(rt, alloc, play);
+    let (served, transport) = serve_alone(rt, alloc, scenario);
     assert_served(rt, served, Served::Ended);
     let Ok(written) = hex::encode(alloc, transport.output()) else {
         panic!(rt; "out of memory");

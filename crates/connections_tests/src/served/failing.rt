@@ -1,6 +1,6 @@
 //! Transports that fail, and transports that take nothing.
 use crate::served::acting::{
-    ANSWERS, CONNACK, CONNECT, Play, assert_written, broker, reports, serve_over, serves,
+    ANSWERS, CONNACK, CONNECT, Scenario, assert_written, broker, reports, serve_over, serves,
 };
 use conn_service::Served;
 use std::alloc::{AllocError, Global};
@@ -24,16 +24,16 @@ fn report_at(room: usize) -> Option<&'static str> {
     }
 }
 
-/// A transport that takes so many bytes and then fails: what is written is just these, and nothing is done behind them.
+/// A transport that takes so many bytes and then fails: what is written is just these, and nothing is done after them.
 #[test]
 fn each_write_fails(rt: HostRuntime) {
     for room in 0..40usize {
         let mut supply = broker(&rt, rt.alloc());
-        let play = Play {
+        let scenario = Scenario {
             room,
-            ..Play::whole()
+            ..Scenario::whole()
         };
-        let (served, transport) = serve_over(&rt, rt.alloc(), &mut supply, play);
+        let (served, transport) = serve_over(&rt, rt.alloc(), &mut supply, scenario);
         let wanted = if room < 37 {
             Served::Write
         } else {
@@ -49,14 +49,14 @@ fn each_write_fails(rt: HostRuntime) {
 /// The third read fails: what was said before is written.
 #[test]
 fn third_read_fails(rt: HostRuntime) {
-    let play = Play {
+    let scenario = Scenario {
         reads: &[ReadTurn::AtMost(17), ReadTurn::AtMost(20), ReadTurn::Failed],
-        ..Play::whole()
+        ..Scenario::whole()
     };
-    serves(&rt, rt.alloc(), play, Served::Read, &ANSWERS[..22]);
+    serves(&rt, rt.alloc(), scenario, Served::Read, &ANSWERS[..22]);
 }
 
-/// A CONNECT, and a length that is malformed behind it: the connection ends (1.5.5).
+/// A CONNECT, and a length that is malformed after it: the connection ends (1.5.5).
 const FAULTY: &[u8] = b"\x10\x0F\x00\x04MQTT\x05\x02\x00\x3C\x00\x00\x02w1\x82\xFF\xFF\xFF\xFF";
 
 /// What is written then: a CONNACK, and a DISCONNECT: Malformed Packet.
@@ -76,14 +76,14 @@ fn is_deaf<R: Abort + Wait>(
     let Ok(writes) = idle_writes(alloc, refused) else {
         panic!(rt; "out of memory");
     };
-    let play = Play {
+    let scenario = Scenario {
         input,
         reads: &[],
         writes: &writes,
         room: 256,
         moments,
     };
-    serves(rt, alloc, play, served, written);
+    serves(rt, alloc, scenario, served, written);
 }
 
 /// So many writes that are idle.

@@ -1,4 +1,4 @@
-//! The plays of `drive_tests`, each connection over a scripted transport: what is written to it is what `drive` writes.
+//! The scenarios of `drive_tests`, each connection over a scripted transport: what is written to it is what `drive` writes.
 ghost use Rattle.std.specs.Prelude.{◌≡◌, ◌<◌, IfSome};
 ghost use Rattle.transport.specs.Counting.{no_counts};
 
@@ -12,7 +12,7 @@ use local_broker::{LocalPlace, LocalSupply};
 use local_server::Setup;
 use mqtt_packet::Text;
 use mqtt_topic::{Routes, Share};
-use plays::{Event, Play, What, all_plays};
+use scenarios::{Event, Scenario, What, all_scenarios};
 use std::alloc::Global;
 use std::marker::Model;
 use std::process::Abort;
@@ -34,7 +34,7 @@ impl<P: HoldingPlace, T: Transport> Model for Line<P, T> {
     ghost invariant = { λ l. l.service.ending ≡ None };
 }
 
-/// What became of it behind a round.
+/// What became of it after a round.
 enum Next<P: HoldingPlace, T: Transport> {
     GoesOn(Line<P, T>),
     Over(T),
@@ -226,40 +226,40 @@ fn routes_of(alloc: Global, shares: &[&str]) -> Option<Routes> {
     Some(routes)
 }
 
-/// What `drive` writes of a play behind which the broker closes.
-fn driven(alloc: Global, play: &Play<'_>) -> Option<Vec<u8>> {
+/// What `drive` writes of a scenario after which the broker closes.
+fn driven(alloc: Global, scenario: &Scenario<'_>) -> Option<Vec<u8>> {
     let setup = Setup {
-        capacity: play.capacity,
+        capacity: scenario.capacity,
         max_inflight: MaxInflight::most(),
-        groups: routes_of(alloc, play.shares)?,
+        groups: routes_of(alloc, scenario.shares)?,
     };
-    let mut script = play.script(alloc)?;
+    let mut script = scenario.script(alloc)?;
     script.push_str("0 close\n").ok()?;
     let mut written = Vec::new(alloc);
     drive_lines(alloc, setup, &mut script.as_bytes(), &mut written).ok()?;
     Some(written)
 }
 
-/// A play writes to each connection what `drive` does, and the broker reports the same.
-fn compare(rt: &impl Abort, alloc: Global, play: &Play<'_>) {
-    let written = driven(alloc, play).expect(rt, "a run");
+/// A scenario writes to each connection what `drive` does, and the broker reports the same.
+fn compare(rt: &impl Abort, alloc: Global, scenario: &Scenario<'_>) {
+    let written = driven(alloc, scenario).expect(rt, "a run");
     let lines = std::str::from_utf8(&written).ok().expect(rt, "text");
-    let events = play.events(alloc).expect(rt, "events");
-    let routes = routes_of(alloc, play.shares).expect(rt, "routes");
-    let supply = LocalSupply::open(alloc, play.capacity, routes);
+    let events = scenario.events(alloc).expect(rt, "events");
+    let routes = routes_of(alloc, scenario.shares).expect(rt, "routes");
+    let supply = LocalSupply::open(alloc, scenario.capacity, routes);
     let mut supply = supply.ok().expect(rt, "a broker");
     let mut lanes = lanes_of(rt, alloc, &events);
     act(rt, alloc, &mut supply, &mut lanes, &events);
-    compare_each(rt, alloc, play.name, lanes, lines);
-    compare_reports(rt, alloc, &supply, play.name, lines);
+    compare_each(rt, alloc, scenario.name, lanes, lines);
+    compare_reports(rt, alloc, &supply, scenario.name, lines);
     supply.abandon();
 }
 
 #[test]
-fn plays(rt: HostRuntime) {
-    for plays in all_plays() {
-        for play in plays {
-            compare(&rt, rt.alloc(), play);
+fn scenarios(rt: HostRuntime) {
+    for scenarios in all_scenarios() {
+        for scenario in scenarios {
+            compare(&rt, rt.alloc(), scenario);
         }
     }
 }

@@ -3,7 +3,7 @@ ghost use Rattle.std.specs.Prelude.{◌≡◌, ◌<◌, None};
 ghost use Rattle.transport.specs.Counting.{no_counts};
 
 use crate::served::acting::{
-    ANSWERS, CONNECT, Play, assert_served, assert_written, broker, reports, scripted,
+    ANSWERS, CONNECT, Scenario, assert_served, assert_written, broker, reports, scripted,
 };
 use crate::served::noting::Noting;
 use conn_engine::Opening;
@@ -31,7 +31,7 @@ fn open<T: Transport + Drop>(
     }
 }
 
-/// One round, behind which the connection waits so.
+/// One round, after which the connection waits so.
 fn goes_on<T: Transport>(
     rt: &impl Abort,
     service: &mut Service<LocalPlace, T>,
@@ -45,7 +45,7 @@ fn goes_on<T: Transport>(
     goes(rt, service, supply, now, Direction::Both, wanted);
 }
 
-/// One round this way, behind which the connection waits so.
+/// One round this way, after which the connection waits so.
 fn goes<T: Transport>(
     rt: &impl Abort,
     service: &mut Service<LocalPlace, T>,
@@ -65,7 +65,7 @@ fn goes<T: Transport>(
     }
 }
 
-/// Two rounds, behind each of which the connection waits so.
+/// Two rounds, after each of which the connection waits so.
 fn goes_on_twice<T: Transport>(
     rt: &impl Abort,
     service: &mut Service<LocalPlace, T>,
@@ -102,12 +102,12 @@ fn ends<T: Transport>(
     }
 }
 
-/// A CONNECT, and behind it nothing for now.
-fn connects() -> Play<'static> {
-    Play {
+/// A CONNECT, and after it nothing for now.
+fn connects() -> Scenario<'static> {
+    Scenario {
         input: CONNECT,
         reads: &[ReadTurn::AtMost(17), ReadTurn::Idle, ReadTurn::Idle],
-        ..Play::whole()
+        ..Scenario::whole()
     }
 }
 
@@ -249,20 +249,20 @@ fn deaf_member(rt: HostRuntime) -> Result<(), Fail> {
     let mut writes = vec![in rt.alloc(); WriteTurn::Idle; 100]?;
     writes[0] = WriteTurn::AtMost(16);
     writes[1] = WriteTurn::AtMost(6);
-    let play = Play {
+    let scenario = Scenario {
         input: MEMBER,
         reads: &[ReadTurn::AtMost(20), ReadTurn::AtMost(20)],
         writes: &writes,
-        ..Play::whole()
+        ..Scenario::whole()
     };
-    let transport = scripted(&rt, rt.alloc(), play);
+    let transport = scripted(&rt, rt.alloc(), scenario);
     let stream = large_jobs(rt.alloc())?;
-    let play = Play {
+    let scenario = Scenario {
         input: &stream,
         reads: PUBLISHES,
-        ..Play::whole()
+        ..Scenario::whole()
     };
-    let jobs = scripted(&rt, rt.alloc(), play);
+    let jobs = scripted(&rt, rt.alloc(), scenario);
     let member = hold_up(&rt, rt.alloc(), Noting::over(transport), jobs);
     assert_eq!(rt; (member.reads, member.most), (2, 2 * JOB_SIZE));
     assert_written(&rt, member.inner.output(), &ANSWERS[..22]);

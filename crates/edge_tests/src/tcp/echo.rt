@@ -161,7 +161,7 @@ fn go_on(
                 mut socket,
                 rest: _rest,
             } = room;
-            if !reactor.has(number) || reactor.let_go(number, &mut socket).is_err() {
+            if !reactor.has(number) || reactor.unwatch(number, &mut socket).is_err() {
                 panic!(rt; "it was not watched");
             }
             1

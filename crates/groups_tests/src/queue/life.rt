@@ -37,7 +37,7 @@ pub trait Life {
         ensures near { IsPlaceOf group.now near.new }
         ensures far { IsPlaceOf group.now far.new };
 
-    /// What comes behind it, to the group's end.
+    /// What comes after it, to the group's end.
     fn end<R: Wait>(
         &self,
         rt: &R,

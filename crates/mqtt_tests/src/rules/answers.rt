@@ -169,7 +169,7 @@ fn pubacks(rt: HostRuntime) -> Result<(), Fail> {
     Ok(())
 }
 
-// The Reason Code with which a packet closes that has so many entries behind its header, identifier and properties.
+// The Reason Code with which a packet closes that has so many entries after its header, identifier and properties.
 fn closes_with(
     alloc: Global,
     head: &[u8],

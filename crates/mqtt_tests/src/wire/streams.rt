@@ -213,7 +213,7 @@ fn first_again(alloc: Global, splitter: &mut Splitter, stream: &[u8]) -> Result<
     }
 }
 
-// The bytes that hex digits say; a want of memory where they say none.
+// The bytes that hex digits say; a lack of memory where they say none.
 fn bytes_of(alloc: Global, digits: &str) -> Result<Vec<u8>, Fault> {
     match hex::decode(alloc, digits) {
         Ok(bytes) => Ok(bytes),

@@ -187,7 +187,7 @@ fn are_equal(alloc: Global, payload: &'static [u8], other: &'static [u8]) -> Res
     }
 }
 
-// The PUBLISH of a payload behind what stands there already, and how long it is said to be.
+// The PUBLISH of a payload after what stands there already, and how long it is said to be.
 fn put_behind(alloc: Global, out: &mut Vec<u8>, payload: &'static [u8]) -> Result<u64, Fault> {
     match publish(alloc, payload) {
         Ok(packet) => {

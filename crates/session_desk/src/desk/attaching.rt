@@ -8,7 +8,7 @@ use crate::error::DeskError;
 use crate::marks::{note, waits_for};
 use crate::names::assigned;
 use crate::places::Place;
-use crate::row::Standing;
+use crate::row::Holder;
 use crate::session::Session;
 use crate::sight::Sight;
 use bytes::Bytes;
@@ -153,7 +153,7 @@ impl<E, P: Place> Desk<E, P> {
         connection: u16,
     ) -> Result<(Session<E, P>, Session<E, P>), DeskError>
         requires { (row : Row E P) × (session : Session E P) × HasRow self.old.rows number row
-            × (row.standing ≡ Standing.Parked session) × (row.client ≡ client.now) }
+            × (row.held_by ≡ Holder.Parked session) × (row.client ≡ client.now) }
         ensures { (row : Row E P) → HasRow self.old.rows number row →
             OpensOver self.old client.now connection number row result self.new }
     {
@@ -186,7 +186,7 @@ impl<E, P: Place> Desk<E, P> {
         now: u64,
     ) -> Result<Attached<E, P>, DeskError>
         requires { (row : Row E P) × (session : Session E P)
-            × IsClients self.old client.now number row (Standing.Parked session) × IsStale session clean now }
+            × IsClients self.old client.now number row (Holder.Parked session) × IsStale session clean now }
         ensures { AttachesClient self.old client.now (asked connection client.now clean now) result self.new }
     {
         match self.open_over(number, client, connection) {
@@ -201,9 +201,9 @@ impl<E, P: Place> Desk<E, P> {
     /// The connection has the client's parked session.
     fn resume(&mut self, number: u64, connection: u16) -> Session<E, P>
         requires { (row : Row E P) × (session : Session E P) × HasRow self.old.rows number row
-            × (row.standing ≡ Standing.Parked session) }
+            × (row.held_by ≡ Holder.Parked session) }
         ensures { (row : Row E P) → HasRow self.old.rows number row →
-            (row.standing ≡ Standing.Parked result) × (self.new ≡ after_lend self.old number row connection) }
+            (row.held_by ≡ Holder.Parked result) × (self.new ≡ after_lend self.old number row connection) }
     {
         note(&mut self.waits, connection, None);
         note(&mut self.kicked, connection, false);

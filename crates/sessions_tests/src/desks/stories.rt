@@ -1,6 +1,6 @@
 //! Stories of clients and connections.
-use crate::desks::hall::{
-    TestDesk, Told, ask, both, bury, connect, end, join, leave, nothing, only, open, park, rests,
+use crate::desks::handed::{
+    Answer, TestDesk, ask, both, bury, connect, end, join, leave, nothing, only, open, park, rests,
 };
 use crate::spot::Spot;
 use bytes::Bytes;
@@ -13,25 +13,25 @@ use std::test::Fail;
 fn takeover(rt: HostRuntime) -> Result<(), Fail> {
     let mut desk = open(&rt, rt.alloc());
     let client = Bytes::from_static(b"device");
-    let first = only(&rt, ask(&rt, &mut desk, 1, &client, false, 0), Told::New);
+    let first = only(&rt, ask(&rt, &mut desk, 1, &client, false, 0), Answer::New);
     let second = nothing(&rt, ask(&rt, &mut desk, 2, &client, false, 1));
     let third = nothing(&rt, ask(&rt, &mut desk, 3, &client, false, 2));
     let again = nothing(&rt, ask(&rt, &mut desk, 2, &client, false, 3));
     assert_eq!(rt;
         [second, third, again],
-        [Told::Replace(1), Told::Busy, Told::Replace(1)]
+        [Answer::Replace(1), Answer::Busy, Answer::Replace(1)]
     );
     assert!(rt; desk.kicked(1) && !desk.kicked(2) && !desk.kicked(3));
     park(&rt, &mut desk, first, 3_600, 4);
     let resumed = only(
         &rt,
         ask(&rt, &mut desk, 2, &client, false, 5),
-        Told::Resumed,
+        Answer::Resumed,
     );
     let third = nothing(&rt, ask(&rt, &mut desk, 3, &client, false, 6));
     desk.withdraw(3);
     let first = nothing(&rt, ask(&rt, &mut desk, 1, &client, false, 7));
-    assert_eq!(rt; [third, first], [Told::Replace(2), Told::Replace(2)]);
+    assert_eq!(rt; [third, first], [Answer::Replace(2), Answer::Replace(2)]);
     assert!(rt; desk.kicked(2));
     park(&rt, &mut desk, resumed, 1, 8);
     assert_eq!(rt; end(&rt, desk), (0, 0));
@@ -42,12 +42,12 @@ fn takeover(rt: HostRuntime) -> Result<(), Fail> {
 fn expiry(rt: HostRuntime) -> Result<(), Fail> {
     let mut desk = open(&rt, rt.alloc());
     let client = Bytes::from_static(b"device");
-    let session = only(&rt, ask(&rt, &mut desk, 1, &client, false, 0), Told::New);
+    let session = only(&rt, ask(&rt, &mut desk, 1, &client, false, 0), Answer::New);
     park(&rt, &mut desk, session, 3_600, 50);
     rests(&rt, &mut desk, 50 + 3_599_999);
     let due = desk.sweep(50 + 3_600_000);
     bury(&rt, &mut desk, due);
-    let session = only(&rt, ask(&rt, &mut desk, 1, &client, false, 0), Told::New);
+    let session = only(&rt, ask(&rt, &mut desk, 1, &client, false, 0), Answer::New);
     park(&rt, &mut desk, session, u32::MAX, 0);
     rests(&rt, &mut desk, u64::MAX);
     assert_eq!(rt; end(&rt, desk), (0, 0));
@@ -58,7 +58,7 @@ fn expiry(rt: HostRuntime) -> Result<(), Fail> {
 fn clean_start(rt: HostRuntime) -> Result<(), Fail> {
     let mut desk = open(&rt, rt.alloc());
     let client = Bytes::from_static(b"device");
-    let mut session = only(&rt, ask(&rt, &mut desk, 1, &client, false, 0), Told::New);
+    let mut session = only(&rt, ask(&rt, &mut desk, 1, &client, false, 0), Answer::New);
     connect(&mut session, 1);
     assert_eq!(rt; session.window.put(7), Ok(1));
     session.window.down();
@@ -91,9 +91,9 @@ fn names(rt: HostRuntime) -> Result<(), Fail> {
     let mut desk = open(&rt, rt.alloc());
     let none = Bytes::from_static(b"");
     let second = Bytes::from_static(b"auto-00000002");
-    let taken = only(&rt, ask(&rt, &mut desk, 1, &second, false, 0), Told::New);
-    let one = only(&rt, ask(&rt, &mut desk, 2, &none, false, 0), Told::New);
-    let three = only(&rt, ask(&rt, &mut desk, 3, &none, false, 0), Told::New);
+    let taken = only(&rt, ask(&rt, &mut desk, 1, &second, false, 0), Answer::New);
+    let one = only(&rt, ask(&rt, &mut desk, 2, &none, false, 0), Answer::New);
+    let three = only(&rt, ask(&rt, &mut desk, 3, &none, false, 0), Answer::New);
     assert_eq!(rt;
         one.identity.client().as_slice(),
         b"auto-00000001".as_slice()
@@ -104,7 +104,7 @@ fn names(rt: HostRuntime) -> Result<(), Fail> {
     );
     leave(&rt, &mut desk, one, 1);
     leave(&rt, &mut desk, three, 1);
-    let four = only(&rt, ask(&rt, &mut desk, 3, &none, false, 2), Told::New);
+    let four = only(&rt, ask(&rt, &mut desk, 3, &none, false, 2), Answer::New);
     assert_eq!(rt;
         four.identity.client().as_slice(),
         b"auto-00000004".as_slice()
@@ -127,12 +127,12 @@ fn places(rt: HostRuntime) -> Result<(), Fail> {
     assert_eq!(rt; desk.lend_place(3), Some(Spot::Second));
     assert_eq!(rt; desk.lend_place(3), None);
     let client = Bytes::from_static(b"member");
-    let mut session = only(&rt, ask(&rt, &mut desk, 1, &client, false, 0), Told::New);
+    let mut session = only(&rt, ask(&rt, &mut desk, 1, &client, false, 0), Answer::New);
     join(&rt, &mut session, Membership::Member(Spot::Second));
     leave(&rt, &mut desk, session, 1);
     assert_eq!(rt; desk.lend_place(3), Some(Spot::Second));
     assert_eq!(rt; desk.take_place(Spot::First), None);
-    let mut session = only(&rt, ask(&rt, &mut desk, 1, &client, false, 2), Told::New);
+    let mut session = only(&rt, ask(&rt, &mut desk, 1, &client, false, 2), Answer::New);
     join(&rt, &mut session, Membership::Leaving(Spot::Second));
     connect(&mut session, 9);
     assert_eq!(rt; session.window.put(5), Ok(1));
@@ -146,7 +146,7 @@ fn abandoned(rt: HostRuntime) -> Result<(), Fail> {
     let mut desk = open(&rt, rt.alloc());
     assert_eq!(rt; desk.take_place(Spot::First), None);
     let client = Bytes::from_static(b"member");
-    let mut session = only(&rt, ask(&rt, &mut desk, 1, &client, false, 0), Told::New);
+    let mut session = only(&rt, ask(&rt, &mut desk, 1, &client, false, 0), Answer::New);
     join(&rt, &mut session, Membership::Member(Spot::Second));
     connect(&mut session, 2);
     assert_eq!(rt; session.window.put(5), Ok(1));
@@ -169,7 +169,7 @@ fn client_of(rt: &impl Abort, alloc: Global, number: u16) -> Bytes {
 fn fill(rt: &impl Abort, alloc: Global, desk: &mut TestDesk) {
     for number in 0..256u16 {
         let client = client_of(rt, alloc, number);
-        let session = only(rt, ask(rt, desk, number, &client, false, 0), Told::New);
+        let session = only(rt, ask(rt, desk, number, &client, false, 0), Answer::New);
         park(rt, desk, session, 60, 0);
     }
 }
@@ -182,8 +182,15 @@ fn full(rt: HostRuntime) -> Result<(), Fail> {
     fill(&rt, rt.alloc(), &mut desk);
     let refused = nothing(&rt, ask(&rt, &mut desk, 1, &further, false, 1));
     let clean = nothing(&rt, ask(&rt, &mut desk, 1, &known, true, 1));
-    assert_eq!(rt; [refused, clean], [Told::Refused(701), Told::Refused(701)]);
-    let resumed = only(&rt, ask(&rt, &mut desk, 1, &known, false, 1), Told::Resumed);
+    assert_eq!(rt;
+        [refused, clean],
+        [Answer::Refused(701), Answer::Refused(701)]
+    );
+    let resumed = only(
+        &rt,
+        ask(&rt, &mut desk, 1, &known, false, 1),
+        Answer::Resumed,
+    );
     park(&rt, &mut desk, resumed, 60, 2);
     assert_eq!(rt; end(&rt, desk), (0, 0));
     Ok(())

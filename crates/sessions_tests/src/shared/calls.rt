@@ -8,26 +8,26 @@ use bytes::Bytes;
 use call_history::HistoryName;
 use group_jobs::Envelope;
 use session_desk::{Attached, DeskError, Session};
-use shared_desk::{DeskPass, OpenedDesk, SharedDesk};
+use shared_desk::{DeskView, OpenedDesk, SharedDesk};
 use std::marker::Brand;
 use std::sync::Wait;
 use std::test::Fail;
 
 /// Lets go of a message.
-fn let_go(envelope: Envelope) {
+fn discard(envelope: Envelope) {
     let _parts = envelope.open();
 }
 
 /// Lets go of a session, if there is one.
-fn dissolve(session: Option<Session<Envelope, Spot>>) {
+fn release(session: Option<Session<Envelope, Spot>>) {
     if let Some(session) = session {
-        session.abandon_with(&let_go);
+        session.abandon_with(&discard);
     }
 }
 
 /// Lets go of a desk with all that it has.
-pub(crate) fn end<D: HistoryName>(desk: SharedDesk<Spot, D>, mut me: DeskPass<Spot, D>) {
-    desk.finish(&mut me).abandon_with(&let_go);
+pub(crate) fn end<D: HistoryName>(desk: SharedDesk<Spot, D>, mut me: DeskView<Spot, D>) {
+    desk.finish(&mut me).abandon_with(&discard);
 }
 
 /// The session that a connection was lent; one that ended for it is let go.
@@ -37,7 +37,7 @@ fn lent(attached: Result<Attached<Envelope, Spot>, DeskError>) -> Option<Session
 {
     match attached {
         Ok(Attached::New { session, ended }) => {
-            dissolve(ended);
+            release(ended);
             Some(session)
         }
         Ok(Attached::Resumed(session)) => Some(session),
@@ -51,7 +51,7 @@ fn lent(attached: Result<Attached<Envelope, Spot>, DeskError>) -> Option<Session
 pub(crate) fn comes_and_goes<D: HistoryName, R: Wait>(
     rt: &R,
     desk: &SharedDesk<Spot, D>,
-    me: &mut DeskPass<Spot, D>,
+    me: &mut DeskView<Spot, D>,
     connection: u16,
     client: &Bytes,
 ) -> bool
@@ -60,26 +60,26 @@ pub(crate) fn comes_and_goes<D: HistoryName, R: Wait>(
 {
     match lent(desk.attach(rt, me, connection, client, false, 0)) {
         Some(session) => {
-            dissolve(desk.park_as_is(rt, me, session));
+            release(desk.park_as_is(rt, me, session));
             true
         }
         None => false,
     }
 }
 
-/// Whether connection 0 is kicked before and behind the moment at which connection 1 asks for its session, and whether connection 1 is.
+/// Whether connection 0 is kicked before and after the moment at which connection 1 asks for its session, and whether connection 1 is.
 fn takeover<D: HistoryName, R: Wait>(
     rt: &R,
     desk: &SharedDesk<Spot, D>,
-    me: &mut DeskPass<Spot, D>,
+    me: &mut DeskView<Spot, D>,
 ) -> (bool, bool, bool) {
     let client = Bytes::from_static(b"a");
     let session = lent(desk.attach(rt, me, 0, &client, false, 0));
     let before = desk.kicked(rt, me, 0);
-    dissolve(lent(desk.attach(rt, me, 1, &client, false, 0)));
+    release(lent(desk.attach(rt, me, 1, &client, false, 0)));
     let behind = desk.kicked(rt, me, 0);
     if let Some(session) = session {
-        dissolve(desk.park_as_is(rt, me, session));
+        release(desk.park_as_is(rt, me, session));
     }
     (before, behind, desk.kicked(rt, me, 1))
 }
@@ -126,7 +126,7 @@ fn a_client_comes_again(rt: HostRuntime) -> Result<(), Fail> {
 fn places<D: HistoryName, R: Wait>(
     rt: &R,
     desk: &SharedDesk<Spot, D>,
-    me: &mut DeskPass<Spot, D>,
+    me: &mut DeskView<Spot, D>,
 ) -> [Option<Spot>; 4] {
     let _none = desk.take_place(rt, me, Spot::Second);
     let _none = desk.take_place(rt, me, Spot::First);

@@ -6,7 +6,7 @@ use crate::shared::calls::{comes_and_goes, end};
 use crate::spot::Spot;
 use bytes::Bytes;
 use call_history::HistoryName;
-use shared_desk::{DeskPass, OpenedDesk, SharedDesk};
+use shared_desk::{DeskView, OpenedDesk, SharedDesk};
 use std::marker::Brand;
 use std::sync::Wait;
 use std::test::Fail;
@@ -16,7 +16,7 @@ use std::thread::{Threads, join};
 fn visits<D: HistoryName, R: Wait>(
     rt: &R,
     desk: &SharedDesk<Spot, D>,
-    me: &mut DeskPass<Spot, D>,
+    me: &mut DeskView<Spot, D>,
     connection: u16,
     client: &'static [u8; 1],
 ) -> u32 {
@@ -67,6 +67,6 @@ fn two_clients_at_once(rt: HostRuntime) -> Result<(), Fail> {
 fn what_threads_may_do_with_it() {
     is_shared_by_threads::<SharedDesk<Spot, Brand>>();
     crosses_threads::<SharedDesk<Spot, Brand>>();
-    crosses_threads::<DeskPass<Spot, Brand>>();
+    crosses_threads::<DeskView<Spot, Brand>>();
     crosses_threads::<OpenedDesk<Spot>>();
 }

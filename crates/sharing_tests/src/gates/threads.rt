@@ -21,7 +21,7 @@ const WARM: u64 = 1_000;
 struct Tally {
     /// How many visits were counted, each of them inside the gate.
     visits: AtomicU64,
-    /// The visitors are gone: they had all their tries, were refused, or never came for want of memory.
+    /// The visitors are gone: they had all their tries, were refused, or never came for lack of memory.
     gone: AtomicBool,
 }
 

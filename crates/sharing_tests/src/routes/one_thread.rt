@@ -57,7 +57,7 @@ fn what_one_binds_another_learns(rt: HostRuntime) -> Result<(), Fail> {
         assert_eq!(rt; bound(rt.alloc(), &mut one, *text), Some(Ok(slot as u8)));
     }
     assert_eq!(rt; found(&other, SHARES[7]), None);
-    other.learn();
+    other.refresh();
     assert_eq!(rt; found(&other, SHARES[7]), Some(7));
     let slots = routed(&other, "c").ok_or("it is a name")?;
     assert!(rt; slots.len() == 2 && slots.contains(2) && slots.contains(7));
@@ -71,11 +71,11 @@ fn what_it_was_told_of_it_knows(rt: HostRuntime) -> Result<(), Fail> {
     let mut other = KnownRoutes::new(rt.alloc(), &routes)?;
     assert_eq!(rt; bound(rt.alloc(), &mut one, SHARES[0]), Some(Ok(0)));
     assert_eq!(rt; bound(rt.alloc(), &mut one, SHARES[1]), Some(Ok(1)));
-    one.tell(&mut other);
+    one.publish(&mut other);
     assert_eq!(rt; found(&other, SHARES[1]), None);
-    other.learn();
+    other.refresh();
     assert_eq!(rt; found(&other, SHARES[1]), Some(1));
-    other.tell(&mut one);
+    other.publish(&mut one);
     assert_eq!(rt; bound(rt.alloc(), &mut other, SHARES[2]), Some(Ok(2)));
     Ok(())
 }

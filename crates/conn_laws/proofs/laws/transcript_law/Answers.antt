@@ -3,5 +3,5 @@ use Rattle.conn_laws.proofs.Transcripts.{transcribed}
 use Rattle.conn_laws.proofs.laws.transcript_law.Goals as goal
 
 pub returns : goal.returns
-returns g c number now standing standing' input packets next old new steps sound =
-    transcribed g.S.Supply.call g.P.Place.slot_of old new number now standing standing' input packets next steps sound
+returns g c number now phase phase' input packets next old new steps sound =
+    transcribed g.S.Supply.call g.P.Place.slot_of old new number now phase phase' input packets next steps sound

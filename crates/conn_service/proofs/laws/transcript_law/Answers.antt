@@ -11,4 +11,4 @@ returns g c number opening first acts service supply supply' does =
     (λ done service supply. IsTellingAs g.S.Supply.call g.S.Supply.begins g.S.Supply.ends g.S.Supply.visiting g.P.Place.slot_of g.T.Transport.counts g.T.Transport.given g.T.Transport.accepted number done service)
     (λ done act old new supply supply' tells one. tells_on g.S.Supply.call g.S.Supply.begins g.S.Supply.ends g.S.Supply.visiting g.P.Place.slot_of g.T.Transport.counts g.T.Transport.given g.T.Transport.accepted
     number done act old new supply supply' tells one) acts [] (opened number opening first) service supply supply' (record { same = refl; at = inl (refl, refl) }) does in
-    lives g.S.Supply.call number acts service.client.conn.standing last.at
+    lives g.S.Supply.call number acts service.client.conn.phase last.at

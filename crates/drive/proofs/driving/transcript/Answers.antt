@@ -6,15 +6,15 @@ use Rattle.drive.proofs.driving.transcript.Goals as goal
 
 pub returns-in-Ok-clause-ok : goal.returns-in-Ok-clause-ok
 returns-in-Ok-clause-ok c =
-    IfOk-weaker c.play-text.result _ (λ text. IsTranscript (lines_as c.args.form) c.args.setup c.args.events.now text.items)
+    IfOk-weaker c.transcribe-text.result _ (λ text. IsTranscript (lines_as c.args.form) c.args.setup c.args.events.now text.items)
     (λ text played. record {
       first = c.in-Ok.server;
       new = c.in-Ok.ensures;
       said = played.0;
-      last = c.play-text.new.server;
+      last = c.transcribe-text.new.server;
       happens = played.2;
       reports = played.1;
       reported = played.4;
       whole = played.3;
     })
-    c.play-text.ensures.ok
+    c.transcribe-text.ensures.ok

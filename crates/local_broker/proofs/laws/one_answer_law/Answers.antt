@@ -6,7 +6,7 @@ pub returns : goal.returns
 returns c =
     record {
       new = λ capacity shares one other a b. one_new capacity shares one other a b;
-      one = λ one other one' other' fact its alike law asks had also a b. one_answer one other one' other' alike fact its law asks had also a b;
+      one = λ one other one' other' supply_call its alike law asks had also a b. one_answer one other one' other' alike supply_call its law asks had also a b;
       closed = λ one other one' other' alike a b. one_close_of_all one other one' other' alike a b;
       told = λ one other slot line line' alike a b. one_told one other slot line line' alike a b;
     }

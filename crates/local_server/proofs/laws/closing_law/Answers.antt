@@ -1,4 +1,4 @@
--- Behind the close.
+-- After the close.
 use Rattle.local_server.proofs.Happened.{all_passed}
 use Rattle.local_server.proofs.LastEvents.{closed_last}
 use Rattle.local_server.proofs.laws.closing_law.Goals as goal

@@ -1,4 +1,4 @@
--- The word behind the name, byte by byte.
+-- The word after the name, byte by byte.
 use Rattle.std.proofs.Common.{◌≡◌, ℕ, List, [], map, Option, Some, None, string_bytes, option_map, codes, sym, ap, ◌∙◌, arith}
 use Rattle.std.specs.List.{slice_get}
 use Rattle.std.specs.Cmp.Lexicographic.{bytes_decides}

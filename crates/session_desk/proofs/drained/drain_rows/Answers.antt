@@ -13,8 +13,8 @@ rows-preserved g c =
     let shorter = ap length split ∙ length-append c.pop.new.self.entries _ in
     let inv = c.rows.invariant in
     record {
-      places = λ measure. taken_row (λ entry. sum_by measure (place_of (session_in entry.1.standing))) measure c.rows.rows.entries c.pop.new.self.entries (c.in-Some.field-0-0, c.in-Some.row) c.rows.places.items c.drain_row.new.places.items (place_of (session_in c.in-Some.row.standing)) _ split c.drain_row.ensures.places refl (inv.places measure);
-      envelopes = λ measure. taken_row (λ entry. sum_by measure (items_of (session_in entry.1.standing))) measure c.rows.rows.entries c.pop.new.self.entries (c.in-Some.field-0-0, c.in-Some.row) c.rows.envelopes.items c.drain_row.new.envelopes.items (items_of (session_in c.in-Some.row.standing)) _ split c.drain_row.ensures.envelopes refl (inv.envelopes measure);
+      places = λ measure. taken_row (λ entry. sum_by measure (place_of (session_in entry.1.held_by))) measure c.rows.rows.entries c.pop.new.self.entries (c.in-Some.field-0-0, c.in-Some.row) c.rows.places.items c.drain_row.new.places.items (place_of (session_in c.in-Some.row.held_by)) _ split c.drain_row.ensures.places refl (inv.places measure);
+      envelopes = λ measure. taken_row (λ entry. sum_by measure (items_of (session_in entry.1.held_by))) measure c.rows.rows.entries c.pop.new.self.entries (c.in-Some.field-0-0, c.in-Some.row) c.rows.envelopes.items c.drain_row.new.envelopes.items (items_of (session_in c.in-Some.row.held_by)) _ split c.drain_row.ensures.envelopes refl (inv.envelopes measure);
       places_left = (let a = c.drain_row.ensures.few_places in let b = c.drain_row.ensures.places_room in omega arith);
       envelopes_left = (let a = c.drain_row.ensures.few_envelopes in let b = c.drain_row.ensures.envelopes_room in omega arith);
       same = c.drain_row.ensures.places_room ∙ inv.same;
@@ -28,13 +28,13 @@ destroy_empty-requires g c =
 pub returns-clause-places : goal.returns-clause-places
 returns-clause-places g c = λ measure.
     let none = no_length c.rows.rows.entries (none_left (length c.rows.rows.entries) (λ some. false≢true (c.in_default.ensures.found.1 some))) in
-    let empty = ap (sum_by (λ entry. sum_by measure (place_of (session_in entry.1.standing)))) none in
+    let empty = ap (sum_by (λ entry. sum_by measure (place_of (session_in entry.1.held_by)))) none in
     let kept = c.rows.invariant.places measure in
     omega arith
 
 pub returns-clause-envelopes : goal.returns-clause-envelopes
 returns-clause-envelopes g c = λ measure.
     let none = no_length c.rows.rows.entries (none_left (length c.rows.rows.entries) (λ some. false≢true (c.in_default.ensures.found.1 some))) in
-    let empty = ap (sum_by (λ entry. sum_by measure (items_of (session_in entry.1.standing)))) none in
+    let empty = ap (sum_by (λ entry. sum_by measure (items_of (session_in entry.1.held_by)))) none in
     let kept = c.rows.invariant.envelopes measure in
     omega arith

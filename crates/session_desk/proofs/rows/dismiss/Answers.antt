@@ -15,7 +15,7 @@ returns-clause-rows g c = λ row has.
     let es = c.args.rows.now.entries in
     let read = sym (ap option_copied_mut c.in-Some.is) ∙ c.get_mut.ensures.value in
     let same = found_same es c.args.number c.in-Some.row.now row read has in (
-      c.dismiss.ensures.before ∙ ap (λ r. r.standing) same,
+      c.dismiss.ensures.before ∙ ap (λ r. r.held_by) same,
       seen_write es _ c.args.number c.in-Some.row.now _ (sym read) (c.get_mut.follows.holds _).0
           ∙ ap (λ r. map.insert (seen es) c.args.number r) (c.dismiss.ensures.after ∙ ap (λ r. away r.client) same),
     )

@@ -5,7 +5,7 @@ use Rattle.session_desk.proofs.rows.remove.Goals as goal
 pub end-requires : goal.end-requires
 end-requires g c =
     let read = sym c.in-Some.is ∙ c.swap_remove.ensures.value in
-    ap (λ r. r.standing) (found_same c.args.rows.now.entries c.args.number c.in-Some.row c.requires.0 read c.requires.1) ∙ c.requires.2
+    ap (λ r. r.held_by) (found_same c.args.rows.now.entries c.args.number c.in-Some.row c.requires.0 read c.requires.1) ∙ c.requires.2
 
 pub unreachable-requires : goal.unreachable-requires
 unreachable-requires g c =

@@ -1,4 +1,4 @@
-use Rattle.sessions_tests.proofs.Standing.{stands_told}
+use Rattle.sessions_tests.proofs.SessionHolders.{stands_told}
 use Rattle.sessions_tests.proofs.one_history.withdraw_as.Goals as goal
 
 pub returns : goal.returns

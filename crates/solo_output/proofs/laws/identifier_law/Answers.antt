@@ -1,4 +1,4 @@
--- The identifier that the story computes is the least that is free.
+-- The identifier that the model computes is the least that is free.
 use Rattle.solo_output.proofs.Identifiers.{is_least, least_is}
 use Rattle.solo_output.proofs.laws.identifier_law.Goals as goal
 

@@ -1,4 +1,4 @@
--- What a server says is what the story comes to.
+-- What a server says is what the model comes to.
 use Rattle.solo_output.proofs.Streams.{bad_lines}
 use Rattle.solo_output.proofs.Output.{closed, of_each}
 use Rattle.solo_output.proofs.laws.solo_output_law.Goals as goal

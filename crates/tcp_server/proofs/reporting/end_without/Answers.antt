@@ -1,7 +1,7 @@
 -- One report less.
 use Rattle.std.proofs.Common.{◌≡◌, ◌⊎◌, ◌∷◌, Result, Err, IfErr, sym, subst}
-use Rattle.line_io.specs.declared.error.RunError.{RunError}
-use Rattle.line_io.specs.declared.error.RunError.TheVariants.{Memory, Unfinished}
+use Rattle.text_io.specs.declared.error.RunError.{RunError}
+use Rattle.text_io.specs.declared.error.RunError.TheVariants.{Memory, Unfinished}
 use Rattle.group_queue.specs.declared.error.FinishError.{FinishError}
 use Rattle.tcp_server.specs.Lines.{EndsBy}
 use Rattle.tcp_server.proofs.Ends.{without_more}

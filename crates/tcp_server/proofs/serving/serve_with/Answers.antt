@@ -1,7 +1,7 @@
 -- What is written by how the broker ended.
 use Rattle.std.proofs.Common.{◌≡◌, Err, inr, sym, ap, subst, ◌∙◌}
 use Rattle.std.specs.Io.KnownBytes.{Appends}
-use Rattle.line_io.specs.Passing.{Begins}
+use Rattle.text_io.specs.Passing.{Begins}
 use Rattle.tcp_server.specs.Serving.{listening_line, IsServed}
 use Rattle.broker_groups.specs.Openings.{named_by}
 use Rattle.tcp_server.proofs.Served.{all, begun, of_capacity, opened_with, same_capacity}

@@ -4,7 +4,7 @@ use Rattle.std.proofs.Math.ListN.{length-append}
 use Rattle.std.proofs.lemmas.List.Elements.{All-pop, All-push, All-same}
 use Rattle.std.proofs.lemmas.List.Sums.{sum_by_push}
 use Rattle.conn_channel.specs.Ends.{ReceiverState, end_marks_received_by}
-use Rattle.worker_connections.specs.declared.hand.Hand.{Hand}
+use Rattle.worker_connections.specs.declared.handle.WorkerHandle.{WorkerHandle}
 use Rattle.worker_connections.specs.Arrivals.{ArrivedState}
 use Rattle.worker_connections.specs.Serving.{AreCounted}
 use Rattle.worker_pool.specs.Workers.{HasServed}
@@ -16,23 +16,23 @@ workers-preserved g c =
     let split = All-pop (HasServed c.args.sender.now.channel) c.workers.workers.items c.pop.new.self.items (Some c.in-Some.worker) c.in-Some.ensures.items c.workers.invariant.workers in
     let done = split.1 in
     let left = simp length-append at (ap length c.in-Some.ensures.items) in
-    let hands = simp length-append at (ap length c.push_reserved.ensures.items) in
+    let handles = simp length-append at (ap length c.push_reserved.ensures.items) in
     let receivers = simp length-append at (ap length c.push_reserved-in-Some.ensures.items) in
     let served = simp length-append at (ap length c.push_reserved-in-Some-2.ensures.items) in
     let pollers = simp length-append at (ap length c.push_reserved-in-Some-3.ensures.items) in
-    let returned = c.into_parts-hand.result in
+    let returned = c.into_parts-handle.result in
     let receiver = returned.receiver in
-    let is = c.into_parts-hand.ensures.receiver in
+    let is = c.into_parts-handle.ensures.receiver in
     let Of : ReceiverState (ArrivedState g.row.T.Denot) → Type 0 = λ r. r.channel ≡ c.args.sender.now.channel in
     let mark = ap (λ (r : ReceiverState (ArrivedState g.row.T.Denot)). r.end_marks_received) is in
     let marks = ap (λ (rs : List (ReceiverState (ArrivedState g.row.T.Denot))). end_marks_received_by rs) c.push_reserved-in-Some.ensures.items ∙ sum_by_push (λ (r : ReceiverState (ArrivedState g.row.T.Denot)). r.end_marks_received) c.workers.receivers.items receiver in
     let none = done.1.none_live in
-    let ports = ap (λ (l : List (Hand g.row.B.Denot g.row.B-Seen.Denot)). map (λ (hand : Hand g.row.B.Denot g.row.B-Seen.Denot). hand.ports) l) c.push_reserved.ensures.items ∙ map_push (λ (hand : Hand g.row.B.Denot g.row.B-Seen.Denot). hand.ports) c.workers.hands.items returned.hand in
+    let ports = ap (λ (l : List (WorkerHandle g.row.B.Denot g.row.B-Seen.Denot)). map (λ (handle : WorkerHandle g.row.B.Denot g.row.B-Seen.Denot). handle.ports) l) c.push_reserved.ensures.items ∙ map_push (λ (handle : WorkerHandle g.row.B.Denot g.row.B-Seen.Denot). handle.ports) c.workers.handles.items returned.handle in
     let shut = ap (λ (l : List g.row.Q.Denot). map g.Q.Poller.closed l) c.push_reserved-in-Some-3.ensures.items ∙ map_push g.Q.Poller.closed c.workers.pollers.items returned.poller in
     record {
       workers = split.0;
-      hands = omega (arith, left, hands, c.workers.invariant.hands);
-      hands_room = omega (arith, left, hands, c.workers.invariant.hands_room, c.push_reserved.ensures.capacity);
+      handles = omega (arith, left, handles, c.workers.invariant.handles);
+      hands_room = omega (arith, left, handles, c.workers.invariant.hands_room, c.push_reserved.ensures.capacity);
       receivers = omega (arith, left, receivers, c.workers.invariant.receivers);
       receivers_room = omega (arith, left, receivers, c.workers.invariant.receivers_room, c.push_reserved-in-Some.ensures.capacity);
       served_room = omega (arith, left, served, c.workers.invariant.served_room, c.push_reserved-in-Some-2.ensures.capacity);
@@ -44,13 +44,13 @@ workers-preserved g c =
       all =
           counts_one_more c.workers.receivers.items c.push_reserved-in-Some.new.self.items c.workers.served.items c.push_reserved-in-Some-2.new.self.items receiver returned.served
           c.workers.invariant.all c.push_reserved-in-Some.ensures.items c.push_reserved-in-Some-2.ensures.items
-          (subst (λ (r : ReceiverState (ArrivedState g.row.T.Denot)). AreCounted (length r.received) returned.served) (sym is) (c.into_parts-hand.ensures.counted none));
+          (subst (λ (r : ReceiverState (ArrivedState g.row.T.Denot)). AreCounted (length r.received) returned.served) (sym is) (c.into_parts-handle.ensures.counted none));
       ended =
           ends g.B.Broker.group (record { saw_ledger = g.B.Seen.LedgerWitness.saw_ledger; saw_main = g.B.Seen.Witness.saw_main; saw_returns = g.B.Seen.Witness.saw_returns }) g.T.Transport.counts g.T.Transport.given g.T.Transport.accepted _ _ c.workers.receivers.items c.push_reserved-in-Some.new.self.items
-          c.workers.served.items c.push_reserved-in-Some-2.new.self.items _ _ c.workers.me c.meet.new.me returned.pass returned.hand.ports receiver returned.served
+          c.workers.served.items c.push_reserved-in-Some-2.new.self.items _ _ c.workers.me c.agree.new.me returned.pass returned.handle.ports receiver returned.served
           (g.Q.Poller.closed returned.poller) c.in-Some.worker.connections
           c.workers.invariant.ended ports c.push_reserved-in-Some.ensures.items c.push_reserved-in-Some-2.ensures.items shut
-          c.into_parts-hand.ensures.ran none (c.into_parts-hand.ensures.ports none) is c.into_parts-hand.ensures.served c.into_parts-hand.ensures.closed
-          (c.into_parts-hand.ensures.desk none) c.meet.ensures.mine c.meet.ensures.others;
-      told = begins_longer c.args.me.now c.workers.me c.meet.new.me c.workers.invariant.told c.meet.ensures.mine;
+          c.into_parts-handle.ensures.ran none (c.into_parts-handle.ensures.ports none) is c.into_parts-handle.ensures.served c.into_parts-handle.ensures.closed
+          (c.into_parts-handle.ensures.desk none) c.agree.ensures.mine c.agree.ensures.others;
+      told = begins_longer c.args.me.now c.workers.me c.agree.new.me c.workers.invariant.told c.agree.ensures.mine;
     }

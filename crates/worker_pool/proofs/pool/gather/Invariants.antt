@@ -9,8 +9,8 @@ use Rattle.worker_pool.proofs.pool.gather.Given as goal
 abbrev pub invariant-workers : goal.invariant-workers
 invariant-workers g l = record {
   workers : All (HasServed l.sender.channel) l.workers.items;
-  hands : length l.hands.items + length l.workers.items ≡ length l.fn.hands.items + length l.fn.workers.items;
-  hands_room : length l.hands.items + length l.workers.items ≤ vec_capacity l.hands;
+  handles : length l.handles.items + length l.workers.items ≡ length l.fn.handles.items + length l.fn.workers.items;
+  hands_room : length l.handles.items + length l.workers.items ≤ vec_capacity l.handles;
   receivers : length l.receivers.items + length l.workers.items ≡ length l.fn.receivers.items + length l.fn.workers.items;
   receivers_room : length l.receivers.items + length l.workers.items ≤ vec_capacity l.receivers;
   served_room : length l.served.items + length l.workers.items ≤ vec_capacity l.served;
@@ -18,7 +18,7 @@ invariant-workers g l = record {
   of : AreOf l.sender.channel l.receivers.items;
   marks : end_marks_received_by l.receivers.items + length l.workers.items ≡ end_marks_received_by l.fn.receivers.items + length l.fn.workers.items;
   all : AreAllCounted l.receivers.items l.served.items;
-  ended : HaveEnded g.B.Broker.group (record { saw_ledger = g.B.Seen.LedgerWitness.saw_ledger; saw_main = g.B.Seen.Witness.saw_main; saw_returns = g.B.Seen.Witness.saw_returns }) g.T.Transport.counts g.T.Transport.given g.T.Transport.accepted (map (λ hand. hand.ports) l.hands.items) l.receivers.items l.served.items
+  ended : HaveEnded g.B.Broker.group (record { saw_ledger = g.B.Seen.LedgerWitness.saw_ledger; saw_main = g.B.Seen.Witness.saw_main; saw_returns = g.B.Seen.Witness.saw_returns }) g.T.Transport.counts g.T.Transport.given g.T.Transport.accepted (map (λ handle. handle.ports) l.handles.items) l.receivers.items l.served.items
       (map g.Q.Poller.closed l.pollers.items) l.me;
   told : IsPrefix l.fn.me l.me;
 }

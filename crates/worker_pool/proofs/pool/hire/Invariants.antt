@@ -5,16 +5,16 @@ use Rattle.conn_channel.specs.Ends.{new_receiver}
 use Rattle.worker_pool.specs.Workers.{IsHired}
 use Rattle.worker_pool.proofs.pool.hire.Given as goal
 
-abbrev pub invariant-kits : goal.invariant-kits
-invariant-kits g l = record {
-  kits : length l.kits.items ≡ length l.hands.items;
-  each : All (λ kit. kit ≡ new_receiver l.sender.channel) l.kits.items;
-  count : length l.workers.items + length l.hands.items ≡ length l.fn.hands.items;
+abbrev pub invariant-all_worker_parts : goal.invariant-all_worker_parts
+invariant-all_worker_parts g l = record {
+  all_worker_parts : length l.all_worker_parts.items ≡ length l.handles.items;
+  each : All (λ worker_parts. worker_parts ≡ new_receiver l.sender.channel) l.all_worker_parts.items;
+  count : length l.workers.items + length l.handles.items ≡ length l.fn.handles.items;
   hired : All (IsHired l.sender.channel) l.workers.items;
-  unsent : All (λ hand. AreUnsent hand.ports) l.hands.items;
-  hands : length l.fn.hands.items ≤ vec_capacity l.hands;
-  workers : length l.fn.hands.items ≤ vec_capacity l.workers;
+  unsent : All (λ handle. AreUnsent handle.ports) l.handles.items;
+  handles : length l.fn.handles.items ≤ vec_capacity l.handles;
+  workers : length l.fn.handles.items ≤ vec_capacity l.workers;
 }
 
-abbrev pub decreases-kits : goal.decreases-kits
-decreases-kits g l = vec_len l.kits
+abbrev pub decreases-all_worker_parts : goal.decreases-all_worker_parts
+decreases-all_worker_parts g l = vec_len l.all_worker_parts

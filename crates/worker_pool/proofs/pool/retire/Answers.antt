@@ -3,7 +3,7 @@ use Rattle.std.proofs.Common.{◌≡◌, ◌<◌, List, [], length, map, sym, su
 use Rattle.conn_channel.specs.Ends.{ChannelId, AreOf, end_marks_received_by}
 use Rattle.group_queue.specs.Ports.{PortState}
 use Rattle.conn_channel.specs.Ends.{ReceiverState}
-use Rattle.worker_connections.specs.declared.hand.Hand.{Hand}
+use Rattle.worker_connections.specs.declared.handle.WorkerHandle.{WorkerHandle}
 use Rattle.worker_connections.specs.declared.served.ServedCounts.{ServedCounts}
 use Rattle.worker_connections.specs.Arrivals.{ArrivedState}
 use Rattle.worker_pool.specs.Pools.{AreAllCounted, HaveEnded}
@@ -20,7 +20,7 @@ pub gather-requires-clause-ended : goal.gather-requires-clause-ended
 gather-requires-clause-ended g c =
     let Ended : List (List PortState) → List (ReceiverState (ArrivedState g.row.T.Denot)) → List ServedCounts → List g.row.Q.Denot → Type 0 = λ ports receivers served pollers.
     HaveEnded g.B.Broker.group (record { saw_ledger = g.B.Seen.LedgerWitness.saw_ledger; saw_main = g.B.Seen.Witness.saw_main; saw_returns = g.B.Seen.Witness.saw_returns }) g.T.Transport.counts g.T.Transport.given g.T.Transport.accepted ports receivers served (map g.Q.Poller.closed pollers) c.args.me.now in
-    subst (λ hands. Ended (map (λ (hand : Hand g.row.B.Denot g.row.B-Seen.Denot). hand.ports) hands) c.args.receivers.items c.args.served.items c.args.pollers.items) (sym c.requires.hands.0)
+    subst (λ handles. Ended (map (λ (handle : WorkerHandle g.row.B.Denot g.row.B-Seen.Denot). handle.ports) handles) c.args.receivers.items c.args.served.items c.args.pollers.items) (sym c.requires.handles.0)
     (subst (λ receivers. Ended [] receivers c.args.served.items c.args.pollers.items) (sym c.requires.receivers.0)
     (subst (λ served. Ended [] [] served c.args.pollers.items) (sym c.requires.served.0)
     (subst (λ pollers. Ended [] [] [] pollers) (sym c.requires.pollers.0)

@@ -1,7 +1,7 @@
 -- What a pool gives back.
 use Rattle.std.proofs.Common.{◌≡◌, ◌++◌, List, [], length, map, All, sym, subst, ◌∙◌, ap, arith}
 use Rattle.conn_channel.specs.Ends.{ChannelId}
-use Rattle.worker_connections.specs.declared.hand.Hand.{Hand}
+use Rattle.worker_connections.specs.declared.handle.WorkerHandle.{WorkerHandle}
 use Rattle.worker_connections.specs.Arrivals.{ArrivedState}
 use Rattle.worker_pool.specs.Accepting.{AcceptorState, Gave, arrivals}
 use Rattle.worker_pool.specs.Pools.{AreServed}
@@ -21,7 +21,7 @@ retire-requires-clause-count g c =
     let receivers = ap (λ (a : AcceptorState g.row.T.Denot g.row.S.Denot). a.sender.receivers) c.new-acceptor.ensures in
     let count = c.run_all.ensures.run.count in (
       omega (arith, count, c.in-Ok-hire.ensures.hired.0, c.requires.workers.0),
-      omega (arith, count, c.in-Ok-hire.ensures.hired.0, receivers, c.run_all.ensures.accepted.receivers, c.in-Ok.ensures.sender.0, c.requires.gear),
+      omega (arith, count, c.in-Ok-hire.ensures.hired.0, receivers, c.run_all.ensures.accepted.receivers, c.in-Ok.ensures.sender.0, c.requires.worker_io),
     )
 
 pub returns-clause-taken : goal.returns-clause-taken
@@ -42,7 +42,7 @@ returns-clause-served g c =
     let sent = sent_is accepted.came _ _ _ _ none limit accepted.sent in
     let Source : g.row.S.Denot → g.row.S.Denot → Type 0 = λ old new. Gave g.S.Source.arrived old accepted.came new in
     let Served : List (ArrivedState g.row.T.Denot) → Type 0 = λ arrived.
-    AreServed g.B.Broker.group (record { saw_ledger = g.B.Seen.LedgerWitness.saw_ledger; saw_main = g.B.Seen.Witness.saw_main; saw_returns = g.B.Seen.Witness.saw_returns }) g.T.Transport.counts g.T.Transport.given g.T.Transport.accepted arrived c.retire.new.me (map (λ (hand : Hand g.row.B.Denot g.row.B-Seen.Denot). hand.ports) c.retire.result.hands.items) c.retire.result.served.items
+    AreServed g.B.Broker.group (record { saw_ledger = g.B.Seen.LedgerWitness.saw_ledger; saw_main = g.B.Seen.Witness.saw_main; saw_returns = g.B.Seen.Witness.saw_returns }) g.T.Transport.counts g.T.Transport.given g.T.Transport.accepted arrived c.retire.new.me (map (λ (handle : WorkerHandle g.row.B.Denot g.row.B-Seen.Denot). handle.ports) c.retire.result.handles.items) c.retire.result.served.items
     (map g.Q.Poller.closed c.retire.result.pollers.items) in (
       accepted.came,
       subst (λ new. Source c.args.source new) (sym c.retire.ensures.source)

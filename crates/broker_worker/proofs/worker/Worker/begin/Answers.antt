@@ -1,4 +1,4 @@
--- The ports of its hand sent nothing.
+-- The ports of its handle sent nothing.
 use Rattle.std.proofs.Common.{sym, subst}
 use Rattle.broker_groups.specs.Naming.{AreUnsent}
 use Rattle.shared_supply.specs.Workers.{Worker}

@@ -14,16 +14,16 @@ slots-preserved g c =
     let heard = c.hear-heard.result in
     let old = c.slots.self-inside in
     let at : c.slots.slot ≡ 0 + length before = omega (arith, c.slots.invariant.all) in
-    let Counted : Wakes → Type 0 = λ wakes. CountsCalls 0 (before ++ heard ∷ []) c.args.self.now.bells.ears (wakes_of c.args.self.now.connections) c.hear-heard.new.self.ears wakes in
-    let At : ℕ → Type 0 = λ slot. HearsAt slot old.outfit.ears heard c.hear-heard.new.self.ears in
+    let Counted : Wakes → Type 0 = λ wakes. CountsCalls 0 (before ++ heard ∷ []) c.args.self.now.bells.listenings (wakes_of c.args.self.now.connections) c.hear-heard.new.self.listenings wakes in
+    let At : ℕ → Type 0 = λ slot. HearsAt slot old.own_bells.listenings heard c.hear-heard.new.self.listenings in
     record {
       heard = before ++ heard ∷ [];
       all = omega (arith, length-append before (heard ∷ []), c.slots.invariant.all);
       counted = subst Counted
           (ap (λ n. one_called_if heard n (wakes_of old.connections)) (sym at)
           ∙ sym (ap (λ (s : ConnectionsState g.row.T.Denot). wakes_of s) {y = with_wakes old.connections (one_called_if heard c.slots.slot (wakes_of old.connections))} c.count_call_if.ensures))
-          (call_more 0 heard before c.args.self.now.bells.ears old.outfit.ears c.hear-heard.new.self.ears (wakes_of c.args.self.now.connections) (wakes_of old.connections)
+          (call_more 0 heard before c.args.self.now.bells.listenings old.own_bells.listenings c.hear-heard.new.self.listenings (wakes_of c.args.self.now.connections) (wakes_of old.connections)
           c.slots.invariant.counted (subst At at c.hear-heard.ensures.heard));
       connections = search rules;
-      hands = c.hear-heard.ensures.hands ∙ c.slots.invariant.hands;
+      ringings = c.hear-heard.ensures.ringings ∙ c.slots.invariant.ringings;
     }

@@ -8,7 +8,7 @@ abbrev pub invariant-slots : goal.invariant-slots
 invariant-slots g l = record {
   heard : List Bool;
   all : length heard ≡ l.slot;
-  counted : CountsCalls 0 heard l.fn.self.bells.ears (wakes_of l.fn.self.connections) l.self-inside.outfit.ears (wakes_of l.self-inside.connections);
+  counted : CountsCalls 0 heard l.fn.self.bells.listenings (wakes_of l.fn.self.connections) l.self-inside.own_bells.listenings (wakes_of l.self-inside.connections);
   connections : l.self-inside.connections ≡ with_wakes l.fn.self.connections (wakes_of l.self-inside.connections);
-  hands : l.self-inside.outfit.hands ≡ l.fn.self.bells.hands;
+  ringings : l.self-inside.own_bells.ringings ≡ l.fn.self.bells.ringings;
 }

@@ -19,7 +19,7 @@ returns-clause-ran g c =
 
 pub returns-clause-ports : goal.returns-clause-ports
 returns-clause-ports g c =
-    let Told : WorkerState g.row.T.Denot → Type 0 = λ state. live state.connections ≡ 0 → c.into_parts.result.hand.ports ≡ state.connections.supply.ports in
+    let Told : WorkerState g.row.T.Denot → Type 0 = λ state. live state.connections ≡ 0 → c.into_parts.result.handle.ports ≡ state.connections.supply.ports in
     subst Told c.self.view_is c.into_parts.ensures.ports
 
 pub returns-clause-desk : goal.returns-clause-desk

@@ -5,5 +5,5 @@ use Rattle.broker_worker.proofs.worker.Worker.look_round.Given as goal
 abbrev pub invariant-loop-worker : goal.invariant-loop-worker
 invariant-loop-worker g l = record {
   same : l.self-inside.connections ≡ l.fn.self.connections;
-  bells : l.self-inside.outfit ≡ l.fn.self.bells;
+  bells : l.self-inside.own_bells ≡ l.fn.self.bells;
 }

@@ -1,4 +1,4 @@
--- Where a sweep began, something was offered behind its inbound rounds.
+-- Where a sweep began, something was offered after its inbound rounds.
 use Rattle.std.proofs.Common.{◌≡◌, Bool, true, false, refl, ap, ◌∙◌, inl, inr}
 use Rattle.broker_worker.specs.Offering.{OffersInSweep}
 use Rattle.broker_worker.specs.Resting.{WorkerState}

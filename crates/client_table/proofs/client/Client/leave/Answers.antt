@@ -1,4 +1,4 @@
--- Memory was wanted in the step.
+-- An allocation failed in the step.
 use Rattle.std.proofs.Common.{rules, inr}
 use Rattle.client_table.proofs.client.Client.leave.Goals as goal
 

@@ -5,6 +5,6 @@ use Rattle.client_table.proofs.client.Client.read_one.Goals as goal
 
 pub returns-in-Ok-step-clause-read : goal.returns-in-Ok-step-clause-read
 returns-in-Ok-step-clause-read g c =
-    let words = c.in-Ok-step.ensures.stepped in
+    let output = c.in-Ok-step.ensures.stepped in
     let met = rw c.in-Err-Stream.field-0-is at c.in-Err-Stream.ensures in
-    (words.0, search rules, closed_by_fault g.S.Supply.call g.P.Place.slot_of c.args.supply.now c.step-in-Err-Stream.new.supply c.args.self.now c.step-in-Err-Stream.new.self c.args.now words.0 c.in-Err-Stream.fault (search rules) (search rules))
+    (output.0, search rules, closed_by_fault g.S.Supply.call g.P.Place.slot_of c.args.supply.now c.step-in-Err-Stream.new.supply c.args.self.now c.step-in-Err-Stream.new.self c.args.now output.0 c.in-Err-Stream.fault (search rules) (search rules))

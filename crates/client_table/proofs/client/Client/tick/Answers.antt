@@ -1,4 +1,4 @@
--- Memory was wanted at the Tick itself.
+-- An allocation failed at the Tick itself.
 use Rattle.std.proofs.Common.{rules, inl, inr}
 use Rattle.client_table.proofs.Ticking.{fails_at_tick}
 use Rattle.client_table.proofs.client.Client.tick.Goals as goal

@@ -1,6 +1,6 @@
 -- Where it is overdue, nothing is asked; else the supply is asked once.
 use Rattle.std.proofs.Common.{refl, subst}
-use Rattle.conn_supply.specs.Facts.Fact.{Kicked}
+use Rattle.conn_supply.specs.SupplyCalls.SupplyCall.{Kicked}
 use Rattle.conn_service.specs.Services.{ServiceState}
 use Rattle.conn_service.specs.Acts.{Asks}
 use Rattle.conn_service.proofs.Leading.{leads_nothing, leads_one}

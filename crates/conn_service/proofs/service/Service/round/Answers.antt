@@ -23,7 +23,7 @@ returns-in-Err-clause-idles g c = idles_behind g.T.Transport.counts c.args.now c
 pub returns-in-Ok-clause-led : goal.returns-in-Ok-clause-led
 returns-in-Ok-clause-led g c = record {
   made = record { led = c.in-Ok.ensures.led.led; asks = c.in-Ok.ensures.led.told.0 };
-  more = λ reads is. told_more c.in-Ok.all c.go_on.new.self c.in-Ok.ensures.led.led.acts (c.outlook.ensures.more is).0 (c.outlook.ensures.more is).1 (c.in-Ok.ensures.led.told.1 reads).0;
+  more = λ reads is. told_more c.in-Ok.all c.go_on.new.self c.in-Ok.ensures.led.led.acts (c.waits_for.ensures.more is).0 (c.waits_for.ensures.more is).1 (c.in-Ok.ensures.led.told.1 reads).0;
   drained = λ reads is. short_since g.S.Supply.call g.S.Supply.begins g.S.Supply.ends g.S.Supply.visiting g.P.Place.slot_of g.T.Transport.counts g.T.Transport.given g.T.Transport.accepted c.in-Ok.ensures.led.led.acts
       c.args.self.now c.go_on.new.self c.args.supply.now c.go_on.new.supply c.in-Ok.ensures.led.led.does ((c.in-Ok.ensures.led.told.1 reads).1 (search rules)) (search rules);
 }

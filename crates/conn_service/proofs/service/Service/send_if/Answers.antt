@@ -1,4 +1,4 @@
--- What is written in front of a visit may be written behind it.
+-- What is written in front of a visit may be written after it.
 use Rattle.conn_service.proofs.Leading.{edge_behind}
 use Rattle.conn_service.proofs.service.Service.send_if.Goals as goal
 

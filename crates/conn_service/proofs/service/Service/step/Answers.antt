@@ -34,7 +34,7 @@ returns-in-Err-clause-led g c is_open visits =
 pub returns-in-Ok-put_down-clause-last : goal.returns-in-Ok-put_down-clause-last
 returns-in-Ok-put_down-clause-last g c last =
     ends_by g.S.Supply.call g.P.Place.slot_of c.args.supply.now c.step_by.new.supply c.self.inside.client.conn.number (moment_of c.self.inside.client c.args.now)
-    c.self.inside.client.conn.standing c.step_by.new.self.conn.standing c.args.input c.step_by.new.packets.items c.in-Ok._next c.in-Ok.ensures.stepped.stepped last
+    c.self.inside.client.conn.phase c.step_by.new.self.conn.phase c.args.input c.step_by.new.packets.items c.in-Ok._next c.in-Ok.ensures.stepped.stepped last
 
 pub returns-in-Ok-put_down-clause-waits : goal.returns-in-Ok-put_down-clause-waits
 returns-in-Ok-put_down-clause-waits g c some =

@@ -1,4 +1,4 @@
--- The far place is put behind the others.
+-- The far place is put after the others.
 use Rattle.std.proofs.Common.{List, ◌∷◌, [], All, sym, subst}
 use Rattle.std.proofs.lemmas.List.Elements.{All-append, All-cons, All-nil}
 use Rattle.group_queue.specs.Ports.{GroupId}

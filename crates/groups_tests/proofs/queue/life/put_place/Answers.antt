@@ -1,4 +1,4 @@
--- The place is put behind the others.
+-- The place is put after the others.
 use Rattle.std.proofs.lemmas.List.Elements.{All-push}
 use Rattle.group_queue.specs.Places.{IsPlaceOf}
 use Rattle.groups_tests.proofs.queue.life.put_place.Goals as goal

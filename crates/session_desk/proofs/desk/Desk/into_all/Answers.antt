@@ -7,12 +7,12 @@ use Rattle.session_desk.proofs.desk.Desk.into_all.Goals as goal
 pub returns : goal.returns
 returns g c = record {
   items = λ measure.
-      let moved = ap (λ b. sum_by (λ entry. sum_by measure (items_of (session_in entry.1.standing))) (map.entries b.rows)) c.self.view_is in
+      let moved = ap (λ b. sum_by (λ entry. sum_by measure (items_of (session_in entry.1.held_by))) (map.entries b.rows)) c.self.view_is in
       let drained = c.drain.ensures.envelopes measure in
       let none = ap (sum_by measure) c.in-Ok-with_capacity.ensures.items in
       omega arith;
   places = λ measure.
-      let moved = ap (λ b. sum_by (λ entry. sum_by measure (place_of (session_in entry.1.standing))) (map.entries b.rows)) c.self.view_is in
+      let moved = ap (λ b. sum_by (λ entry. sum_by measure (place_of (session_in entry.1.held_by))) (map.entries b.rows)) c.self.view_is in
       let free = ap (λ b. sum_by (λ cell. sum_by measure (free_in cell)) b.free) c.self.view_is in
       let drained = c.drain.ensures.places measure in
       let more = c.drain-2.ensures measure in

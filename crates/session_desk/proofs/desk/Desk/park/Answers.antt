@@ -1,7 +1,7 @@
 use Rattle.std.proofs.Common.{inl, refl, sym, ap, ◌∙◌, subst}
 use Rattle.std.specs.FinMap as map
-use Rattle.session_desk.specs.declared.row.Standing.TheVariants.{Parked}
-use Rattle.session_desk.specs.Rows.{away, with_standing}
+use Rattle.session_desk.specs.declared.row.Holder.TheVariants.{Parked}
+use Rattle.session_desk.specs.Rows.{away, with_holder}
 use Rattle.session_desk.specs.Books.{after_end, after_park}
 use Rattle.session_desk.specs.Keeping.{parked_at}
 use Rattle.session_desk.specs.Layout.{AreFew}
@@ -30,7 +30,7 @@ invariant_of-self-2 g c =
     let lent = c.is_lent.ensures.0 c.if-not-is_lent.false in
     let n = c.number-number.ensures in
     let e = c.park.ensures lent.row (ap (map.get i.table.rows) n ∙ lent.is_row.has) in
-    subst (λ r. AreFew r.rows i.assigned) (sym e) (few_moved i.table.rows i.assigned c.number-number.result lent.row (with_standing lent.row (Parked (parked_at c.args.session c.args.now))) c.self.invariant (ap (map.get i.table.rows) n ∙ lent.is_row.has))
+    subst (λ r. AreFew r.rows i.assigned) (sym e) (few_moved i.table.rows i.assigned c.number-number.result lent.row (with_holder lent.row (Parked (parked_at c.args.session c.args.now))) c.self.invariant (ap (map.get i.table.rows) n ∙ lent.is_row.has))
 
 pub returns : goal.returns
 returns g c =

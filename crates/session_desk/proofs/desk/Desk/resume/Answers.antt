@@ -1,7 +1,7 @@
 use Rattle.std.proofs.Common.{sym, ap, ◌∙◌, subst}
 use Rattle.std.specs.FinMap as map
-use Rattle.session_desk.specs.declared.row.Standing.TheVariants.{Lent}
-use Rattle.session_desk.specs.Rows.{with_standing}
+use Rattle.session_desk.specs.declared.row.Holder.TheVariants.{Lent}
+use Rattle.session_desk.specs.Rows.{with_holder}
 use Rattle.session_desk.specs.Books.{after_lend}
 use Rattle.session_desk.specs.Layout.{AreFew}
 use Rattle.session_desk.proofs.Booked.{booked, few_moved}
@@ -11,7 +11,7 @@ pub invariant_of-self : goal.invariant_of-self
 invariant_of-self g c =
     let i = c.self.inside in
     let has = ap (λ b. map.get b.rows c.args.number) c.self.view_is ∙ c.requires.2 in
-    subst (λ r. AreFew r.rows i.assigned) (sym (c.lend.ensures c.requires.0 has).1) (few_moved i.table.rows i.assigned c.args.number c.requires.0 (with_standing c.requires.0 (Lent c.args.connection)) c.self.invariant has)
+    subst (λ r. AreFew r.rows i.assigned) (sym (c.lend.ensures c.requires.0 has).1) (few_moved i.table.rows i.assigned c.args.number c.requires.0 (with_holder c.requires.0 (Lent c.args.connection)) c.self.invariant has)
 
 pub returns : goal.returns
 returns g c = λ row has.

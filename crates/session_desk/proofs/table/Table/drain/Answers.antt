@@ -18,14 +18,14 @@ drain_rows-requires-clause-envelopes g c =
 
 pub returns-clause-places : goal.returns-clause-places
 returns-clause-places g c = λ measure.
-    let sum = sym (sum_seen (λ entry. sum_by measure (place_of (session_in entry.1.standing))) c.self.inside.rows.entries c.len-len.ensures.unique)
-    ∙ ap (λ r. sum_by (λ entry. sum_by measure (place_of (session_in entry.1.standing))) (map.entries r.rows)) c.self.view_is in
+    let sum = sym (sum_seen (λ entry. sum_by measure (place_of (session_in entry.1.held_by))) c.self.inside.rows.entries c.len-len.ensures.unique)
+    ∙ ap (λ r. sum_by (λ entry. sum_by measure (place_of (session_in entry.1.held_by))) (map.entries r.rows)) c.self.view_is in
     let drained = c.drain_rows.ensures.places measure in omega arith
 
 pub returns-clause-envelopes : goal.returns-clause-envelopes
 returns-clause-envelopes g c = λ measure.
-    let sum = sym (sum_seen (λ entry. sum_by measure (items_of (session_in entry.1.standing))) c.self.inside.rows.entries c.len-len.ensures.unique)
-    ∙ ap (λ r. sum_by (λ entry. sum_by measure (items_of (session_in entry.1.standing))) (map.entries r.rows)) c.self.view_is in
+    let sum = sym (sum_seen (λ entry. sum_by measure (items_of (session_in entry.1.held_by))) c.self.inside.rows.entries c.len-len.ensures.unique)
+    ∙ ap (λ r. sum_by (λ entry. sum_by measure (items_of (session_in entry.1.held_by))) (map.entries r.rows)) c.self.view_is in
     let drained = c.drain_rows.ensures.envelopes measure in omega arith
 
 pub returns-clause-few_places : goal.returns-clause-few_places

@@ -1,7 +1,7 @@
 use Rattle.std.proofs.Common.{sym, ap, ◌∙◌, subst}
 use Rattle.std.specs.FinMap as map
-use Rattle.session_desk.specs.declared.row.Standing.TheVariants.{Lent}
-use Rattle.session_desk.specs.Rows.{moved, with_standing}
+use Rattle.session_desk.specs.declared.row.Holder.TheVariants.{Lent}
+use Rattle.session_desk.specs.Rows.{moved, with_holder}
 use Rattle.session_desk.specs.Layout.{AreKept, number_at, seen}
 use Rattle.session_desk.proofs.Kept.{registered, kept_lend}
 use Rattle.session_desk.proofs.table.Table.lend.Goals as goal
@@ -18,4 +18,4 @@ invariant_of-self g c =
 pub returns : goal.returns
 returns g c = λ row has.
     let is = c.exchange.ensures row (ap (λ r. map.get r.rows c.args.number) c.self.view_is ∙ has) in
-    (sym is.0 ∙ c.into_parked.ensures, ap (λ rows. registered rows c.self.inside.made) is.1 ∙ ap (λ r. moved r c.args.number (with_standing row (Lent c.args.connection))) c.self.view_is)
+    (sym is.0 ∙ c.into_parked.ensures, ap (λ rows. registered rows c.self.inside.made) is.1 ∙ ap (λ r. moved r c.args.number (with_holder row (Lent c.args.connection))) c.self.view_is)

@@ -1,7 +1,7 @@
 use Rattle.std.proofs.Common.{sym, ap, ◌∙◌, subst, arith}
 use Rattle.std.specs.FinMap as map
-use Rattle.session_desk.specs.declared.row.Standing.TheVariants.{Parked}
-use Rattle.session_desk.specs.Rows.{moved, with_standing}
+use Rattle.session_desk.specs.declared.row.Holder.TheVariants.{Parked}
+use Rattle.session_desk.specs.Rows.{moved, with_holder}
 use Rattle.session_desk.specs.Layout.{AreKept, number_at, seen}
 use Rattle.session_desk.proofs.Kept.{registered, kept_park}
 use Rattle.session_desk.proofs.table.Table.park.Goals as goal
@@ -18,4 +18,4 @@ invariant_of-self g c =
 pub returns : goal.returns
 returns g c = λ row has.
     let is = c.exchange.ensures row (ap (λ r. map.get r.rows c.args.number) c.self.view_is ∙ has) in
-    ap (λ rows. registered rows c.self.inside.made) is.1 ∙ ap (λ r. moved r c.args.number (with_standing row (Parked c.args.session))) c.self.view_is
+    ap (λ rows. registered rows c.self.inside.made) is.1 ∙ ap (λ r. moved r c.args.number (with_holder row (Parked c.args.session))) c.self.view_is

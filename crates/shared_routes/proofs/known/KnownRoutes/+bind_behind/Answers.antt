@@ -1,4 +1,4 @@
--- The next slot, or one behind it, or none.
+-- The next slot, or one after it, or none.
 use Rattle.std.proofs.Common.{length, [], ap, arith}
 use Rattle.std.proofs.lemmas.List.{length-map}
 use Rattle.shared_routes.specs.Known.{KnownState}

@@ -2,7 +2,7 @@
 use Rattle.std.proofs.Common.{◌++◌, ◌∷◌, [], length, map, set, ap, subst, arith}
 use Rattle.std.proofs.lemmas.List.{length-map, length-set}
 use Rattle.shared_routes.specs.Cells.{CellState, known_of}
-use Rattle.shared_routes.specs.Known.{KnownState, IsTold}
+use Rattle.shared_routes.specs.Known.{KnownState, PublishesTo}
 use Rattle.shared_routes.proofs.Told.{first_first}
 use Rattle.shared_routes.proofs.Learning.{state_of, told_kept, is_told_next}
 use Rattle.shared_routes.proofs.known.KnownRoutes.offer.Goals as goal
@@ -20,7 +20,7 @@ invariant_of-self c = (
 pub returns : goal.returns
 returns c = (
   c.write.ensures.0,
-  subst (λ (old : KnownState). IsTold old (old.shares ++ c.write.ensures.0 ∷ [])
+  subst (λ (old : KnownState). PublishesTo old (old.shares ++ c.write.ensures.0 ∷ [])
       (state_of (set c.self.inside.cells.items c.len-slot.result c.write.new.self) (map (λ share. share.now) c.self.inside.seen.items))) c.self.view_is
       (is_told_next c.self.inside.cells.items (map (λ share. share.now) c.self.inside.seen.items) (map (λ share. share.now) c.self.inside.seen.items)
       c.len-slot.result c.index_mut.result.now c.write.new.self c.write.ensures.0

@@ -1,7 +1,7 @@
 -- None was received, and all cells are free.
 use Rattle.std.proofs.Common.{ℕ, length, None, refl, sym, subst, ap, ◌∙◌}
 use Rattle.std.proofs.lemmas.List.{length-replicate}
-use Rattle.service_table.proofs.Occupied.{replicate-occupied}
+use Rattle.worker_connections.proofs.Occupied.{replicate-occupied}
 use Rattle.worker_connections.specs.Counting.{none_served}
 use Rattle.worker_connections.specs.Serving.{IsAccounted}
 use Rattle.worker_connections.proofs.Accounting.{fresh}

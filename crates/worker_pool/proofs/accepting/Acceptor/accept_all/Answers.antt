@@ -1,4 +1,4 @@
--- What was taken is all that was sent, and nothing is behind it but end marks.
+-- What was taken is all that was sent, and nothing is after it but end marks.
 use Rattle.std.proofs.Common.{subst}
 use Rattle.worker_pool.specs.Accepting.{AcceptorState, HasAccepted}
 use Rattle.worker_pool.proofs.Accepted.{more}

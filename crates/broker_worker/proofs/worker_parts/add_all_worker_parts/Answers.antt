@@ -1,0 +1,27 @@
+-- The parts of one worker more, and one worker less to come.
+use Rattle.std.proofs.Common.{◌≡◌, ◌++◌, [], ◌∷◌, Some, length, ap, arith}
+use Rattle.std.proofs.Math.ListN.{length-append}
+use Rattle.std.proofs.lemmas.List.Elements.{All-pop, All-push, All-same}
+use Rattle.conn_channel.specs.Ends.{ReceiverState, new_receiver}
+use Rattle.worker_connections.specs.Arrivals.{ArrivedState}
+use Rattle.broker_worker.proofs.worker_parts.add_all_worker_parts.Goals as goal
+
+pub all_worker_parts-preserved : goal.all_worker_parts-preserved
+all_worker_parts-preserved g c =
+    let IsNew : ReceiverState (ArrivedState g.row.T.Denot) → Type 0 = λ receiver. receiver ≡ new_receiver c.args.sender.now.channel in
+    let left = All-pop IsNew c.all_worker_parts.receivers.items c.pop-in-Some.new.self.items (Some c.in-Some-Some.receiver) c.in-Some-Some.ensures.items c.all_worker_parts.invariant.receivers.each in
+    let worker_io_left = simp length-append at (ap length c.in-Some.ensures.items) in
+    let receivers_left = simp length-append at (ap length c.in-Some-Some.ensures.items) in
+    let all_own_bells_left = simp length-append at (ap length c.in-Some-Some.ensures'.items) in
+    let pushed = simp length-append at (ap length c.in_ok-add_worker_parts.ensures) in
+    record {
+      receivers = record {
+        all = omega (arith, worker_io_left, receivers_left, c.all_worker_parts.invariant.receivers.all);
+        each = left.0;
+      };
+      all_own_bells = omega (arith, worker_io_left, all_own_bells_left, c.all_worker_parts.invariant.all_own_bells);
+      count = omega (arith, worker_io_left, pushed, c.all_worker_parts.invariant.count);
+      each =
+          All-same IsNew c.add_worker_parts.new.all_worker_parts.items (c.all_worker_parts.all_worker_parts.items ++ c.in-Some-Some.receiver ∷ []) c.in_ok-add_worker_parts.ensures
+          (All-push IsNew c.all_worker_parts.all_worker_parts.items c.in-Some-Some.receiver c.all_worker_parts.invariant.each left.1);
+    }

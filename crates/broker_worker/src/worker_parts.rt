@@ -1,0 +1,188 @@
+//! What each worker has for itself, made before any worker is.
+ghost use Rattle.std.specs.Prelude.{◌≡◌, ◌≤◌, ◌++◌, [], ◌∷◌, All, length, IfOk, OnOk};
+ghost use Rattle.conn_channel.specs.Ends.{AreReceivers, new_receiver};
+ghost use Rattle.worker_connections.specs.Closing.{HasClosedNone};
+
+use crate::marks::Marks;
+use bell::Wake;
+use conn_channel::{Receiver, Sender};
+use conn_supply::NoMemory;
+use std::alloc::Global;
+use std::marker::{Model, PhantomData};
+use transport::Transport;
+use worker_bells::{Held, Interest, Mailboxes, Members, WorkerBells, all_own_bells, share_of};
+use worker_connections::{Arrived, Poller};
+
+/// Where a worker waits, and its clock. Contracts see it as the poller, which closed no transport yet.
+#[derive(Drop)]
+pub struct WorkerIo<T: Transport, Q: Poller<T>, C> {
+    poller: Q,
+    clock: C,
+    transports: PhantomData<T>,
+}
+
+impl<T: Transport, Q: Poller<T>, C> Model for WorkerIo<T, Q, C> {
+    ghost use Rattle.worker_connections.specs.Closing.{HasClosedNone};
+
+    ghost Value = { Q };
+
+    ghost view = { λ g. g.poller };
+
+    ghost invariant = { λ g. HasClosedNone (Q.closed g.poller) };
+}
+
+impl<T: Transport, Q: Poller<T>, C> WorkerIo<T, Q, C> {
+    /// A worker waits at this poller, which closed no transport yet, and has this clock.
+    pub fn new(poller: Q, clock: C) -> WorkerIo<T, Q, C>
+        requires { HasClosedNone (Q.closed poller) }
+        ensures { result ≡ poller }
+    {
+        WorkerIo {
+            poller,
+            clock,
+            transports: PhantomData,
+        }
+    }
+
+    /// The poller and the clock.
+    pub(crate) fn into_parts(self) -> (Q, C)
+        ensures same { result.0 ≡ self }
+        ensures none_closed { HasClosedNone (Q.closed result.0) }
+    {
+        let WorkerIo {
+            poller,
+            clock,
+            transports: _,
+        } = self;
+        (poller, clock)
+    }
+}
+
+/// What the worker of a number has for itself. Contracts see it as its end of the channel.
+#[derive(Drop)]
+pub struct WorkerParts<T: Transport + Drop, Q: Poller<T>, W, C> {
+    pub(crate) number: usize,
+    pub(crate) share: u16,
+    pub(crate) worker_io: WorkerIo<T, Q, C>,
+    pub(crate) receiver: Receiver<Arrived<T>>,
+    pub(crate) own_bells: WorkerBells<W>,
+    pub(crate) due: Marks,
+    pub(crate) members: Members,
+}
+
+impl<T: Transport + Drop, Q: Poller<T>, W, C> Model for WorkerParts<T, Q, W, C> {
+    ghost use Rattle.std.specs.Prelude.{◌≡◌, length};
+    ghost use Rattle.conn_channel.specs.Ends.{ReceiverState};
+    ghost use Rattle.worker_connections.specs.Arrivals.{ArrivedState};
+
+    ghost Value = { ReceiverState (ArrivedState T) };
+
+    ghost view = { λ k. k.receiver };
+
+    ghost invariant = { λ k. length k.members ≡ k.share };
+}
+
+/// The parts of each worker that has a mailbox, in the order of pollers and clocks. They receive from the channel of this sender.
+///
+/// # Errors
+///
+/// Out of memory.
+pub fn all_worker_parts<T: Transport + Drop, Q: Poller<T> + Drop, W: Wake + Drop, C: Drop>(
+    alloc: Global,
+    worker_io: Vec<WorkerIo<T, Q, C>>,
+    mailboxes: &Mailboxes<W>,
+    sender: &Sender<Arrived<T>>,
+    receivers: Vec<Receiver<Arrived<T>>>,
+) -> Result<Vec<WorkerParts<T, Q, W, C>>, NoMemory>
+    requires receivers { AreReceivers sender.now.channel (length worker_io.items) receivers.items }
+    ensures count { IfOk result (λ all_worker_parts. length all_worker_parts.items ≡ length worker_io.items) }
+    ensures each { IfOk result (λ all_worker_parts. All (λ worker_parts. worker_parts ≡ new_receiver sender.now.channel) all_worker_parts.items) }
+{
+    let mut worker_io = worker_io;
+    let mut receivers = receivers;
+    let mut all_own_bells = all_own_bells(alloc, mailboxes, worker_io.len())?;
+    let mut all_worker_parts = Vec::with_capacity(alloc, worker_io.len())?;
+    add_all_worker_parts(
+        alloc,
+        &mut all_worker_parts,
+        &mut worker_io,
+        sender,
+        &mut receivers,
+        &mut all_own_bells,
+    )?;
+    Ok(all_worker_parts)
+}
+
+/// The parts of all workers, the last worker's first.
+fn add_all_worker_parts<T: Transport + Drop, Q: Poller<T> + Drop, W: Drop, C: Drop>(
+    alloc: Global,
+    all_worker_parts: &mut Vec<WorkerParts<T, Q, W, C>>,
+    worker_io: &mut Vec<WorkerIo<T, Q, C>>,
+    sender: &Sender<Arrived<T>>,
+    receivers: &mut Vec<Receiver<Arrived<T>>>,
+    all_own_bells: &mut Vec<WorkerBells<W>>,
+) -> Result<(), NoMemory>
+    requires none { all_worker_parts.old.items ≡ [] }
+    requires receivers { AreReceivers sender.now.channel (length worker_io.old.items) receivers.old.items }
+    requires all_own_bells { length all_own_bells.old.items ≡ length worker_io.old.items }
+    ensures count { OnOk result (length all_worker_parts.new.items ≡ length worker_io.old.items) }
+    ensures each { OnOk result (All (λ worker_parts. worker_parts ≡ new_receiver sender.now.channel) all_worker_parts.new.items) }
+{
+    let share = share_of(worker_io.len());
+    'all_worker_parts: while let Some(own) = worker_io.pop() {
+        let (Some(receiver), Some(own_bells)) = (receivers.pop(), all_own_bells.pop()) else {
+            unreachable!()
+        };
+        add_worker_parts(
+            alloc,
+            all_worker_parts,
+            worker_io.len(),
+            share,
+            own,
+            receiver,
+            own_bells,
+        )?;
+    }
+    Ok(())
+}
+
+/// The parts of one more, the worker of a number.
+fn add_worker_parts<T: Transport + Drop, Q: Poller<T> + Drop, W: Drop, C: Drop>(
+    alloc: Global,
+    all_worker_parts: &mut Vec<WorkerParts<T, Q, W, C>>,
+    number: usize,
+    share: u16,
+    worker_io: WorkerIo<T, Q, C>,
+    receiver: Receiver<Arrived<T>>,
+    own_bells: WorkerBells<W>,
+) -> Result<(), NoMemory>
+    ensures { OnOk result (all_worker_parts.new.items ≡ all_worker_parts.old.items ++ receiver ∷ []) }
+{
+    let Ok((due, members)) = blank(alloc, usize::from(share)) else {
+        drop(worker_io);
+        drop(receiver);
+        drop(own_bells);
+        return Err(NoMemory);
+    };
+    all_worker_parts.push(WorkerParts {
+        number,
+        share,
+        worker_io,
+        receiver,
+        own_bells,
+        due,
+        members,
+    })?;
+    Ok(())
+}
+
+/// Marks and wishes for so many cells, none of which is marked or has a wish.
+fn blank(alloc: Global, count: usize) -> Result<(Marks, Members), NoMemory>
+    requires few { count ≤ 65535 }
+    ensures { IfOk result (λ both. length both.1 ≡ count) }
+{
+    let marks = vec![in alloc; false; count]?;
+    let interests = vec![in alloc; Interest::NONE; count]?;
+    let held = vec![in alloc; Held::NONE; count]?;
+    Ok((Marks::new(marks), Members::new(interests, held)))
+}

@@ -1,0 +1,117 @@
+-- A message is handed on in no more bytes than it came in.
+use Rattle.std.proofs.Common.{◌≡◌, ◌≢◌, ℕ, ◌+◌, ◌<◌, ◌≤◌, Bool, false, List, [], ◌∷◌, ◌++◌, length, None, refl, ap, subst, arith, length-append}
+use Rattle.std.specs.List.{flat_map}
+use Rattle.std.proofs.lemmas.List.Concat.{flat_map-append, flat_map-cons}
+use Rattle.mqtt_packet.specs.declared.packet.Delivery.{Delivery}
+use Rattle.mqtt_packet.specs.declared.packet.Delivery.TheVariants.{AtMostOnce, AtLeastOnce, ExactlyOnce}
+use Rattle.mqtt_packet.specs.declared.packet.Packet.TheVariants as packets
+use Rattle.mqtt_packet.specs.declared.packet.Publish.{Publish}
+use Rattle.mqtt_packet.specs.declared.packet_properties.PublishProperties.{PublishProperties}
+use Rattle.mqtt_fields.specs.Forms.{utf8_string, variable_byte_integer}
+use Rattle.mqtt_fields.specs.Properties.{may_come, nothing, with_property}
+use Rattle.mqtt_fields.specs.PropertyLists.{publish_of, publish_list}
+use Rattle.mqtt_fields.specs.Sections.{property_bytes, AddUp}
+use Rattle.mqtt_wire.specs.Spelling.{SpellsPublish, Spells}
+use Rattle.mqtt_wire.specs.Writing.{delivery_bytes, written, remaining_length}
+use Rattle.mqtt_fields.proofs.PropertySizeLaws.{publish_length}
+use Rattle.mqtt_wire.proofs.WritingLaws.{properties_size, publish_size, written_length}
+use Rattle.conn_rules.specs.Packets.{job}
+use Rattle.conn_rules.specs.Publishing.{message_of}
+use Rattle.conn_laws.specs.Sizes.{IsLight}
+use Rattle.conn_laws.proofs.Lengths.{no_more_bytes, in_three_bytes}
+
+-- what a function is of
+abbrev domain : {A B : Type 0} → (A → B) → Type 0
+domain {A} {B} f = A
+
+-- a property, and properties that add up
+abbrev Property : Type 0
+Property = domain property_bytes
+
+abbrev Properties : Type 0
+Properties = domain publish_of
+
+-- of the properties of a PUBLISH, those that go with its message
+abbrev going_on : PublishProperties → PublishProperties
+going_on p = record {
+  payload_format_indicator = p.payload_format_indicator;
+  message_expiry_interval = None;
+  content_type = p.content_type;
+  response_topic = p.response_topic;
+  correlation_data = p.correlation_data;
+  topic_alias = None;
+  user_properties = p.user_properties;
+}
+
+-- how many bytes they have
+abbrev carried : Properties → ℕ
+carried all = length (publish_list (going_on (publish_of all)))
+
+-- one property more makes them longer by its own bytes at most
+one_more : (property : Property) (all : Properties) → carried (with_property property all) ≤ length (property_bytes property) + carried all
+one_more property all =
+    grind (arith, publish_length (going_on (publish_of all)), publish_length (going_on (publish_of (with_property property all))), flat_map-append, length-append)
+
+-- properties that add up have as many bytes as those of them that go with a message
+added : (section : domain may_come) (so_far : Properties) (list : List Property) (all : Properties) → AddUp section so_far list all
+    → carried all ≤ length (flat_map property_bytes list) + carried so_far
+added section so_far [] all adds = subst (λ (sum : Properties). carried sum ≤ 0 + carried so_far) adds (omega arith)
+added section so_far (property ∷ others) all adds =
+    omega (arith, one_more property so_far, added section (with_property property so_far) others all adds.2, ap length (flat_map-cons property_bytes property others), length-append (property_bytes property) (flat_map property_bytes others))
+
+-- they have no more bytes than the properties with which it came
+fewer : (publish : Publish) (body : List ℕ) (s : SpellsPublish publish body) → length (publish_list (going_on publish.properties)) ≤ length (flat_map property_bytes s.spelled.0)
+fewer publish body s =
+    subst (λ (p : PublishProperties). length (publish_list (going_on p)) ≤ length (flat_map property_bytes s.spelled.0)) s.properties_are
+    (let none : carried nothing ≡ 0 = refl in
+    let all : carried s.all ≤ length (flat_map property_bytes s.spelled.0) + carried nothing = search (added, s.spelled.2) in
+    omega (arith, none, all))
+
+-- how long a body is that was read
+body_length : (publish : Publish) (body : List ℕ) (s : SpellsPublish publish body) → length body ≡ 2 + length publish.topic + length (delivery_bytes publish.delivery) + length (variable_byte_integer (length (flat_map property_bytes s.spelled.0))) + length (flat_map property_bytes s.spelled.0) + length publish.payload
+body_length publish body s =
+    omega (arith, ap length s.parts, length-append (utf8_string publish.topic) (delivery_bytes publish.delivery ++ (s.section ++ publish.payload)), length-append (delivery_bytes publish.delivery) (s.section ++ publish.payload), length-append s.section publish.payload, ap length s.spelled.1, properties_size (flat_map property_bytes s.spelled.0))
+
+-- how long the one is that is sent
+sent_length : (publish : Publish) (dup : Bool) (identifier : ℕ) → remaining_length (job dup (message_of publish) identifier) ≡ 4 + length publish.topic + length (variable_byte_integer (length (publish_list (going_on publish.properties)))) + length (publish_list (going_on publish.properties)) + length publish.payload
+unfolding remaining_length
+sent_length publish dup identifier =
+    omega (arith, publish_size (record { dup = dup; retain = false; topic = publish.topic; delivery = AtLeastOnce identifier; properties = going_on publish.properties; payload = publish.payload }), properties_size (publish_list (going_on publish.properties)))
+
+-- a Packet Identifier has two bytes
+identified : (delivery : Delivery) → delivery ≢ AtMostOnce → length (delivery_bytes delivery) ≡ 2
+identified AtMostOnce some = absurd (some refl)
+identified (AtLeastOnce identifier) some = refl
+identified (ExactlyOnce identifier) some = refl
+
+-- a whole packet that was read
+whole_length : (publish : Publish) (bytes : List ℕ) (s : Spells (packets.Publish publish) bytes) → length bytes ≡ 1 + length (variable_byte_integer (length s.body)) + length s.body
+whole_length publish bytes s = omega (arith, ap length s.parts, length-append (variable_byte_integer (length s.body)) s.body)
+
+-- what is sent has at most two bytes more in its body: those of the Packet Identifier
+grown : (publish : Publish) (bytes : List ℕ) (dup : Bool) (identifier : ℕ) (s : Spells (packets.Publish publish) bytes) → remaining_length (job dup (message_of publish) identifier) + length (delivery_bytes publish.delivery) ≤ 2 + length s.body
+grown publish bytes dup identifier s =
+    let list : List ℕ = flat_map property_bytes s.spelled.spelled.0 in
+    let less = fewer publish s.body s.spelled in
+    let body = body_length publish s.body s.spelled in
+    let whole = whole_length publish bytes s in
+    let size = s.size in
+    let small : length list < 2097152 = omega (arith, body, whole, size) in
+    omega (arith, sent_length publish dup identifier, body, less, no_more_bytes (length (publish_list (going_on publish.properties))) (length list) less small)
+
+pub no_longer : (publish : Publish) (bytes : List ℕ) (dup : Bool) (identifier : ℕ) → Spells (packets.Publish publish) bytes → publish.delivery ≢ AtMostOnce
+    → length (written (job dup (message_of publish) identifier)) ≤ length bytes
+no_longer publish bytes dup identifier s some =
+    let whole = whole_length publish bytes s in
+    let size = s.size in
+    let less : remaining_length (job dup (message_of publish) identifier) ≤ length s.body = omega (arith, grown publish bytes dup identifier s, identified publish.delivery some) in
+    let small : length s.body < 2097152 = omega (arith, whole, size) in
+    omega (arith, written_length (job dup (message_of publish) identifier), no_more_bytes (remaining_length (job dup (message_of publish) identifier)) (length s.body) less small, whole)
+
+pub light : (publish : Publish) (bytes : List ℕ) → Spells (packets.Publish publish) bytes → IsLight (message_of publish)
+light publish bytes s dup identifier =
+    let whole = whole_length publish bytes s in
+    let size = s.size in
+    let more = grown publish bytes dup identifier s in
+    let small : remaining_length (job dup (message_of publish) identifier) < 2097152 = omega (arith, more, whole, size) in
+    omega (arith, in_three_bytes (job dup (message_of publish) identifier) small, more, whole, size)

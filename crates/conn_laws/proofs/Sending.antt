@@ -1,0 +1,318 @@
+-- What a step sends: small packets, CONNACKs that assign an identifier, and messages that are handed on.
+use Rattle.std.proofs.Common.{◌≡◌, ℕ, suc, ◌≤◌, Bool, true, false, List, [], ◌∷◌, ◌++◌, length, Option, Some, None, Result, Ok, Err, refl, sym, ap, subst, ◌∙◌, arith, inl, inr, if◌then◌else◌, is_some, nat_lt, not, ◌&&◌, ltb-false}
+use Rattle.std.specs.List.{AllByRecursion}
+use Rattle.std.specs.Option.{option_to_list}
+use Rattle.mqtt_packet.specs.Texts.{is_text}
+use Rattle.mqtt_packet.specs.declared.packet.ConnectRefusal.{ConnectRefusal}
+use Rattle.mqtt_packet.specs.declared.packet.Packet.{Packet}
+use Rattle.mqtt_packet.specs.declared.packet.Packet.TheVariants as packets
+use Rattle.mqtt_packet.specs.declared.packet.Publish.{Publish}
+use Rattle.mqtt_packet.specs.declared.packet.Subscribe.{Subscribe}
+use Rattle.mqtt_packet.specs.declared.packet.Subscription.{Subscription}
+use Rattle.mqtt_packet.specs.declared.packet.Unsubscribe.{Unsubscribe}
+use Rattle.group_jobs.specs.Stamps.{Held}
+use Rattle.member_window.specs.Contents.{Contents, after_resend}
+use Rattle.session_desk.specs.Sessions.{Who}
+use Rattle.session_desk.specs.declared.attached.Attached.{Attached}
+use Rattle.session_desk.specs.declared.attached.Attached.TheVariants.{New, Resumed, Replace, Busy}
+use Rattle.session_desk.specs.declared.error.DeskError.{DeskError}
+use Rattle.session_desk.specs.declared.error.DeskError.TheVariants as errors
+use Rattle.session_desk.specs.declared.session.Membership.{Membership}
+use Rattle.session_desk.specs.declared.session.Membership.TheVariants.{NotMember, Member, Leaving}
+use Rattle.session_desk.specs.declared.session.Session.{Session}
+use Rattle.conn_rules.specs.declared.connecting.FirstAnswer.{FirstAnswer}
+use Rattle.conn_rules.specs.declared.connecting.FirstAnswer.TheVariants as first
+use Rattle.conn_rules.specs.declared.publishing.PublishAnswer.{PublishAnswer}
+use Rattle.conn_rules.specs.declared.publishing.PublishAnswer.TheVariants as answers
+use Rattle.conn_rules.specs.declared.terms.Terms.{Terms}
+use Rattle.conn_rules.specs.Connecting.{first_answer}
+use Rattle.conn_rules.specs.Ending.{fault_refusal}
+use Rattle.conn_rules.specs.Packets.{accepting, refusing, puback, suback, unsuback, disconnect}
+use Rattle.conn_rules.specs.Publishing.{publish_answer}
+use Rattle.conn_rules.specs.Subscribing.{most_entries, subscribe_refusal, unsubscribe_refusal}
+use Rattle.conn_supply.specs.declared.reply.Then.{Then}
+use Rattle.conn_supply.specs.declared.reply.Reply.{Reply}
+use Rattle.conn_supply.specs.SupplyCalls.{SupplyCall}
+use Rattle.conn_supply.specs.HandOuts.{SendsAgain, SendsFresh, HandsFresh}
+use Rattle.conn_supply.specs.Publishing.{AnswersPublish}
+use Rattle.conn_supply.specs.Subscribing.{AnswersEntries, LeavesByAll, SubscribesAs, UnsubscribesAs}
+use Rattle.conn_engine.specs.declared.input.Input.{Input}
+use Rattle.conn_engine.specs.declared.input.Input.TheVariants as inputs
+use Rattle.conn_engine.specs.declared.phase.ConnectRequest.{ConnectRequest}
+use Rattle.conn_engine.specs.declared.phase.ConnectedClient.{ConnectedClient}
+use Rattle.conn_engine.specs.declared.phase.Opening.{Opening}
+use Rattle.conn_engine.specs.declared.phase.ConnPhase.{ConnPhase}
+use Rattle.conn_engine.specs.declared.phase.ConnPhase.TheVariants.{Unconnected, Waiting, Connected, Ended}
+use Rattle.conn_engine.specs.Answering.{DisconnectsIf, Disconnects, Answers}
+use Rattle.conn_engine.specs.Connecting.{assigned, name_if, has_place, most_ticks, IsRefused, Accepts, WaitsAs, ResumesAs, AttachedAs}
+use Rattle.conn_engine.specs.Step.{hearing, IsClosed, IsRefusedIf, WaitsForConnect, AnswersFirst, AnswersPacket, AnswersTick, AnswersUnlessKicked, IsHeard, Reacts, Hands, Steps}
+use Rattle.conn_laws.specs.Sizes.{IsSmall, IsShort, HandsOn, IsAnswer, IsAnswerUnlessHandedOn, IsShortUnlessHandedOn}
+use Rattle.conn_laws.proofs.Replies as replies
+
+-- ---- packets, and lists of them
+
+-- what answers an input
+abbrev pub AreAnswers : List Packet → Type 0
+AreAnswers sent = AllByRecursion IsAnswer sent
+
+abbrev HandOn : List Packet → Type 0
+HandOn sent = AllByRecursion HandsOn sent
+
+-- all packets are of a kind, where all are of another from which it follows
+all_are : {Is Are : Packet → Type 0} → ((packet : Packet) → Is packet → Are packet) → (sent : List Packet) → AllByRecursion Is sent → AllByRecursion Are sent
+all_are follows [] are = tt
+all_are follows (packet ∷ packets) are = (follows packet are.0, all_are follows packets are.1)
+
+pub both : (Is : Packet → Type 0) (these those : List Packet) → AllByRecursion Is these → AllByRecursion Is those → AllByRecursion Is (these ++ those)
+both Is [] those are also = also
+both Is (packet ∷ packets) those are also = (are.0, both Is packets those are.1 also)
+
+short_answer : (packet : Packet) → IsAnswer packet → IsShort packet
+short_answer packet (inl small) = omega (arith, small)
+short_answer packet (inr given) = replies.assigns packet given
+
+short_unless : (packet : Packet) → IsAnswerUnlessHandedOn packet → IsShortUnlessHandedOn packet
+short_unless packet (inl answer) = inl (short_answer packet answer)
+short_unless packet (inr on) = inr on
+
+pub short_answers : (sent : List Packet) → AllByRecursion IsAnswer sent → AllByRecursion IsShort sent
+short_answers sent are = all_are short_answer sent are
+
+pub kept_short : (sent : List Packet) → AllByRecursion IsAnswerUnlessHandedOn sent → AllByRecursion IsShortUnlessHandedOn sent
+kept_short sent are = all_are short_unless sent are
+
+-- ---- replies
+
+-- the packet of a reply, if there is one, is small, or assigns an identifier
+abbrev pub IsBrief : Reply → Type 0
+IsBrief reply = AreAnswers (option_to_list reply.packet)
+
+told : (reply was : Reply) → reply ≡ was → IsBrief was → IsBrief reply
+told reply was is brief = subst IsBrief (sym is) brief
+
+one : (packet : Packet) → IsSmall packet → AreAnswers (packet ∷ [])
+one packet small = (inl small, tt)
+
+refused_is_small : (refusal : ConnectRefusal) → IsSmall (refusing refusal)
+refused_is_small refusal = omega (arith, replies.refused refusal)
+
+acknowledged_is_small : (identifier code : ℕ) → IsSmall (puback identifier code)
+acknowledged_is_small identifier code = omega (arith, replies.acknowledged identifier code)
+
+closed_is_small : (code : ℕ) → IsSmall (disconnect code)
+closed_is_small code = omega (arith, replies.closed code)
+
+subscribed_is_small : (identifier : ℕ) (codes : List ℕ) → length codes ≤ most_entries → IsSmall (suback identifier codes)
+subscribed_is_small identifier codes few = omega (arith, replies.subscribed identifier codes few, few)
+
+unsubscribed_is_small : (identifier : ℕ) (codes : List ℕ) → length codes ≤ most_entries → IsSmall (unsuback identifier codes)
+unsubscribed_is_small identifier codes few = omega (arith, replies.unsubscribed identifier codes few, few)
+
+answered_is_small : IsSmall packets.Pingresp
+answered_is_small = omega (arith, replies.answered)
+
+-- a CONNACK with an identifier that was assigned, where that is a text
+named_if : (present : Bool) (name : List ℕ) (text : Bool) → is_text name ≡ text → AreAnswers (accepting present (name_if text name) ∷ [])
+named_if present name true is = (inr (record { present = present; name = name; text = is; is = refl }), tt)
+named_if present name false is = one (accepting present None) (replies.accepted present)
+
+assigning : (present : Bool) (client : List ℕ) (who : Who) → AreAnswers (accepting present (assigned client who) ∷ [])
+assigning present [] who = named_if present who.client (is_text who.client) refl
+assigning present (byte ∷ bytes) who = one (accepting present None) (replies.accepted present)
+
+closes : {P : Type 0} (phase : ConnPhase P) (reply : Reply) → IsClosed phase reply → IsBrief reply
+closes phase reply is = told reply _ is.told tt
+
+refuses : {P : Type 0} (phase : ConnPhase P) (reply : Reply) (refusal : ConnectRefusal) → IsRefused refusal phase reply → IsBrief reply
+refuses phase reply refusal is = told reply _ is.told (one (refusing refusal) (refused_is_small refusal))
+
+accepts : {P : Type 0} (phase : ConnPhase P) (reply : Reply) (request : ConnectRequest) (present : Bool) (session : Session Held P)
+    → Accepts request present session phase reply → IsBrief reply
+accepts phase reply request present session is = told reply _ is.told (assigning present request.client session.identity)
+
+waits : {P : Type 0} (fewer : Bool) (phase : ConnPhase P) (reply : Reply) (request : ConnectRequest) (ticks : ℕ) → WaitsAs fewer request ticks phase reply → IsBrief reply
+waits true phase reply request ticks is = told reply _ is.1 tt
+waits false phase reply request ticks is = refuses phase reply _ is
+
+refused_if : {P : Type 0} (refusal : Option ConnectRefusal) (phase : ConnPhase P) (reply : Reply) → IsRefusedIf refusal phase reply → IsBrief reply
+refused_if (Some refusal) phase reply is = refuses phase reply refusal is
+refused_if None phase reply is = closes phase reply is
+
+waits_for_connect : {P : Type 0} (late : Bool) (opened : Opening) (phase : ConnPhase P) (reply : Reply) → WaitsForConnect late opened phase reply → IsBrief reply
+waits_for_connect true opened phase reply is = closes phase reply is
+waits_for_connect false opened phase reply is = told reply _ is.1 tt
+
+closing : (reply was : Reply) (code : ℕ) → reply ≡ was → was.packet ≡ Some (disconnect code) → IsBrief reply
+closing reply was code is with_code = told reply was is (subst (λ packet. AreAnswers (option_to_list packet)) (sym with_code) (one (disconnect code) (closed_is_small code)))
+
+disconnects_if : {P : Type 0} (given : Bool) (connected connected' : ConnectedClient P) (seconds : ℕ) (reply : Reply) → DisconnectsIf given connected seconds connected' reply → IsBrief reply
+disconnects_if true connected connected' seconds reply is = closing reply _ 0x82 is.1 refl
+disconnects_if false connected connected' seconds reply is = told reply _ is.1 tt
+
+disconnects : {P : Type 0} (expiry : Option ℕ) (connected connected' : ConnectedClient P) (reply : Reply) → Disconnects connected expiry connected' reply → IsBrief reply
+disconnects None connected connected' reply is = told reply _ is.1 tt
+disconnects (Some seconds) connected connected' reply is = disconnects_if _ connected connected' seconds reply is
+
+-- of a list that was not refused for its length, there are few
+not_refused : (many : Bool) (code : ℕ) (rest : Option ℕ) → (if many then Some code else rest) ≡ None → many ≡ false
+not_refused true code rest is = absurd cc
+not_refused false code rest is = refl
+
+few_subscriptions : (subscribe : Subscribe) → subscribe_refusal subscribe ≡ None → length subscribe.subscriptions ≤ most_entries
+few_subscriptions subscribe is = ltb-false most_entries (length subscribe.subscriptions) (not_refused _ _ _ is)
+
+few_filters : (unsubscribe : Unsubscribe) → unsubscribe_refusal unsubscribe ≡ None → length unsubscribe.filters ≤ most_entries
+few_filters unsubscribe is = ltb-false most_entries (length unsubscribe.filters) (not_refused _ _ _ is)
+
+-- what is sent again hands messages on
+again : (sent : List Packet) (old new : Contents Held) → SendsAgain old sent new → HandOn sent
+again [] old new sends = tt
+again (packet ∷ packets) old new sends =
+    (record { dup = true; message = sends.0.1.message; identifier = sends.0.0; is = sends.2 }, again packets (after_resend old (Some sends.0)) new sends.3)
+
+module _ {S P : Type 0} (call : S → SupplyCall P → S → Type 0) (slot_of : P → ℕ) where
+  -- ---- a connection without its session
+
+  resumes : (no : Bool) (old new : S) (request : ConnectRequest) (session : Session Held P) (phase : ConnPhase P) (reply : Reply)
+      → ResumesAs call no old request session phase reply new → IsBrief reply
+  resumes true old new request session phase reply is = refuses phase reply _ is.1
+  resumes false old new request session phase reply is = accepts phase reply request true session is.1
+
+  attached : (answer : Result (Attached Held P) DeskError) (old new : S) (request : ConnectRequest) (ticks : ℕ) (phase : ConnPhase P) (reply : Reply)
+      → AttachedAs call old request ticks answer phase reply new → IsBrief reply
+  attached (Ok (New session ended)) old new request ticks phase reply is = accepts phase reply request false session is.1
+  attached (Ok (Resumed session)) old new request ticks phase reply is =
+      resumes (has_place session.membership && not request.terms.takes_all_packets) old new request session phase reply is
+  attached (Ok (Replace holder)) old new request ticks phase reply is = waits (nat_lt ticks most_ticks) phase reply request ticks is.0
+  attached (Ok Busy) old new request ticks phase reply is = refuses phase reply _ is.0
+  attached (Err errors.Full) old new request ticks phase reply is = refuses phase reply _ is.0
+  attached (Err errors.NoPlace) old new request ticks phase reply is = refuses phase reply _ is.0
+  attached (Err errors.NoName) old new request ticks phase reply is = refuses phase reply _ is.0
+  attached (Err errors.Memory) old new request ticks phase reply is = absurd is
+
+  answers_first : (answer : FirstAnswer) (old new : S) (number max_inflight now : ℕ) (packet : Packet) (phase : ConnPhase P) (reply : Reply)
+      → AnswersFirst call slot_of answer old number max_inflight now packet phase reply new → IsBrief reply
+  answers_first first.Close old new number max_inflight now packet phase reply is = closes phase reply is.0
+  answers_first (first.Refuse refusal) old new number max_inflight now packet phase reply is = refuses phase reply refusal is.0
+  answers_first first.Attach old new number max_inflight now packet phase reply is = attached is.2.answer is.2.mid new _ 0 phase reply is.2.answered
+
+  -- ---- a connection with its session
+
+  published : (answer : PublishAnswer) (old new : S) (number : ℕ) (publish : Publish) (reply : Reply) → AnswersPublish call old number publish answer reply new → IsBrief reply
+  published (answers.Close code) old new number publish reply is = closing reply _ code is.0 refl
+  published (answers.Refuse identifier code) old new number publish reply is = told reply _ is.0 (one _ (acknowledged_is_small identifier code))
+  published (answers.Offer identifier) old new number publish reply is = told reply _ is.replied (one _ (acknowledged_is_small identifier _))
+
+  -- there is a code for each entry
+  codes_for : (identified : Bool) (terms : Terms) (entries : List Subscription) (codes : List ℕ) (old new : S) (membership membership' : Membership P)
+      → AnswersEntries call slot_of identified terms old membership entries codes membership' new → length codes ≡ length entries
+  codes_for identified terms [] codes old new membership membership' is = ap length is.0
+  codes_for identified terms (entry ∷ entries) codes old new membership membership' is =
+      ap length is.6 ∙ ap suc (codes_for identified terms entries is.1 is.3 new is.2 membership' is.5)
+
+  codes_for_filters : (texts : List (List ℕ)) (codes : List ℕ) (old new : S) (membership membership' : Membership P)
+      → LeavesByAll call slot_of old membership texts codes membership' new → length codes ≡ length texts
+  codes_for_filters [] codes old new membership membership' is = ap length is.0
+  codes_for_filters (text ∷ texts) codes old new membership membership' is =
+      ap length is.6 ∙ ap suc (codes_for_filters texts is.1 is.3 new is.2 membership' is.5)
+
+  subscribed : (refusal : Option ℕ) (terms : Terms) (old new : S) (membership membership' : Membership P) (subscribe : Subscribe) (reply : Reply)
+      → subscribe_refusal subscribe ≡ refusal → SubscribesAs call slot_of refusal terms old membership subscribe reply membership' new → IsBrief reply
+  subscribed (Some code) terms old new membership membership' subscribe reply found is = closing reply _ code is.0 refl
+  subscribed None terms old new membership membership' subscribe reply found is =
+      let few : length is.0 ≤ most_entries = omega (arith, few_subscriptions subscribe found, codes_for (is_some subscribe.properties.subscription_identifier) terms subscribe.subscriptions is.0 old new membership membership' is.2) in
+      told reply _ is.1 (one _ (subscribed_is_small subscribe.packet_identifier is.0 few))
+
+  unsubscribed : (refusal : Option ℕ) (old new : S) (membership membership' : Membership P) (unsubscribe : Unsubscribe) (reply : Reply)
+      → unsubscribe_refusal unsubscribe ≡ refusal → UnsubscribesAs call slot_of refusal old membership unsubscribe reply membership' new → IsBrief reply
+  unsubscribed (Some code) old new membership membership' unsubscribe reply found is = closing reply _ code is.0 refl
+  unsubscribed None old new membership membership' unsubscribe reply found is =
+      let few : length is.0 ≤ most_entries = omega (arith, few_filters unsubscribe found, codes_for_filters unsubscribe.filters is.0 old new membership membership' is.2) in
+      told reply _ is.1 (one _ (unsubscribed_is_small unsubscribe.packet_identifier is.0 few))
+
+  answered : (packet : Packet) (old new : S) (number : ℕ) (connected after : ConnectedClient P) (reply : Reply) → Answers call slot_of old number connected packet after reply new → IsBrief reply
+  answered (packets.Publish publish) old new number connected after reply is = published (publish_answer publish) old new number publish reply is.0
+  answered (packets.Puback puback) old new number connected after reply is = told reply _ is.3 tt
+  answered (packets.Subscribe subscribe) old new number connected after reply is =
+      subscribed (subscribe_refusal subscribe) connected.terms old new connected.session.membership is.0 subscribe reply refl is.1
+  answered (packets.Unsubscribe unsubscribe) old new number connected after reply is =
+      unsubscribed (unsubscribe_refusal unsubscribe) old new connected.session.membership is.0 unsubscribe reply refl is.1
+  answered packets.Pingreq old new number connected after reply is = told reply _ is.1 (one _ answered_is_small)
+  answered (packets.Disconnect disconnect) old new number connected after reply is = disconnects disconnect.properties.session_expiry_interval connected after reply is.0
+  answered (packets.Connect connect) old new number connected after reply is = closing reply _ 0x82 is.1 refl
+  answered (packets.Connack connack) old new number connected after reply is = closing reply _ 0x82 is.1 refl
+  answered (packets.Suback suback) old new number connected after reply is = closing reply _ 0x82 is.1 refl
+  answered (packets.Unsuback unsuback) old new number connected after reply is = closing reply _ 0x82 is.1 refl
+  answered packets.Pingresp old new number connected after reply is = closing reply _ 0x82 is.1 refl
+  answered (packets.Foreign kind) old new number connected after reply is = closing reply _ 0x82 is.1 refl
+  answered (packets.OtherVersion version) old new number connected after reply is = closing reply _ 0x82 is.1 refl
+  answered packets.WithWill old new number connected after reply is = closing reply _ 0x82 is.1 refl
+
+  heard : (overdue : Bool) (old new : S) (connected : ConnectedClient P) (now : ℕ) (phase : ConnPhase P) (reply : Reply) → IsHeard call slot_of overdue old connected now phase reply new → IsBrief reply
+  heard true old new connected now phase reply is = closing reply _ 0x8D is.0 refl
+  heard false old new connected now phase reply is = told reply _ is.0 tt
+
+  unless_kicked : (kicked : Bool) (old new : S) (connected : ConnectedClient P) (now : ℕ) (Does : ConnPhase P → Reply → S → Type 0) (phase : ConnPhase P) (reply : Reply)
+      → (Does phase reply new → IsBrief reply) → AnswersUnlessKicked call slot_of kicked old connected now Does phase reply new → IsBrief reply
+  unless_kicked true old new connected now Does phase reply does is = closing reply _ 0x8E is.0 refl
+  unless_kicked false old new connected now Does phase reply does is = does is
+
+  pub replied : (phase : ConnPhase P) (input : Input) (old new : S) (number now : ℕ) (between : ConnPhase P) (reply : Reply)
+      → Reacts call slot_of old number phase now input between reply new → IsBrief reply
+  replied (Unconnected opened) (inputs.Packet packet) old new number now between reply is = answers_first (first_answer packet) old new number opened.max_inflight now packet between reply is
+  replied (Unconnected opened) (inputs.Fault fault) old new number now between reply is = refused_if (fault_refusal fault) between reply is.0
+  replied (Unconnected opened) inputs.Tick old new number now between reply is = waits_for_connect _ opened between reply is.1
+  replied (Unconnected opened) inputs.EndOfInput old new number now between reply is = closes between reply is.0
+  replied (Unconnected opened) inputs.Closing old new number now between reply is = closes between reply is.0
+  replied (Waiting request ticks) (inputs.Packet packet) old new number now between reply is = absurd is
+  replied (Waiting request ticks) (inputs.Fault fault) old new number now between reply is = absurd is
+  replied (Waiting request ticks) inputs.Tick old new number now between reply is =
+      let again = is.2.attaches in attached again.answer again.mid _ _ _ between reply again.answered
+  replied (Waiting request ticks) inputs.EndOfInput old new number now between reply is = closes between reply is.1
+  replied (Waiting request ticks) inputs.Closing old new number now between reply is = closes between reply is.1
+  replied (Connected connected) (inputs.Packet packet) old new number now between reply is =
+      unless_kicked is.0 is.1 new connected now _ between reply (λ (does : AnswersPacket call slot_of is.1 number connected now packet between reply new).
+      answered packet is.1 does.1 number (hearing connected now) does.0 reply does.2) is.3
+  replied (Connected connected) (inputs.Fault fault) old new number now between reply is = closing reply _ _ is.0 refl
+  replied (Connected connected) inputs.Tick old new number now between reply is =
+      unless_kicked is.0 is.1 new connected now _ between reply (λ (does : AnswersTick call slot_of is.1 connected now between reply new).
+      heard _ does.0 new connected now between reply does.2) is.3
+  replied (Connected connected) inputs.EndOfInput old new number now between reply is = told reply _ is.0 tt
+  replied (Connected connected) inputs.Closing old new number now between reply is = closing reply _ 0x8B is.0 refl
+  replied Ended input old new number now between reply is = closes between reply is.0
+
+  -- ---- what is handed out after the reply
+
+  fresh : (sent : List Packet) (old new : S) (place place' : P) (window window' : Contents Held) → SendsFresh call old place window sent place' window' new → HandOn sent
+  fresh [] old new place place' window window' sends = tt
+  fresh (packet ∷ packets) old new place place' window window' sends =
+      let hand_out = sends.3 in (
+        record { dup = false; message = hand_out.envelope.message; identifier = hand_out.identifier; is = hand_out.sent },
+        fresh packets sends.2 new sends.0 place' sends.1 window' sends.4,
+      )
+
+  handed_fresh : (membership : Membership P) (old new : S) (window window' : Contents Held) (sent : List Packet) (membership' : Membership P)
+      → HandsFresh call old membership window sent membership' window' new → HandOn sent
+  handed_fresh NotMember old new window window' sent membership' hands = subst HandOn (sym hands.0) tt
+  handed_fresh (Member place) old new window window' sent membership' hands = fresh sent old new place hands.0 window window' hands.2
+  handed_fresh (Leaving place) old new window window' sent membership' hands = subst HandOn (sym hands.0) tt
+
+  handed : (phase phase' : ConnPhase P) (old new : S) (sent : List Packet) → Hands call slot_of old phase sent phase' new → HandOn sent
+  handed (Unconnected opened) phase' old new sent hands = subst HandOn (sym hands.0) tt
+  handed (Waiting request ticks) phase' old new sent hands = subst HandOn (sym hands.0) tt
+  handed (Connected connected) phase' old new sent hands =
+      let out = hands.2 in
+      subst HandOn (sym out.both)
+      (both HandsOn out.again out.fresh (again out.again connected.session.window out.between out.sent_again)
+      (handed_fresh connected.session.membership old new out.between hands.1 out.fresh hands.0 out.sent_fresh))
+  handed Ended phase' old new sent hands = subst HandOn (sym hands.0) tt
+
+  -- ---- a step
+
+  pub sent : (old new : S) (number now : ℕ) (phase phase' : ConnPhase P) (input : Input) (packets : List Packet) (next : Then)
+      → Steps call slot_of old number phase now input packets next phase' new → AllByRecursion IsAnswerUnlessHandedOn packets
+  sent old new number now phase phase' input packets next steps =
+      subst (AllByRecursion IsAnswerUnlessHandedOn) (sym steps.written)
+      (both IsAnswerUnlessHandedOn (option_to_list steps.reply.packet) steps.sent
+      (all_are (λ packet answer. inl answer) (option_to_list steps.reply.packet) (replied phase input old steps.mid number now steps.between steps.reply steps.reacts))
+      (all_are (λ packet on. inr on) steps.sent (handed steps.between phase' steps.mid new steps.sent steps.hands)))

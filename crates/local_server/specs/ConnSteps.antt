@@ -1,0 +1,38 @@
+-- The steps of a run, as the transcripts tell them: one for each step of a connection.
+use Rattle.std.specs.Prelude.{◌≡◌, ℕ, nat_eq, List, [], ◌∷◌, Option, ⊤}
+use Rattle.std.specs.List.{filter}
+use Rattle.group_jobs.specs.Stamps.{Held}
+use Rattle.member_window.specs.Marks.{Mark}
+use Rattle.conn_supply.specs.declared.reply.Then.{Then}
+use Rattle.conn_engine.specs.declared.input.Input.{Input}
+use Rattle.conn_laws.specs.Marks.{publishes_in, publishes_of}
+use Rattle.client_table.specs.Clients.{StepOutput}
+use Rattle.local_broker.specs.Places.{GroupPlace}
+
+-- one step of a connection: what came, whether the connection went on, and what was added to the transcript of its session
+pub record ConnStep : Type 0 where
+  pub connection : ℕ
+  pub input : Input
+  pub next : Then
+  -- the number of the session, by the order in which sessions were new
+  pub session : ℕ
+  -- the place at which its session is handed messages after the step, if it is a member
+  pub place : Option GroupPlace
+  pub marks : List (Mark Held)
+
+-- a step wrote these PUBLISH packets and no others, and so the connection went on or not
+pub record Tells (said : StepOutput) (conn_step : ConnStep) : Type 0 where
+  pub whose : conn_step.connection ≡ said.connection
+  pub next : conn_step.next ≡ said.next
+  pub publishes : publishes_in said.packets ≡ publishes_of conn_step.marks
+
+-- each step is told
+abbrev pub AllTell : List StepOutput → List ConnStep → Type 0
+AllTell [] [] = ⊤
+AllTell [] (conn_step ∷ conn_steps) = ⊥
+AllTell (said ∷ others) [] = ⊥
+AllTell (said ∷ others) (conn_step ∷ conn_steps) = Tells said conn_step × AllTell others conn_steps
+
+-- the steps of the connection with this number
+abbrev pub conn_steps_of : ℕ → List ConnStep → List ConnStep
+conn_steps_of connection conn_steps = filter (λ conn_step. nat_eq conn_step.connection connection) conn_steps

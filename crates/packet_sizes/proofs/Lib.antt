@@ -1,4 +1,0 @@
-pub mod Lengths
-pub mod Forwarding
-pub mod Replies
-pub mod Sending

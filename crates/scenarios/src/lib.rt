@@ -1,0 +1,15 @@
+//! The scenarios of a server: what happens to its connections, and what is written then, worked out by hand from the standard.
+#![tactic(auto)]
+
+mod jobs;
+mod packets;
+mod scenario;
+mod sessions;
+
+pub use scenario::{Event, Scenario, What};
+pub use sessions::longest_wait;
+
+/// All scenarios but the one of [`longest_wait`], by what they show: what becomes of jobs, sessions, and single packets.
+pub fn all_scenarios() -> [&'static [Scenario<'static>]; 3] {
+    [&jobs::PLAYS, &sessions::PLAYS, &packets::PLAYS]
+}

@@ -1,2 +1,0 @@
-pub mod Occupied
-pub mod Turning

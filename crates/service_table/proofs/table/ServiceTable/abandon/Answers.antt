@@ -1,7 +1,0 @@
--- Nobody is there to be let go of.
-use Rattle.std.proofs.Common.{ap, ◌∙◌}
-use Rattle.service_table.specs.Cells.{occupied}
-use Rattle.service_table.proofs.table.ServiceTable.abandon.Goals as goal
-
-pub returns : goal.returns
-returns g c = record { free = λ none. c.abandon_each.ensures (ap occupied c.self.view_is ∙ none) }

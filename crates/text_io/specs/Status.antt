@@ -1,0 +1,35 @@
+-- The status that a program ends with where a run does not end, and what it says then (profile).
+use Rattle.std.specs.Prelude.{ℕ, codes, List, ◌++◌}
+use Rattle.std.specs.Fmt.{decimal}
+use Rattle.text_io.specs.declared.error.RunError.{RunError}
+use Rattle.text_io.specs.declared.error.RunError.TheVariants.{ReadFailed, TooManyReads, WriteFailed, Network, Memory, Unfinished, Line}
+
+-- 3 where the reader, the writer or the network failed, or the input had no end; 4 for lack of memory, or where the end of a group is not known; 5 for a line that the program does not take
+abbrev pub status_of : RunError → ℕ
+status_of ReadFailed = 3
+status_of TooManyReads = 3
+status_of WriteFailed = 3
+status_of Network = 3
+status_of Memory = 4
+status_of Unfinished = 4
+status_of (Line number) = 5
+
+-- the line that is said of an error
+abbrev pub error_line : RunError → List ℕ
+error_line ReadFailed = codes "device\n"
+error_line TooManyReads = codes "device\n"
+error_line WriteFailed = codes "device\n"
+error_line Network = codes "device\n"
+error_line Memory = codes "memory\n"
+error_line Unfinished = codes "unfinished\n"
+error_line (Line number) = codes "input line " ++ decimal number ++ codes "\n"
+
+-- an error of reading: nothing was looked at, and nothing written
+abbrev pub IsOfReading : RunError → Type 0
+IsOfReading ReadFailed = Unit {0}
+IsOfReading TooManyReads = Unit {0}
+IsOfReading WriteFailed = ⊥
+IsOfReading Network = ⊥
+IsOfReading Memory = Unit {0}
+IsOfReading Unfinished = ⊥
+IsOfReading (Line number) = ⊥

@@ -1,6 +1,0 @@
--- What contracts see is as it was.
-use Rattle.std.proofs.Common.{◌≡◌}
-use Rattle.worker_bells.proofs.outfit.Outfit.note_each.Given as goal
-
-abbrev pub invariant-slots : goal.invariant-slots
-invariant-slots g l = l.self ≡ l.fn.self

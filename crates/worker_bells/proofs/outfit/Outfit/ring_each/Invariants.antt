@@ -1,7 +1,0 @@
--- It rang for the groups so far.
-use Rattle.std.proofs.Common.{take}
-use Rattle.worker_bells.specs.Ringing.{AreRung}
-use Rattle.worker_bells.proofs.outfit.Outfit.ring_each.Given as goal
-
-abbrev pub invariant-slots : goal.invariant-slots
-invariant-slots g l = AreRung 0 (take l.slot l.fn.wanted) l.fn.self.hands l.self.hands
