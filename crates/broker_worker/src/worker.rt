@@ -21,7 +21,7 @@ use std::marker::Model;
 use std::sync::Wait;
 use transport::{Clock, Crossing, Transport};
 use worker_bells::{MOST_CONNECTIONS, Mailboxes, WorkerBells};
-use worker_connections::{Admission, Connections, Poller, Returned, WorkerHandle};
+use worker_connections::{Admission, Connections, Poller, Returned, ServiceTable, WorkerHandle};
 
 /// How many bytes a round reads at most.
 pub(crate) const READ_SIZE: usize = 4_096;

@@ -82,12 +82,12 @@ module _ (answer : Reply) (between phase : ConnPhase GroupPlace) (told : ConnRep
       }
 
   is_over : IsOver answer.solo between told.next mid → Stepped (behind_reply answer) all next phase new
-  is_over (over, close, phase, shows) =
+  is_over (over, close, is_closed, shows) =
       let does = subst (λ (s : ConnPhase GroupPlace). Hands Calls slot_at mid s sent phase new) over hands in
-      subst (λ (p : Phase). Stepped (record { sent = option_to_list answer.packet ++ (deliver_in p answer.solo).sent; solo = (deliver_in p answer.solo).solo }) all next phase new) (sym phase)
+      subst (λ (p : Phase). Stepped (record { sent = option_to_list answer.packet ++ (deliver_in p answer.solo).sent; solo = (deliver_in p answer.solo).solo }) all next phase new) (sym is_closed)
       (record {
         sent_are = written ∙ (λ i. option_to_list (packet i) ++ does.0 i);
-        stands = inr (does.1, followed ∙ close, phase, subst (ShowsEnd answer.solo) (sym does.2) shows);
+        stands = inr (does.1, followed ∙ close, is_closed, subst (ShowsEnd answer.solo) (sym does.2) shows);
       })
 
   stepped : Goes answer.solo between told.next mid ⊎ IsOver answer.solo between told.next mid → Stepped (behind_reply answer) all next phase new
@@ -162,9 +162,9 @@ module _ (solo : SoloState) (connected : ConnectedClient GroupPlace) (old : Brok
       either (inl (go, shown)) =
           let its = subst (λ (t : Then). Concludes Calls slot_at mid after now t phase new) go does in
           inl (after, its.0, go, subst (ShowsClient answer.solo after) (sym its.1) shown)
-      either (inr (close, phase, shown)) =
+      either (inr (close, is_closed, shown)) =
           let its = subst (λ (t : Then). Concludes Calls slot_at mid after now t phase new) close does in
-          inr (its.1, close, phase, parts answer.solo after.session mid new now shown its.0)
+          inr (its.1, close, is_closed, parts answer.solo after.session mid new now shown its.0)
 
   later_packet : (now : ℕ) (packet : Packet) (phase : ConnPhase GroupPlace) (told : ConnReply) (new : Broker) → Reacts Calls slot_at old 0 (phases.Connected connected) now (inputs.Packet packet) phase told new
       → Reacted (later_reply packet solo) phase told new

@@ -247,11 +247,11 @@ module _ (group : ℕ → GroupId) (seen : Sights) where
   -- no promise stands in front of what is sent
   unpromised : (packet : Option Packet) (between phase : ConnPhase PlaceState) (old new : Worker) (these sent : List Packet) → IsNoPromise packet between
       → Hands (Calls group seen) slot_of old between sent phase new → these ≡ option_to_list packet ++ sent → ¬ IsPromised these
-  unpromised None between phase old new these sent never handles is promised =
-      let none = (subst (λ (s : ConnPhase PlaceState). Hands (Calls group seen) slot_of old s sent phase new) never handles).0 in
+  unpromised None between phase old new these sent never hands is promised =
+      let none = (subst (λ (s : ConnPhase PlaceState). Hands (Calls group seen) slot_of old s sent phase new) never hands).0 in
       let some = sym promised.2 ∙ is ∙ none in
       cc some
-  unpromised (Some packet) between phase old new these sent never handles is promised =
+  unpromised (Some packet) between phase old new these sent never hands is promised =
       let same = sym is ∙ promised.2 in
       never promised.0 (cc same)
 
@@ -260,7 +260,7 @@ module _ (group : ℕ → GroupId) (seen : Sights) where
       → StepsTo (Calls group seen) slot_of old number phase now (inputs.Packet (packets.Publish publish)) these next phase' new
       → PublishesAt group seen (inputs.Packet (packets.Publish publish)) these old.ports new.ports
   of_publish old new number now phase phase' publish these next steps =
-      let handed = plain steps.mid new (handed_behind (Calls group seen) slot_of steps.between steps.mid new steps.sent phase' steps.handles) in
+      let handed = plain steps.mid new (handed_behind (Calls group seen) slot_of steps.between steps.mid new steps.sent phase' steps.hands) in
       ⊎_elim
       (λ (it : (identifier : ℕ) × (publish_answer publish ≡ answers.Offer identifier) × (slots : List ℕ) × (taken : ℕ) × PutsInto group seen old.ports (message_of publish) slots taken steps.mid.ports
       × (steps.reply ≡ acknowledging identifier (puback_code (length slots) taken))).
@@ -278,7 +278,7 @@ module _ (group : ℕ → GroupId) (seen : Sights) where
         },
       ))
       (λ (it : (steps.mid.ports ≡ old.ports) × IsNoPromise steps.reply.packet steps.between).
-      inr (handed ∙ it.0, λ other is. unpromised steps.reply.packet steps.between phase' steps.mid new these steps.sent it.1 steps.handles steps.written))
+      inr (handed ∙ it.0, λ other is. unpromised steps.reply.packet steps.between phase' steps.mid new these steps.sent it.1 steps.hands steps.written))
       (reacted phase publish old steps.mid number now steps.between steps.reply steps.reacts)
 
   -- a step of any other input
