@@ -180,7 +180,7 @@ module _ (old new : Broker) (number now : ℕ) (phase phase' : ConnPhase GroupPl
   heard inputs.EndOfInput entries step steps same out goes = other_heard _ step (λ acked is. is)
   heard inputs.Closing entries step steps same out goes = other_heard _ step (λ acked is. is)
 
-  -- the step of this step hears what came
+  -- this step acknowledges what came
   pub conn_step_hears : (input : Input) (conn_steps : List ConnStep) (conn_step : ConnStep) (step : Transcribes Calls old number phase input sent next phase' new) → Steps_by input
       → conn_step.input ≡ input → conn_step.next ≡ next → conn_step.marks ≡ step.marks → GoesAs (connected_of phase) (connected_of phase') next
       → ((connected : ConnectedClient GroupPlace) → connected_of phase ≡ Some connected → Leads (transcript_of connected.session.identity.number conn_steps) connected.session.window)

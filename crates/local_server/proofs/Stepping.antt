@@ -1,4 +1,4 @@
--- One step of a connection: one more step, and what holds along a run holds on.
+-- A step of a connection, as the transcripts tell it: what holds along a run holds on.
 use Rattle.std.proofs.Common.{◌≡◌, ◌≢◌, ◌⊎◌, ℕ, List, [], ◌∷◌, ◌++◌, Option, Some, None, Result, refl, sym, ap, subst, ◌∙◌, ⊎_elim}
 use Rattle.std.specs.Prelude.{⊤}
 use Rattle.std.specs.List.{AllByRecursion}

@@ -97,7 +97,7 @@ HeldIsOut b (Some connected) = AreOutFor b connected.session.membership (held_of
 
 -- what holds of a run: what is acknowledged is settled
 pub record SettlesWhatIsAcknowledged (first : ServerState) (events : List TimedEvent) (said : List StepOutput) (last : ServerState) (run : HappensAll first events said last) : Type 0 where
-  -- the transcripts of the sessions, with one for each step of a connection
+  -- the transcripts of the sessions, over the steps of their connections
   pub transcripts : KeepsTranscripts first events said last run
   -- what the steps acknowledge, in their order: the PUBACKs that came for what their sessions held, each for the message under its identifier, with
   -- the fate of its Reason Code

@@ -75,7 +75,7 @@ abbrev pub EventIsAnsweredIf : Bool → Event → Clients → List ConnStep → 
 EventIsAnsweredIf true event old conn_steps new = EventIsAnswered event old conn_steps new
 EventIsAnsweredIf false event old conn_steps new = conn_steps ≡ []
 
--- the steps of a run answer what came in its events, one event after the other: each has a step for each step that was taken in it
+-- the steps of a run answer what came in its events, one event after the other: each has those that were taken in it
 abbrev pub AllAreAnswered : (old : ServerState) (events : List TimedEvent) (said : List StepOutput) (new : ServerState) → HappensAll old events said new → List ConnStep → Type 0
 AllAreAnswered old [] said new run conn_steps = conn_steps ≡ []
 AllAreAnswered old (first ∷ others) said new run conn_steps =
