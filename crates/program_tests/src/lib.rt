@@ -1,8 +1,12 @@
-//! Tests of `program`: each status once, and what then stands in the output and on the error output. They stand apart, so that it is
-//! not proved twice.
+//! Tests of `program`, each status once and what then stands in the output and on the error output, and of `arguments`, what words ask for. They stand apart,
+//! so that neither is proved twice.
 #![tactic(auto)]
 
 #[cfg(test)]
 mod devices;
 #[cfg(test)]
+mod serving;
+#[cfg(test)]
 mod statuses;
+#[cfg(test)]
+mod words;

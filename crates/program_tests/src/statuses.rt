@@ -1,5 +1,6 @@
 //! Each status once, and what then stands in the output and on the error output.
 use crate::devices::{Broken, Narrow};
+use crate::words::words_of;
 use program::run;
 use std::alloc::{AllocError, Global};
 use std::io;
@@ -11,15 +12,6 @@ const CONNECTED: &[u8] = b"100F00044D5154540502003C0000027731\n";
 
 /// The answer to it: a CONNACK with Maximum QoS 1, no retained messages, Maximum Packet Size 65,536 and no subscription identifiers.
 const CONNACK: &str = "200e00000b2401250027000100002900\n";
-
-/// The words of a line, cut at each blank.
-fn words_of(alloc: Global, line: &str) -> Result<Vec<String>, AllocError> {
-    let mut words = Vec::new(alloc);
-    for word in line.split(' ') {
-        words.push(String::from_str(alloc, word)?)?;
-    }
-    Ok(words)
-}
 
 /// How the program ended.
 #[derive(Drop)]

@@ -1,4 +1,5 @@
-//! Tests of `bell`, `gate_word` and `shared_routes`, which threads share: of their public items, of what no clause says.
+//! Tests of `bell`, `gate_word` and `shared_routes`, which threads share, and of `transport` and `tcp_edge`, at the edge: of their public items, of what no
+//! clause says.
 #![tactic(auto)]
 
 #[cfg(test)]
@@ -7,3 +8,7 @@ mod bells;
 mod gates;
 #[cfg(test)]
 mod routes;
+#[cfg(test)]
+mod tcp;
+#[cfg(test)]
+mod transports;

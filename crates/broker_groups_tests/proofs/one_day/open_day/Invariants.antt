@@ -1,6 +1,0 @@
--- The broker is the one that was opened.
-use Rattle.broker_groups.specs.Openings.{named_by}
-use Rattle.broker_groups_tests.proofs.one_day.open_day.Given as goal
-
-abbrev pub ghosts-day : goal.ghosts-day
-ghosts-day g a = record { gate = a.gate.now; group = named_by a.opened.groups.items }

@@ -1,5 +1,0 @@
-//! The tests of `broker_groups`.
-#![tactic(auto)]
-
-#[cfg(test)]
-mod one_day;

@@ -1,5 +1,0 @@
-//! The tests of `final_report`.
-#![tactic(auto)]
-
-#[cfg(test)]
-mod one_end;

@@ -1,0 +1,189 @@
+//! A broker that is served while its clients do something.
+ghost use Rattle.std.specs.Prelude.{◌≤◌};
+
+use crate::wrong::Wrong;
+use conn_rules::MaxInflight;
+use mqtt_topic::Routes;
+use std::alloc::Global;
+use std::io::Read;
+use std::net::{Ipv4Addr, Net, TcpListener, TcpStream};
+use std::rt::Clock;
+use std::sync::Wait;
+use std::sync::atomic::{AtomicBool, Ordering};
+use std::thread::Threads;
+use std::time::Duration;
+use std::{io, thread};
+use tcp_server::serve_at;
+use text_io::RunError;
+
+/// For how many milliseconds a read waits before it looks again, and how often it looks at most.
+const PAUSE: u64 = 5;
+
+const LOOKS: u32 = 10_000;
+
+/// An input without a byte, which ends once the flag is set, or after 50 seconds.
+#[derive(Drop)]
+struct Held<'a, R> {
+    rt: &'a R,
+    ends: &'a AtomicBool,
+}
+
+impl<'a, R: Clock> Read for Held<'a, R> {
+    fn read(&mut self, _buf: &mut [u8]) -> io::Result<usize> {
+        for _ in 0..LOOKS {
+            if self.ends.load(Ordering::SeqCst) {
+                return Ok(0);
+            }
+            thread::sleep(self.rt, Duration::from_millis(PAUSE));
+        }
+        Ok(0)
+    }
+}
+
+/// What the clients saw of the jobs of `$share/g/job`: how many were accepted, acknowledged and refused, how many sessions surely have, and how many
+/// more they may have beside those.
+#[derive(Clone, Copy)]
+pub(crate) struct Counts {
+    pub(crate) accepted: u64,
+    pub(crate) acknowledged: u64,
+    pub(crate) refused: u64,
+    pub(crate) held: u64,
+    pub(crate) open: u64,
+}
+
+/// What clients do.
+pub(crate) trait Day: Sync {
+    /// The port that the broker listens at, and how many workers it has.
+    fn broker(&self) -> (u16, u8);
+
+    /// Does it; the broker closes once the flag is set, or this returns. What they saw.
+    fn pass<R: Net<Listener = TcpListener, Stream = TcpStream> + Clock>(
+        &self,
+        rt: &R,
+        alloc: Global,
+        closes: &AtomicBool,
+    ) -> Result<Counts, Wrong>;
+}
+
+/// What came of a day: what clients saw, how serving ended, and what was written.
+#[derive(Drop)]
+pub(crate) struct Night {
+    pub(crate) saw: Result<Counts, Wrong>,
+    pub(crate) ended: Result<(), RunError>,
+    pub(crate) output: Vec<u8>,
+}
+
+/// Serves for a day.
+pub(crate) fn live<
+    R: Threads + Wait + Net<Listener = TcpListener, Stream = TcpStream> + Clock + Sync,
+    D: Day,
+>(rt: &R, alloc: Global, day: &D) -> Night {
+    let closes = AtomicBool::new(false);
+    let closes = &closes;
+    let (saw, (ended, output)) = thread::join(
+        rt,
+        || pass(rt, alloc, day, closes),
+        || serve(rt, alloc, day.broker(), closes),
+    );
+    Night { saw, ended, output }
+}
+
+/// What clients do, and the flag after it.
+fn pass<R: Net<Listener = TcpListener, Stream = TcpStream> + Clock, D: Day>(
+    rt: &R,
+    alloc: Global,
+    day: &D,
+    closes: &AtomicBool,
+) -> Result<Counts, Wrong> {
+    let saw = day.pass(rt, alloc, closes);
+    closes.store(true, Ordering::SeqCst);
+    saw
+}
+
+/// Serves until the flag is set. How it ended, and what was written.
+fn serve<R: Threads + Wait + Net<Listener = TcpListener, Stream = TcpStream> + Clock + Sync>(
+    rt: &R,
+    alloc: Global,
+    broker: (u16, u8),
+    closes: &AtomicBool,
+) -> (Result<(), RunError>, Vec<u8>) {
+    let (port, workers) = broker;
+    let workers = workers.clamp(1, 64);
+    let mut input = Held { rt, ends: closes };
+    let mut output = Vec::new(alloc);
+    let ended = serve_at(
+        rt,
+        alloc,
+        64,
+        Routes::new(alloc),
+        workers,
+        MaxInflight::most(),
+        Ipv4Addr::LOCALHOST,
+        port,
+        &mut input,
+        &mut output,
+    );
+    (ended, output)
+}
+
+/// The numbers that stand in a text.
+fn numbers_of(alloc: Global, text: &[u8]) -> Result<Vec<u64>, Wrong> {
+    let mut numbers = Vec::new(alloc);
+    let mut number = None;
+    for byte in text {
+        if byte.is_ascii_digit() {
+            let digit = u64::from(byte.wrapping_sub(b'0'));
+            number = Some(
+                number
+                    .unwrap_or(0u64)
+                    .saturating_mul(10)
+                    .saturating_add(digit),
+            );
+        } else if let Some(whole) = number {
+            numbers.push(whole).ok().ok_or(Wrong::Memory)?;
+            number = None;
+        }
+    }
+    Ok(numbers)
+}
+
+impl Night {
+    /// Whether all went well, and the report of `$share/g/job` is that of what the clients saw: each accepted job has one fate, and as many have each as can be.
+    pub(crate) fn is_as_seen(&self, alloc: Global) -> Result<(), Wrong> {
+        let saw = self.saw?;
+        if self.ended.is_err() {
+            return Err(Wrong::Served);
+        }
+        let numbers = numbers_of(alloc, self.output.as_slice())?;
+        let [
+            _port,
+            accepted,
+            acknowledged,
+            refused,
+            held,
+            queued,
+            returned,
+        ] = numbers.as_slice()
+        else {
+            return Err(Wrong::Report);
+        };
+        let fates = acknowledged
+            .saturating_add(*refused)
+            .saturating_add(*held)
+            .saturating_add(*queued)
+            .saturating_add(*returned);
+        if fates != *accepted {
+            return Err(Wrong::Report);
+        }
+        let is_as_seen = *accepted == saw.accepted
+            && *acknowledged == saw.acknowledged
+            && *refused == saw.refused
+            && *held >= saw.held
+            && *held <= saw.held.saturating_add(saw.open);
+        if is_as_seen {
+            Ok(())
+        } else {
+            Err(Wrong::Counts)
+        }
+    }
+}

@@ -1,0 +1,13 @@
+//! Fleets of clients over the loopback, by a rule from a seed: publishers and members of `$share/g/job` publish, share, acknowledge, refuse, drop, resume and
+//! take over. A member knows which jobs its session has and which of them were sent on its connection, and holds each packet against what may come then;
+//! what all of them saw is held against the report.
+
+mod crowd;
+mod jobs;
+mod member;
+mod pacing;
+mod publisher;
+mod rule;
+mod run;
+mod seeds;
+mod spread;

@@ -1,0 +1,5 @@
+//! A broker on threads over transports in memory.
+
+mod broker;
+mod connections;
+mod crossing;

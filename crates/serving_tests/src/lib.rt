@@ -1,0 +1,15 @@
+//! Tests of `threaded_broker` over transports in memory, and of `tcp_server` over the loopback, both ends in one process.
+#![tactic(auto)]
+
+#[cfg(test)]
+mod day;
+#[cfg(test)]
+mod fleet;
+#[cfg(test)]
+mod in_memory;
+#[cfg(test)]
+mod link;
+#[cfg(test)]
+mod loopback;
+#[cfg(test)]
+mod wrong;

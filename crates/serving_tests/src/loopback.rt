@@ -1,0 +1,4 @@
+//! Clients over the loopback, byte by byte: a job, a takeover, a session that is resumed, a crowd, and a port that is taken.
+
+mod clients;
+mod frames;

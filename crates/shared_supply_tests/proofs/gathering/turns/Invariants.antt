@@ -1,7 +1,0 @@
--- Nothing is out at either place.
-use Rattle.std.proofs.Common.{[]}
-use Rattle.broker_groups.specs.Outs.{HasOut}
-use Rattle.shared_supply_tests.proofs.gathering.turns.Given as goal
-
-abbrev pub invariant-turns : goal.invariant-turns
-invariant-turns g l = HasOut l.near [] × HasOut l.far []

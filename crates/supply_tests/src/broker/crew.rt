@@ -1,0 +1,180 @@
+//! Workers of a broker in threads of their own.
+ghost use Rattle.std.specs.Prelude.{◌≤◌};
+
+use crate::broker::ending::{Counts, end};
+use crate::broker::opening::{Built, Day, WorkerHandle, open};
+use crate::broker::seen::Seen;
+use crate::broker::worker::{keep, supply_of};
+use broker_groups::{Broker, BrokerPlace, Ports};
+use call_history::HistoryName;
+use conn_supply::Supply;
+use gate_word::Gate;
+use group_queue::Nobody;
+use shared_supply::SharedBroker;
+use std::alloc::Global;
+use std::sync::Wait;
+use std::thread;
+use std::thread::Threads;
+
+/// What each worker does.
+pub(crate) trait Crew {
+    /// Does it over the worker's supply, and tells what the worker's clients saw; nothing where an allocation failed. Workers are numbered from 0 on.
+    fn work<B: Broker, S: Supply<BrokerPlace<B>>>(
+        &self,
+        alloc: Global,
+        supply: &mut S,
+        number: u8,
+    ) -> Option<Seen>;
+}
+
+/// A worker that is to work.
+#[derive(Drop)]
+struct Job<B: Broker> {
+    number: u8,
+    handle: WorkerHandle<B>,
+}
+
+/// What became of all workers.
+#[derive(Drop)]
+pub(crate) struct Worked {
+    /// What their clients saw, if there was memory for that.
+    pub(crate) seen: Option<Seen>,
+    /// What the groups' reports count, the last group first.
+    pub(crate) counts: Vec<Counts>,
+}
+
+/// What all workers give back: their ports, and what their clients saw.
+#[derive(Drop)]
+struct Back<B: Broker> {
+    seen: Option<Seen>,
+    ports: Vec<Ports<B>>,
+}
+
+/// What a worker gives back.
+#[derive(Drop)]
+struct OneBack<B: Broker> {
+    seen: Option<Seen>,
+    ports: Ports<B>,
+}
+
+/// A worker works.
+fn work<B: Broker, N: HistoryName, C: Crew, R: Wait>(
+    rt: &R,
+    alloc: Global,
+    shared_broker: &SharedBroker<'_, B, N>,
+    crew: &C,
+    job: Job<B>,
+) -> OneBack<B> {
+    let Job { number, handle } = job;
+    match supply_of(rt, alloc, shared_broker, handle) {
+        Ok(supply) => {
+            let mut supply = supply;
+            let seen = crew.work(alloc, &mut supply, number);
+            let (_key, ports, _desk) = supply.into_parts();
+            OneBack { seen, ports }
+        }
+        Err(ports) => OneBack { seen: None, ports },
+    }
+}
+
+/// The workers that are to work.
+fn jobs_of<B: Broker>(alloc: Global, handles: Vec<WorkerHandle<B>>) -> Vec<Job<B>> {
+    let mut jobs = Vec::new(alloc);
+    let mut number = 0u8;
+    for handle in handles {
+        if let Err(refused) = jobs.push(Job { number, handle }) {
+            drop(refused);
+        }
+        number = number.wrapping_add(1);
+    }
+    jobs
+}
+
+/// What all workers give back together.
+fn together<B: Broker>(alloc: Global, backs: Vec<OneBack<B>>) -> Back<B> {
+    let mut all = Vec::new(alloc);
+    let mut sum = Some(Seen::NOTHING);
+    for back in backs {
+        let OneBack { seen, ports } = back;
+        keep(&mut all, ports);
+        sum = match (sum, seen) {
+            (Some(one), Some(other)) => Some(one.with(other)),
+            _ => None,
+        };
+    }
+    Back {
+        seen: sum,
+        ports: all,
+    }
+}
+
+/// All workers work, each in a thread of its own; where an allocation fails for the threads, no ports come back.
+fn work_all<
+    B: Broker<Seen = Nobody> + Send + Sync,
+    N: HistoryName + Send + Sync,
+    C: Crew + Sync,
+    R: Threads + Wait + Sync,
+>(
+    rt: &R,
+    alloc: Global,
+    shared_broker: &SharedBroker<'_, B, N>,
+    handles: Vec<WorkerHandle<B>>,
+    crew: &C,
+) -> Back<B> {
+    match thread::map_vec(
+        rt,
+        jobs_of(alloc, handles),
+        &|job| { work(rt, alloc, shared_broker, crew, job) },
+    ) {
+        Ok(backs) => together(alloc, backs),
+        Err(_) => Back {
+            seen: None,
+            ports: Vec::new(alloc),
+        },
+    }
+}
+
+/// The day of a broker all of whose workers work.
+#[derive(Drop)]
+struct Together<'c, C> {
+    crew: &'c C,
+}
+
+impl<'c, C: Crew + Sync, R: Threads + Wait + Sync> Day<R> for Together<'c, C> {
+    type Told = Worked;
+
+    fn pass<B: Broker<Seen = Nobody> + Send + Sync, N: HistoryName + Send + Sync>(
+        &mut self,
+        rt: &R,
+        alloc: Global,
+        gate: &Gate,
+        built: Built<'_, B, N>,
+    ) -> Option<Worked> {
+        let _ = gate;
+        let Built {
+            shared_broker,
+            handles,
+            spare: _,
+            mut pass,
+        } = built;
+        let Back { seen, ports } = work_all(rt, alloc, &shared_broker, handles, self.crew);
+        match end(rt, alloc, shared_broker, ports, &mut pass) {
+            Some(counts) => Some(Worked { seen, counts }),
+            None => None,
+        }
+    }
+}
+
+/// So many workers of a broker, in each of whose groups so many messages may wait, work, each in a thread of its own, and the broker ends.
+pub(crate) fn work_together<C: Crew + Sync, R: Threads + Wait + Sync>(
+    rt: &R,
+    alloc: Global,
+    capacity: usize,
+    workers: u8,
+    crew: &C,
+) -> Option<Worked>
+    requires capacity { (1 ≤ capacity) × (capacity ≤ 65536) }
+    requires workers { (1 ≤ workers) × (workers ≤ 63) }
+{
+    open(rt, alloc, capacity, workers, &mut Together { crew })
+}

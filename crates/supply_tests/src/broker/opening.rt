@@ -1,0 +1,223 @@
+//! A broker that is opened, and what is done with it.
+ghost use Rattle.std.specs.Prelude.{◌≡◌, ◌≤◌, ◌<◌, IfSome};
+ghost use Rattle.gate_word.specs.Seats.{AreSeatsOf};
+ghost use Rattle.broker_groups.specs.Naming.{IsOfBroker};
+
+use broker_groups::{Broker, BrokerName, BrokerPlace, Key, Named, Opened, Ports, Witnessed};
+use call_history::HistoryName;
+use gate_word::{Gate, GateSeat};
+use group_queue::Nobody;
+use shared_desk::{DeskView, OpenedDesk};
+use shared_routes::SharedRoutes;
+use shared_supply::SharedBroker;
+use std::alloc::Global;
+use std::marker::Brand;
+use std::sync::Wait;
+
+/// What a worker has of a broker.
+#[derive(Drop)]
+pub(crate) struct WorkerHandle<B: Broker> {
+    pub(crate) key: Key<B>,
+    pub(crate) ports: Ports<B>,
+}
+
+/// A broker that is open: its shared broker, what each worker has, a key for who shuts the gate, and a pass of its desk for who ends it.
+pub(crate) struct Built<'g, B: Broker, N: HistoryName> {
+    pub(crate) shared_broker: SharedBroker<'g, B, N>,
+    pub(crate) handles: Vec<WorkerHandle<B>>,
+    pub(crate) spare: Key<B>,
+    pub(crate) pass: DeskView<BrokerPlace<B>, N>,
+}
+
+/// What is done with a broker from its opening to its end, by who has so much of the system.
+pub(crate) trait Day<R> {
+    /// What is told of it.
+    type Told;
+
+    /// Does it, and ends the broker. Where an allocation failed for that, nothing is told.
+    fn pass<B: Broker<Seen = Nobody> + Send + Sync, N: HistoryName + Send + Sync>(
+        &mut self,
+        rt: &R,
+        alloc: Global,
+        gate: &Gate,
+        built: Built<'_, B, N>,
+    ) -> Option<Self::Told>
+        requires { gate.now ≡ B.gate };
+}
+
+/// Shuts the gate, and says whether it was drained then.
+pub(crate) fn shut<B: Broker>(gate: &Gate, key: Key<B>) -> bool
+    requires { gate.now ≡ B.gate }
+{
+    let mut seat = key.into_seat();
+    gate.shut(&mut seat);
+    gate.drained(&mut seat).is_some()
+}
+
+/// A key by the last seat.
+fn take_key<B: Broker>(gate: &Gate, seats: &mut Vec<GateSeat>) -> Option<Key<B>>
+    requires gate { gate.now ≡ B.gate }
+    requires seats { AreSeatsOf gate.now seats.old.items }
+    ensures { AreSeatsOf gate.now seats.new.items }
+{
+    let _ = gate;
+    match seats.pop() {
+        Some(seat) => Some(Key::of(seat)),
+        None => None,
+    }
+}
+
+/// What each worker has: a seat and ports.
+fn take_ports<B: Broker>(
+    alloc: Global,
+    gate: &Gate,
+    seats: &mut Vec<GateSeat>,
+    ports: Vec<Ports<B>>,
+) -> Vec<WorkerHandle<B>>
+    requires gate { gate.now ≡ B.gate }
+    requires seats { AreSeatsOf gate.now seats.old.items }
+{
+    let mut handles = Vec::new(alloc);
+    let mut left = ports;
+    'handles: while let Some(ports) = left.pop() {
+        if let Some(key) = take_key(gate, seats) {
+            if let Err(refused) = handles.push(WorkerHandle { key, ports }) {
+                drop(refused);
+            }
+        }
+    }
+    handles
+}
+
+/// Names what was opened, and gives the desk its places. Where an allocation fails, the groups are given up.
+fn build<'g, B: Broker<Seen = Nobody>, N: HistoryName, R: Wait>(
+    rt: &R,
+    alloc: Global,
+    gate: &'g Gate,
+    seats: Vec<GateSeat>,
+    opened: Opened<'g>,
+    desk: OpenedDesk<BrokerPlace<B>>,
+    workers: u8,
+) -> Option<Built<'g, B, N>>
+    requires gate { gate.now ≡ B.gate }
+    requires desk { desk ≡ N.history }
+    requires seats { AreSeatsOf gate.now seats.items }
+    requires opened { IsOfBroker B.gate B.group workers opened }
+{
+    let Named {
+        groups,
+        ports,
+        places,
+    } = match opened.name::<B>(alloc, workers) {
+        Ok(named) => named,
+        Err(_) => {
+            desk.abandon();
+            return None;
+        }
+    };
+    let mut seats = seats;
+    let Some(spare) = take_key(gate, &mut seats) else {
+        groups.abandon();
+        desk.abandon();
+        return None;
+    };
+    let (desk, mut pass) = desk.name::<N>();
+    desk.take_places(rt, &mut pass, places);
+    let handles = take_ports(alloc, gate, &mut seats, ports);
+    let shared_broker = SharedBroker::new(gate, groups, desk, SharedRoutes::new(alloc));
+    Some(Built {
+        shared_broker,
+        handles,
+        spare,
+        pass,
+    })
+}
+
+/// The day of a broker with so many workers.
+fn live<M: BrokerName + Send + Sync, D: Day<R>, R: Wait>(
+    rt: &R,
+    alloc: Global,
+    gate: &Gate,
+    seats: Vec<GateSeat>,
+    opened: Opened<'_>,
+    workers: u8,
+    day: &mut D,
+) -> Option<D::Told>
+    requires gate { gate.now ≡ M.gate }
+    requires seats { AreSeatsOf gate.now seats.items }
+    requires opened { IsOfBroker M.gate M.group workers opened }
+{
+    match OpenedDesk::open(alloc) {
+        Ok(desk) => live_with::<Witnessed<M, Nobody>, Brand, D, R>(
+            rt, alloc, gate, seats, opened, desk, workers, day,
+        ),
+        Err(_) => {
+            opened.abandon();
+            None
+        }
+    }
+}
+
+/// The same, with a desk that is named by what it is.
+fn live_with<
+    B: Broker<Seen = Nobody> + Send + Sync,
+    N: HistoryName + Send + Sync,
+    D: Day<R>,
+    R: Wait,
+>(
+    rt: &R,
+    alloc: Global,
+    gate: &Gate,
+    seats: Vec<GateSeat>,
+    opened: Opened<'_>,
+    desk: OpenedDesk<BrokerPlace<B>>,
+    workers: u8,
+    day: &mut D,
+) -> Option<D::Told>
+    requires gate { gate.now ≡ B.gate }
+    requires seats { AreSeatsOf gate.now seats.items }
+    requires opened { IsOfBroker B.gate B.group workers opened }
+    requires desk { desk ≡ N.history }
+{
+    match build::<B, N, R>(rt, alloc, gate, seats, opened, desk, workers) {
+        Some(built) => day.pass(rt, alloc, gate, built),
+        None => None,
+    }
+}
+
+/// The same, of groups that are opened and named by what they are.
+fn open_groups<D: Day<R>, R: Wait>(
+    rt: &R,
+    alloc: Global,
+    gate: &Gate,
+    seats: Vec<GateSeat>,
+    capacity: usize,
+    workers: u8,
+    day: &mut D,
+) -> Option<D::Told>
+    requires seats { AreSeatsOf gate.now seats.items }
+    requires capacity { (1 ≤ capacity) × (capacity ≤ 65536) }
+    requires workers { (1 ≤ workers) × (workers ≤ 63) }
+{
+    match Opened::open(alloc, gate, capacity, workers) {
+        Ok(opened) => live::<Brand, D, R>(rt, alloc, gate, seats, opened, workers, day),
+        Err(_) => None,
+    }
+}
+
+/// A broker for so many workers, in each of whose groups so many messages may wait, lives a day.
+pub(crate) fn open<D: Day<R>, R: Wait>(
+    rt: &R,
+    alloc: Global,
+    capacity: usize,
+    workers: u8,
+    day: &mut D,
+) -> Option<D::Told>
+    requires capacity { (1 ≤ capacity) × (capacity ≤ 65536) }
+    requires workers { (1 ≤ workers) × (workers ≤ 63) }
+{
+    match Gate::open(alloc, usize::from(workers) + 1) {
+        Ok((gate, seats)) => open_groups(rt, alloc, &gate, seats, capacity, workers, day),
+        Err(_) => None,
+    }
+}

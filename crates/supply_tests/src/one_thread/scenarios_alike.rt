@@ -1,0 +1,249 @@
+//! Scenarios over the supply that threads share, and over the server on one thread: both write the same.
+ghost use Rattle.std.specs.Prelude.{◌≡◌, true};
+
+use crate::broker::ending::Counts;
+use crate::broker::opening::shut;
+use crate::broker::shares::{bind, share_of};
+use crate::broker::worker::{Shift, work_alone};
+use crate::one_thread::telling::tell;
+use broker_groups::{Broker, BrokerPlace, Key};
+use client_table::{CLIENTS, ClientTable, StepOutput};
+use conn_engine::Opening;
+use conn_rules::MaxInflight;
+use conn_supply::{HoldingPlace, NoMemory, Supply};
+use drive::drive_lines;
+use gate_word::Gate;
+use local_server::Setup;
+use mqtt_topic::Routes;
+use scenarios::{Event, Scenario, What, all_scenarios, longest_wait};
+use std::alloc::Global;
+use std::process::Abort;
+use std::sync::Wait;
+use std::test::Fail;
+
+/// An event happens, within a visit.
+fn serve<P: HoldingPlace, S: Supply<P>>(
+    supply: &mut S,
+    clients: &mut ClientTable<P>,
+    said: &mut Vec<StepOutput>,
+    now: u64,
+    event: &Event,
+) -> Result<(), NoMemory>
+    requires { S.visiting supply.old ≡ true }
+{
+    let number = event.connection;
+    if usize::from(number) >= CLIENTS {
+        return Ok(());
+    }
+    match &event.what {
+        What::Open => {
+            clients.open(number, Opening::plain(now));
+            Ok(())
+        }
+        What::Bytes(piece) => clients.receive(supply, number, now, piece, said),
+        What::Tick => clients.tick(supply, number, now, said),
+        What::End => clients.end_of_input(supply, number, now, said),
+    }
+}
+
+/// An event happens in a visit of its own, unless the broker was closed.
+fn visit<P: HoldingPlace, S: Supply<P>>(
+    supply: &mut S,
+    clients: &mut ClientTable<P>,
+    said: &mut Vec<StepOutput>,
+    now: u64,
+    event: &Event,
+) -> Result<(), NoMemory> {
+    if !supply.begin() {
+        return Ok(());
+    }
+    let served = serve(supply, clients, said, now, event);
+    supply.end();
+    served
+}
+
+/// A scenario on one worker, and what was written in it. `None` where an allocation fails.
+#[derive(Drop)]
+struct Stage<'t> {
+    scenario: &'t Scenario<'t>,
+    now: u64,
+    said: Vec<StepOutput>,
+    text: Vec<u8>,
+}
+
+impl<'t> Stage<'t> {
+    /// One on which nothing happened yet.
+    fn of(alloc: Global, scenario: &'t Scenario<'t>) -> Stage<'t> {
+        Stage {
+            scenario,
+            now: 0,
+            said: Vec::new(alloc),
+            text: Vec::new(alloc),
+        }
+    }
+
+    /// An event happens.
+    fn happen<P: HoldingPlace, S: Supply<P>>(
+        &mut self,
+        alloc: Global,
+        supply: &mut S,
+        clients: &mut ClientTable<P>,
+        event: &Event,
+    ) -> Option<()> {
+        self.now = self.now.max(event.moment);
+        self.said.clear();
+        visit(supply, clients, &mut self.said, self.now, event).ok()?;
+        tell(alloc, &mut self.text, &self.said)
+    }
+
+    /// All events happen, up to the one that closes the broker.
+    fn go_on<P: HoldingPlace, S: Supply<P>>(
+        &mut self,
+        alloc: Global,
+        supply: &mut S,
+        clients: &mut ClientTable<P>,
+    ) -> Option<()> {
+        let events = self.scenario.events(alloc)?;
+        for event in &events {
+            self.happen(alloc, supply, clients, event)?;
+        }
+        Some(())
+    }
+
+    /// The broker was closed.
+    fn close<P: HoldingPlace, S: Supply<P>>(
+        &mut self,
+        alloc: Global,
+        supply: &mut S,
+        clients: &mut ClientTable<P>,
+    ) -> Option<()> {
+        self.said.clear();
+        for number in 0..CLIENTS as u8 {
+            let _told = clients.closing(supply, number, self.now, &mut self.said);
+        }
+        tell(alloc, &mut self.text, &self.said)
+    }
+
+    /// The scenario with these clients.
+    fn act<B: Broker, S: Supply<BrokerPlace<B>>>(
+        &mut self,
+        alloc: Global,
+        supply: &mut S,
+        clients: &mut ClientTable<BrokerPlace<B>>,
+        gate: &Gate,
+        spare: Key<B>,
+    ) -> Option<()>
+        requires { gate.now ≡ B.gate }
+    {
+        bind(alloc, supply, self.scenario.shares)?;
+        self.go_on(alloc, supply, clients)?;
+        if let Some(moment) = self.scenario.close() {
+            self.now = self.now.max(moment);
+            let _is_drained = shut(gate, spare);
+            self.close(alloc, supply, clients)?;
+        }
+        Some(())
+    }
+}
+
+impl<'t> Shift for Stage<'t> {
+    fn work<B: Broker, S: Supply<BrokerPlace<B>>>(
+        &mut self,
+        alloc: Global,
+        supply: &mut S,
+        gate: &Gate,
+        spare: Key<B>,
+    ) {
+        if let Ok(mut clients) = ClientTable::new(alloc) {
+            if self.act(alloc, supply, &mut clients, gate, spare).is_none() {
+                self.text.clear();
+            }
+            clients.abandon(supply, self.now);
+        }
+    }
+}
+
+/// What a server begins with.
+fn setup(alloc: Global, scenario: &Scenario<'_>) -> Option<Setup> {
+    let mut groups = Routes::new(alloc);
+    for text in scenario.shares {
+        let _slot = groups.bind(share_of(alloc, *text)?).ok()?;
+    }
+    Some(Setup {
+        capacity: scenario.capacity,
+        max_inflight: MaxInflight::most(),
+        groups,
+    })
+}
+
+/// What is written of a scenario over the server on one thread.
+fn by_server(alloc: Global, scenario: &Scenario<'_>) -> Option<Vec<u8>> {
+    let script = scenario.script(alloc)?;
+    let setup = setup(alloc, scenario)?;
+    let mut written = Vec::new(alloc);
+    drive_lines(alloc, setup, &mut script.as_bytes(), &mut written).ok()?;
+    Some(written)
+}
+
+/// The end of the line of a report.
+fn counts_line(alloc: Global, counts: &Counts) -> Option<String> {
+    let Counts {
+        accepted,
+        acknowledged,
+        refused,
+        held,
+        queued,
+        returned,
+    } = *counts;
+    format!(in alloc;
+        " accepted {accepted} acknowledged {acknowledged} refused {refused} held {held} queued {queued} returned {returned}"
+    ).ok()
+}
+
+/// These lines end as the reports of the groups count, which stand with the last one first.
+fn compare_reports(rt: &impl Abort, alloc: Global, name: &str, lines: &str, counts: &[Counts]) {
+    for (line, counts) in lines.lines().zip(counts.iter().rev()) {
+        let end = counts_line(alloc, counts).expect(rt, "memory");
+        assert!(rt; line.ends_with(end.as_str()), "{name}: {line}");
+    }
+    assert!(rt; lines.lines().count() <= counts.len(), "{name}");
+}
+
+/// A scenario writes the same over both, and each group's report counts the same.
+fn compare<R: Wait + Abort>(rt: &R, alloc: Global, scenario: &Scenario<'_>) {
+    let mut stage = Stage::of(alloc, scenario);
+    let capacity = scenario.capacity.max(1).min(65_536);
+    let counts = work_alone(rt, alloc, capacity, &mut stage).expect(rt, "a day");
+    let wanted = by_server(alloc, scenario).expect(rt, "a run");
+    assert!(rt; wanted.starts_with(&stage.text), "{}", scenario.name);
+    let lines = wanted.get(stage.text.len()..).unwrap_or(b"");
+    let lines = std::str::from_utf8(lines).ok().expect(rt, "text");
+    assert!(rt;
+        lines.is_empty() || lines.starts_with("$share"),
+        "{}",
+        scenario.name
+    );
+    compare_reports(rt, alloc, scenario.name, lines, &counts);
+}
+
+#[test]
+fn scenarios(rt: HostRuntime) {
+    for scenarios in all_scenarios() {
+        for scenario in scenarios {
+            compare(&rt, rt.alloc(), scenario);
+        }
+    }
+}
+
+#[test]
+fn longest(rt: HostRuntime) -> Result<(), Fail> {
+    let lines = longest_wait(rt.alloc()).ok_or("memory")?;
+    let scenario = Scenario {
+        name: "longest_wait",
+        capacity: 8,
+        shares: &[],
+        lines: lines.as_str(),
+    };
+    compare(&rt, rt.alloc(), &scenario);
+    Ok(())
+}
