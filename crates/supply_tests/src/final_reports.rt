@@ -105,10 +105,10 @@ struct Closing {
     has_desk: bool,
 }
 
-impl<R: Wait> Day<R> for Closing {
+impl Day for Closing {
     type Told = Vec<Counts>;
 
-    fn pass<B: Broker<Seen = Nobody> + Send + Sync, N: HistoryName + Send + Sync>(
+    fn pass<B: Broker<Seen = Nobody>, N: HistoryName, R: Wait>(
         &mut self,
         rt: &R,
         alloc: Global,

@@ -1,17 +1,21 @@
 //! Workers of a broker in threads of their own.
-ghost use Rattle.std.specs.Prelude.{◌≤◌};
+ghost use Rattle.std.specs.Prelude.{◌≡◌, ◌≤◌};
+ghost use Rattle.gate_word.specs.Seats.{AreSeatsOf};
+ghost use Rattle.broker_groups.specs.Naming.{IsOfBroker};
 
 use crate::broker::ending::{Counts, end};
-use crate::broker::opening::{Built, Day, WorkerHandle, open};
+use crate::broker::opening::{Built, WorkerHandle, build};
 use crate::broker::seen::Seen;
 use crate::broker::worker::{keep, supply_of};
-use broker_groups::{Broker, BrokerPlace, Ports};
+use broker_groups::{Broker, BrokerName, BrokerPlace, Opened, Ports, Witnessed};
 use call_history::HistoryName;
 use conn_supply::Supply;
-use gate_word::Gate;
+use gate_word::{Gate, GateSeat};
 use group_queue::Nobody;
+use shared_desk::OpenedDesk;
 use shared_supply::SharedBroker;
 use std::alloc::Global;
+use std::marker::Brand;
 use std::sync::Wait;
 use std::thread;
 use std::thread::Threads;
@@ -134,34 +138,82 @@ fn work_all<
     }
 }
 
-/// The day of a broker all of whose workers work.
-#[derive(Drop)]
-struct Together<'c, C> {
-    crew: &'c C,
+/// All workers of a broker work, and it ends; where an allocation failed for that, nothing is told.
+fn live<M: BrokerName + Send + Sync, C: Crew + Sync, R: Threads + Wait + Sync>(
+    rt: &R,
+    alloc: Global,
+    gate: &Gate,
+    seats: Vec<GateSeat>,
+    opened: Opened<'_>,
+    workers: u8,
+    crew: &C,
+) -> Option<Worked>
+    requires gate { gate.now ≡ M.gate }
+    requires seats { AreSeatsOf gate.now seats.items }
+    requires opened { IsOfBroker M.gate M.group workers opened }
+{
+    match OpenedDesk::open(alloc) {
+        Ok(desk) => live_with::<Witnessed<M, Nobody>, Brand, C, R>(
+            rt, alloc, gate, seats, opened, desk, workers, crew,
+        ),
+        Err(_) => {
+            opened.abandon();
+            None
+        }
+    }
 }
 
-impl<'c, C: Crew + Sync, R: Threads + Wait + Sync> Day<R> for Together<'c, C> {
-    type Told = Worked;
+/// The same, with a desk that is named by what it is.
+fn live_with<
+    B: Broker<Seen = Nobody> + Send + Sync,
+    N: HistoryName + Send + Sync,
+    C: Crew + Sync,
+    R: Threads + Wait + Sync,
+>(
+    rt: &R,
+    alloc: Global,
+    gate: &Gate,
+    seats: Vec<GateSeat>,
+    opened: Opened<'_>,
+    desk: OpenedDesk<BrokerPlace<B>>,
+    workers: u8,
+    crew: &C,
+) -> Option<Worked>
+    requires gate { gate.now ≡ B.gate }
+    requires seats { AreSeatsOf gate.now seats.items }
+    requires opened { IsOfBroker B.gate B.group workers opened }
+    requires desk { desk ≡ N.history }
+{
+    let Built {
+        shared_broker,
+        handles,
+        spare: _,
+        mut pass,
+    } = build::<B, N, R>(rt, alloc, gate, seats, opened, desk, workers)?;
+    let Back { seen, ports } = work_all(rt, alloc, &shared_broker, handles, crew);
+    match end(rt, alloc, shared_broker, ports, &mut pass) {
+        Some(counts) => Some(Worked { seen, counts }),
+        None => None,
+    }
+}
 
-    fn pass<B: Broker<Seen = Nobody> + Send + Sync, N: HistoryName + Send + Sync>(
-        &mut self,
-        rt: &R,
-        alloc: Global,
-        gate: &Gate,
-        built: Built<'_, B, N>,
-    ) -> Option<Worked> {
-        let _ = gate;
-        let Built {
-            shared_broker,
-            handles,
-            spare: _,
-            mut pass,
-        } = built;
-        let Back { seen, ports } = work_all(rt, alloc, &shared_broker, handles, self.crew);
-        match end(rt, alloc, shared_broker, ports, &mut pass) {
-            Some(counts) => Some(Worked { seen, counts }),
-            None => None,
-        }
+/// The same, of groups that are opened and named by what they are.
+fn open_groups<C: Crew + Sync, R: Threads + Wait + Sync>(
+    rt: &R,
+    alloc: Global,
+    gate: &Gate,
+    seats: Vec<GateSeat>,
+    capacity: usize,
+    workers: u8,
+    crew: &C,
+) -> Option<Worked>
+    requires seats { AreSeatsOf gate.now seats.items }
+    requires capacity { (1 ≤ capacity) × (capacity ≤ 65536) }
+    requires workers { (1 ≤ workers) × (workers ≤ 63) }
+{
+    match Opened::open(alloc, gate, capacity, workers) {
+        Ok(opened) => live::<Brand, C, R>(rt, alloc, gate, seats, opened, workers, crew),
+        Err(_) => None,
     }
 }
 
@@ -176,5 +228,8 @@ pub(crate) fn work_together<C: Crew + Sync, R: Threads + Wait + Sync>(
     requires capacity { (1 ≤ capacity) × (capacity ≤ 65536) }
     requires workers { (1 ≤ workers) × (workers ≤ 63) }
 {
-    open(rt, alloc, capacity, workers, &mut Together { crew })
+    match Gate::open(alloc, usize::from(workers) + 1) {
+        Ok((gate, seats)) => open_groups(rt, alloc, &gate, seats, capacity, workers, crew),
+        Err(_) => None,
+    }
 }

@@ -29,13 +29,13 @@ pub(crate) struct Built<'g, B: Broker, N: HistoryName> {
     pub(crate) pass: DeskView<BrokerPlace<B>, N>,
 }
 
-/// What is done with a broker from its opening to its end, by who has so much of the system.
-pub(crate) trait Day<R> {
+/// What is done with a broker from its opening to its end.
+pub(crate) trait Day {
     /// What is told of it.
     type Told;
 
     /// Does it, and ends the broker. Where an allocation failed for that, nothing is told.
-    fn pass<B: Broker<Seen = Nobody> + Send + Sync, N: HistoryName + Send + Sync>(
+    fn pass<B: Broker<Seen = Nobody>, N: HistoryName, R: Wait>(
         &mut self,
         rt: &R,
         alloc: Global,
@@ -90,7 +90,7 @@ fn take_ports<B: Broker>(
 }
 
 /// Names what was opened, and gives the desk its places. Where an allocation fails, the groups are given up.
-fn build<'g, B: Broker<Seen = Nobody>, N: HistoryName, R: Wait>(
+pub(crate) fn build<'g, B: Broker<Seen = Nobody>, N: HistoryName, R: Wait>(
     rt: &R,
     alloc: Global,
     gate: &'g Gate,
@@ -134,7 +134,7 @@ fn build<'g, B: Broker<Seen = Nobody>, N: HistoryName, R: Wait>(
 }
 
 /// The day of a broker with so many workers.
-fn live<M: BrokerName + Send + Sync, D: Day<R>, R: Wait>(
+fn live<M: BrokerName, D: Day, R: Wait>(
     rt: &R,
     alloc: Global,
     gate: &Gate,
@@ -159,12 +159,7 @@ fn live<M: BrokerName + Send + Sync, D: Day<R>, R: Wait>(
 }
 
 /// The same, with a desk that is named by what it is.
-fn live_with<
-    B: Broker<Seen = Nobody> + Send + Sync,
-    N: HistoryName + Send + Sync,
-    D: Day<R>,
-    R: Wait,
->(
+fn live_with<B: Broker<Seen = Nobody>, N: HistoryName, D: Day, R: Wait>(
     rt: &R,
     alloc: Global,
     gate: &Gate,
@@ -186,7 +181,7 @@ fn live_with<
 }
 
 /// The same, of groups that are opened and named by what they are.
-fn open_groups<D: Day<R>, R: Wait>(
+fn open_groups<D: Day, R: Wait>(
     rt: &R,
     alloc: Global,
     gate: &Gate,
@@ -206,7 +201,7 @@ fn open_groups<D: Day<R>, R: Wait>(
 }
 
 /// A broker for so many workers, in each of whose groups so many messages may wait, lives a day.
-pub(crate) fn open<D: Day<R>, R: Wait>(
+pub(crate) fn open<D: Day, R: Wait>(
     rt: &R,
     alloc: Global,
     capacity: usize,

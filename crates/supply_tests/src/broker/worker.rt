@@ -68,10 +68,10 @@ struct Alone<'h, H> {
     shift: &'h mut H,
 }
 
-impl<'h, H: Shift, R: Wait> Day<R> for Alone<'h, H> {
+impl<'h, H: Shift> Day for Alone<'h, H> {
     type Told = Vec<Counts>;
 
-    fn pass<B: Broker<Seen = Nobody> + Send + Sync, N: HistoryName + Send + Sync>(
+    fn pass<B: Broker<Seen = Nobody>, N: HistoryName, R: Wait>(
         &mut self,
         rt: &R,
         alloc: Global,

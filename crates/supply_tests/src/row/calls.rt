@@ -121,10 +121,10 @@ struct Row {
     ending: Ending,
 }
 
-impl<R: Wait> Day<R> for Row {
+impl Day for Row {
     type Told = (Told, Result<Counts, u16>);
 
-    fn pass<B: Broker<Seen = Nobody> + Send + Sync, N: HistoryName + Send + Sync>(
+    fn pass<B: Broker<Seen = Nobody>, N: HistoryName, R: Wait>(
         &mut self,
         rt: &R,
         alloc: Global,
