@@ -1,5 +1,6 @@
 //! Names, filters, shares and routes, by the standard's examples and the profile's.
 
+use crate::asserting::{assert_items, assert_same, assert_same_at, assert_text};
 use bytes::Bytes;
 use mqtt_packet::Text;
 use mqtt_topic::{Filter, RefusedText, Routes, Share, TopicError, TopicName};
@@ -77,7 +78,7 @@ fn filters(rt: HostRuntime) -> Result<(), Fail> {
     for line in MATCHES.lines() {
         let (filter, rest) = line.split_once(' ').ok_or("a name")?;
         let (topic, wanted) = rest.split_once(' ').ok_or("an answer")?;
-        assert_eq!(rt; answer(filter, topic), Some(wanted), "{line}");
+        assert_same_at(&rt, &answer(filter, topic), &Some(wanted), line);
     }
     Ok(())
 }
@@ -97,7 +98,7 @@ fn share_number(word: &'static str) -> Option<u16> {
 fn shares(rt: HostRuntime) -> Result<(), Fail> {
     for line in SHARES.lines() {
         let (share, wanted) = line.split_once(' ').ok_or("a number")?;
-        assert_eq!(rt; share_number(share), wanted.parse().ok(), "{line}");
+        assert_same_at(&rt, &share_number(share), &wanted.parse().ok(), line);
     }
     Ok(())
 }
@@ -123,12 +124,12 @@ fn routes(rt: HostRuntime) -> Result<(), Fail> {
     let mut routes = Routes::new(rt.alloc());
     for line in ROUTES.lines() {
         let (share, wanted) = line.split_once(' ').ok_or("a slot")?;
-        assert_eq!(rt; bound(&mut routes, share), wanted.parse().ok(), "{line}");
+        assert_same_at(&rt, &bound(&mut routes, share), &wanted.parse().ok(), line);
     }
     let (slots, count, third) = matching(rt.alloc(), &routes, "job").ok_or("a name")?;
-    assert_eq!(rt; slots.as_slice(), [0u8, 1, 2, 6, 7].as_slice());
-    assert_eq!(rt; (count, third), (5, false));
-    assert_eq!(rt; routes.shares().len(), 8);
+    assert_items(&rt, slots.as_slice(), [0u8, 1, 2, 6, 7].as_slice());
+    assert_same(&rt, &(count, third), &(5, false));
+    assert_same(&rt, &routes.shares().len(), &8);
     Ok(())
 }
 
@@ -158,9 +159,9 @@ fn show_their_texts() -> Option<bool> {
 
 #[test]
 fn parts_and_texts(rt: HostRuntime) {
-    assert_eq!(rt; has_its_parts(), Some(true));
-    assert_eq!(rt; finds_in_none(rt.alloc()), Some(false));
-    assert_eq!(rt; show_their_texts(), Some(true));
+    assert_same(&rt, &has_its_parts(), &Some(true));
+    assert_same(&rt, &finds_in_none(rt.alloc()), &Some(false));
+    assert_same(&rt, &show_their_texts(), &Some(true));
 }
 
 // A refusal, and its text.
@@ -177,7 +178,7 @@ const REFUSALS: [(TopicError, &str); 6] = [
 fn texts_of_refusals(rt: HostRuntime) -> Result<(), Fail> {
     for (refusal, text) in REFUSALS {
         let told = format!(in rt.alloc(); "{refusal}")?;
-        assert_eq!(rt; told.as_str(), text);
+        assert_text(&rt, told.as_str(), text);
     }
     Ok(())
 }

@@ -1,4 +1,5 @@
 //! What packets, faults and time bring about, in rows of bytes worked out by hand from the standard.
+use crate::asserting::{assert_same, assert_same_at};
 use crate::rules::reading::{answers, answers_in, packet, published, refusal};
 use conn_rules::{
     EntryAnswer, FirstAnswer, MaxInflight, PublishAnswer, Terms, answer_to_entry, fate_of,
@@ -47,7 +48,7 @@ fn first_packets(rt: HostRuntime) -> Result<(), Fail> {
         ("C000", FirstAnswer::Close),
     ];
     for (digits, wanted) in &rows {
-        assert_eq!(rt; first(rt.alloc(), digits)?, Some(*wanted), "{digits}");
+        assert_same_at(&rt, &first(rt.alloc(), digits)?, &Some(*wanted), digits);
     }
     Ok(())
 }
@@ -81,7 +82,7 @@ fn limits(rt: HostRuntime) -> Result<(), Fail> {
     for number in &[1, 256] {
         assert!(rt; MaxInflight::new(*number).is_some_and(|limit| limit.get() == *number));
     }
-    assert_eq!(rt; MaxInflight::most().get(), 256);
+    assert_same(&rt, &MaxInflight::most().get(), &256);
     Ok(())
 }
 
@@ -98,7 +99,7 @@ fn least_of_receive_maximum_and_limit(rt: HostRuntime) -> Result<(), Fail> {
             most.receive_maximum,
             two.receive_maximum,
         ));
-        assert_eq!(rt; asked, Some(*wanted), "{digits}");
+        assert_same_at(&rt, &asked, &Some(*wanted), digits);
     }
     Ok(())
 }
@@ -123,7 +124,7 @@ fn terms_of_clients(rt: HostRuntime) -> Result<(), Fail> {
     let asks = "101700044D5154540502003C08110000000521000200027731";
     for (digits, wanted) in &[(PLAIN, plain), (TAKES_65_535, few), (asks, asked)] {
         let asked = terms(rt.alloc(), digits)?.map(|(most, _)| most);
-        assert_eq!(rt; asked, Some(*wanted), "{digits}");
+        assert_same_at(&rt, &asked, &Some(*wanted), digits);
     }
     assert!(rt; plain.is_given_expiry(1) && !plain.is_given_expiry(0));
     assert!(rt; !asked.is_given_expiry(1));
@@ -139,7 +140,7 @@ fn publishes(rt: HostRuntime) -> Result<(), Fail> {
         ("320B0001610007050200000005", refused),
     ];
     for (digits, wanted) in &rows {
-        assert_eq!(rt; published(rt.alloc(), digits)?, Some(*wanted), "{digits}");
+        assert_same_at(&rt, &published(rt.alloc(), digits)?, &Some(*wanted), digits);
     }
     Ok(())
 }
@@ -156,7 +157,7 @@ fn publishes_that_close(rt: HostRuntime) -> Result<(), Fail> {
     ];
     for (digits, code) in &rows {
         let wanted = PublishAnswer::Close(ReasonCode::new(*code));
-        assert_eq!(rt; published(rt.alloc(), digits)?, Some(wanted), "{digits}");
+        assert_same_at(&rt, &published(rt.alloc(), digits)?, &Some(wanted), digits);
     }
     Ok(())
 }
@@ -164,7 +165,7 @@ fn publishes_that_close(rt: HostRuntime) -> Result<(), Fail> {
 #[test]
 fn pubacks(rt: HostRuntime) -> Result<(), Fail> {
     for (groups, full, code) in &[(0, 0, 0x10), (2, 1, 0x97), (2, 2, 0x00)] {
-        assert_eq!(rt; puback_code(*groups, *full).get(), *code);
+        assert_same(&rt, &puback_code(*groups, *full).get(), code);
     }
     Ok(())
 }
@@ -198,7 +199,7 @@ fn entries_that_close(rt: HostRuntime) -> Result<(), Fail> {
     ];
     for (head, count, entry, wanted) in &rows {
         let code = closes_with(rt.alloc(), head.as_slice(), *count, entry)?;
-        assert_eq!(rt; code, *wanted);
+        assert_same(&rt, &code, wanted);
     }
     Ok(())
 }
@@ -258,7 +259,7 @@ fn entries_of_a_subscribe(rt: HostRuntime) -> Result<(), Fail> {
         ("82090001020B0500016101", true, identified),
     ];
     for (digits, takes_all, wanted) in &rows {
-        assert_eq!(rt; entry(rt.alloc(), digits, *takes_all)?, *wanted, "{digits}");
+        assert_same_at(&rt, &entry(rt.alloc(), digits, *takes_all)?, wanted, digits);
     }
     Ok(())
 }
@@ -275,8 +276,8 @@ fn faults(rt: HostRuntime) -> Result<(), Fail> {
         (StreamFault::TooLarge, 0x95, None),
     ];
     for (fault, code, refusal) in &rows {
-        assert_eq!(rt; fault_code(*fault).get(), *code);
-        assert_eq!(rt; fault_refusal(*fault), *refusal);
+        assert_same(&rt, &fault_code(*fault).get(), code);
+        assert_same(&rt, &fault_refusal(*fault), refusal);
     }
     Ok(())
 }
@@ -286,7 +287,7 @@ fn endings(rt: HostRuntime) -> Result<(), Fail> {
     assert!(rt; is_overdue(60, 90_000) && !is_overdue(60, 89_999));
     assert!(rt; !is_overdue(0, u64::MAX));
     assert!(rt; is_late(10_000) && !is_late(9_999));
-    assert_eq!(rt; fate_of(ReasonCode::new(0x7F)), Fate::Acknowledged);
-    assert_eq!(rt; fate_of(ReasonCode::new(0x80)), Fate::Refused);
+    assert_same(&rt, &fate_of(ReasonCode::new(0x7F)), &Fate::Acknowledged);
+    assert_same(&rt, &fate_of(ReasonCode::new(0x80)), &Fate::Refused);
     Ok(())
 }

@@ -1,4 +1,5 @@
 //! The packets that the broker sends, byte for byte.
+use crate::asserting::assert_text;
 use crate::rules::reading::packet;
 use crate::written;
 use bytes::Bytes;
@@ -18,13 +19,13 @@ fn sent(alloc: Global, packet: Packet) -> Result<String, Fail> {
 #[test]
 fn connacks(rt: HostRuntime) -> Result<(), Fail> {
     let present = sent(rt.alloc(), accepting(true, None))?;
-    assert_eq!(rt; present.as_str(), "200e01000b2401250027000100002900");
+    assert_text(&rt, present.as_str(), "200e01000b2401250027000100002900");
     let assigned = Text::parse(Bytes::from_static(b"auto-00000001"));
     let new = sent(rt.alloc(), accepting(false, assigned))?;
     let wanted = "201e00001b12000d6175746f2d30303030303030312401250027000100002900";
-    assert_eq!(rt; new.as_str(), wanted);
+    assert_text(&rt, new.as_str(), wanted);
     let refused = sent(rt.alloc(), refusing(ConnectRefusal::ServerBusy))?;
-    assert_eq!(rt; refused.as_str(), "2003008900");
+    assert_text(&rt, refused.as_str(), "2003008900");
     Ok(())
 }
 
@@ -42,13 +43,13 @@ fn closed(alloc: Global, code: ReasonCode) -> Result<String, Fail> {
 #[test]
 fn pubacks_and_disconnects(rt: HostRuntime) -> Result<(), Fail> {
     let taken = acknowledged(rt.alloc(), ReasonCode::SUCCESS)?;
-    assert_eq!(rt; taken.as_str(), "40020007");
+    assert_text(&rt, taken.as_str(), "40020007");
     let full = acknowledged(rt.alloc(), ReasonCode::QUOTA_EXCEEDED)?;
-    assert_eq!(rt; full.as_str(), "4003000797");
+    assert_text(&rt, full.as_str(), "4003000797");
     let normal = closed(rt.alloc(), ReasonCode::SUCCESS)?;
-    assert_eq!(rt; normal.as_str(), "e000");
+    assert_text(&rt, normal.as_str(), "e000");
     let taken_over = closed(rt.alloc(), ReasonCode::SESSION_TAKEN_OVER)?;
-    assert_eq!(rt; taken_over.as_str(), "e0018e");
+    assert_text(&rt, taken_over.as_str(), "e0018e");
     Ok(())
 }
 
@@ -62,10 +63,10 @@ fn subacks_and_unsubacks(rt: HostRuntime) -> Result<(), Fail> {
     let seven = PacketIdentifier::new(7).ok_or("7 is an identifier")?;
     let granted = [ReasonCode::GRANTED_QOS_1, ReasonCode::QUOTA_EXCEEDED];
     let subscribed = sent(rt.alloc(), suback(seven, codes(rt.alloc(), &granted)?))?;
-    assert_eq!(rt; subscribed.as_str(), "90050007000197");
+    assert_text(&rt, subscribed.as_str(), "90050007000197");
     let left = [ReasonCode::SUCCESS, ReasonCode::NO_SUBSCRIPTION_EXISTED];
     let unsubscribed = sent(rt.alloc(), unsuback(seven, codes(rt.alloc(), &left)?))?;
-    assert_eq!(rt; unsubscribed.as_str(), "b0050007000011");
+    assert_text(&rt, unsubscribed.as_str(), "b0050007000011");
     Ok(())
 }
 
@@ -101,7 +102,7 @@ fn jobs(rt: HostRuntime) -> Result<(), Fail> {
     ];
     for (dup, wanted) in &rows {
         let bytes = passed_on(rt.alloc(), digits, *dup)?;
-        assert_eq!(rt; hex::encode(rt.alloc(), &bytes)?.as_str(), *wanted);
+        assert_text(&rt, hex::encode(rt.alloc(), &bytes)?.as_str(), *wanted);
     }
     Ok(())
 }

@@ -1,5 +1,6 @@
 //! Streams that are read straight from a reader.
 
+use crate::asserting::assert_same;
 use crate::wire::next_written;
 use mqtt_fields::{Fault, StreamFault};
 use mqtt_wire::{ReadFault, Splitter};
@@ -55,10 +56,10 @@ fn is_pinged(alloc: Global, splitter: &mut Splitter) -> Result<bool, Fault> {
 fn what_a_reader_gives(rt: HostRuntime) -> Result<(), Fail> {
     let mut splitter = Splitter::new(rt.alloc());
     let mut reader = PINGS.as_slice();
-    assert_eq!(rt; read_some(&mut splitter, &mut reader), Ok(3));
-    assert_eq!(rt; is_pinged(rt.alloc(), &mut splitter), Ok(true));
-    assert_eq!(rt; is_pinged(rt.alloc(), &mut splitter), Ok(false));
-    assert_eq!(rt; read_some(&mut splitter, &mut reader), Ok(0));
+    assert_same(&rt, &read_some(&mut splitter, &mut reader), &Ok(3));
+    assert_same(&rt, &is_pinged(rt.alloc(), &mut splitter), &Ok(true));
+    assert_same(&rt, &is_pinged(rt.alloc(), &mut splitter), &Ok(false));
+    assert_same(&rt, &read_some(&mut splitter, &mut reader), &Ok(0));
     Ok(())
 }
 
@@ -67,9 +68,9 @@ fn a_reader_that_fails(rt: HostRuntime) -> Result<(), Fail> {
     let mut splitter = Splitter::new(rt.alloc());
     let mut reader = Stumbling { reads: 0 };
     for answer in &[Err(None), Ok(1), Ok(1)] {
-        assert_eq!(rt; read_some(&mut splitter, &mut reader), *answer);
+        assert_same(&rt, &read_some(&mut splitter, &mut reader), answer);
     }
-    assert_eq!(rt; is_pinged(rt.alloc(), &mut splitter), Ok(true));
+    assert_same(&rt, &is_pinged(rt.alloc(), &mut splitter), &Ok(true));
     Ok(())
 }
 
@@ -78,9 +79,13 @@ fn nothing_is_read_behind_a_fault(rt: HostRuntime) -> Result<(), Fail> {
     let malformed = Fault::Stream(StreamFault::Malformed);
     let mut splitter = Splitter::new(rt.alloc());
     splitter.feed(&[0x00])?;
-    assert_eq!(rt; is_pinged(rt.alloc(), &mut splitter), Err(malformed));
+    assert_same(&rt, &is_pinged(rt.alloc(), &mut splitter), &Err(malformed));
     let mut reader = PINGS.as_slice();
-    assert_eq!(rt; read_some(&mut splitter, &mut reader), Err(Some(malformed)));
-    assert_eq!(rt; reader.len(), 3);
+    assert_same(
+        &rt,
+        &read_some(&mut splitter, &mut reader),
+        &Err(Some(malformed)),
+    );
+    assert_same(&rt, &reader.len(), &3);
     Ok(())
 }

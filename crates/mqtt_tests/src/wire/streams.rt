@@ -1,5 +1,6 @@
 //! Streams of packets, read and written again, and the faults that they show.
 
+use crate::asserting::assert_same_at;
 use crate::wire::next_written;
 use mqtt_fields::Fault;
 use mqtt_wire::Splitter;
@@ -247,7 +248,7 @@ fn faults(rt: HostRuntime) -> Result<(), Fail> {
     for line in FAULTS.lines() {
         let (digits, number) = line.split_once(' ').ok_or("two words")?;
         let answer = answer_to(rt.alloc(), &bytes_of(rt.alloc(), digits)?)?;
-        assert_eq!(rt; Some(answer), number.parse().ok(), "{line}");
+        assert_same_at(&rt, &Some(answer), &number.parse().ok(), line);
     }
     Ok(())
 }

@@ -1,5 +1,6 @@
 //! The values that packets are made of, and packets made of them.
 
+use crate::asserting::{assert_items, assert_same, assert_text};
 use crate::written;
 use bytes::Bytes;
 use mqtt_fields::{Fault, StreamFault};
@@ -65,7 +66,7 @@ fn accepting_connack(rt: HostRuntime) -> Result<(), Fail> {
     let assigned = Text::parse(Bytes::from_static(b"a"));
     assert!(rt; offers_a_little(rt.alloc(), assigned, wanted)?);
     let bytes = accepting(rt.alloc(), None, all())?;
-    assert_eq!(rt; bytes.as_slice(), b"\x20\x03\x00\x00\x00".as_slice());
+    assert_items(&rt, bytes.as_slice(), b"\x20\x03\x00\x00\x00".as_slice());
     Ok(())
 }
 
@@ -73,14 +74,14 @@ fn accepting_connack(rt: HostRuntime) -> Result<(), Fail> {
 fn refusing_connack(rt: HostRuntime) -> Result<(), Fail> {
     let refusal = ConnectRefusal::UnsupportedProtocolVersion;
     let bytes = written(rt.alloc(), Packet::Connack(Connack::Refused(refusal)))?;
-    assert_eq!(rt; bytes.as_slice(), b"\x20\x03\x00\x84\x00".as_slice());
+    assert_items(&rt, bytes.as_slice(), b"\x20\x03\x00\x84\x00".as_slice());
     Ok(())
 }
 
 #[test]
 fn answer_to_a_ping(rt: HostRuntime) -> Result<(), Fail> {
     let bytes = written(rt.alloc(), Packet::Pingresp)?;
-    assert_eq!(rt; bytes.as_slice(), b"\xD0\x00".as_slice());
+    assert_items(&rt, bytes.as_slice(), b"\xD0\x00".as_slice());
     Ok(())
 }
 
@@ -112,14 +113,16 @@ fn unsuback(alloc: Global, packet_identifier: PacketIdentifier) -> Result<Vec<u8
 fn suback_and_unsuback(rt: HostRuntime) -> Result<(), Fail> {
     let one = PacketIdentifier::new(1).ok_or("1 is an identifier")?;
     let bytes = suback(rt.alloc(), one)?;
-    assert_eq!(rt;
+    assert_items(
+        &rt,
         bytes.as_slice(),
-        b"\x90\x05\x00\x01\x00\x01\x97".as_slice()
+        b"\x90\x05\x00\x01\x00\x01\x97".as_slice(),
     );
     let bytes = unsuback(rt.alloc(), one)?;
-    assert_eq!(rt;
+    assert_items(
+        &rt,
         bytes.as_slice(),
-        b"\xB0\x05\x00\x01\x00\x01\x97".as_slice()
+        b"\xB0\x05\x00\x01\x00\x01\x97".as_slice(),
     );
     Ok(())
 }
@@ -205,8 +208,8 @@ fn packets_behind_a_buffer(rt: HostRuntime) -> Result<(), Fail> {
     let mut out = Vec::from_slice(rt.alloc(), b"first")?;
     let size = put_behind(rt.alloc(), &mut out, b"A")?;
     let wanted = b"first\x30\x0E\x00\x03job\x07\x26\x00\x01k\x00\x01vA";
-    assert_eq!(rt; out.as_slice(), wanted.as_slice());
-    assert_eq!(rt; size, 16);
+    assert_items(&rt, out.as_slice(), wanted.as_slice());
+    assert_same(&rt, &size, &16);
     Ok(())
 }
 
@@ -231,7 +234,7 @@ fn texts_of_faults(rt: HostRuntime) -> Result<(), Fail> {
         (Fault::Memory, "out of memory"),
     ];
     for (fault, wanted) in &rows {
-        assert_eq!(rt; told(rt.alloc(), *fault)?.as_str(), *wanted);
+        assert_text(&rt, told(rt.alloc(), *fault)?.as_str(), *wanted);
     }
     Ok(())
 }
@@ -261,8 +264,8 @@ fn two_bytes() -> Result<Binary, Fault> {
 #[test]
 fn texts(rt: HostRuntime) -> Result<(), Fail> {
     assert!(rt; !is_text(b"a\0") && !is_text(b"\xC3") && is_text(b"a"));
-    assert_eq!(rt; copied("ü")?.as_str(), "ü");
-    assert_eq!(rt; two_bytes()?.as_bytes(), b"\0\xFF".as_slice());
+    assert_text(&rt, copied("ü")?.as_str(), "ü");
+    assert_items(&rt, two_bytes()?.as_bytes(), b"\0\xFF".as_slice());
     Ok(())
 }
 
@@ -270,7 +273,7 @@ fn texts(rt: HostRuntime) -> Result<(), Fail> {
 fn lists(rt: HostRuntime) -> Result<(), Fail> {
     assert!(rt; NonEmpty::<u8>::from_vec(Vec::new(rt.alloc())).is_none());
     let list = NonEmpty::from_vec(Vec::from_slice(rt.alloc(), &[3u8])?).ok_or("it has an item")?;
-    assert_eq!(rt; list.into_vec().as_slice(), [3u8].as_slice());
+    assert_items(&rt, list.into_vec().as_slice(), [3u8].as_slice());
     Ok(())
 }
 
@@ -278,9 +281,9 @@ fn lists(rt: HostRuntime) -> Result<(), Fail> {
 fn numbers_of_two_bytes(rt: HostRuntime) -> Result<(), Fail> {
     for (number, wanted) in &[(0, None), (7, Some(7))] {
         let identifier = PacketIdentifier::new(*number).map(PacketIdentifier::get);
-        assert_eq!(rt; identifier, *wanted);
+        assert_same(&rt, &identifier, wanted);
         let maximum = ReceiveMaximum::new(*number).map(ReceiveMaximum::get);
-        assert_eq!(rt; maximum, *wanted);
+        assert_same(&rt, &maximum, wanted);
     }
     Ok(())
 }
@@ -289,7 +292,7 @@ fn numbers_of_two_bytes(rt: HostRuntime) -> Result<(), Fail> {
 fn longer_numbers(rt: HostRuntime) -> Result<(), Fail> {
     for (number, wanted) in &[(0, None), (9, Some(9))] {
         let size = MaximumPacketSize::new(*number).map(MaximumPacketSize::get);
-        assert_eq!(rt; size, *wanted);
+        assert_same(&rt, &size, wanted);
     }
     for (number, wanted) in &[
         (0, None),
@@ -297,7 +300,7 @@ fn longer_numbers(rt: HostRuntime) -> Result<(), Fail> {
         (268_435_456, None),
     ] {
         let identifier = SubscriptionIdentifier::new(*number).map(SubscriptionIdentifier::get);
-        assert_eq!(rt; identifier, *wanted);
+        assert_same(&rt, &identifier, wanted);
     }
     Ok(())
 }
@@ -320,7 +323,7 @@ fn copies(alloc: Global) -> Result<(usize, usize), Fault> {
 
 #[test]
 fn user_properties(rt: HostRuntime) -> Result<(), Fail> {
-    assert_eq!(rt; copies(rt.alloc())?, (1, 1));
+    assert_same(&rt, &copies(rt.alloc())?, &(1, 1));
     Ok(())
 }
 
@@ -338,6 +341,6 @@ fn shared(alloc: Global) -> Result<(bool, usize), Fault> {
 
 #[test]
 fn properties_of_several_owners(rt: HostRuntime) -> Result<(), Fail> {
-    assert_eq!(rt; shared(rt.alloc())?, (true, 1));
+    assert_same(&rt, &shared(rt.alloc())?, &(true, 1));
     Ok(())
 }
