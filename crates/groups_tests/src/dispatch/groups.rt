@@ -1,4 +1,5 @@
 //! Groups: two runs with returned jobs, each reason once, and that each call succeeds with ample memory.
+use crate::asserting::{assert_items, assert_same};
 use dispatch_core::{Event, Job, ReplayError, RoomError, Spot, State, StepError, Why, replay};
 use std::alloc::Global;
 use std::test::Fail;
@@ -29,66 +30,86 @@ fn returned_job(rt: HostRuntime) -> Result<(), Fail> {
             },
         ],
     )?;
-    assert_eq!(rt; state.spot(first), Some(Spot::Held(1)));
-    assert_eq!(rt; state.firsts(0), [first].as_slice());
+    assert_same(&rt, &state.spot(first), &Some(Spot::Held(1)));
+    assert_items(&rt, state.firsts(0), [first].as_slice());
     assert!(rt; state.firsts(1).is_empty());
-    assert_eq!(rt; state.accepted(2), 1);
+    assert_same(&rt, &state.accepted(2), &1);
     Ok(())
+}
+
+/// The state after these events, step by step.
+fn after(alloc: Global, events: &[Event]) -> Option<State> {
+    let mut state = State::new(alloc).ok()?;
+    for event in events {
+        state.step(*event).ok()?;
+    }
+    Some(state)
 }
 
 #[test]
 fn returned_out_of_order(rt: HostRuntime) -> Result<(), Fail> {
     let first = job(2, 0);
     let second = job(2, 1);
-    let mut state = State::new(rt.alloc())?;
-    state.step(Event::Accept { port: 2 })?;
-    state.step(Event::First {
-        member: 0,
-        job: first,
-    })?;
-    state.step(Event::Accept { port: 2 })?;
-    state.step(Event::First {
-        member: 1,
-        job: second,
-    })?;
-    state.step(Event::Back {
-        member: 0,
-        job: first,
-    })?;
-    state.step(Event::Again {
-        member: 1,
-        job: first,
-    })?;
-    assert_eq!(rt; state.spot(first), Some(Spot::Held(1)));
-    assert_eq!(rt; state.spot(second), Some(Spot::Held(1)));
-    assert_eq!(rt; state.firsts(0), [first].as_slice());
-    assert_eq!(rt; state.firsts(1), [second].as_slice());
+    let state = after(
+        rt.alloc(),
+        &[
+            Event::Accept { port: 2 },
+            Event::First {
+                member: 0,
+                job: first,
+            },
+            Event::Accept { port: 2 },
+            Event::First {
+                member: 1,
+                job: second,
+            },
+            Event::Back {
+                member: 0,
+                job: first,
+            },
+            Event::Again {
+                member: 1,
+                job: first,
+            },
+        ],
+    )
+    .ok_or("a state")?;
+    assert_same(&rt, &state.spot(first), &Some(Spot::Held(1)));
+    assert_same(&rt, &state.spot(second), &Some(Spot::Held(1)));
+    assert_items(&rt, state.firsts(0), [first].as_slice());
+    assert_items(&rt, state.firsts(1), [second].as_slice());
     Ok(())
 }
 
 #[test]
 fn settled_after_close(rt: HostRuntime) -> Result<(), Fail> {
+    let member = 31;
     let first = job(0, 0);
     let second = job(0, 1);
-    let mut state = State::new(rt.alloc())?;
-    for job in [first, second] {
-        state.step(Event::Accept { port: 0 })?;
-        state.step(Event::First { member: 31, job })?;
-    }
-    state.step(Event::Close)?;
-    state.step(Event::Ack {
-        member: 31,
-        job: first,
-    })?;
-    state.step(Event::Refuse {
-        member: 31,
-        job: second,
-    })?;
-    state.step(Event::Close)?;
+    let state = after(
+        rt.alloc(),
+        &[
+            Event::Accept { port: 0 },
+            Event::First { member, job: first },
+            Event::Accept { port: 0 },
+            Event::First {
+                member,
+                job: second,
+            },
+            Event::Close,
+            Event::Ack { member, job: first },
+            Event::Refuse {
+                member,
+                job: second,
+            },
+            Event::Close,
+        ],
+    )
+    .ok_or("a state")?;
     assert!(rt; state.closed());
-    assert_eq!(rt; state.spot(first), Some(Spot::Acked(31)));
-    assert_eq!(rt; state.spot(second), Some(Spot::Refused(31)));
-    assert_eq!(rt; state.spot(job(0, 2)), None);
+    assert_same(&rt, &state.spot(first), &Some(Spot::Acked(31)));
+    assert_same(&rt, &state.spot(second), &Some(Spot::Refused(31)));
+    assert_same(&rt, &state.spot(job(0, 2)), &None);
     Ok(())
 }
 
@@ -121,7 +142,7 @@ fn reasons_of_hand_outs(rt: HostRuntime) {
         ([accept, first(0), first(0)], 2, Why::NotQueued),
         ([accept, accept, first(1)], 2, Why::NotOldest),
     ] {
-        assert_eq!(rt; stop(rt.alloc(), events), Some((at, why)));
+        assert_same(&rt, &stop(rt.alloc(), events), &Some((at, why)));
     }
 }
 
@@ -136,19 +157,27 @@ fn reasons_of_holders(rt: HostRuntime) {
         (Event::Back { member: 4, job }, Why::NotHeld),
         (Event::Again { member: 3, job }, Why::NotReturned),
     ] {
-        assert_eq!(rt; stop(rt.alloc(), [accept, first, event]), Some((2, why)));
+        assert_same(
+            &rt,
+            &stop(rt.alloc(), [accept, first, event]),
+            &Some((2, why)),
+        );
     }
 }
 
 #[test]
 fn numbers_of_refusals(rt: HostRuntime) {
     let why = Why::Closed;
-    assert_eq!(rt; StepError::Stuck { why }.number(), 301);
-    assert_eq!(rt; ReplayError::Stuck { at: 4, why }.number(), 301);
-    assert_eq!(rt; StepError::Memory.number(), 302);
-    assert_eq!(rt; ReplayError::Memory { at: 4 }.number(), 302);
-    assert_eq!(rt; ReplayError::NoState.number(), 302);
-    assert_eq!(rt; RoomError::Memory.number(), 302);
+    for (number, wanted) in [
+        (StepError::Stuck { why }.number(), 301),
+        (ReplayError::Stuck { at: 4, why }.number(), 301),
+        (StepError::Memory.number(), 302),
+        (ReplayError::Memory { at: 4 }.number(), 302),
+        (ReplayError::NoState.number(), 302),
+        (RoomError::Memory.number(), 302),
+    ] {
+        assert_same(&rt, &number, &wanted);
+    }
 }
 
 #[test]
@@ -161,11 +190,11 @@ fn names_in_events(rt: HostRuntime) {
         Event::Back { member: 2, job },
         Event::Again { member: 2, job },
     ] {
-        assert_eq!(rt; event.job(), Some(job));
-        assert_eq!(rt; event.member(), Some(2));
+        assert_same(&rt, &event.job(), &Some(job));
+        assert_same(&rt, &event.member(), &Some(2));
     }
     for event in [Event::Accept { port: 3 }, Event::Close] {
-        assert_eq!(rt; event.job(), None);
-        assert_eq!(rt; event.member(), None);
+        assert_same(&rt, &event.job(), &None);
+        assert_same(&rt, &event.member(), &None);
     }
 }

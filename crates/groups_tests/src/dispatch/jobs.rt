@@ -1,6 +1,7 @@
 //! Lists of jobs: what runs they make, and that each call succeeds with ample memory.
 ghost use Rattle.std.specs.Prelude.{◌≡◌, ◌≤◌};
 
+use crate::asserting::assert_same;
 use dispatch_core::{Job, RoomError, Run, Runs};
 use std::alloc::Global;
 use std::test::Fail;
@@ -44,7 +45,7 @@ fn jobs_as_runs(rt: HostRuntime) -> Result<(), Fail> {
         last: 7,
     };
     assert!(rt; has_runs(&runs, &[run]));
-    assert_eq!(rt; runs.len(), 3);
+    assert_same(&rt, &runs.len(), &3);
     runs.reserve(1)?;
     add(&mut runs, job(0, 6));
     let again = Run {
@@ -53,12 +54,12 @@ fn jobs_as_runs(rt: HostRuntime) -> Result<(), Fail> {
         last: 6,
     };
     assert!(rt; has_runs(&runs, &[run, again]));
-    assert_eq!(rt; runs.len(), 4);
+    assert_same(&rt, &runs.len(), &4);
     assert!(rt; runs.contains(job(0, 7)));
     assert!(rt; !runs.contains(job(0, 8)));
-    assert_eq!(rt; runs.job_at(1), Some(job(0, 6)));
-    assert_eq!(rt; runs.job_at(3), Some(job(0, 6)));
-    assert_eq!(rt; runs.job_at(4), None);
+    assert_same(&rt, &runs.job_at(1), &Some(job(0, 6)));
+    assert_same(&rt, &runs.job_at(3), &Some(job(0, 6)));
+    assert_same(&rt, &runs.job_at(4), &None);
     Ok(())
 }
 
@@ -76,7 +77,7 @@ fn many_jobs_in_one_run(rt: HostRuntime) -> Result<(), Fail> {
         last: (1 << 20) - 1,
     };
     assert!(rt; has_runs(&runs, &[run]));
-    assert_eq!(rt; runs.spare() + 1, spare);
+    assert_same(&rt, &(runs.spare() + 1), &spare);
     Ok(())
 }
 
@@ -112,11 +113,11 @@ fn two_lists_in_one(rt: HostRuntime) -> Result<(), Fail> {
     };
     assert!(rt; has_runs(&touching, &[run]));
     let apart = pair(rt.alloc(), job(1, 4), job(0, 5))?;
-    assert_eq!(rt; apart.runs().count(), 2);
-    assert_eq!(rt; apart.job_at(0), Some(job(0, 5)));
+    assert_same(&rt, &apart.runs().count(), &2);
+    assert_same(&rt, &apart.job_at(0), &Some(job(0, 5)));
     let twice = pair(rt.alloc(), job(2, 7), job(2, 7))?;
-    assert_eq!(rt; twice.runs().count(), 2);
-    assert_eq!(rt; twice.len(), 2);
+    assert_same(&rt, &twice.runs().count(), &2);
+    assert_same(&rt, &twice.len(), &2);
     assert!(rt; twice.contains(job(2, 7)));
     Ok(())
 }
@@ -131,12 +132,12 @@ fn isolated_jobs_over_ports(rt: HostRuntime) -> Result<(), Fail> {
             add(&mut runs, job(port, 2 * number));
         }
     }
-    assert_eq!(rt; runs.len(), 3000);
-    assert_eq!(rt; runs.job_at(999), Some(job(0, 1998)));
-    assert_eq!(rt; runs.job_at(1000), Some(job(1, 0)));
+    assert_same(&rt, &runs.len(), &3000);
+    assert_same(&rt, &runs.job_at(999), &Some(job(0, 1998)));
+    assert_same(&rt, &runs.job_at(1000), &Some(job(1, 0)));
     let mut jobs = runs.jobs();
-    assert_eq!(rt; jobs.next(), Some(job(0, 0)));
-    assert_eq!(rt; jobs.next(), Some(job(0, 2)));
+    assert_same(&rt, &jobs.next(), &Some(job(0, 0)));
+    assert_same(&rt, &jobs.next(), &Some(job(0, 2)));
     assert!(rt; runs.contains(job(2, 1998)));
     assert!(rt; !runs.contains(job(2, 1997)));
     for number in 0..999u64 {

@@ -1,5 +1,6 @@
 //! Groups on one thread: what became of a few messages, and each refusal.
 
+use crate::asserting::{assert_items, assert_same, assert_text};
 use bytes::Bytes;
 use group_jobs::{Envelope, Fate, Message, SharedMessage, Stamp};
 use local_group::{LocalGroup, OfferError, TakeError};
@@ -102,38 +103,51 @@ fn line(alloc: Global, group: &LocalGroup) -> Result<Vec<u8>, Fail> {
 fn group_ledger(rt: HostRuntime) -> Result<(), Fail> {
     let mut group = LocalGroup::open(rt.alloc(), 0, 8)?;
     for number in 0..4u64 {
-        assert_eq!(rt; offer(rt.alloc(), &mut group, 0, b"A"), Some(number));
+        assert_same(&rt, &offer(rt.alloc(), &mut group, 0, b"A"), &Some(number));
     }
     let acknowledged = Does::Settle(Fate::Acknowledged);
-    assert_eq!(rt; take(&mut group, 0, acknowledged), Ok(Some((0, b'A'))));
-    assert_eq!(rt; take(&mut group, 0, Does::GiveBack), Ok(Some((1, b'A'))));
-    assert_eq!(rt; take(&mut group, 1, Does::Keep), Ok(Some((2, b'A'))));
+    assert_same(
+        &rt,
+        &take(&mut group, 0, acknowledged),
+        &Ok(Some((0, b'A'))),
+    );
+    assert_same(
+        &rt,
+        &take(&mut group, 0, Does::GiveBack),
+        &Ok(Some((1, b'A'))),
+    );
+    assert_same(&rt, &take(&mut group, 1, Does::Keep), &Ok(Some((2, b'A'))));
     group.close();
     group.close();
-    assert_eq!(rt; group.events().len(), 10);
-    assert_eq!(rt; offer(rt.alloc(), &mut group, 0, b"B"), Some(401));
-    assert_eq!(rt; take(&mut group, 0, Does::Keep), Err(TakeError::Shut));
-    assert_eq!(rt; take_back(&mut group, 0, Does::Keep), Err(TakeError::Shut));
+    assert_same(&rt, &group.events().len(), &10);
+    assert_same(&rt, &offer(rt.alloc(), &mut group, 0, b"B"), &Some(401));
+    assert_same(&rt, &take(&mut group, 0, Does::Keep), &Err(TakeError::Shut));
+    assert_same(
+        &rt,
+        &take_back(&mut group, 0, Does::Keep),
+        &Err(TakeError::Shut),
+    );
     let report = line(rt.alloc(), &group)?;
     let wanted = b"$share/g/job accepted 4 acknowledged 1 refused 0 held 1 queued 1 returned 1\n";
-    assert_eq!(rt; report.as_slice(), wanted.as_slice());
+    assert_items(&rt, report.as_slice(), wanted.as_slice());
     Ok(())
 }
 
 #[test]
 fn full_queue(rt: HostRuntime) -> Result<(), Fail> {
     let mut group = LocalGroup::open(rt.alloc(), 0, 1)?;
-    assert_eq!(rt; offer(rt.alloc(), &mut group, 0, b"A"), Some(0));
-    assert_eq!(rt; offer(rt.alloc(), &mut group, 1, b"B"), Some(501));
-    assert_eq!(rt;
-        take(&mut group, 31, Does::Settle(Fate::Refused)),
-        Ok(Some((0, b'A')))
+    assert_same(&rt, &offer(rt.alloc(), &mut group, 0, b"A"), &Some(0));
+    assert_same(&rt, &offer(rt.alloc(), &mut group, 1, b"B"), &Some(501));
+    assert_same(
+        &rt,
+        &take(&mut group, 31, Does::Settle(Fate::Refused)),
+        &Ok(Some((0, b'A'))),
     );
-    assert_eq!(rt; take(&mut group, 31, Does::Keep), Ok(None));
-    assert_eq!(rt; offer(rt.alloc(), &mut group, 1, b"B"), Some(0));
+    assert_same(&rt, &take(&mut group, 31, Does::Keep), &Ok(None));
+    assert_same(&rt, &offer(rt.alloc(), &mut group, 1, b"B"), &Some(0));
     let report = line(rt.alloc(), &group)?;
     let wanted = b"$share/g/job accepted 2 acknowledged 0 refused 1 held 0 queued 1 returned 0\n";
-    assert_eq!(rt; report.as_slice(), wanted.as_slice());
+    assert_items(&rt, report.as_slice(), wanted.as_slice());
     Ok(())
 }
 
@@ -141,14 +155,30 @@ fn full_queue(rt: HostRuntime) -> Result<(), Fail> {
 #[test]
 fn returned_out_of_order(rt: HostRuntime) -> Result<(), Fail> {
     let mut group = LocalGroup::open(rt.alloc(), 3, 8)?;
-    assert_eq!(rt; take_back(&mut group, 0, Does::Keep), Ok(None));
-    assert_eq!(rt; offer(rt.alloc(), &mut group, 2, b"A"), Some(0));
-    assert_eq!(rt; offer(rt.alloc(), &mut group, 2, b"B"), Some(1));
-    assert_eq!(rt; take(&mut group, 0, Does::GiveBack), Ok(Some((0, b'A'))));
-    assert_eq!(rt; take(&mut group, 1, Does::GiveBack), Ok(Some((1, b'B'))));
+    assert_same(&rt, &take_back(&mut group, 0, Does::Keep), &Ok(None));
+    assert_same(&rt, &offer(rt.alloc(), &mut group, 2, b"A"), &Some(0));
+    assert_same(&rt, &offer(rt.alloc(), &mut group, 2, b"B"), &Some(1));
+    assert_same(
+        &rt,
+        &take(&mut group, 0, Does::GiveBack),
+        &Ok(Some((0, b'A'))),
+    );
+    assert_same(
+        &rt,
+        &take(&mut group, 1, Does::GiveBack),
+        &Ok(Some((1, b'B'))),
+    );
     let acknowledged = Does::Settle(Fate::Acknowledged);
-    assert_eq!(rt; take_back(&mut group, 1, acknowledged), Ok(Some((0, b'A'))));
-    assert_eq!(rt; take_back(&mut group, 0, Does::Keep), Ok(Some((1, b'B'))));
+    assert_same(
+        &rt,
+        &take_back(&mut group, 1, acknowledged),
+        &Ok(Some((0, b'A'))),
+    );
+    assert_same(
+        &rt,
+        &take_back(&mut group, 0, Does::Keep),
+        &Ok(Some((1, b'B'))),
+    );
     Ok(())
 }
 
@@ -175,14 +205,15 @@ fn errors(rt: HostRuntime) -> Result<(), Fail> {
         OfferError::Full,
         OfferError::Memory
     )?;
-    assert_eq!(rt;
+    assert_text(
+        &rt,
         told.as_str(),
-        "the group is closed, the port has accepted all messages of its life, the queue is full, out of memory"
+        "the group is closed, the port has accepted all messages of its life, the queue is full, out of memory",
     );
-    assert_eq!(rt; OfferError::LifeSpent.number(), 502);
-    assert_eq!(rt; OfferError::Memory.number(), 503);
+    assert_same(&rt, &OfferError::LifeSpent.number(), &502);
+    assert_same(&rt, &OfferError::Memory.number(), &503);
     let told = format!(in rt.alloc(); "{}, {}", TakeError::Shut, TakeError::Memory)?;
-    assert_eq!(rt; told.as_str(), "the group is closed, out of memory");
-    assert_eq!(rt; TakeError::Memory.number(), 503);
+    assert_text(&rt, told.as_str(), "the group is closed, out of memory");
+    assert_same(&rt, &TakeError::Memory.number(), &503);
     Ok(())
 }

@@ -1,6 +1,7 @@
 //! A row of calls, of which each that memory refuses is made again, so that the report is the same whichever allocation fails: four
 //! offers; a place takes two messages, of which it settles one and gives one back; another takes one; the group closes.
 
+use crate::asserting::{assert_items, assert_same};
 use crate::local::groups::message;
 use dispatch_core::Job;
 use group_jobs::{Envelope, Fate, Report, SharedMessage};
@@ -98,8 +99,8 @@ fn row(alloc: Global) -> Option<Report> {
 #[test]
 fn refused_calls_made_again(rt: HostRuntime) -> Result<(), Fail> {
     let report = row(rt.alloc()).ok_or("a report")?;
-    assert_eq!(rt; report.accepted.first(), Some(&4));
-    assert_eq!(rt; report.settled.acknowledged.len(), 1);
+    assert_same(&rt, &report.accepted.first().copied(), &Some(4));
+    assert_same(&rt, &report.settled.acknowledged.len(), &1);
     assert!(rt;
         report
             .settled
@@ -107,11 +108,20 @@ fn refused_calls_made_again(rt: HostRuntime) -> Result<(), Fail> {
             .contains(Job { port: 0, number: 0 })
     );
     assert!(rt; report.settled.refused.is_empty());
-    assert_eq!(rt; report.held.as_slice(), &[Job { port: 0, number: 2 }][..]);
-    assert_eq!(rt; report.queued.as_slice(), &[Job { port: 0, number: 3 }][..]);
-    assert_eq!(rt;
+    assert_items(
+        &rt,
+        report.held.as_slice(),
+        &[Job { port: 0, number: 2 }][..],
+    );
+    assert_items(
+        &rt,
+        report.queued.as_slice(),
+        &[Job { port: 0, number: 3 }][..],
+    );
+    assert_items(
+        &rt,
         report.returned.as_slice(),
-        &[Job { port: 0, number: 1 }][..]
+        &[Job { port: 0, number: 1 }][..],
     );
     drop(report);
     Ok(())

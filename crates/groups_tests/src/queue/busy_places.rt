@@ -3,6 +3,7 @@ ghost use Rattle.std.specs.Prelude.{◌≡◌, All};
 ghost use Rattle.group_queue.specs.Ports.{IsPortOf};
 ghost use Rattle.group_queue.specs.Places.{IsPlaceOf};
 
+use crate::asserting::assert_same;
 use crate::queue::group_ledger::{acknowledge, offer};
 use crate::queue::life::{open_gate, put_place, put_port, take_place, take_port};
 use crate::queue::row::end;
@@ -123,7 +124,7 @@ fn live<R: Wait>(rt: &R, alloc: Global, rounds: u32) -> Option<Told> {
 /// more room than for twice as many.
 fn assert_whole(rt: &impl Abort, told: &Told, rounds: u32) {
     let messages = u128::from(rounds) * u128::from(PLACES);
-    assert_eq!(rt; told.report.settled.acknowledged.len(), messages);
+    assert_same(rt, &told.report.settled.acknowledged.len(), &messages);
     assert!(rt; told.report.settled.refused.is_empty());
     assert!(rt; u128::from(rounds) <= told.runs as u128);
     assert!(rt; told.report.settled.acknowledged.spare() as u128 <= 2 * (told.runs as u128));

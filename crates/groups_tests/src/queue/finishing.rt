@@ -3,9 +3,10 @@ ghost use Rattle.std.specs.Prelude.{◌≡◌, All, IfSome};
 ghost use Rattle.group_queue.specs.Ports.{IsPortOf};
 ghost use Rattle.group_queue.specs.Places.{IsPlaceOf};
 
+use crate::asserting::assert_same;
 use crate::queue::group_ledger::{acknowledge, return_one};
 use crate::queue::life::{Life, live, take_place};
-use crate::queue::reports::{Wanted, assert_same};
+use crate::queue::reports::Wanted;
 use crate::queue::row::{end, held_list, offer_four, spend, take_again};
 use crate::queue::values::message;
 use gate_word::{Gate, GateSeat, Turn};

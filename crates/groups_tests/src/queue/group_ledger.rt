@@ -3,6 +3,7 @@ ghost use Rattle.std.specs.Prelude.{◌≡◌};
 ghost use Rattle.group_queue.specs.Ports.{IsPortOf};
 ghost use Rattle.group_queue.specs.Places.{IsPlaceOf};
 
+use crate::asserting::assert_same;
 use crate::queue::life::{Life, live};
 use crate::queue::values::message;
 use gate_word::{Gate, GateSeat, Turn};
@@ -155,9 +156,10 @@ impl Life for Tell {
 #[test]
 fn group_ledger(rt: HostRuntime) -> Result<(), Fail> {
     let told = live(&rt, rt.alloc(), 2, &Tell).ok_or("a life")?;
-    assert_eq!(rt;
-        told,
-        Told {
+    assert_same(
+        &rt,
+        &told,
+        &Told {
             first: Ok(0),
             second: Ok(1),
             third: Err(501),
@@ -165,7 +167,7 @@ fn group_ledger(rt: HostRuntime) -> Result<(), Fail> {
             is_returned: true,
             refused: Some(1),
             is_empty: true,
-        }
+        },
     );
     Ok(())
 }

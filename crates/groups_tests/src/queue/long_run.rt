@@ -3,6 +3,7 @@ ghost use Rattle.std.specs.Prelude.{◌≡◌};
 ghost use Rattle.group_queue.specs.Ports.{IsPortOf};
 ghost use Rattle.group_queue.specs.Places.{IsPlaceOf};
 
+use crate::asserting::assert_same;
 use crate::queue::group_ledger::{acknowledge, offer};
 use crate::queue::life::{Life, live};
 use crate::queue::reports::Wanted;
@@ -101,7 +102,7 @@ fn seventy_thousand_messages(rt: HostRuntime) -> Result<(), Fail> {
         accepted: 70_000,
         run_count: 1,
     };
-    assert_eq!(rt; told, wanted);
+    assert_same(&rt, &told, &wanted);
     let wanted = Wanted {
         accepted: &[70_000],
         acknowledged: 70_000,

@@ -1,8 +1,8 @@
 //! What a report is to say.
 
+use crate::asserting::{assert_items, assert_same};
 use dispatch_core::Job;
 use group_jobs::Report;
-use std::fmt::Debug;
 use std::process::Abort;
 
 /// What a report is to say: what each port accepted, how many messages were acknowledged, and none refused, and which were held, queued and returned.
@@ -30,19 +30,9 @@ impl Wanted {
         assert!(rt; report.accepted.as_slice() == self.accepted);
         assert_same(rt, &report.settled.acknowledged.len(), &self.acknowledged);
         assert!(rt; report.settled.refused.is_empty());
-        assert_jobs(rt, &report.held, self.held);
-        assert_jobs(rt, &report.queued, self.queued);
-        assert_jobs(rt, &report.returned, self.returned);
+        assert_items(rt, &report.held, self.held);
+        assert_items(rt, &report.queued, self.queued);
+        assert_items(rt, &report.returned, self.returned);
         drop(report);
     }
-}
-
-/// Two answers are the same.
-pub fn assert_same<T: PartialEq + Debug>(rt: &impl Abort, found: &T, wanted: &T) {
-    assert_eq!(rt; found, wanted);
-}
-
-/// Jobs are these.
-fn assert_jobs(rt: &impl Abort, found: &[Job], wanted: &[Job]) {
-    assert_eq!(rt; found, wanted);
 }

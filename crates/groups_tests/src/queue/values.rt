@@ -1,4 +1,5 @@
 //! Messages, ledgers, reports and the texts of errors.
+use crate::asserting::assert_text;
 use bytes::Bytes;
 use group_jobs::{JobError, Message, SharedMessage};
 use group_queue::{NotTaken, OfferError, Place, Port, SharedGroup};
@@ -35,9 +36,9 @@ fn what_threads_may_do_with_it() {
 }
 
 /// An error has this text.
-fn assert_text<E: Display>(rt: &impl Abort, alloc: Global, error: &E, wanted: &str) {
+fn assert_told<E: Display>(rt: &impl Abort, alloc: Global, error: &E, wanted: &str) {
     let text = format!(in alloc; "{error}").ok().expect(rt, "memory");
-    assert_eq!(rt; text.as_str(), wanted);
+    assert_text(rt, text.as_str(), wanted);
 }
 
 /// A refusal that hands a message back.
@@ -51,11 +52,11 @@ fn refused(alloc: Global) -> Option<NotTaken> {
 #[test]
 fn errors_have_texts(rt: HostRuntime) {
     let full = "the queue is full";
-    assert_text(&rt, rt.alloc(), &OfferError::Full, full);
+    assert_told(&rt, rt.alloc(), &OfferError::Full, full);
     let refused = refused(rt.alloc()).expect(&rt, "a message");
-    assert_text(&rt, rt.alloc(), &refused, full);
+    assert_told(&rt, rt.alloc(), &refused, full);
     drop(refused);
     let spent = "the numbers of the port are used up";
-    assert_text(&rt, rt.alloc(), &OfferError::LifeSpent, spent);
-    assert_text(&rt, rt.alloc(), &JobError::Memory, "out of memory");
+    assert_told(&rt, rt.alloc(), &OfferError::LifeSpent, spent);
+    assert_told(&rt, rt.alloc(), &JobError::Memory, "out of memory");
 }
