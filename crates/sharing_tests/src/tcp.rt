@@ -2,7 +2,7 @@
 
 mod alone;
 mod bells;
-mod echo;
+pub mod echo;
 mod ends;
 mod peers;
 mod sources;

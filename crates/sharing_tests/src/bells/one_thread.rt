@@ -2,6 +2,7 @@
 ghost use Rattle.std.specs.Prelude.{◌≡◌, IfSome};
 ghost use Rattle.bell.specs.Calls.{AreListenersOf, AreRingersOf};
 
+use crate::asserting::assert_same;
 use bell::{Bell, BellError, Call, Listener, MOST_WORKERS, Ringer, Wake};
 use std::sync::atomic::{AtomicU64, Ordering};
 use std::test::Fail;
@@ -68,16 +69,16 @@ fn a_ring_wakes_the_idle_ones_until_there_are_enough(rt: HostRuntime) -> Result<
     let mut first = take_listener(&bell, &mut listeners).expect(&rt, "a first listener");
     let mut ringer = take_ringer(&bell, &mut ringers).expect(&rt, "a ringer");
     let wakers = [none(), none(), none()];
-    assert_eq!(rt; bell.ring(&mut ringer, 3, &wakers), 0);
+    assert_same(&rt, &bell.ring(&mut ringer, 3, &wakers), &0);
     assert!(rt; finds_nothing(&bell, &mut third));
     assert!(rt; finds_nothing(&bell, &mut second));
     assert!(rt; finds_nothing(&bell, &mut first));
-    assert_eq!(rt; bell.ring(&mut ringer, 0, &wakers), 0);
-    assert_eq!(rt; counted(&wakers), [0, 0, 0]);
-    assert_eq!(rt; bell.ring(&mut ringer, 2, &wakers), 2);
-    assert_eq!(rt; counted(&wakers), [1, 1, 0]);
-    assert_eq!(rt; bell.ring(&mut ringer, 2, &wakers), 1);
-    assert_eq!(rt; counted(&wakers), [1, 1, 1]);
+    assert_same(&rt, &bell.ring(&mut ringer, 0, &wakers), &0);
+    assert_same(&rt, &counted(&wakers), &[0, 0, 0]);
+    assert_same(&rt, &bell.ring(&mut ringer, 2, &wakers), &2);
+    assert_same(&rt, &counted(&wakers), &[1, 1, 0]);
+    assert_same(&rt, &bell.ring(&mut ringer, 2, &wakers), &1);
+    assert_same(&rt, &counted(&wakers), &[1, 1, 1]);
     Ok(())
 }
 
@@ -88,12 +89,12 @@ fn who_looks_for_work_hears_a_ring(rt: HostRuntime) -> Result<(), Fail> {
     let mut ringer = take_ringer(&bell, &mut ringers).expect(&rt, "a ringer");
     let wakers = [none(), none(), none()];
     bell.listen(&mut third);
-    assert_eq!(rt; bell.ring(&mut ringer, 1, &wakers), 0);
+    assert_same(&rt, &bell.ring(&mut ringer, 1, &wakers), &0);
     assert!(rt; !bell.settle(&mut third));
     assert!(rt; finds_nothing(&bell, &mut third));
     bell.listen(&mut third);
-    assert_eq!(rt; bell.ring(&mut ringer, 1, &wakers), 0);
-    assert_eq!(rt; counted(&wakers), [0, 0, 0]);
+    assert_same(&rt, &bell.ring(&mut ringer, 1, &wakers), &0);
+    assert_same(&rt, &counted(&wakers), &[0, 0, 0]);
     Ok(())
 }
 
@@ -104,7 +105,7 @@ fn who_listens_again_hears_the_ring_that_called_it(rt: HostRuntime) -> Result<()
     let mut ringer = take_ringer(&bell, &mut ringers).expect(&rt, "a ringer");
     let wakers = [none(), none(), none()];
     assert!(rt; finds_nothing(&bell, &mut third));
-    assert_eq!(rt; bell.ring(&mut ringer, 1, &wakers), 1);
+    assert_same(&rt, &bell.ring(&mut ringer, 1, &wakers), &1);
     assert!(rt; !bell.listen(&mut third));
     assert!(rt; bell.listen(&mut third));
     Ok(())
@@ -114,7 +115,7 @@ fn who_listens_again_hears_the_ring_that_called_it(rt: HostRuntime) -> Result<()
 fn a_bell_has_thirty_two_workers_at_most(rt: HostRuntime) {
     match Bell::open(rt.alloc(), MOST_WORKERS, 5) {
         Ok((_bell, listeners, ringers)) => {
-            assert_eq!(rt; [listeners.len(), ringers.len()], [32, 5]);
+            assert_same(&rt, &[listeners.len(), ringers.len()], &[32, 5]);
         }
         Err(BellError::Memory) => panic!(rt; "no memory"),
     }

@@ -3,6 +3,7 @@
 ghost use Rattle.std.specs.Prelude.{◌≡◌, ◌<◌};
 ghost use Rattle.std.specs.Thread.{IsSync};
 
+use crate::asserting::assert_same;
 use crate::bells::one_thread::{take_listener, take_ringer};
 use bell::{Bell, Listener, Ringer, Wake};
 use std::sync::Wait;
@@ -139,6 +140,6 @@ fn no_ring_is_slept_through(rt: HostRuntime) -> Result<(), Fail> {
     let second = take_listener(&bell, &mut listeners).expect(&rt, "a second listener");
     let first = take_listener(&bell, &mut listeners).expect(&rt, "a first listener");
     let ringer = take_ringer(&bell, &mut ringers).expect(&rt, "a ringer");
-    assert_eq!(rt; run(&rt, &bell, first, second, ringer), JOBS);
+    assert_same(&rt, &run(&rt, &bell, first, second, ringer), &JOBS);
     Ok(())
 }

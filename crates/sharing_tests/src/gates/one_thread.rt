@@ -3,6 +3,7 @@ ghost use Rattle.std.specs.Prelude.{◌≡◌, IfSome};
 ghost use Rattle.gate_word.specs.Seats.{AreSeatsOf};
 ghost use Rattle.gate_word.specs.Visits.{seat_in};
 
+use crate::asserting::assert_same;
 use gate_word::{Drained, Gate, GateError, GateSeat, MOST_SEATS, Turn, Visitor};
 use std::test::Fail;
 
@@ -73,15 +74,19 @@ fn a_visitor_enters_until_the_gate_is_shut(rt: HostRuntime) -> Result<(), Fail> 
     let (gate, mut seats) = Gate::open(rt.alloc(), 2)?;
     let mut shutter = take_seat(&gate, &mut seats).ok_or("a second seat")?;
     let seat = take_seat(&gate, &mut seats).ok_or("a first seat")?;
-    assert_eq!(rt; visits(&gate, seat, &mut shutter), [true, true, false]);
+    assert_same(
+        &rt,
+        &visits(&gate, seat, &mut shutter),
+        &[true, true, false],
+    );
     Ok(())
 }
 
 #[test]
 fn a_gate_has_eighty_seats_at_most(rt: HostRuntime) {
     match Gate::open(rt.alloc(), MOST_SEATS) {
-        Ok((_gate, seats)) => assert_eq!(rt; seats.len(), 80),
-        Err(GateError::Memory) => assert_eq!(rt; GateError::Memory.number(), 402),
+        Ok((_gate, seats)) => assert_same(&rt, &seats.len(), &80),
+        Err(GateError::Memory) => assert_same(&rt, &GateError::Memory.number(), &402),
     }
 }
 

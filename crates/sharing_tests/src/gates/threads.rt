@@ -2,6 +2,7 @@
 ghost use Rattle.std.specs.Prelude.{◌≡◌};
 ghost use Rattle.gate_word.specs.Seats.{AreSeatsOf};
 
+use crate::asserting::assert_same;
 use crate::gates::one_thread::take_seat;
 use gate_word::{Gate, GateSeat};
 use std::sync::Wait;
@@ -113,6 +114,6 @@ fn nobody_is_counted_after_drained(rt: HostRuntime) -> Result<(), Fail> {
     let seat = take_seat(&gate, &mut seats).ok_or("a seat to shut with")?;
     let (at_close, in_the_end) = run(&rt, &gate, seat, seats).ok_or("memory for threads")?;
     assert!(rt; at_close >= WARM);
-    assert_eq!(rt; at_close, in_the_end);
+    assert_same(&rt, &at_close, &in_the_end);
     Ok(())
 }

@@ -1,6 +1,7 @@
 //! Two workers on one thread: what the one binds the other learns, what it is told of it knows, and the ninth share finds no slot.
 ghost use Rattle.std.specs.Prelude.{◌≡◌};
 
+use crate::asserting::assert_same;
 use bytes::Bytes;
 use mqtt_packet::Text;
 use mqtt_topic::{Share, Slots, TopicName};
@@ -54,11 +55,15 @@ fn what_one_binds_another_learns(rt: HostRuntime) -> Result<(), Fail> {
     let mut one = KnownRoutes::new(rt.alloc(), &routes)?;
     let mut other = KnownRoutes::new(rt.alloc(), &routes)?;
     for (slot, text) in SHARES.iter().take(8).enumerate() {
-        assert_eq!(rt; bound(rt.alloc(), &mut one, *text), Some(Ok(slot as u8)));
+        assert_same(
+            &rt,
+            &bound(rt.alloc(), &mut one, *text),
+            &Some(Ok(slot as u8)),
+        );
     }
-    assert_eq!(rt; found(&other, SHARES[7]), None);
+    assert_same(&rt, &found(&other, SHARES[7]), &None);
     other.refresh();
-    assert_eq!(rt; found(&other, SHARES[7]), Some(7));
+    assert_same(&rt, &found(&other, SHARES[7]), &Some(7));
     let slots = routed(&other, "c").ok_or("it is a name")?;
     assert!(rt; slots.len() == 2 && slots.contains(2) && slots.contains(7));
     Ok(())
@@ -69,14 +74,14 @@ fn what_it_was_told_of_it_knows(rt: HostRuntime) -> Result<(), Fail> {
     let routes = SharedRoutes::new(rt.alloc());
     let mut one = KnownRoutes::new(rt.alloc(), &routes)?;
     let mut other = KnownRoutes::new(rt.alloc(), &routes)?;
-    assert_eq!(rt; bound(rt.alloc(), &mut one, SHARES[0]), Some(Ok(0)));
-    assert_eq!(rt; bound(rt.alloc(), &mut one, SHARES[1]), Some(Ok(1)));
+    assert_same(&rt, &bound(rt.alloc(), &mut one, SHARES[0]), &Some(Ok(0)));
+    assert_same(&rt, &bound(rt.alloc(), &mut one, SHARES[1]), &Some(Ok(1)));
     one.publish(&mut other);
-    assert_eq!(rt; found(&other, SHARES[1]), None);
+    assert_same(&rt, &found(&other, SHARES[1]), &None);
     other.refresh();
-    assert_eq!(rt; found(&other, SHARES[1]), Some(1));
+    assert_same(&rt, &found(&other, SHARES[1]), &Some(1));
     other.publish(&mut one);
-    assert_eq!(rt; bound(rt.alloc(), &mut other, SHARES[2]), Some(Ok(2)));
+    assert_same(&rt, &bound(rt.alloc(), &mut other, SHARES[2]), &Some(Ok(2)));
     Ok(())
 }
 
@@ -85,10 +90,10 @@ fn a_share_has_one_slot(rt: HostRuntime) -> Result<(), Fail> {
     let routes = SharedRoutes::new(rt.alloc());
     let mut one = KnownRoutes::new(rt.alloc(), &routes)?;
     let mut other = KnownRoutes::new(rt.alloc(), &routes)?;
-    assert_eq!(rt; bound(rt.alloc(), &mut one, SHARES[3]), Some(Ok(0)));
-    assert_eq!(rt; bound(rt.alloc(), &mut other, SHARES[4]), Some(Ok(1)));
-    assert_eq!(rt; bound(rt.alloc(), &mut other, SHARES[3]), Some(Ok(0)));
-    assert_eq!(rt; bound(rt.alloc(), &mut one, SHARES[4]), Some(Ok(1)));
+    assert_same(&rt, &bound(rt.alloc(), &mut one, SHARES[3]), &Some(Ok(0)));
+    assert_same(&rt, &bound(rt.alloc(), &mut other, SHARES[4]), &Some(Ok(1)));
+    assert_same(&rt, &bound(rt.alloc(), &mut other, SHARES[3]), &Some(Ok(0)));
+    assert_same(&rt, &bound(rt.alloc(), &mut one, SHARES[4]), &Some(Ok(1)));
     Ok(())
 }
 
@@ -100,11 +105,12 @@ fn the_ninth_share_finds_no_slot(rt: HostRuntime) -> Result<(), Fail> {
     for text in SHARES.iter().take(8) {
         let _ = bound(rt.alloc(), &mut one, *text);
     }
-    assert_eq!(rt;
-        bound(rt.alloc(), &mut other, SHARES[8]),
-        Some(Err(BindError::NoSlot))
+    assert_same(
+        &rt,
+        &bound(rt.alloc(), &mut other, SHARES[8]),
+        &Some(Err(BindError::NoSlot)),
     );
-    assert_eq!(rt; bound(rt.alloc(), &mut other, SHARES[0]), Some(Ok(0)));
+    assert_same(&rt, &bound(rt.alloc(), &mut other, SHARES[0]), &Some(Ok(0)));
     Ok(())
 }
 

@@ -1,4 +1,5 @@
 //! Two threads bind the same shares at once, in opposite orders, and are given the same slots.
+use crate::asserting::assert_same;
 use crate::routes::one_thread::{SHARES, bound};
 use shared_routes::{KnownRoutes, SharedRoutes};
 use std::alloc::Global;
@@ -41,7 +42,7 @@ fn is_shared_by_threads<T: Sync>() {}
 #[test]
 fn who_bind_at_once_agree(rt: HostRuntime) {
     for _ in 0..20u32 {
-        assert_eq!(rt; alike(&rt, rt.alloc()), Some(8));
+        assert_same(&rt, &alike(&rt, rt.alloc()), &Some(8));
     }
 }
 

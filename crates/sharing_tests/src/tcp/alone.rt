@@ -1,4 +1,5 @@
 //! One connection alone, which waits in its reads and writes.
+use crate::asserting::assert_same;
 use crate::tcp::echo::{read, write};
 use std::io::{Read, Write};
 use std::net::{Ipv4Addr, SocketAddr, TcpStream};
@@ -28,17 +29,17 @@ fn a_read_waits_by_itself(rt: HostRuntime) -> Result<(), Fail> {
     let mut alone = Patient::new(&rt, rt.alloc(), socket)?;
     let mut buffer = [0; 4096];
     let start = Instant::now(&rt)?;
-    assert_eq!(rt; read(&rt, &mut alone, &mut buffer), Got::Idle);
+    assert_same(&rt, &read(&rt, &mut alone, &mut buffer), &Got::Idle);
     assert!(rt; has_waited(&rt, start));
     peer.write_all(b"abc")?;
-    assert_eq!(rt; read(&rt, &mut alone, &mut buffer), Got::Bytes(3));
+    assert_same(&rt, &read(&rt, &mut alone, &mut buffer), &Got::Bytes(3));
     assert!(rt; buffer.starts_with(b"abc"));
-    assert_eq!(rt; write(&rt, &mut alone, b"de"), Put::Wrote(2));
+    assert_same(&rt, &write(&rt, &mut alone, b"de"), &Put::Wrote(2));
     let mut two = [0; 2];
     peer.read_exact(&mut two)?;
-    assert_eq!(rt; two, *b"de");
+    assert_same(&rt, &two, &*b"de");
     drop(peer);
-    assert_eq!(rt; read(&rt, &mut alone, &mut buffer), Got::End);
+    assert_same(&rt, &read(&rt, &mut alone, &mut buffer), &Got::End);
     Ok(())
 }
 
@@ -80,7 +81,7 @@ fn a_write_waits_by_itself(rt: HostRuntime) -> Result<(), Fail> {
     // What comes does not end the wait.
     peer.write_all(b"abc")?;
     let start = Instant::now(&rt)?;
-    assert_eq!(rt; write(&rt, &mut alone, b"de"), Put::Idle);
+    assert_same(&rt, &write(&rt, &mut alone, b"de"), &Put::Idle);
     assert!(rt; has_waited(&rt, start));
     peer.set_nonblocking(true)?;
     for _ in 0..100 {

@@ -1,4 +1,5 @@
 //! A reactor tells of the end of a stream.
+use crate::asserting::assert_same;
 use std::net::{Ipv4Addr, SocketAddr, TcpStream};
 use std::test::Fail;
 use std::time::Duration;
@@ -17,12 +18,12 @@ fn an_end_is_told(rt: HostRuntime) -> Result<(), Fail> {
     let number = reactor.register(&mut socket)?;
     let _rang = reactor.wait(&rt, Duration::from_secs(50))?;
     let first = reactor.take_ready().expect(&rt, "it may be written");
-    assert_eq!(rt; first.number, number);
+    assert_same(&rt, &first.number, &number);
     assert!(rt; first.writable && !first.readable && !first.closed);
     drop(peer);
     let _rang = reactor.wait(&rt, Duration::from_secs(50))?;
     let second = reactor.take_ready().expect(&rt, "it has ended");
-    assert_eq!(rt; second.number, number);
+    assert_same(&rt, &second.number, &number);
     assert!(rt; second.readable && second.closed);
     assert!(rt; reactor.take_ready().is_none());
     Ok(())

@@ -1,4 +1,5 @@
 //! Peers of one worker: many, slow ones, one that stops reading, one that goes away in mid-packet.
+use crate::asserting::assert_same;
 use crate::tcp::echo::{Served, serve};
 use std::alloc::Global;
 use std::io::{ErrorKind, Read, Write};
@@ -96,8 +97,8 @@ fn one_connection_gets_back_what_it_sends(rt: HostRuntime) -> Result<(), Fail> {
         || serve(&rt, rt.alloc(), reactor, source, 1),
         || send_windows(&rt, port, 1),
     );
-    assert_eq!(rt; back, 10);
-    assert_eq!(rt; served, Served { came: 1, ended: 1 });
+    assert_same(&rt, &back, &10);
+    assert_same(&rt, &served, &Served { came: 1, ended: 1 });
     Ok(())
 }
 
@@ -109,13 +110,14 @@ fn sixteen_connections_get_back_what_they_send(rt: HostRuntime) -> Result<(), Fa
         || serve(&rt, rt.alloc(), reactor, source, 16),
         || send_windows(&rt, port, 16),
     );
-    assert_eq!(rt; back, 160);
-    assert_eq!(rt;
-        served,
-        Served {
+    assert_same(&rt, &back, &160);
+    assert_same(
+        &rt,
+        &served,
+        &Served {
             came: 16,
-            ended: 16
-        }
+            ended: 16,
+        },
     );
     Ok(())
 }
@@ -128,13 +130,14 @@ fn many_connections_get_back_what_they_send(rt: HostRuntime) -> Result<(), Fail>
         || serve(&rt, rt.alloc(), reactor, source, 256),
         || send_windows(&rt, port, 256),
     );
-    assert_eq!(rt; back, 2_560);
-    assert_eq!(rt;
-        served,
-        Served {
+    assert_same(&rt, &back, &2_560);
+    assert_same(
+        &rt,
+        &served,
+        &Served {
             came: 256,
-            ended: 256
-        }
+            ended: 256,
+        },
     );
     Ok(())
 }
@@ -199,8 +202,8 @@ fn others_go_on_beside_unruly_peers(rt: HostRuntime) -> Result<(), Fail> {
         || serve(&rt, rt.alloc(), reactor, source, 7),
         || be_unruly(&rt, port),
     );
-    assert_eq!(rt; back, 41);
-    assert_eq!(rt; served, Served { came: 7, ended: 7 });
+    assert_same(&rt, &back, &41);
+    assert_same(&rt, &served, &Served { came: 7, ended: 7 });
     Ok(())
 }
 
@@ -208,9 +211,10 @@ fn others_go_on_beside_unruly_peers(rt: HostRuntime) -> Result<(), Fail> {
 fn a_port_in_use_is_told_apart(rt: HostRuntime) -> Result<(), Fail> {
     let (_reactor, _source, port) = open(&rt);
     assert!(rt; port != 0);
-    assert_eq!(rt;
-        TcpSource::open(&rt, Ipv4Addr::LOCALHOST, port).err(),
-        Some(OpenError::PortInUse)
+    assert_same(
+        &rt,
+        &TcpSource::open(&rt, Ipv4Addr::LOCALHOST, port).err(),
+        &Some(OpenError::PortInUse),
     );
     Ok(())
 }

@@ -1,4 +1,5 @@
 //! What a source gives besides connections: its end, and that it is short of something.
+use crate::asserting::assert_same;
 use std::io::Error;
 use std::net::{Ipv4Addr, SocketAddr, TcpStream};
 use std::sync::atomic::{AtomicBool, Ordering};
@@ -19,7 +20,7 @@ fn a_source_ends_once_its_flag_is_set(rt: HostRuntime) -> Result<(), Fail> {
     closes.store(true, Ordering::SeqCst);
     assert!(rt; matches!(until.next(), Arrival::End));
     assert!(rt; matches!(until.next(), Arrival::End));
-    assert_eq!(rt; (until.arrivals(), until.failures()), (1, 0));
+    assert_same(&rt, &(until.arrivals(), until.failures()), &(1, 0));
     assert!(rt; matches!(until.into_source().next(), Arrival::Came(_)));
     Ok(())
 }

@@ -2,6 +2,8 @@
 ghost use Rattle.std.specs.Prelude.{◌≡◌, ◌<◌, ℕ, false, IfOk};
 ghost use Rattle.transport.specs.Counting.{MayCome, no_counts};
 
+use crate::asserting::{assert_items, assert_same};
+use crate::tcp::echo::write;
 use std::alloc::{AllocError, Global};
 use std::process::Abort;
 use std::test::Fail;
@@ -39,14 +41,6 @@ fn read<T: Transport>(rt: &impl Abort, transport: &mut T, buffer: &mut [u8; 4]) 
     transport.read(buffer)
 }
 
-/// What a write of these bytes takes.
-fn write<T: Transport>(rt: &impl Abort, transport: &mut T, bytes: &[u8]) -> Put {
-    if transport.failures() == u64::MAX || transport.ends() == u64::MAX || bytes.is_empty() {
-        panic!(rt; "too often");
-    }
-    transport.write(bytes)
-}
-
 #[test]
 fn each_turn(rt: HostRuntime) -> Result<(), Fail> {
     let reads = [
@@ -59,23 +53,24 @@ fn each_turn(rt: HostRuntime) -> Result<(), Fail> {
     let writes = [WriteTurn::AtMost(1), WriteTurn::Idle, WriteTurn::Failed];
     let mut transport = scripted(&rt, rt.alloc(), b"abcdefgh", &reads, &writes);
     let mut buffer = [0; 4];
-    assert_eq!(rt; read(&rt, &mut transport, &mut buffer), Got::Bytes(2));
-    assert_eq!(rt; buffer, *b"ab\0\0");
-    assert_eq!(rt; read(&rt, &mut transport, &mut buffer), Got::Idle);
-    assert_eq!(rt; read(&rt, &mut transport, &mut buffer), Got::Bytes(4));
-    assert_eq!(rt; buffer, *b"cdef");
-    assert_eq!(rt; read(&rt, &mut transport, &mut buffer), Got::Failed);
-    assert_eq!(rt; read(&rt, &mut transport, &mut buffer), Got::End);
-    assert_eq!(rt; read(&rt, &mut transport, &mut buffer), Got::Bytes(2));
-    assert_eq!(rt; read(&rt, &mut transport, &mut buffer), Got::End);
-    assert_eq!(rt; write(&rt, &mut transport, b"xyz"), Put::Wrote(1));
-    assert_eq!(rt; write(&rt, &mut transport, b"yz"), Put::Idle);
-    assert_eq!(rt; write(&rt, &mut transport, b"yz"), Put::Failed);
-    assert_eq!(rt; write(&rt, &mut transport, b"yz"), Put::Wrote(2));
-    assert_eq!(rt; transport.output(), b"xyz".as_slice());
-    assert_eq!(rt;
-        [transport.failures(), transport.ends(), transport.idles()],
-        [2, 2, 1]
+    assert_same(&rt, &read(&rt, &mut transport, &mut buffer), &Got::Bytes(2));
+    assert_same(&rt, &buffer, &*b"ab\0\0");
+    assert_same(&rt, &read(&rt, &mut transport, &mut buffer), &Got::Idle);
+    assert_same(&rt, &read(&rt, &mut transport, &mut buffer), &Got::Bytes(4));
+    assert_same(&rt, &buffer, &*b"cdef");
+    assert_same(&rt, &read(&rt, &mut transport, &mut buffer), &Got::Failed);
+    assert_same(&rt, &read(&rt, &mut transport, &mut buffer), &Got::End);
+    assert_same(&rt, &read(&rt, &mut transport, &mut buffer), &Got::Bytes(2));
+    assert_same(&rt, &read(&rt, &mut transport, &mut buffer), &Got::End);
+    assert_same(&rt, &write(&rt, &mut transport, b"xyz"), &Put::Wrote(1));
+    assert_same(&rt, &write(&rt, &mut transport, b"yz"), &Put::Idle);
+    assert_same(&rt, &write(&rt, &mut transport, b"yz"), &Put::Failed);
+    assert_same(&rt, &write(&rt, &mut transport, b"yz"), &Put::Wrote(2));
+    assert_items(&rt, transport.output(), b"xyz".as_slice());
+    assert_same(
+        &rt,
+        &[transport.failures(), transport.ends(), transport.idles()],
+        &[2, 2, 1],
     );
     Ok(())
 }
@@ -122,8 +117,8 @@ fn arrivals(rt: HostRuntime) -> Result<(), Fail> {
         }
         came[place] = next_byte(&mut source);
     }
-    assert_eq!(rt; came, [Some(6), None, None, Some(7), None]);
-    assert_eq!(rt; [source.failures(), source.arrivals()], [1, 2]);
+    assert_same(&rt, &came, &[Some(6), None, None, Some(7), None]);
+    assert_same(&rt, &[source.failures(), source.arrivals()], &[1, 2]);
     Ok(())
 }
 
@@ -147,6 +142,6 @@ fn moment<C: Clock>(clock: &mut C) -> u64 {
 #[test]
 fn stand_ins(rt: HostRuntime) {
     let mut clock = SetClock { moment: 7 };
-    assert_eq!(rt; moment(&mut clock), 7);
+    assert_same(&rt, &moment(&mut clock), &7);
     assert!(rt; passes(&OpenCrossing, 1, 1));
 }
