@@ -1,4 +1,5 @@
 //! The words of `serve`, and what they ask for.
+use crate::asserting::assert_text;
 use crate::words::{told, words_of};
 use arguments::serve_arguments;
 use std::alloc::{AllocError, Global};
@@ -67,7 +68,7 @@ fn what_words_of_serve_ask_for(rt: HostRuntime) -> Result<(), Fail> {
     ];
     for (line, expected) in rows.iter() {
         let asked = asked(rt.alloc(), line)?;
-        assert_eq!(rt; asked.as_str(), *expected);
+        assert_text(&rt, asked.as_str(), *expected);
     }
     Ok(())
 }

@@ -1,4 +1,5 @@
 //! Each status once, and what then stands in the output and on the error output.
+use crate::asserting::{assert_items, assert_same, assert_same_at};
 use crate::devices::{Broken, Narrow};
 use crate::words::words_of;
 use program::run;
@@ -95,9 +96,9 @@ $share/g/job accepted 2 acknowledged 0 refused 0 held 0 queued 2 returned 0
 fn commands_that_end(rt: HostRuntime) -> Result<(), Fail> {
     for (line, input, output) in COMMANDS.iter() {
         let ended = ran(rt.alloc(), line, &mut input.as_bytes())?;
-        assert_eq!(rt; ended.status, 0, "{line}");
+        assert_same_at(&rt, &ended.status, &0, line);
         assert_eq!(rt; ended.output.as_slice(), output.as_bytes(), "{line}");
-        assert_eq!(rt; ended.errors.len(), 0, "{line}");
+        assert_same_at(&rt, &ended.errors.len(), &0, line);
     }
     Ok(())
 }
@@ -105,16 +106,17 @@ fn commands_that_end(rt: HostRuntime) -> Result<(), Fail> {
 #[test]
 fn texts_are_shown(rt: HostRuntime) -> Result<(), Fail> {
     let help = ran(rt.alloc(), "share_broker --help", &mut Broken)?;
-    assert_eq!(rt; help.status, 0);
+    assert_same(&rt, &help.status, &0);
     assert!(rt; has(&help.output, "Usage: share_broker <COMMAND>"));
-    assert_eq!(rt; help.errors.len(), 0);
+    assert_same(&rt, &help.errors.len(), &0);
     let version = ran(rt.alloc(), "share_broker --version", &mut Broken)?;
-    assert_eq!(rt; version.status, 0);
-    assert_eq!(rt;
+    assert_same(&rt, &version.status, &0);
+    assert_items(
+        &rt,
         version.output.as_slice(),
-        "share_broker 0.1.0\n".as_bytes()
+        "share_broker 0.1.0\n".as_bytes(),
     );
-    assert_eq!(rt; version.errors.len(), 0);
+    assert_same(&rt, &version.errors.len(), &0);
     Ok(())
 }
 
@@ -128,9 +130,9 @@ fn wrong_words(rt: HostRuntime) -> Result<(), Fail> {
     for (line, text) in rows.iter() {
         let mut reader = CONNECTED;
         let ended = ran(rt.alloc(), line, &mut reader)?;
-        assert_eq!(rt; ended.status, 2);
-        assert_eq!(rt; reader.len(), CONNECTED.len());
-        assert_eq!(rt; ended.output.len(), 0);
+        assert_same(&rt, &ended.status, &2);
+        assert_same(&rt, &reader.len(), &CONNECTED.len());
+        assert_same(&rt, &ended.output.len(), &0);
         assert!(rt; ended.errors.starts_with(b"error: "));
         assert!(rt; has(&ended.errors, text));
     }
@@ -153,10 +155,10 @@ fn no_words(rt: HostRuntime) -> Result<(), Fail> {
         let mut errors = Vec::new(rt.alloc());
         let words = Err(io::Error::from(*kind));
         let exit = run(rt.alloc(), words, &mut Broken, &mut output, &mut errors);
-        assert_eq!(rt; exit.status, *status);
+        assert_same(&rt, &exit.status, status);
         assert!(rt; exit.told.is_ok());
-        assert_eq!(rt; output.len(), 0);
-        assert_eq!(rt; errors.as_slice(), text.as_bytes());
+        assert_same(&rt, &output.len(), &0);
+        assert_items(&rt, errors.as_slice(), text.as_bytes());
     }
     Ok(())
 }
@@ -164,9 +166,9 @@ fn no_words(rt: HostRuntime) -> Result<(), Fail> {
 #[test]
 fn reader_fails(rt: HostRuntime) -> Result<(), Fail> {
     let ended = ran(rt.alloc(), "share_broker solo", &mut Broken)?;
-    assert_eq!(rt; ended.status, 3);
-    assert_eq!(rt; ended.output.len(), 0);
-    assert_eq!(rt; ended.errors.as_slice(), "device\n".as_bytes());
+    assert_same(&rt, &ended.status, &3);
+    assert_same(&rt, &ended.output.len(), &0);
+    assert_items(&rt, ended.errors.as_slice(), "device\n".as_bytes());
     Ok(())
 }
 
@@ -187,9 +189,9 @@ fn output_fails(rt: HostRuntime) -> Result<(), Fail> {
             &mut output,
             &mut errors,
         );
-        assert_eq!(rt; exit.status, 3);
-        assert_eq!(rt; output.taken.as_slice(), &CONNACK.as_bytes()[..room]);
-        assert_eq!(rt; errors.as_slice(), "device\n".as_bytes());
+        assert_same(&rt, &exit.status, &3);
+        assert_items(&rt, output.taken.as_slice(), &CONNACK.as_bytes()[..room]);
+        assert_items(&rt, errors.as_slice(), "device\n".as_bytes());
     }
     let mut output = Narrow {
         taken: Vec::new(rt.alloc()),
@@ -198,9 +200,9 @@ fn output_fails(rt: HostRuntime) -> Result<(), Fail> {
     let mut errors = Vec::new(rt.alloc());
     let words = words_of(rt.alloc(), "share_broker --version")?;
     let exit = run(rt.alloc(), Ok(words), &mut Broken, &mut output, &mut errors);
-    assert_eq!(rt; exit.status, 3);
-    assert_eq!(rt; output.taken.as_slice(), "share_broker".as_bytes());
-    assert_eq!(rt; errors.as_slice(), "device\n".as_bytes());
+    assert_same(&rt, &exit.status, &3);
+    assert_items(&rt, output.taken.as_slice(), "share_broker".as_bytes());
+    assert_items(&rt, errors.as_slice(), "device\n".as_bytes());
     Ok(())
 }
 
@@ -225,10 +227,10 @@ fn error_output_fails(rt: HostRuntime) -> Result<(), Fail> {
             &mut output,
             &mut errors,
         );
-        assert_eq!(rt; exit.status, *status);
+        assert_same(&rt, &exit.status, status);
         assert!(rt; exit.told.is_err());
-        assert_eq!(rt; output.len(), 0);
-        assert_eq!(rt; errors.taken.as_slice(), text.as_bytes());
+        assert_same(&rt, &output.len(), &0);
+        assert_items(&rt, errors.taken.as_slice(), text.as_bytes());
     }
     Ok(())
 }
@@ -237,13 +239,13 @@ fn error_output_fails(rt: HostRuntime) -> Result<(), Fail> {
 fn bad_line(rt: HostRuntime) -> Result<(), Fail> {
     let input: &[u8] = b"100F00044D5154540502003C0000027731\n\n0x\n";
     let ended = ran(rt.alloc(), "share_broker solo", &mut &input[..])?;
-    assert_eq!(rt; ended.status, 5);
-    assert_eq!(rt; ended.output.len(), 0);
-    assert_eq!(rt; ended.errors.as_slice(), "input line 3\n".as_bytes());
+    assert_same(&rt, &ended.status, &5);
+    assert_same(&rt, &ended.output.len(), &0);
+    assert_items(&rt, ended.errors.as_slice(), "input line 3\n".as_bytes());
     let events: &[u8] = b"0 open 0\n0 open 64\n";
     let ended = ran(rt.alloc(), "share_broker drive", &mut &events[..])?;
-    assert_eq!(rt; ended.status, 5);
-    assert_eq!(rt; ended.output.len(), 0);
-    assert_eq!(rt; ended.errors.as_slice(), "input line 2\n".as_bytes());
+    assert_same(&rt, &ended.status, &5);
+    assert_same(&rt, &ended.output.len(), &0);
+    assert_items(&rt, ended.errors.as_slice(), "input line 2\n".as_bytes());
     Ok(())
 }

@@ -1,4 +1,5 @@
 //! Words, and what they ask for.
+use crate::asserting::assert_text;
 use arguments::{Request, arguments};
 use local_server::Setup;
 use std::alloc::{AllocError, Global};
@@ -93,7 +94,7 @@ fn what_words_ask_for(rt: HostRuntime) -> Result<(), Fail> {
     ];
     for (line, expected) in rows.iter() {
         let asked = asked(rt.alloc(), line)?;
-        assert_eq!(rt; asked.as_str(), *expected);
+        assert_text(&rt, asked.as_str(), *expected);
     }
     Ok(())
 }

@@ -1,0 +1,29 @@
+//! Assertions as functions: each is proved once, and not once more in every test that asserts.
+
+use std::fmt::Debug;
+use std::process::Abort;
+
+/// Two answers are the same.
+pub(crate) fn assert_same<T: PartialEq + Debug>(rt: &impl Abort, found: &T, wanted: &T) {
+    assert_eq!(rt; found, wanted);
+}
+
+/// Two answers are the same, in this row of a table.
+pub(crate) fn assert_same_at<T: PartialEq + Debug>(
+    rt: &impl Abort,
+    found: &T,
+    wanted: &T,
+    row: &str,
+) {
+    assert_eq!(rt; found, wanted, "{row}");
+}
+
+/// Two lists are the same.
+pub(crate) fn assert_items<T: PartialEq + Debug>(rt: &impl Abort, found: &[T], wanted: &[T]) {
+    assert_eq!(rt; found, wanted);
+}
+
+/// Two texts are the same.
+pub(crate) fn assert_text(rt: &impl Abort, found: &str, wanted: &str) {
+    assert_eq!(rt; found, wanted);
+}
