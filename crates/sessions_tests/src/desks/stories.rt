@@ -1,4 +1,5 @@
 //! Stories of clients and connections.
+use crate::asserting::{assert_items, assert_same};
 use crate::desks::handed::{
     Answer, TestDesk, ask, both, bury, connect, end, join, leave, nothing, only, open, park, rests,
 };
@@ -17,9 +18,10 @@ fn takeover(rt: HostRuntime) -> Result<(), Fail> {
     let second = nothing(&rt, ask(&rt, &mut desk, 2, &client, false, 1));
     let third = nothing(&rt, ask(&rt, &mut desk, 3, &client, false, 2));
     let again = nothing(&rt, ask(&rt, &mut desk, 2, &client, false, 3));
-    assert_eq!(rt;
-        [second, third, again],
-        [Answer::Replace(1), Answer::Busy, Answer::Replace(1)]
+    assert_same(
+        &rt,
+        &[second, third, again],
+        &[Answer::Replace(1), Answer::Busy, Answer::Replace(1)],
     );
     assert!(rt; desk.kicked(1) && !desk.kicked(2) && !desk.kicked(3));
     park(&rt, &mut desk, first, 3_600, 4);
@@ -31,10 +33,14 @@ fn takeover(rt: HostRuntime) -> Result<(), Fail> {
     let third = nothing(&rt, ask(&rt, &mut desk, 3, &client, false, 6));
     desk.withdraw(3);
     let first = nothing(&rt, ask(&rt, &mut desk, 1, &client, false, 7));
-    assert_eq!(rt; [third, first], [Answer::Replace(2), Answer::Replace(2)]);
+    assert_same(
+        &rt,
+        &[third, first],
+        &[Answer::Replace(2), Answer::Replace(2)],
+    );
     assert!(rt; desk.kicked(2));
     park(&rt, &mut desk, resumed, 1, 8);
-    assert_eq!(rt; end(&rt, desk), (0, 0));
+    assert_same(&rt, &end(&rt, desk), &(0, 0));
     Ok(())
 }
 
@@ -50,7 +56,7 @@ fn expiry(rt: HostRuntime) -> Result<(), Fail> {
     let session = only(&rt, ask(&rt, &mut desk, 1, &client, false, 0), Answer::New);
     park(&rt, &mut desk, session, u32::MAX, 0);
     rests(&rt, &mut desk, u64::MAX);
-    assert_eq!(rt; end(&rt, desk), (0, 0));
+    assert_same(&rt, &end(&rt, desk), &(0, 0));
     Ok(())
 }
 
@@ -60,13 +66,17 @@ fn clean_start(rt: HostRuntime) -> Result<(), Fail> {
     let client = Bytes::from_static(b"device");
     let mut session = only(&rt, ask(&rt, &mut desk, 1, &client, false, 0), Answer::New);
     connect(&mut session, 1);
-    assert_eq!(rt; session.window.put(7), Ok(1));
+    assert_same(&rt, &session.window.put(7), &Ok(1));
     session.window.down();
     park(&rt, &mut desk, session, 60, 0);
     let (new, ended) = both(&rt, ask(&rt, &mut desk, 2, &client, true, 1));
     assert!(rt; new.window.is_empty());
-    assert_eq!(rt; ended.window.len(), 1);
-    assert_eq!(rt; [ended.identity.number(), new.identity.number()], [0, 1]);
+    assert_same(&rt, &ended.window.len(), &1);
+    assert_same(
+        &rt,
+        &[ended.identity.number(), new.identity.number()],
+        &[0, 1],
+    );
     // Its retirement finds no memory, and goes on at a later sweep.
     match desk.keep(ended) {
         None => {}
@@ -76,13 +86,13 @@ fn clean_start(rt: HostRuntime) -> Result<(), Fail> {
     match desk.sweep(3) {
         Some(mut ended) => {
             if !ended.window.is_up() {
-                assert_eq!(rt; ended.window.take_first(), Some((1, 7)));
+                assert_same(&rt, &ended.window.take_first(), &Some((1, 7)));
             }
             bury(&rt, &mut desk, Some(ended));
         }
         None => panic!(rt; "no session"),
     }
-    assert_eq!(rt; end(&rt, desk), (0, 0));
+    assert_same(&rt, &end(&rt, desk), &(0, 0));
     Ok(())
 }
 
@@ -94,24 +104,27 @@ fn names(rt: HostRuntime) -> Result<(), Fail> {
     let taken = only(&rt, ask(&rt, &mut desk, 1, &second, false, 0), Answer::New);
     let one = only(&rt, ask(&rt, &mut desk, 2, &none, false, 0), Answer::New);
     let three = only(&rt, ask(&rt, &mut desk, 3, &none, false, 0), Answer::New);
-    assert_eq!(rt;
+    assert_items(
+        &rt,
         one.identity.client().as_slice(),
-        b"auto-00000001".as_slice()
+        b"auto-00000001".as_slice(),
     );
-    assert_eq!(rt;
+    assert_items(
+        &rt,
         three.identity.client().as_slice(),
-        b"auto-00000003".as_slice()
+        b"auto-00000003".as_slice(),
     );
     leave(&rt, &mut desk, one, 1);
     leave(&rt, &mut desk, three, 1);
     let four = only(&rt, ask(&rt, &mut desk, 3, &none, false, 2), Answer::New);
-    assert_eq!(rt;
+    assert_items(
+        &rt,
         four.identity.client().as_slice(),
-        b"auto-00000004".as_slice()
+        b"auto-00000004".as_slice(),
     );
     leave(&rt, &mut desk, four, 3);
     leave(&rt, &mut desk, taken, 3);
-    assert_eq!(rt; end(&rt, desk), (0, 0));
+    assert_same(&rt, &end(&rt, desk), &(0, 0));
     Ok(())
 }
 
@@ -119,38 +132,38 @@ fn names(rt: HostRuntime) -> Result<(), Fail> {
 fn places(rt: HostRuntime) -> Result<(), Fail> {
     let mut desk = open(&rt, rt.alloc());
     for place in [Spot::Second, Spot::First] {
-        assert_eq!(rt; desk.take_place(place), None);
+        assert_same(&rt, &desk.take_place(place), &None);
     }
-    assert_eq!(rt; desk.take_place(Spot::First), Some(Spot::First));
-    assert_eq!(rt; desk.lend_place(4), None);
-    assert_eq!(rt; desk.lend_place(3), Some(Spot::First));
-    assert_eq!(rt; desk.lend_place(3), Some(Spot::Second));
-    assert_eq!(rt; desk.lend_place(3), None);
+    assert_same(&rt, &desk.take_place(Spot::First), &Some(Spot::First));
+    assert_same(&rt, &desk.lend_place(4), &None);
+    assert_same(&rt, &desk.lend_place(3), &Some(Spot::First));
+    assert_same(&rt, &desk.lend_place(3), &Some(Spot::Second));
+    assert_same(&rt, &desk.lend_place(3), &None);
     let client = Bytes::from_static(b"member");
     let mut session = only(&rt, ask(&rt, &mut desk, 1, &client, false, 0), Answer::New);
     join(&rt, &mut session, Membership::Member(Spot::Second));
     leave(&rt, &mut desk, session, 1);
-    assert_eq!(rt; desk.lend_place(3), Some(Spot::Second));
-    assert_eq!(rt; desk.take_place(Spot::First), None);
+    assert_same(&rt, &desk.lend_place(3), &Some(Spot::Second));
+    assert_same(&rt, &desk.take_place(Spot::First), &None);
     let mut session = only(&rt, ask(&rt, &mut desk, 1, &client, false, 2), Answer::New);
     join(&rt, &mut session, Membership::Leaving(Spot::Second));
     connect(&mut session, 9);
-    assert_eq!(rt; session.window.put(5), Ok(1));
+    assert_same(&rt, &session.window.put(5), &Ok(1));
     park(&rt, &mut desk, session, 60, 3);
-    assert_eq!(rt; end(&rt, desk), (2, 1));
+    assert_same(&rt, &end(&rt, desk), &(2, 1));
     Ok(())
 }
 
 #[test]
 fn abandoned(rt: HostRuntime) -> Result<(), Fail> {
     let mut desk = open(&rt, rt.alloc());
-    assert_eq!(rt; desk.take_place(Spot::First), None);
+    assert_same(&rt, &desk.take_place(Spot::First), &None);
     let client = Bytes::from_static(b"member");
     let mut session = only(&rt, ask(&rt, &mut desk, 1, &client, false, 0), Answer::New);
     join(&rt, &mut session, Membership::Member(Spot::Second));
     connect(&mut session, 2);
-    assert_eq!(rt; session.window.put(5), Ok(1));
-    assert_eq!(rt; session.window.put(6), Ok(2));
+    assert_same(&rt, &session.window.put(5), &Ok(1));
+    assert_same(&rt, &session.window.put(6), &Ok(2));
     park(&rt, &mut desk, session, 60, 1);
     desk.abandon();
     Ok(())
@@ -182,9 +195,10 @@ fn full(rt: HostRuntime) -> Result<(), Fail> {
     fill(&rt, rt.alloc(), &mut desk);
     let refused = nothing(&rt, ask(&rt, &mut desk, 1, &further, false, 1));
     let clean = nothing(&rt, ask(&rt, &mut desk, 1, &known, true, 1));
-    assert_eq!(rt;
-        [refused, clean],
-        [Answer::Refused(701), Answer::Refused(701)]
+    assert_same(
+        &rt,
+        &[refused, clean],
+        &[Answer::Refused(701), Answer::Refused(701)],
     );
     let resumed = only(
         &rt,
@@ -192,6 +206,6 @@ fn full(rt: HostRuntime) -> Result<(), Fail> {
         Answer::Resumed,
     );
     park(&rt, &mut desk, resumed, 60, 2);
-    assert_eq!(rt; end(&rt, desk), (0, 0));
+    assert_same(&rt, &end(&rt, desk), &(0, 0));
     Ok(())
 }

@@ -3,6 +3,7 @@ ghost use Rattle.std.specs.Prelude.{◌≡◌, ◌<◌, ◌≤◌, length, IfOk,
 ghost use Rattle.conn_supply.specs.Ready.{IsReady, IsSoundSession};
 ghost use Rattle.sessions_tests.specs.Spots.{any_out};
 
+use crate::asserting::assert_same;
 use crate::spot::Spot;
 use bytes::Bytes;
 use call_history::HistoryName;
@@ -98,7 +99,7 @@ fn takeover_day<D: HistoryName, R: Wait>(rt: &R, opened: OpenedDesk<Spot>) -> (b
 fn who_is_asked_for_its_session_is_kicked(rt: HostRuntime) -> Result<(), Fail> {
     let opened = OpenedDesk::open(rt.alloc())?;
     let told = takeover_day::<Brand, _>(&rt, opened);
-    assert_eq!(rt; told, (false, true, false));
+    assert_same(&rt, &told, &(false, true, false));
     Ok(())
 }
 
@@ -150,7 +151,11 @@ fn places_day<D: HistoryName, R: Wait>(rt: &R, opened: OpenedDesk<Spot>) -> [Opt
 fn the_least_free_place_is_lent(rt: HostRuntime) -> Result<(), Fail> {
     let opened = OpenedDesk::open(rt.alloc())?;
     let lent = places_day::<Brand, _>(&rt, opened);
-    assert_eq!(rt; lent, [None, Some(Spot::First), Some(Spot::Second), None]);
+    assert_same(
+        &rt,
+        &lent,
+        &[None, Some(Spot::First), Some(Spot::Second), None],
+    );
     Ok(())
 }
 

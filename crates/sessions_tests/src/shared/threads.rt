@@ -1,6 +1,7 @@
 //! Threads at one desk.
 ghost use Rattle.std.specs.Prelude.{◌≡◌};
 
+use crate::asserting::assert_same;
 use crate::one_history::both_withdraw;
 use crate::shared::calls::{comes_and_goes, end};
 use crate::spot::Spot;
@@ -59,7 +60,7 @@ fn is_shared_by_threads<T: Sync>() {}
 fn two_clients_at_once(rt: HostRuntime) -> Result<(), Fail> {
     let opened = OpenedDesk::open(rt.alloc())?;
     let counts = both::<Brand, _>(&rt, opened);
-    assert_eq!(rt; counts, (200, 200));
+    assert_same(&rt, &counts, &(200, 200));
     Ok(())
 }
 

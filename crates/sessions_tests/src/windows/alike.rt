@@ -1,6 +1,7 @@
 //! The window and the plain list answer alike, whatever is called.
 ghost use Rattle.member_window.specs.Calls.{Resends};
 
+use crate::asserting::assert_same;
 use crate::windows::plain_window::PlainWindow;
 use crate::windows::sessions::{acknowledge, connect};
 use member_window::Window;
@@ -103,7 +104,7 @@ fn window_and_list_answer_alike(rt: HostRuntime) -> Result<(), Fail> {
         assert!(rt; hold_alike(&window, &plain), "after call {call}");
         most = window.len().max(most);
     }
-    assert_eq!(rt; most, 256);
+    assert_same(&rt, &most, &256);
     window.down();
     plain.down();
     for call in LIVE..CALLS {

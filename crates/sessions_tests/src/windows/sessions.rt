@@ -3,6 +3,7 @@
 //! memory.
 ghost use Rattle.member_window.specs.Calls.{Resends};
 
+use crate::asserting::assert_same;
 use member_window::{CAPACITY, Window};
 use std::test::Fail;
 
@@ -39,14 +40,14 @@ fn receive_maximum_of_one(rt: HostRuntime) -> Result<(), Fail> {
     let mut window = Window::new(rt.alloc())?;
     assert!(rt; !window.room());
     connect(&mut window, 1);
-    assert_eq!(rt; window.put(0x41), Ok(1));
+    assert_same(&rt, &window.put(0x41), &Ok(1));
     assert!(rt; !window.room());
-    assert_eq!(rt; window.put(0x42), Err(0x42));
-    assert_eq!(rt; acknowledge(&mut window, 1), Some(0x41));
-    assert_eq!(rt; window.put(0x42), Ok(1));
-    assert_eq!(rt; window.put(0x43), Err(0x43));
-    assert_eq!(rt; acknowledge(&mut window, 2), None);
-    assert_eq!(rt; window.len(), 1);
+    assert_same(&rt, &window.put(0x42), &Err(0x42));
+    assert_same(&rt, &acknowledge(&mut window, 1), &Some(0x41));
+    assert_same(&rt, &window.put(0x42), &Ok(1));
+    assert_same(&rt, &window.put(0x43), &Err(0x43));
+    assert_same(&rt, &acknowledge(&mut window, 2), &None);
+    assert_same(&rt, &window.len(), &1);
     Ok(())
 }
 
@@ -55,13 +56,13 @@ fn resume(rt: HostRuntime) -> Result<(), Fail> {
     let mut window = Window::new(rt.alloc())?;
     connect(&mut window, 10);
     for (item, identifier) in [(0x41, 1), (0x42, 2), (0x43, 3), (0x44, 4), (0x45, 5)] {
-        assert_eq!(rt; window.put(item), Ok(identifier));
+        assert_same(&rt, &window.put(item), &Ok(identifier));
     }
     window.down();
     assert!(rt; !window.is_up());
     connect(&mut window, 2);
-    assert_eq!(rt; resend(&mut window), Some((1, 0x41)));
-    assert_eq!(rt; resend(&mut window), Some((2, 0x42)));
+    assert_same(&rt, &resend(&mut window), &Some((1, 0x41)));
+    assert_same(&rt, &resend(&mut window), &Some((2, 0x42)));
     // What is settled, and what is sent again then: identifier 5 waited.
     for (settled, item, next) in [
         (5, 0x45, None),
@@ -69,18 +70,20 @@ fn resume(rt: HostRuntime) -> Result<(), Fail> {
         (2, 0x42, Some((4, 0x44))),
         (3, 0x43, None),
     ] {
-        assert_eq!(rt; resend(&mut window), None);
-        assert_eq!(rt; acknowledge(&mut window, settled), Some(item));
-        assert_eq!(rt; resend(&mut window), next);
+        assert_same(&rt, &resend(&mut window), &None);
+        assert_same(&rt, &acknowledge(&mut window, settled), &Some(item));
+        assert_same(&rt, &resend(&mut window), &next);
     }
-    assert_eq!(rt; window.put(0x46), Ok(1));
-    assert_eq!(rt;
-        window.get(0).map(|(identifier, item)| (identifier, *item)),
-        Some((4, 0x44))
+    assert_same(&rt, &window.put(0x46), &Ok(1));
+    assert_same(
+        &rt,
+        &window.get(0).map(|(identifier, item)| (identifier, *item)),
+        &Some((4, 0x44)),
     );
-    assert_eq!(rt;
-        window.get(1).map(|(identifier, item)| (identifier, *item)),
-        Some((1, 0x46))
+    assert_same(
+        &rt,
+        &window.get(1).map(|(identifier, item)| (identifier, *item)),
+        &Some((1, 0x46)),
     );
     Ok(())
 }
@@ -90,12 +93,12 @@ fn full_window(rt: HostRuntime) -> Result<(), Fail> {
     let mut window = Window::new(rt.alloc())?;
     connect(&mut window, 65_535);
     for identifier in 1..257u16 {
-        assert_eq!(rt; window.put(identifier), Ok(identifier));
+        assert_same(&rt, &window.put(identifier), &Ok(identifier));
     }
-    assert_eq!(rt; window.put(257), Err(257));
-    assert_eq!(rt; acknowledge(&mut window, 7), Some(7));
-    assert_eq!(rt; window.put(258), Ok(7));
-    assert_eq!(rt; window.len(), CAPACITY);
+    assert_same(&rt, &window.put(257), &Err(257));
+    assert_same(&rt, &acknowledge(&mut window, 7), &Some(7));
+    assert_same(&rt, &window.put(258), &Ok(7));
+    assert_same(&rt, &window.len(), &CAPACITY);
     Ok(())
 }
 
@@ -123,25 +126,25 @@ fn ending_session(rt: HostRuntime) {
     let mut window = match Window::new(rt.alloc()) {
         Ok(window) => window,
         Err(refusal) => {
-            assert_eq!(rt; refusal.number(), 602);
+            assert_same(&rt, &refusal.number(), &602);
             return;
         }
     };
     connect(&mut window, 2);
     for number in [8, 9, 10] {
         match window.put(Job { number }) {
-            Ok(identifier) => assert_eq!(rt; identifier, number - 7),
-            Err(Job { number }) => assert_eq!(rt; number, 10),
+            Ok(identifier) => assert_same(&rt, &identifier, &(number - 7)),
+            Err(Job { number }) => assert_same(&rt, &number, &10),
         }
     }
     window.down();
     assert!(rt; !window.retired());
     take_and_restore(&mut window);
     assert!(rt; window.retired());
-    assert_eq!(rt; take(&mut window), Some((1, 8)));
+    assert_same(&rt, &take(&mut window), &Some((1, 8)));
     take_and_restore(&mut window);
-    assert_eq!(rt; take(&mut window), Some((2, 9)));
-    assert_eq!(rt; take(&mut window), None);
+    assert_same(&rt, &take(&mut window), &Some((2, 9)));
+    assert_same(&rt, &take(&mut window), &None);
     assert!(rt; window.is_empty());
     window.end();
 }
