@@ -1,7 +1,6 @@
 //! Serving the connections of a broker that is open, to its reports.
-ghost use Rattle.std.specs.Prelude.{◌≡◌, ◌≤◌, true, [], All, length, map, vec_capacity, Ok, IfOk, IfErr};
+ghost use Rattle.std.specs.Prelude.{◌≡◌, true, length, map, Ok, IfOk, IfErr};
 ghost use Rattle.std.specs.Io.KnownBytes.{IsAtEnd};
-ghost use Rattle.broker_groups.specs.Naming.{AreUnsent};
 ghost use Rattle.text_io.specs.declared.error.RunError.TheVariants.{Memory};
 ghost use Rattle.tcp_server.specs.Lines.{lines_of, report_of, EndsBy};
 ghost use Rattle.tcp_server.specs.Reporting.{AreReportsAt, HaveCapacity};
@@ -9,15 +8,13 @@ ghost use Rattle.tcp_server.specs.Reporting.{AreReportsAt, HaveCapacity};
 use crate::listening::Awaited;
 use crate::reporting::{end_by, let_go_of_all, lines, reports_in};
 use crate::serving::Served;
-use crate::setup::WorkerSetup;
+use crate::setup::SocketSetup;
 use crate::watching::Watching;
-use broker_groups::{Broker, BrokerPlace, Ended, Ports};
+use broker_groups::{Broker, BrokerPlace, Ended};
 use call_history::HistoryName;
-use conn_rules::MaxInflight;
 use group_queue::Nobody;
 use mqtt_topic::Routes;
 use shared_desk::DeskView;
-use shared_supply::SharedBroker;
 use std::alloc::Global;
 use std::io::Read;
 use std::net::Net;
@@ -27,18 +24,8 @@ use std::sync::atomic::AtomicBool;
 use std::thread::Threads;
 use tcp_edge::{TcpSource, Until};
 use text_io::RunError;
-use threaded_broker::{Outcome, serve};
-use transport::OpenCrossing;
-use worker_connections::WorkerHandle;
+use threaded_broker::{Closers, OpenBroker, Outcome, serve};
 use worker_pool::{Closer, SourceEnd};
-
-/// Who shuts the gate of a broker: who takes its connections, who watches its input, and who ends it.
-#[derive(Drop)]
-pub(crate) struct Closers<'a, B: Broker> {
-    pub(crate) accepting: Closer<'a, B>,
-    pub(crate) watching: Closer<'a, B>,
-    pub(crate) ending: Closer<'a, B>,
-}
 
 /// What is written of a broker that has ended, and how it ends.
 #[derive(Drop)]
@@ -62,53 +49,36 @@ pub(crate) fn attend<
 >(
     rt: &R,
     alloc: Global,
-    shared_broker: SharedBroker<'_, B, N>,
+    broker: OpenBroker<'_, B, N>,
     groups: &Routes,
-    handles: Vec<WorkerHandle<B>>,
-    room: Vec<Ports<B>>,
-    setup: WorkerSetup<'_, R>,
+    setup: SocketSetup<'_, R>,
     source: Awaited<TcpSource>,
-    max_inflight: MaxInflight,
     closers: Closers<'_, B>,
+    stopper: Closer<'_, B>,
     input: &mut I,
     pass: &mut DeskView<BrokerPlace<B>, N>,
 ) -> Result<Reported, RunError>
     requires capacity { HaveCapacity B.group (B.group 0).capacity }
-    requires handles { (1 ≤ length handles.items) × (length handles.items ≤ 64) }
-    requires room { (room.items ≡ []) × (length handles.items ≤ vec_capacity room) }
-    requires setup { length setup.worker_io.items ≡ length handles.items }
-    requires unsent { All (λ handle. AreUnsent handle.ports) handles.items }
-    ensures reported { IfOk result (λ reported. AreReportsAt reported.end (B.group 0).capacity (length handles.items) max_inflight groups.now reported.text.items) }
+    requires setup { length setup.worker_io.items ≡ broker }
+    ensures reported { IfOk result (λ reported. AreReportsAt reported.end (B.group 0).capacity broker.entry setup.entry.max_inflight groups.now reported.text.items) }
     ensures read { IfOk result (λ reported. reported.end ≡ Ok Served.Ended → IsAtEnd (I.remaining input.new)) }
     ensures cause { IfErr result (λ error. error ≡ Memory) }
 {
     let ends = AtomicBool::new(false);
-    let Closers {
-        accepting,
-        watching,
-        ending,
-    } = closers;
     let mut watching = Watching {
-        stopper: watching,
+        stopper,
         ends: &ends,
         is_read: false,
     };
     let source = Until::new(source, &ends);
-    let WorkerSetup { worker_io, alarms } = setup;
     let Ok(outcome) = serve(
         rt,
         alloc,
-        shared_broker,
+        broker,
         groups.shares(),
-        handles,
-        room,
-        worker_io,
-        alarms,
+        setup,
         source,
-        max_inflight,
-        &OpenCrossing,
-        accepting,
-        ending,
+        closers,
         &mut watching,
         input,
         pass,

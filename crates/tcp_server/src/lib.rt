@@ -4,7 +4,6 @@
 #![tactic(auto)]
 
 mod attending;
-mod broker;
 mod elapsed;
 mod listening;
 mod reporting;

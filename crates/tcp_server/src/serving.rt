@@ -9,10 +9,9 @@ ghost use Rattle.tcp_server.specs.Serving.{EndsUnreported, IsServed, IsServedAt,
 ghost use Rattle.gate_word.specs.Seats.{AreSeatsOf};
 ghost use Rattle.broker_groups.specs.Naming.{IsOfBroker};
 
-use crate::attending::{Closers, Reported, attend};
-use crate::broker::{OpenBroker, open, take_seat};
+use crate::attending::{Reported, attend};
 use crate::listening::Awaited;
-use crate::setup::worker_setup;
+use crate::setup::socket_setup;
 use broker_groups::{Broker, BrokerName, BrokerPlace, Opened, Witnessed};
 use call_history::HistoryName;
 use conn_rules::MaxInflight;
@@ -29,7 +28,8 @@ use std::sync::Wait;
 use std::thread::Threads;
 use tcp_edge::{ReactorError, TcpSource};
 use text_io::{RunError, write_all};
-use threaded_broker::abandon;
+use threaded_broker::{Closers, OpenBroker};
+use transport::OpenCrossing;
 use worker_pool::Closer;
 
 /// How a broker that was served came to its end.
@@ -242,47 +242,29 @@ fn live_with<
     ensures failed { IfErr result (λ error. EndsUnreported line.now error (O.contents output.old) (O.contents output.new)) }
 {
     let mut seats = seats;
-    let OpenBroker {
-        shared_broker,
-        handles,
-        room,
-        mut pass,
-    } = open::<B, N, R>(rt, alloc, gate, &mut seats, opened, desk, workers)?;
-    let closers = closers_of(gate, &mut seats);
-    let Some(setup) = worker_setup(rt, alloc, handles.len()) else {
-        abandon(shared_broker, room);
+    let Ok((broker, mut pass)) = OpenBroker::<B, N>::open(
+        rt, alloc, gate, &mut seats, opened, desk, workers,
+    ) else {
+        return Err(RunError::Memory);
+    };
+    let closers = Closers {
+        accepting: Closer::take(gate, &mut seats),
+        ending: Closer::take(gate, &mut seats),
+    };
+    let stopper = Closer::take(gate, &mut seats);
+    let crossing = OpenCrossing;
+    let count = usize::from(workers);
+    let Some(setup) = socket_setup(rt, alloc, count, &crossing, max_inflight) else {
+        broker.abandon();
         return Err(RunError::Memory);
     };
     match write_all(output, line) {
         Ok(()) => attend(
-            rt,
-            alloc,
-            shared_broker,
-            groups,
-            handles,
-            room,
-            setup,
-            source,
-            max_inflight,
-            closers,
-            input,
-            &mut pass,
+            rt, alloc, broker, groups, setup, source, closers, stopper, input, &mut pass,
         ),
         Err(error) => {
-            abandon(shared_broker, room);
+            broker.abandon();
             Err(error)
         }
-    }
-}
-
-/// Who shuts the gate, by the last three seats.
-fn closers_of<'a, B: Broker>(gate: &'a Gate, seats: &mut Vec<GateSeat>) -> Closers<'a, B>
-    requires gate { gate.now ≡ B.gate }
-    requires seats { AreSeatsOf gate.now seats.old.items × (3 ≤ length seats.old.items) }
-{
-    Closers {
-        accepting: Closer::new(gate, take_seat(gate, seats)),
-        watching: Closer::new(gate, take_seat(gate, seats)),
-        ending: Closer::new(gate, take_seat(gate, seats)),
     }
 }

@@ -4,27 +4,36 @@ ghost use Rattle.std.specs.Prelude.{◌≡◌, length, IfSome};
 use crate::elapsed::Elapsed;
 use crate::socket_poller::SocketPoller;
 use broker_worker::WorkerIo;
+use conn_rules::MaxInflight;
 use mio::net::TcpStream;
 use std::alloc::Global;
 use std::net::Net;
 use std::rt::Clock as SystemClock;
 use std::time::Instant;
 use tcp_edge::{Alarm, Reactor, Socket};
+use transport::OpenCrossing;
+use worker_pool::PoolSetup;
 
-/// A reactor and a clock for each worker, and the alarms that wake them, in their order.
-#[derive(Drop)]
-pub(crate) struct WorkerSetup<'a, R> {
-    pub(crate) worker_io: Vec<WorkerIo<Socket<TcpStream>, SocketPoller, Elapsed<'a, R>>>,
-    pub(crate) alarms: Vec<Alarm>,
-}
+/// A reactor, a clock and an alarm for each worker, and what its connections cross.
+pub(crate) type SocketSetup<'a, R> = PoolSetup<
+    'a,
+    Socket<TcpStream>,
+    SocketPoller,
+    Alarm,
+    OpenCrossing,
+    Elapsed<'a, R>,
+>;
 
 /// What so many workers need, whose clocks begin now. `None` where an allocation fails, or the system refuses.
-pub(crate) fn worker_setup<R: Net + SystemClock>(
-    rt: &R,
+pub(crate) fn socket_setup<'a, R: Net + SystemClock>(
+    rt: &'a R,
     alloc: Global,
     count: usize,
-) -> Option<WorkerSetup<'_, R>>
-    ensures { IfSome result (λ setup. length setup.worker_io.items ≡ count) }
+    crossing: &'a OpenCrossing,
+    max_inflight: MaxInflight,
+) -> Option<SocketSetup<'a, R>>
+    ensures count { IfSome result (λ setup. length setup.worker_io.items ≡ count) }
+    ensures limit { IfSome result (λ setup. setup.max_inflight ≡ max_inflight) }
 {
     let start = Instant::now(rt).ok()?;
     let mut worker_io = Vec::with_capacity(alloc, count).ok()?;
@@ -37,5 +46,10 @@ pub(crate) fn worker_setup<R: Net + SystemClock>(
         worker_io.push(WorkerIo::new(poller, clock)).ok()?;
         alarms.push(alarm).ok()?;
     }
-    Some(WorkerSetup { worker_io, alarms })
+    Some(PoolSetup {
+        worker_io,
+        alarms,
+        crossing,
+        max_inflight,
+    })
 }

@@ -1,2 +1,2 @@
-pub mod Quotas
+pub mod Runs
 pub mod Bound

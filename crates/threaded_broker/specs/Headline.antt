@@ -12,6 +12,7 @@ use Rattle.group_queue.specs.Places.{PlaceState}
 use Rattle.worker_connections.specs.declared.served.ServedCounts.{ServedCounts}
 use Rattle.worker_connections.specs.Chains.{KeepsReceiveMaximum}
 use Rattle.worker_connections.specs.Publishing.{IsPublishedBy}
+use Rattle.worker_connections.specs.Sessions.{KeepsSessions}
 use Rattle.worker_pool.specs.Accepting.{arrivals}
 use Rattle.worker_pool.specs.Pools.{AreServed}
 use Rattle.final_report.specs.Brokers.{KeptItsPromisesBehind}
@@ -19,12 +20,14 @@ use Rattle.final_report.specs.Brokers.{KeptItsPromisesBehind}
 module _ {T : Type 0} (group : ℕ → GroupId) (seen : Sights) (counts : T → Counts) (given accepted : T → Option (List ℕ)) where
   -- the run of a broker until it was closed: these connections came to its workers, these calls of its desk are known, these ports and counts the workers gave back, and
   -- these transports they closed, each as it was then; at no moment of it did a connection have more unacknowledged PUBLISH packets than its Receive Maximum, and than
-  -- this limit (4.9); and all that the ports accepted came of the PUBLISH packets that these connections stepped, each answered as the groups took it (3.3.4)
+  -- this limit (4.9); all that the ports accepted came of the PUBLISH packets that these connections stepped, each offered to the groups that match and answered as these took
+  -- it (3.3.4); and at each deed what is handed out is what is sent, and what is settled is what a PUBACK came for (4.4)
   pub record RunsUntilClosed (max_inflight : ℕ) (came : List T) (calls : List (Call Held PlaceState)) (ports : List (List PortState)) (served : List ServedCounts)
       (closed : List (Option (List T))) : Type 0 where
     pub workers : AreServed group seen counts given accepted (arrivals max_inflight came) calls ports served closed
     pub within_receive_maximum : AllByRecursion (KeepsReceiveMaximum group seen counts given accepted max_inflight) workers.runs
     pub published : AllByRecursion (IsPublishedBy group seen) workers.runs
+    pub sessions : AllByRecursion (KeepsSessions group seen counts given accepted) workers.runs
 
   -- **The headline**, of the one run of a broker: these connections came, in this order, and each is in the run of one worker, from its opening to its end, at which it was
   -- closed as the run left it (`run`). Through

@@ -4,7 +4,9 @@
 #![tactic(auto)]
 
 mod closing;
+mod opening;
 mod serving;
 mod shares;
 
-pub use serving::{Closed, Outcome, abandon, serve, serve_until_closed};
+pub use opening::OpenBroker;
+pub use serving::{Closed, Closers, Outcome, serve, serve_until_closed};

@@ -9,26 +9,34 @@ ghost use Rattle.threaded_broker.specs.Headline.{KeepsTheHeadline, RunsUntilClos
 ghost use Rattle.threaded_broker.specs.Shares.{IsBoundIn};
 
 use crate::closing::{close, ports_of};
+use crate::opening::{BrokerParts, OpenBroker, abandon};
 use crate::shares::{bind_all, copy_all};
 use bell::Wake;
 use broker_groups::{Broker, BrokerPlace, Ended, Ports};
-use broker_worker::WorkerIo;
 use call_history::HistoryName;
-use conn_rules::MaxInflight;
 use conn_supply::NoMemory;
 use final_report::end_broker;
 use gate_word::Drained;
 use group_queue::{LawfulWitness, Witness};
 use mqtt_topic::Share;
 use shared_desk::DeskView;
-use shared_supply::{SharedBroker, StillOpen};
+use shared_supply::SharedBroker;
 use std::alloc::Global;
 use std::rt::Clock as SystemClock;
 use std::sync::Wait;
 use std::thread::Threads;
 use transport::{Clock, Crossing, Source, Transport};
 use worker_connections::{Poller, ServedCounts, WorkerHandle};
-use worker_pool::{Closer, Pooled, Taken, Unbegun, Watch, run};
+use worker_pool::{Closer, PoolSetup, Pooled, Taken, Unbegun, Watch, run};
+
+/// Who shuts the gate of a broker.
+#[derive(Drop)]
+pub struct Closers<'a, B: Broker> {
+    /// Who takes its connections, where their source fails.
+    pub accepting: Closer<'a, B>,
+    /// Who ends it, once all of its threads have ended.
+    pub ending: Closer<'a, B>,
+}
 
 /// What became of a broker that was served to its end.
 pub struct Outcome<'g, V: Witness, S, Q> {
@@ -64,9 +72,8 @@ pub struct Closed<'g, B: Broker, N: HistoryName, S, Q> {
 }
 
 /// Serves the connections of a source with the workers of a broker, each in a thread of its own, until the source has ended or failed, the broker's gate is
-/// shut, and all connections have ended; then ends its groups. Who watches is given the input, and shuts the gate and ends the source, in a thread of its own. There is room for the
-/// ports of all workers. The shares that are given are bound before the first connection is served, in their order. The client of each connection has at most so many
-/// messages unacknowledged, whatever its Receive Maximum. Nothing was published through the ports of the handles before.
+/// shut, and all connections have ended; then ends its groups. Who watches is given the input, and shuts the gate and ends the source, in a thread of its own. The shares that
+/// are given are bound before the first connection is served, in their order.
 ///
 /// The pass knows in the end all calls that were made of the broker's desk, of which what it knew before is the beginning (`history`), and so is what each worker knew. They
 /// led to the sessions, places and messages with which the groups end.
@@ -107,29 +114,20 @@ pub fn serve<
 >(
     rt: &R,
     alloc: Global,
-    shared_broker: SharedBroker<'g, B, N>,
+    broker: OpenBroker<'g, B, N>,
     shares: &[Share],
-    handles: Vec<WorkerHandle<B>>,
-    room: Vec<Ports<B>>,
-    worker_io: Vec<WorkerIo<T, Q, C>>,
-    alarms: Vec<W>,
+    setup: PoolSetup<'_, T, Q, W, X, C>,
     source: S,
-    max_inflight: MaxInflight,
-    crossing: &X,
-    closer: Closer<'_, B>,
-    stopper: Closer<'_, B>,
+    closers: Closers<'_, B>,
     watch: &mut D,
     input: &mut I,
     pass: &mut DeskView<BrokerPlace<B>, N>,
 ) -> Result<Outcome<'g, B::Seen, S, Q>, NoMemory>
 where
     B::Seen: LawfulWitness + Send + Sync,
-    requires workers { (1 ≤ length handles.items) × (length handles.items ≤ 64) }
-    requires worker_io { length worker_io.items ≡ length handles.items }
-    requires room { (room.items ≡ []) × (length handles.items ≤ vec_capacity room) }
-    requires unsent { All (λ handle. AreUnsent handle.ports) handles.items }
+    requires setup { length setup.worker_io.items ≡ broker }
     ensures headline { IfOk result (λ outcome. (came : List T) × Gave S.arrived source came outcome.taken.source × (outcome.taken.came ≡ length came)
-        × KeepsTheHeadline B.group B.Seen.Witness T.counts T.given T.accepted (length handles.items) max_inflight came pass.new outcome.ended.answers.items outcome.ended.strangers.items outcome.served.items (map Q.closed outcome.pollers.items)) }
+        × KeepsTheHeadline B.group B.Seen.Witness T.counts T.given T.accepted broker.entry setup.entry.max_inflight came pass.new outcome.ended.answers.items outcome.ended.strangers.items outcome.served.items (map Q.closed outcome.pollers.items)) }
     ensures history { IsPrefix pass.old pass.new }
     ensures closed { IfOk result (λ outcome. outcome.drained ≡ B.gate) }
     ensures taken { IfOk result (λ outcome. (S.tally outcome.taken.source).arrivals ≡ (S.tally source).arrivals + outcome.taken.came) }
@@ -137,22 +135,7 @@ where
     ensures shares { IfOk result (λ outcome. All (IsBoundIn outcome.shares.items) shares.now) }
 {
     let closed = serve_until_closed(
-        rt,
-        alloc,
-        shared_broker,
-        shares,
-        handles,
-        room,
-        worker_io,
-        alarms,
-        source,
-        max_inflight,
-        crossing,
-        closer,
-        stopper,
-        watch,
-        input,
-        pass,
+        rt, alloc, broker, shares, setup, source, closers, watch, input, pass,
     )?;
     let Closed {
         shared_broker,
@@ -196,54 +179,50 @@ pub fn serve_until_closed<
 >(
     rt: &R,
     alloc: Global,
-    shared_broker: SharedBroker<'g, B, N>,
+    broker: OpenBroker<'g, B, N>,
     shares: &[Share],
-    handles: Vec<WorkerHandle<B>>,
-    room: Vec<Ports<B>>,
-    worker_io: Vec<WorkerIo<T, Q, C>>,
-    alarms: Vec<W>,
+    setup: PoolSetup<'_, T, Q, W, X, C>,
     source: S,
-    max_inflight: MaxInflight,
-    crossing: &X,
-    closer: Closer<'_, B>,
-    stopper: Closer<'_, B>,
+    closers: Closers<'_, B>,
     watch: &mut D,
     input: &mut I,
     pass: &mut DeskView<BrokerPlace<B>, N>,
 ) -> Result<Closed<'g, B, N, S, Q>, NoMemory>
 where
     B::Seen: Send + Sync,
-    requires workers { (1 ≤ length handles.items) × (length handles.items ≤ 64) }
-    requires worker_io { length worker_io.items ≡ length handles.items }
-    requires room { (room.items ≡ []) × (length handles.items ≤ vec_capacity room) }
-    requires unsent { All (λ handle. AreUnsent handle.ports) handles.items }
-    ensures ports { IfOk result (λ closed. length closed.ports.items ≡ length handles.items) }
+    requires setup { length setup.worker_io.items ≡ broker }
+    ensures ports { IfOk result (λ closed. length closed.ports.items ≡ broker.entry) }
     ensures run { IfOk result (λ closed. (came : List T) × Gave S.arrived source came closed.taken.source × (closed.taken.came ≡ length came)
-        × RunsUntilClosed B.group B.Seen.Witness T.counts T.given T.accepted max_inflight came pass.new closed.ports.items closed.served.items (map Q.closed closed.pollers.items)) }
+        × RunsUntilClosed B.group B.Seen.Witness T.counts T.given T.accepted setup.entry.max_inflight came pass.new closed.ports.items closed.served.items (map Q.closed closed.pollers.items)) }
     ensures history { IsPrefix pass.old pass.new }
     ensures closed { IfOk result (λ closed. closed.drained ≡ B.gate) }
     ensures taken { IfOk result (λ closed. (S.tally closed.taken.source).arrivals ≡ (S.tally source).arrivals + closed.taken.came) }
     ensures watched { IfOk result (λ _. D.has_watched watch.old watch.new input.old input.new) }
     ensures shares { IfOk result (λ closed. All (IsBoundIn closed.shares.items) shares.now) }
 {
-    let mut stopper = stopper;
+    let Closers {
+        accepting,
+        mut ending,
+    } = closers;
+    let BrokerParts {
+        shared_broker,
+        handles,
+        room,
+    } = broker.into_parts();
     let ran = run_bound(
         rt,
         alloc,
         &shared_broker,
         shares,
         handles,
-        worker_io,
-        alarms,
+        setup,
         source,
-        max_inflight,
-        crossing,
-        closer,
+        accepting,
         watch,
         input,
         pass,
     );
-    let drained = close(rt, &mut stopper);
+    let drained = close(rt, &mut ending);
     match ran {
         Ok(Ran { pooled, shares }) => {
             let Pooled {
@@ -294,12 +273,9 @@ fn run_bound<
     shared_broker: &SharedBroker<'_, B, N>,
     shares: &[Share],
     handles: Vec<WorkerHandle<B>>,
-    worker_io: Vec<WorkerIo<T, Q, C>>,
-    alarms: Vec<W>,
+    setup: PoolSetup<'_, T, Q, W, X, C>,
     source: S,
-    max_inflight: MaxInflight,
-    crossing: &X,
-    closer: Closer<'_, B>,
+    accepting: Closer<'_, B>,
     watch: &mut D,
     input: &mut I,
     pass: &mut DeskView<BrokerPlace<B>, N>,
@@ -307,12 +283,12 @@ fn run_bound<
 where
     B::Seen: Send + Sync,
     requires workers { (1 ≤ length handles.items) × (length handles.items ≤ 64) }
-    requires worker_io { length worker_io.items ≡ length handles.items }
+    requires setup { length setup.worker_io.items ≡ length handles.items }
     requires unsent { All (λ handle. AreUnsent handle.ports) handles.items }
     ensures handles { MatchResult result (λ ran. length ran.pooled.handles.items ≡ length handles.items) (λ back. length back.items ≡ length handles.items) }
     ensures taken { IfOk result (λ ran. (S.tally ran.pooled.taken.source).arrivals ≡ (S.tally source).arrivals + ran.pooled.taken.came) }
     ensures served { IfOk result (λ ran. (came : List T) × Gave S.arrived source came ran.pooled.taken.source × (ran.pooled.taken.came ≡ length came)
-        × AreServed B.group B.Seen.Witness T.counts T.given T.accepted (arrivals max_inflight came) pass.new (map (λ handle. handle.ports) ran.pooled.handles.items) ran.pooled.served.items (map Q.closed ran.pooled.pollers.items)) }
+        × AreServed B.group B.Seen.Witness T.counts T.given T.accepted (arrivals setup.entry.max_inflight came) pass.new (map (λ handle. handle.ports) ran.pooled.handles.items) ran.pooled.served.items (map Q.closed ran.pooled.pollers.items)) }
     ensures told { IsPrefix pass.old pass.new }
     ensures watched { IfOk result (λ _. D.has_watched watch.old watch.new input.old input.new) }
     ensures shares { IfOk result (λ ran. All (IsBoundIn ran.shares.items) shares.now) }
@@ -328,12 +304,9 @@ where
         alloc,
         shared_broker,
         handles,
-        worker_io,
-        alarms,
+        setup,
         source,
-        max_inflight,
-        crossing,
-        closer,
+        accepting,
         watch,
         input,
         pass,
@@ -371,19 +344,4 @@ where
             Err(NoMemory)
         }
     }
-}
-
-/// Gives a broker up, without a word of what became of its messages.
-pub fn abandon<B: Broker, N: HistoryName>(
-    shared_broker: SharedBroker<'_, B, N>,
-    ports: Vec<Ports<B>>,
-) {
-    let (groups, desk, routes) = shared_broker.into_parts();
-    let left = StillOpen::Desk {
-        desk: desk.into_desk(),
-        groups,
-        routes,
-        ports,
-    };
-    left.abandon();
 }

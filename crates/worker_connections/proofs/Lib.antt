@@ -7,5 +7,6 @@ pub mod Swept
 pub mod Ticking
 pub mod Wished
 pub mod Publishing
+pub mod Sessions
 pub mod Occupied
 pub mod Turning

@@ -7,6 +7,7 @@ use Rattle.mqtt_packet.specs.declared.packet.Delivery.TheVariants.{AtMostOnce, A
 use Rattle.mqtt_packet.specs.declared.packet.Packet.{Packet}
 use Rattle.mqtt_packet.specs.declared.packet.Packet.TheVariants as packets
 use Rattle.mqtt_packet.specs.declared.packet.Publish.{Publish}
+use Rattle.mqtt_topic.specs.Routes.{places_of, routed}
 use Rattle.transport.specs.declared.counts.Counts.{Counts}
 use Rattle.group_jobs.specs.declared.message.Message.{Message}
 use Rattle.group_jobs.specs.declared.stamp.Stamp.{Stamp}
@@ -47,7 +48,7 @@ use Rattle.conn_service.specs.Visits.{Stand, Outside, Inside, Behind, Parting, P
 use Rattle.shared_supply.specs.Calls.{Calls, missing}
 use Rattle.shared_supply.specs.Workers.{Worker, Begins, Leaves, is_visiting}
 use Rattle.worker_connections.specs.Chains.{Deed, Opened, Closed, Allowed, MadeRound, Passed, Called, Notified, NotifiedAll, IsRun, Makes, MakesAll, Run, RunState}
-use Rattle.worker_connections.specs.Publishing.{IsPromised, IsPublished, IsPublishedBy, Publishes, PublishesAll, PublishesAt, PublishesSome, PutsInto, PutsSome, acts_in}
+use Rattle.worker_connections.specs.Publishing.{IsPromised, IsPublished, IsPublishedBy, Publishes, PublishesAll, PublishesAt, PublishesSome, PublisherState, PutsInto, PutsSome, acts_in, publisher_of, slots_matched}
 
 -- nothing is found in front of a list, and nothing in it
 none_found : {X : Type 0} (found : Option X) (rest : List X) → cons_option found rest ≡ [] → (found ≡ None) × (rest ≡ [])
@@ -175,12 +176,17 @@ module _ (group : ℕ → GroupId) (seen : Sights) where
   IsNoPromise None between = between ≡ Ended
   IsNoPromise (Some packet) between = (identifier : ℕ) → packet ≢ puback identifier 0
 
+  -- whether a connection was taken over is asked of the desk alone
+  asked_of_desk : (number : ℕ) (answer : Bool) (old new : Worker) → Calls group seen old (Kicked number answer) new → publisher_of new ≡ publisher_of old
+  asked_of_desk number answer old new (inl same) = ap publisher_of same.1
+  asked_of_desk number answer old new (inr told) = ap publisher_of told.1
+
   -- what a PUBLISH made of the ports, and its reply
-  abbrev Reply_to : Publish → List PortState → ConnPhase PlaceState → Reply → List PortState → Type 0
-  Reply_to publish ports between reply ports' =
-      ((identifier : ℕ) × (publish_answer publish ≡ answers.Offer identifier) × (slots : List ℕ) × (taken : ℕ) × PutsInto group seen ports (message_of publish) slots taken ports'
-      × (reply ≡ acknowledging identifier (puback_code (length slots) taken)))
-      ⊎ ((ports' ≡ ports) × IsNoPromise reply.packet between)
+  abbrev RepliesTo : Publish → PublisherState → ConnPhase PlaceState → Reply → PublisherState → Type 0
+  RepliesTo publish old between reply new =
+      ((identifier : ℕ) × (publish_answer publish ≡ answers.Offer identifier) × (taken : ℕ) × PutsInto group seen old.ports (message_of publish) (slots_matched old publish) taken new.ports
+      × (reply ≡ acknowledging identifier (puback_code (length (slots_matched old publish)) taken)))
+      ⊎ ((new.ports ≡ old.ports) × IsNoPromise reply.packet between)
 
   -- no promise, by the packet of the reply
   silent : (reply : Reply) (packet : Packet) (between : ConnPhase PlaceState) → reply.packet ≡ Some packet → ((identifier : ℕ) → packet ≢ puback identifier 0) → IsNoPromise reply.packet between
@@ -190,7 +196,7 @@ module _ (group : ℕ → GroupId) (seen : Sights) where
   over reply between is ended = subst (λ (it : Option Packet). IsNoPromise it between) (sym is) ended
 
   first_answered : (answer : FirstAnswer) (old new : Worker) (number max_inflight now : ℕ) (publish : Publish) (between : ConnPhase PlaceState) (reply : Reply)
-      → AnswersFirst (Calls group seen) slot_of answer old number max_inflight now (packets.Publish publish) between reply new → Reply_to publish old.ports between reply new.ports
+      → AnswersFirst (Calls group seen) slot_of answer old number max_inflight now (packets.Publish publish) between reply new → RepliesTo publish (publisher_of old) between reply (publisher_of new)
   first_answered first.Close old new number max_inflight now publish between reply is =
       inr (ap (λ (w : Worker). w.ports) is.1, over reply between (ap (λ (r : Reply). r.packet) is.0.told) is.0.over)
   first_answered (first.Refuse refusal) old new number max_inflight now publish between reply is =
@@ -204,7 +210,7 @@ module _ (group : ℕ → GroupId) (seen : Sights) where
   concluded TakenOver old new connected now phase concludes = plain old new (parted (Calls group seen) old new connected.session now concludes.0)
 
   published : (answer : PublishAnswer) (old mid new : Worker) (number : ℕ) (publish : Publish) (between : ConnPhase PlaceState) (reply : Reply) → publish_answer publish ≡ answer
-      → AnswersPublish (Calls group seen) old number publish answer reply mid → new.ports ≡ mid.ports → Reply_to publish old.ports between reply new.ports
+      → AnswersPublish (Calls group seen) old number publish answer reply mid → new.ports ≡ mid.ports → RepliesTo publish (publisher_of old) between reply (publisher_of new)
   published (answers.Close code) old mid new number publish between reply answered is kept =
       inr (kept ∙ ap (λ (w : Worker). w.ports) is.1, silent reply _ between (ap (λ (r : Reply). r.packet) is.0) (λ identifier same. cc same))
   published (answers.Refuse other code) old mid new number publish between reply answered is kept =
@@ -213,34 +219,30 @@ module _ (group : ℕ → GroupId) (seen : Sights) where
         silent reply (puback other code) between (ap (λ (r : Reply). r.packet) is.0) (λ identifier same. refused_with publish.delivery other code publish answered (ap code_of same)),
       )
   published (answers.Offer identifier) old mid new number publish between reply answered is kept =
-      inl (
-        identifier,
-        answered,
-        is.slots,
-        is.taken,
-        subst (λ (ports : List PortState). PutsInto group seen old.ports (message_of publish) is.slots is.taken ports) (sym kept)
-            (subst (λ (ports : List PortState). PutsInto group seen ports (message_of publish) is.slots is.taken mid.ports)
-            (stays (Match publish.topic is.slots) old.ports is.mid.ports (called (Match publish.topic is.slots) old is.mid is.matched) refl)
-            (all_put is.slots number (message_of publish) is.taken is.mid mid is.offered)),
-        is.replied,
-      )
+      let Puts : List ℕ → List PortState → List PortState → Type 0 = λ slots ports ports'. PutsInto group seen ports (message_of publish) slots is.taken ports' in
+      let Told : List ℕ → Type 0 = λ slots. Puts slots old.ports new.ports × (reply ≡ acknowledging identifier (puback_code (length slots) is.taken)) in
+      let puts = all_put is.slots number (message_of publish) is.taken is.mid mid is.offered in
+      let from_old = subst (λ (ports : List PortState). Puts is.slots ports mid.ports) (ap (λ (w : Worker). w.ports) is.matched.1) puts in
+      let to_new = subst (λ (ports : List PortState). Puts is.slots old.ports ports) (sym kept) from_old in
+      let told = subst Told is.matched.0 (to_new, is.replied) in
+      inl (identifier, answered, is.taken, told.0, told.1)
 
   packet_answered : (was_kicked : Bool) (old new : Worker) (number now : ℕ) (connected : ConnectedClient PlaceState) (publish : Publish) (between : ConnPhase PlaceState) (reply : Reply)
       → AnswersUnlessKicked (Calls group seen) slot_of was_kicked old connected now (AnswersPacket (Calls group seen) slot_of old number connected now (packets.Publish publish)) between reply new
-      → Reply_to publish old.ports between reply new.ports
+      → RepliesTo publish (publisher_of old) between reply (publisher_of new)
   packet_answered true old new number now connected publish between reply is =
       inr (plain old new (parted (Calls group seen) old new connected.session now is.1.0), silent reply _ between (ap (λ (r : Reply). r.packet) is.0) (λ identifier same. cc same))
   packet_answered false old new number now connected publish between reply is =
       published (publish_answer publish) old is.1 new number publish between reply refl is.2.0 (concluded reply.next is.1 new is.0 now between is.3)
 
   reacted : (phase : ConnPhase PlaceState) (publish : Publish) (old new : Worker) (number now : ℕ) (between : ConnPhase PlaceState) (reply : Reply)
-      → Reacts (Calls group seen) slot_of old number phase now (inputs.Packet (packets.Publish publish)) between reply new → Reply_to publish old.ports between reply new.ports
+      → Reacts (Calls group seen) slot_of old number phase now (inputs.Packet (packets.Publish publish)) between reply new → RepliesTo publish (publisher_of old) between reply (publisher_of new)
   reacted (Unconnected opened) publish old new number now between reply is =
       first_answered (first_answer (packets.Publish publish)) old new number opened.max_inflight now publish between reply is
   reacted (Waiting request ticks) publish old new number now between reply is = absurd is
   reacted (Connected connected) publish old new number now between reply is =
-      let asked = stays (Kicked number is.0) old.ports is.1.ports (called (Kicked number is.0) old is.1 is.2) refl in
-      subst (λ (ports : List PortState). Reply_to publish ports between reply new.ports) asked (packet_answered is.0 is.1 new number now connected publish between reply is.3)
+      let asked = asked_of_desk number is.0 old is.1 is.2 in
+      subst (λ (from : PublisherState). RepliesTo publish from between reply (publisher_of new)) asked (packet_answered is.0 is.1 new number now connected publish between reply is.3)
   reacted Ended publish old new number now between reply is =
       inr (ap (λ (w : Worker). w.ports) is.1, over reply between (ap (λ (r : Reply). r.packet) is.0.told) is.0.over)
 
@@ -258,23 +260,23 @@ module _ (group : ℕ → GroupId) (seen : Sights) where
   -- a step of a PUBLISH
   of_publish : (old new : Worker) (number now : ℕ) (phase phase' : ConnPhase PlaceState) (publish : Publish) (these : List Packet) (next : Then)
       → StepsTo (Calls group seen) slot_of old number phase now (inputs.Packet (packets.Publish publish)) these next phase' new
-      → PublishesAt group seen (inputs.Packet (packets.Publish publish)) these old.ports new.ports
+      → PublishesAt group seen (inputs.Packet (packets.Publish publish)) these (publisher_of old) (publisher_of new)
   of_publish old new number now phase phase' publish these next steps =
       let handed = plain steps.mid new (handed_behind (Calls group seen) slot_of steps.between steps.mid new steps.sent phase' steps.hands) in
       ⊎_elim
-      (λ (it : (identifier : ℕ) × (publish_answer publish ≡ answers.Offer identifier) × (slots : List ℕ) × (taken : ℕ) × PutsInto group seen old.ports (message_of publish) slots taken steps.mid.ports
-      × (steps.reply ≡ acknowledging identifier (puback_code (length slots) taken))).
+      (λ (it : (identifier : ℕ) × (publish_answer publish ≡ answers.Offer identifier) × (taken : ℕ)
+      × PutsInto group seen old.ports (message_of publish) (slots_matched (publisher_of old) publish) taken steps.mid.ports
+      × (steps.reply ≡ acknowledging identifier (puback_code (length (slots_matched (publisher_of old) publish)) taken))).
       inl (
         publish,
         refl,
         record {
           identifier = it.0;
           brought = it.1;
-          slots = it.2;
-          taken = it.3;
-          puts = subst (λ (ports : List PortState). PutsInto group seen old.ports (message_of publish) it.2 it.3 ports) (sym handed) it.4;
+          taken = it.2;
+          puts = subst (λ (ports : List PortState). PutsInto group seen old.ports (message_of publish) (slots_matched (publisher_of old) publish) it.2 ports) (sym handed) it.3;
           others = steps.sent;
-          answered = steps.written ∙ ap (λ (r : Reply). option_to_list r.packet ++ steps.sent) it.5;
+          answered = steps.written ∙ ap (λ (r : Reply). option_to_list r.packet ++ steps.sent) it.4;
         },
       ))
       (λ (it : (steps.mid.ports ≡ old.ports) × IsNoPromise steps.reply.packet steps.between).
@@ -284,7 +286,7 @@ module _ (group : ℕ → GroupId) (seen : Sights) where
   -- a step of any other input
   of_other : (input : Input) (old new : Worker) (number now : ℕ) (phase phase' : ConnPhase PlaceState) (these : List Packet) (next : Then)
       → ((publish : Publish) → input ≡ inputs.Packet (packets.Publish publish) → ⊥) → StepsTo (Calls group seen) slot_of old number phase now input these next phase' new
-      → PublishesAt group seen input these old.ports new.ports
+      → PublishesAt group seen input these (publisher_of old) (publisher_of new)
   of_other input old new number now phase phase' these next never steps =
       let calls = stepped (Calls group seen) slot_of old new number now phase phase' input these next steps in
       ⊎_elim
@@ -293,7 +295,7 @@ module _ (group : ℕ → GroupId) (seen : Sights) where
       calls.offers
 
   at_packet : (packet : Packet) (old new : Worker) (number now : ℕ) (phase phase' : ConnPhase PlaceState) (these : List Packet) (next : Then)
-      → StepsTo (Calls group seen) slot_of old number phase now (inputs.Packet packet) these next phase' new → PublishesAt group seen (inputs.Packet packet) these old.ports new.ports
+      → StepsTo (Calls group seen) slot_of old number phase now (inputs.Packet packet) these next phase' new → PublishesAt group seen (inputs.Packet packet) these (publisher_of old) (publisher_of new)
   at_packet (packets.Publish publish) old new number now phase phase' these next steps = of_publish old new number now phase phase' publish these next steps
   at_packet (packets.Puback puback) old new number now phase phase' these next steps = of_other _ old new number now phase phase' these next (λ publish is. cc is) steps
   at_packet (packets.Subscribe subscribe) old new number now phase phase' these next steps = of_other _ old new number now phase phase' these next (λ publish is. cc is) steps
@@ -310,7 +312,7 @@ module _ (group : ℕ → GroupId) (seen : Sights) where
   at_packet packets.WithWill old new number now phase phase' these next steps = of_other _ old new number now phase phase' these next (λ publish is. cc is) steps
 
   at_input : (input : Input) (old new : Worker) (number now : ℕ) (phase phase' : ConnPhase PlaceState) (these : List Packet) (next : Then)
-      → StepsTo (Calls group seen) slot_of old number phase now input these next phase' new → PublishesAt group seen input these old.ports new.ports
+      → StepsTo (Calls group seen) slot_of old number phase now input these next phase' new → PublishesAt group seen input these (publisher_of old) (publisher_of new)
   at_input (inputs.Packet packet) old new number now phase phase' these next steps = at_packet packet old new number now phase phase' these next steps
   at_input (inputs.Fault fault) old new number now phase phase' these next steps = of_other _ old new number now phase phase' these next (λ publish is. cc is) steps
   at_input inputs.Tick old new number now phase phase' these next steps = of_other _ old new number now phase phase' these next (λ publish is. cc is) steps
@@ -319,7 +321,7 @@ module _ (group : ℕ → GroupId) (seen : Sights) where
 
   -- a step in which an allocation failed
   at_failed : (input : Input) (old new : Worker) (number now : ℕ) (phase : ConnPhase PlaceState) → FailsToStep (Calls group seen) slot_of old number phase now input new
-      → PublishesSome group seen input old.ports new.ports
+      → PublishesSome group seen input (publisher_of old) (publisher_of new)
   at_failed input old new number now phase fails =
       let calls = failed (Calls group seen) slot_of old new number now phase input fails in
       ⊎_elim
@@ -332,7 +334,7 @@ module _ (group : ℕ → GroupId) (seen : Sights) where
   given_up : (old new : Worker) (client client' : ClientState PlaceState) (now : ℕ) → IsGivenUp (Calls group seen) slot_of old client now inputs.EndOfInput client' new → new.ports ≡ old.ports
   given_up old new client client' now (inl moved) =
       ⊎_elim
-      (λ (it : (publish : Publish) × (inputs.EndOfInput ≡ inputs.Packet (packets.Publish publish)) × IsPublished group seen publish moved.0.packets old.ports new.ports). let never = it.1 in absurd (cc never))
+      (λ (it : (publish : Publish) × (inputs.EndOfInput ≡ inputs.Packet (packets.Publish publish)) × IsPublished group seen publish moved.0.packets (publisher_of old) (publisher_of new)). let never = it.1 in absurd (cc never))
       (λ (it : (new.ports ≡ old.ports) × ((publish : Publish) → inputs.EndOfInput ≡ inputs.Packet (packets.Publish publish) → ¬ IsPromised moved.0.packets)). it.0)
       (at_input inputs.EndOfInput old new client.conn.number (moment_of client now) client.conn.phase client'.conn.phase moved.0.packets moved.0.next moved.1.stepped)
   given_up old new client client' now (inr fails) =
@@ -350,13 +352,13 @@ module _ (group : ℕ → GroupId) (seen : Sights) where
   no_others now Parting to treads = treads
   no_others now Parted to treads = treads
 
-  both : (these those : List Act) (ports mid ports' : List PortState) → PublishesAll group seen these ports mid → PublishesAll group seen those mid ports' → PublishesAll group seen (these ++ those) ports ports'
-  both [] those ports mid ports' first later = subst (λ (from : List PortState). PublishesAll group seen those from ports') first later
-  both (act ∷ these) those ports mid ports' first later = (first.0, first.1, both these those first.0 mid ports' first.2 later)
+  both : (these those : List Act) (old mid new : PublisherState) → PublishesAll group seen these old mid → PublishesAll group seen those mid new → PublishesAll group seen (these ++ those) old new
+  both [] those old mid new first later = subst (λ (from : PublisherState). PublishesAll group seen those from new) first later
+  both (act ∷ these) those old mid new first later = (first.0, first.1, both these those first.0 mid new first.2 later)
 
   module _ {T : Type 0} (counts : T → Counts) (given accepted : T → Option (List ℕ)) where
     acted : (act : Act) (old new : ServiceState PlaceState T) (supply supply' : Worker) (now : ℕ) (from to : Stand)
-        → Does (Calls group seen) Begins Leaves is_visiting slot_of counts given accepted act old supply new supply' → Treads now from act to → Publishes group seen act supply.ports supply'.ports
+        → Does (Calls group seen) Begins Leaves is_visiting slot_of counts given accepted act old supply new supply' → Treads now from act to → Publishes group seen act (publisher_of supply) (publisher_of supply')
     acted (Enters is_open reads) old new supply supply' now from to does treads = does.begun.ports
     acted Left old new supply supply' now from to does treads = ap (λ (w : Worker). w.ports) does.ended.becomes
     acted (Asks is_kicked) old new supply supply' now from to does treads =
@@ -378,29 +380,29 @@ module _ (group : ℕ → GroupId) (seen : Sights) where
     acted Others old new supply supply' now from to does treads = absurd (no_others now from to treads)
 
     walked : (acts : List Act) (old new : ServiceState PlaceState T) (supply supply' : Worker) (now : ℕ) (from to : Stand)
-        → DoesAll (Calls group seen) Begins Leaves is_visiting slot_of counts given accepted acts old supply new supply' → Walks now from acts to → PublishesAll group seen acts supply.ports supply'.ports
-    walked [] old new supply supply' now from to does walks = ap (λ (w : Worker). w.ports) does.1
+        → DoesAll (Calls group seen) Begins Leaves is_visiting slot_of counts given accepted acts old supply new supply' → Walks now from acts to → PublishesAll group seen acts (publisher_of supply) (publisher_of supply')
+    walked [] old new supply supply' now from to does walks = ap publisher_of does.1
     walked (act ∷ acts) old new supply supply' now from to does walks =
-        (does.1.ports, acted act old does.0 supply does.1 now from walks.0 does.2 walks.1, walked acts does.0 new does.1 supply' now walks.0 to does.3 walks.2)
+        (publisher_of does.1, acted act old does.0 supply does.1 now from walks.0 does.2 walks.1, walked acts does.0 new does.1 supply' now walks.0 to does.3 walks.2)
 
-    done : (deed : Deed T) (old new : RunState T) → Makes group seen counts given accepted deed old new → PublishesAll group seen (acts_in deed) old.supply.ports new.supply.ports
-    done (Opened arrived cell now) old new does = ap (λ (s : RunState T). s.supply.ports) does.3
-    done (Closed arrived) old new does = ap (λ (s : RunState T). s.supply.ports) does.2
-    done (Allowed most) old new does = ap (λ (s : RunState T). s.supply.ports) does
+    done : (deed : Deed T) (old new : RunState T) → Makes group seen counts given accepted deed old new → PublishesAll group seen (acts_in deed) (publisher_of old.supply) (publisher_of new.supply)
+    done (Opened arrived cell now) old new does = ap (λ (s : RunState T). publisher_of s.supply) does.3
+    done (Closed arrived) old new does = ap (λ (s : RunState T). publisher_of s.supply) does.2
+    done (Allowed most) old new does = ap (λ (s : RunState T). publisher_of s.supply) does
     done (MadeRound cell now acts how) old new does =
         let goes = does.0.becomes in
-        subst (λ (those : List Act). PublishesAll group seen those old.supply.ports new.supply.ports) (sym goes.acts_are)
+        subst (λ (those : List Act). PublishesAll group seen those (publisher_of old.supply) (publisher_of new.supply)) (sym goes.acts_are)
         (walked goes.round.led.acts goes.service goes.behind old.supply new.supply now Outside Behind goes.round.led.does goes.round.led.walks)
-    done (Passed cell) old new does = ap (λ (s : RunState T). s.supply.ports) does.1
-    done (Called slot) old new does = ap (λ (s : RunState T). s.supply.ports) does
-    done (Notified most others) old new does = ap (λ (s : RunState T). s.supply.ports) does.1
-    done NotifiedAll old new does = ap (λ (s : RunState T). s.supply.ports) does
+    done (Passed cell) old new does = ap (λ (s : RunState T). publisher_of s.supply) does.1
+    done (Called slot) old new does = ap (λ (s : RunState T). publisher_of s.supply) does
+    done (Notified most others) old new does = ap (λ (s : RunState T). publisher_of s.supply) does.1
+    done NotifiedAll old new does = ap (λ (s : RunState T). publisher_of s.supply) does
 
     done_all : (deeds : List (Deed T)) (old new : RunState T) → MakesAll group seen counts given accepted deeds old new
-        → PublishesAll group seen (flat_map acts_in deeds) old.supply.ports new.supply.ports
-    done_all [] old new does = ap (λ (s : RunState T). s.supply.ports) does
+        → PublishesAll group seen (flat_map acts_in deeds) (publisher_of old.supply) (publisher_of new.supply)
+    done_all [] old new does = ap (λ (s : RunState T). publisher_of s.supply) does
     done_all (deed ∷ deeds) old new does =
-        both (acts_in deed) (flat_map acts_in deeds) old.supply.ports does.0.supply.ports new.supply.ports (done deed old does.0 does.1) (done_all deeds does.0 new does.2)
+        both (acts_in deed) (flat_map acts_in deeds) (publisher_of old.supply) (publisher_of does.0.supply) (publisher_of new.supply) (done deed old does.0 does.1) (done_all deeds does.0 new does.2)
 
     -- all that came into the ports was published by the acts of the run
     pub all_published : (run : Run T) → IsRun group seen counts given accepted run → IsPublishedBy group seen run

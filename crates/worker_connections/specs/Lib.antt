@@ -7,4 +7,5 @@ pub mod Members
 pub mod Serving
 pub mod Sweeping
 pub mod Publishing
+pub mod Sessions
 pub mod Cells

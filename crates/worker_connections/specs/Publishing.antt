@@ -1,9 +1,11 @@
--- How messages come into the ports of a worker: by the PUBLISH packets that its connections step, and by nothing else; and what their PUBACKs say of them (3.3.4 and 3.4.2.1).
+-- How messages come into the ports of a worker: by the PUBLISH packets that its connections step, each through the ports of the groups whose filters match its topic, and by
+-- nothing else; and what their PUBACKs say of them (3.3.4, 3.4.2.1 and 4.7).
 use Rattle.std.specs.Prelude.{◌≡◌, ◌⊎◌, ℕ, ◌+◌, List, [], ◌∷◌, length, Result}
 use Rattle.std.specs.List.{flat_map}
 use Rattle.mqtt_packet.specs.declared.packet.Packet.{Packet}
 use Rattle.mqtt_packet.specs.declared.packet.Packet.TheVariants as packets
 use Rattle.mqtt_packet.specs.declared.packet.Publish.{Publish}
+use Rattle.mqtt_topic.specs.Routes.{places_of, routed}
 use Rattle.group_jobs.specs.declared.message.Message.{Message}
 use Rattle.group_jobs.specs.declared.stamp.Stamp.{Stamp}
 use Rattle.group_queue.specs.Ports.{GroupId, PortState}
@@ -17,7 +19,21 @@ use Rattle.conn_supply.specs.Publishing.{Took}
 use Rattle.conn_engine.specs.declared.input.Input.{Input}
 use Rattle.conn_engine.specs.declared.input.Input.TheVariants as inputs
 use Rattle.conn_service.specs.Acts.{Act, Steps, Loses, Fails}
+use Rattle.shared_routes.specs.Known.{KnownState}
+use Rattle.shared_supply.specs.Workers.{Worker}
 use Rattle.worker_connections.specs.Chains.{Deed, MadeRound, Run}
+
+-- what a worker publishes through, and what it knows of the routes
+pub record PublisherState : Type 0 where
+  pub ports : List PortState
+  pub known : KnownState
+
+abbrev pub publisher_of : Worker → PublisherState
+publisher_of worker = record { ports = worker.ports; known = worker.known }
+
+-- the slots of the groups whose filters match the topic of a PUBLISH, of those that are known
+abbrev pub slots_matched : PublisherState → Publish → List ℕ
+slots_matched publisher publish = places_of 0 (routed publish.topic publisher.known.shares)
 
 -- these packets begin with a PUBACK of success
 abbrev pub IsPromised : List Packet → Type 0
@@ -42,40 +58,39 @@ module _ (group : ℕ → GroupId) (seen : Sights) where
   PutsSome ports message (slot ∷ slots) ports' =
       (answer : Result Stamp OfferRefusal) × (mid : List PortState) × OffersTo group seen.saw_main ports slot message answer mid × PutsSome mid message slots ports'
 
-  -- a PUBLISH whose message was offered through the ports of these slots, once each, and how many of their groups took it: its PUBACK, in front of all that the step sent,
-  -- says that, and nothing else came into the ports. That these are the slots of the groups that match is in the step (`IsOffered` of `conn_supply`)
-  pub record IsPublished (publish : Publish) (sent : List Packet) (ports ports' : List PortState) : Type 0 where
+  -- a PUBLISH whose message was offered through the port of each group that matches, once, and how many of these groups took it: its PUBACK, in front of all that the step
+  -- sent, says that, and nothing else came into the ports
+  pub record IsPublished (publish : Publish) (sent : List Packet) (old new : PublisherState) : Type 0 where
     pub identifier : ℕ
     pub brought : publish_answer publish ≡ Offer identifier
-    pub slots : List ℕ
     pub taken : ℕ
-    pub puts : PutsInto ports (message_of publish) slots taken ports'
+    pub puts : PutsInto old.ports (message_of publish) (slots_matched old publish) taken new.ports
     pub others : List Packet
-    pub answered : sent ≡ puback identifier (puback_code (length slots) taken) ∷ others
+    pub answered : sent ≡ puback identifier (puback_code (length (slots_matched old publish)) taken) ∷ others
 
   -- what a step made of the ports, by which these packets were sent: a PUBLISH was published; or they are as they were, and then no PUBLISH was promised
-  abbrev pub PublishesAt : Input → List Packet → List PortState → List PortState → Type 0
-  PublishesAt input sent ports ports' =
-      ((publish : Publish) × (input ≡ inputs.Packet (packets.Publish publish)) × IsPublished publish sent ports ports')
-      ⊎ ((ports' ≡ ports) × ((publish : Publish) → input ≡ inputs.Packet (packets.Publish publish) → ¬ IsPromised sent))
+  abbrev pub PublishesAt : Input → List Packet → PublisherState → PublisherState → Type 0
+  PublishesAt input sent old new =
+      ((publish : Publish) × (input ≡ inputs.Packet (packets.Publish publish)) × IsPublished publish sent old new)
+      ⊎ ((new.ports ≡ old.ports) × ((publish : Publish) → input ≡ inputs.Packet (packets.Publish publish) → ¬ IsPromised sent))
 
   -- what a step made of them in which an allocation failed: the message of a PUBLISH was offered to some groups, and nothing was sent; or they are as they were
-  abbrev pub PublishesSome : Input → List PortState → List PortState → Type 0
-  PublishesSome input ports ports' =
-      ((publish : Publish) × (input ≡ inputs.Packet (packets.Publish publish)) × ((slots : List ℕ) × PutsSome ports (message_of publish) slots ports')) ⊎ (ports' ≡ ports)
+  abbrev pub PublishesSome : Input → PublisherState → PublisherState → Type 0
+  PublishesSome input old new =
+      ((publish : Publish) × (input ≡ inputs.Packet (packets.Publish publish)) × ((slots : List ℕ) × PutsSome old.ports (message_of publish) slots new.ports)) ⊎ (new.ports ≡ old.ports)
 
-  -- what an act made of them
-  abbrev pub Publishes : Act → List PortState → List PortState → Type 0
-  Publishes (Steps now input sent next) ports ports' = PublishesAt input sent ports ports'
-  Publishes (Loses now input sent next) ports ports' = PublishesAt input sent ports ports'
-  Publishes (Fails now input) ports ports' = PublishesSome input ports ports'
-  Publishes _ ports ports' = ports' ≡ ports
+  -- what an act made of them; what is known of the routes, others may add to when a visit begins, and a SUBSCRIBE does
+  abbrev pub Publishes : Act → PublisherState → PublisherState → Type 0
+  Publishes (Steps now input sent next) old new = PublishesAt input sent old new
+  Publishes (Loses now input sent next) old new = PublishesAt input sent old new
+  Publishes (Fails now input) old new = PublishesSome input old new
+  Publishes _ old new = new.ports ≡ old.ports
 
   -- what these acts did, one after the other
-  abbrev pub PublishesAll : List Act → List PortState → List PortState → Type 0
-  PublishesAll [] ports ports' = ports' ≡ ports
-  PublishesAll (act ∷ acts) ports ports' = (mid : List PortState) × Publishes act ports mid × PublishesAll acts mid ports'
+  abbrev pub PublishesAll : List Act → PublisherState → PublisherState → Type 0
+  PublishesAll [] old new = new ≡ old
+  PublishesAll (act ∷ acts) old new = (mid : PublisherState) × Publishes act old mid × PublishesAll acts mid new
 
   -- **What was accepted was published**: all that the ports of a worker accepted came into them by the acts of its run, one after the other
   pub record IsPublishedBy {T : Type 0} (run : Run T) : Type 0 where
-    pub published : PublishesAll (flat_map acts_in run.deeds) run.first.supply.ports run.last.supply.ports
+    pub published : PublishesAll (flat_map acts_in run.deeds) (publisher_of run.first.supply) (publisher_of run.last.supply)

@@ -1,6 +1,7 @@
 //! How connections are taken from a source and sent to workers.
-ghost use Rattle.std.specs.Prelude.{◌≡◌, ◌++◌, [], ◌∷◌, length, IfSome};
+ghost use Rattle.std.specs.Prelude.{◌≡◌, ◌+◌, ◌≤◌, ◌++◌, [], ◌∷◌, length, IfSome};
 ghost use Rattle.gate_word.specs.Calls.{Looks, Shuts};
+ghost use Rattle.gate_word.specs.Seats.{AreSeatsOf};
 ghost use Rattle.worker_pool.specs.Accepting.{HasAccepted, OnlyMarks};
 
 use bell::Wake;
@@ -77,6 +78,18 @@ impl<'a, B: Broker> Closer<'a, B> {
             seat,
             of: PhantomData,
         }
+    }
+
+    /// Who shuts this gate, by the last of its seats that are left.
+    pub fn take(gate: &'a Gate, seats: &mut Vec<GateSeat>) -> Closer<'a, B>
+        requires seats { AreSeatsOf gate.now seats.old.items × (1 ≤ length seats.old.items) }
+        requires gate { gate.now ≡ B.gate }
+        ensures others { AreSeatsOf gate.now seats.new.items × (length seats.new.items + 1 ≡ length seats.old.items) }
+    {
+        let Some(seat) = seats.pop() else {
+            unreachable!()
+        };
+        Closer::new(gate, seat)
     }
 
     /// Shuts it.

@@ -8,8 +8,10 @@ mod accepting;
 mod pool;
 mod provision;
 mod running;
+mod setup;
 mod watching;
 
 pub use accepting::{Closer, SourceEnd, Taken};
 pub use pool::{Pooled, Unbegun, run};
+pub use setup::PoolSetup;
 pub use watching::Watch;

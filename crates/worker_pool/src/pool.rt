@@ -10,13 +10,13 @@ ghost use Rattle.worker_pool.specs.Workers.{HasServed, IsHired};
 use crate::accepting::{Acceptor, Closer, Taken};
 use crate::provision::{Provision, provide};
 use crate::running::run_all;
+use crate::setup::PoolSetup;
 use crate::watching::Watch;
 use bell::Wake;
 use broker_groups::{Broker, BrokerPlace};
-use broker_worker::{Mailboxes, Worker, WorkerIo, WorkerParts};
+use broker_worker::{Mailboxes, Worker, WorkerParts};
 use call_history::HistoryName;
 use conn_channel::{Receiver, Sender};
-use conn_rules::MaxInflight;
 use shared_desk::DeskView;
 use shared_supply::SharedBroker;
 use std::alloc::Global;
@@ -46,9 +46,8 @@ pub struct Unbegun<B: Broker, S> {
 }
 
 /// Serves the connections of a source with as many workers as there are handles, each in a thread of its own, until the source has ended or failed, the
-/// broker's gate is shut, and all connections have ended. A thread of its own takes the connections, and another one watches the input. The pollers and clocks and the
-/// alarms are in the order of workers: a worker waits at its poller, which its alarm wakes. Where the source fails, the gate is shut. The client of each
-/// connection has at most so many messages unacknowledged. Nothing was published through the ports of the handles before.
+/// broker's gate is shut, and all connections have ended. A thread of its own takes the connections, and another one watches the input. Where the source fails, the gate
+/// is shut. Nothing was published through the ports of the handles before.
 ///
 /// All that workers had of the broker comes back, and so do their pollers, with what they closed. Each connection that the source gave came to one worker, once, and is in
 /// its run, from its opening to its end (`served`). The pass knows then what each worker knew of the calls of the desk.
@@ -73,11 +72,8 @@ pub fn run<
     alloc: Global,
     shared_broker: &SharedBroker<'_, B, N>,
     handles: Vec<WorkerHandle<B>>,
-    worker_io: Vec<WorkerIo<T, Q, C>>,
-    alarms: Vec<W>,
+    setup: PoolSetup<'_, T, Q, W, X, C>,
     source: S,
-    max_inflight: MaxInflight,
-    crossing: &X,
     closer: Closer<'_, B>,
     watch: &mut D,
     input: &mut I,
@@ -86,17 +82,23 @@ pub fn run<
 where
     B::Seen: Send + Sync,
     requires workers { (1 ≤ length handles.items) × (length handles.items ≤ 64) }
-    requires worker_io { length worker_io.items ≡ length handles.items }
+    requires setup { length setup.worker_io.items ≡ length handles.items }
     requires unsent { All (λ handle. AreUnsent handle.ports) handles.items }
     ensures handles { MatchResult result (λ pooled. length pooled.handles.items ≡ length handles.items) (λ unbegun. length unbegun.handles.items ≡ length handles.items) }
     ensures taken { IfOk result (λ pooled. (S.tally pooled.taken.source).arrivals ≡ (S.tally source).arrivals + pooled.taken.came) }
     ensures served { IfOk result (λ pooled. (came : List T) × Gave S.arrived source came pooled.taken.source × (pooled.taken.came ≡ length came)
-        × AreServed B.group B.Seen.Witness T.counts T.given T.accepted (arrivals max_inflight came) me.new (map (λ handle. handle.ports) pooled.handles.items) pooled.served.items (map Q.closed pooled.pollers.items)) }
+        × AreServed B.group B.Seen.Witness T.counts T.given T.accepted (arrivals setup.entry.max_inflight came) me.new (map (λ handle. handle.ports) pooled.handles.items) pooled.served.items (map Q.closed pooled.pollers.items)) }
     ensures counted { IfOk result (λ pooled. pooled.taken.came < 2 ^ 64 → pooled.taken.came ≡ total_in pooled.served.items) }
     ensures watched { IfOk result (λ _. D.has_watched watch.old watch.new input.old input.new) }
     ensures untouched { IfErr result (λ unbegun. unbegun.source ≡ source) }
     ensures told { IsPrefix me.old me.new }
 {
+    let PoolSetup {
+        worker_io,
+        alarms,
+        crossing,
+        max_inflight,
+    } = setup;
     let Ok(
         Provision {
             mailboxes,

@@ -1,7 +1,7 @@
 -- The headline: the run until the broker was closed, and what the groups' ends promise.
 use Rattle.std.proofs.Common.{map}
 use Rattle.worker_pool.proofs.Gathered.{begins_longer}
-use Rattle.threaded_broker.proofs.Quotas.{known_longer}
+use Rattle.threaded_broker.proofs.Runs.{known_longer}
 use Rattle.threaded_broker.proofs.serving.serve.Goals as goal
 
 pub returns-clause-headline : goal.returns-clause-headline
@@ -14,7 +14,7 @@ returns-clause-headline g c =
       record {
         ports = closed.ports.items;
         every_worker = c.in_ok-closed.ensures.ports;
-        run = known_longer g.B.Broker.group (record { saw_ledger = g.B.Seen.LedgerWitness.saw_ledger; saw_main = g.B.Seen.Witness.saw_main; saw_returns = g.B.Seen.Witness.saw_returns }) g.T.Transport.counts g.T.Transport.given g.T.Transport.accepted c.args.max_inflight ran.0 _ c.end.new.pass closed.ports.items closed.served.items
+        run = known_longer g.B.Broker.group (record { saw_ledger = g.B.Seen.LedgerWitness.saw_ledger; saw_main = g.B.Seen.Witness.saw_main; saw_returns = g.B.Seen.Witness.saw_returns }) g.T.Transport.counts g.T.Transport.given g.T.Transport.accepted c.args.setup.max_inflight ran.0 _ c.end.new.pass closed.ports.items closed.served.items
             (map g.Q.Poller.closed closed.pollers.items) c.end.ensures.before ran.3;
         promises = c.in_ok-ended.ensures.kept;
       },

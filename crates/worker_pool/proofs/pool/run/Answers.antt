@@ -21,7 +21,7 @@ retire-requires-clause-count g c =
     let receivers = ap (λ (a : AcceptorState g.row.T.Denot g.row.S.Denot). a.sender.receivers) c.new-acceptor.ensures in
     let count = c.run_all.ensures.run.count in (
       omega (arith, count, c.in-Ok-hire.ensures.hired.0, c.requires.workers.0),
-      omega (arith, count, c.in-Ok-hire.ensures.hired.0, receivers, c.run_all.ensures.accepted.receivers, c.in-Ok.ensures.sender.0, c.requires.worker_io),
+      omega (arith, count, c.in-Ok-hire.ensures.hired.0, receivers, c.run_all.ensures.accepted.receivers, c.in-Ok.ensures.sender.0, c.requires.setup),
     )
 
 pub returns-clause-taken : goal.returns-clause-taken

@@ -2,7 +2,7 @@
 use Rattle.std.proofs.Common.{◌≡◌, ◌+◌, ◌≤◌, All, length, vec_len, vec_capacity}
 use Rattle.gate_word.specs.Seats.{AreSeatsOf}
 use Rattle.broker_groups.specs.Naming.{AreUnsent}
-use Rattle.tcp_server.proofs.broker.take_ports.Given as goal
+use Rattle.threaded_broker.proofs.opening.take_ports.Given as goal
 
 abbrev pub invariant-handles : goal.invariant-handles
 invariant-handles g l = record {

@@ -1,4 +1,4 @@
--- Each worker's run is within the Receive Maximum of its connections, and what its ports accepted was published in it.
+-- What holds of each worker's run: it is within the Receive Maximum of its connections, what its ports accepted was published in it, and each deed keeps the sessions.
 use Rattle.std.proofs.Common.{◌≡◌, ◌≤◌, ℕ, zero, suc, List, [], ◌∷◌, map, Option, refl, sym, subst, arith}
 use Rattle.std.specs.List.{AllByRecursion, slice_set}
 use mathlib.Core.Option.{some}
@@ -15,8 +15,10 @@ use Rattle.worker_connections.specs.declared.served.ServedCounts.{ServedCounts}
 use Rattle.worker_connections.specs.Arrivals.{ArrivedState}
 use Rattle.worker_connections.specs.Chains.{IsWholeRun, KeepsReceiveMaximum, Run}
 use Rattle.worker_connections.specs.Publishing.{IsPublishedBy}
+use Rattle.worker_connections.specs.Sessions.{KeepsSessions}
 use Rattle.worker_connections.proofs.Publishing.{all_published}
 use Rattle.worker_connections.proofs.Quotas.{within_quota}
+use Rattle.worker_connections.proofs.Sessions.{all_sessions}
 use Rattle.worker_pool.specs.Accepting.{arrivals}
 use Rattle.worker_pool.specs.Pools.{AreServed}
 use Rattle.worker_pool.proofs.Gathered.{begins_longer}
@@ -54,6 +56,10 @@ module _ {T : Type 0} (group : ℕ → GroupId) (seen : Sights) (counts : T → 
   each_published [] whole = tt
   each_published (run ∷ runs) whole = (all_published group seen counts given accepted run whole.0.is, each_published runs whole.1)
 
+  each_session : (runs : List (Run T)) → AllByRecursion (KeepsSessions group seen counts given accepted) runs
+  each_session [] = tt
+  each_session (run ∷ runs) = (all_sessions group seen counts given accepted run, each_session runs)
+
   -- a broker that was served kept to it
   pub within : (limit : ℕ) (came : List T) (calls : List (Call Held PlaceState)) (ports : List (List PortState)) (served : List ServedCounts) (closed : List (Option (List T)))
       → AreServed group seen counts given accepted (arrivals limit came) calls ports served closed → RunsUntilClosed group seen counts given accepted limit came calls ports served closed
@@ -62,6 +68,7 @@ module _ {T : Type 0} (group : ℕ → GroupId) (seen : Sights) (counts : T → 
     within_receive_maximum = each_run limit workers.runs workers.whole
         (of_each (λ (arrived : ArrivedState T). arrived.max_inflight ≤ limit) (arrivals limit came) (map (λ (run : Run T). run.last.received) workers.runs) workers.came_to (limited limit came));
     published = each_published workers.runs workers.whole;
+    sessions = each_session workers.runs;
   }
 
   told_longer : (calls calls' : List (Call Held PlaceState)) (runs : List (Run T)) → IsPrefix calls calls' → AllByRecursion (λ (run : Run T). IsPrefix run.last.supply.desk calls) runs
@@ -85,4 +92,5 @@ module _ {T : Type 0} (group : ℕ → GroupId) (seen : Sights) (counts : T → 
     };
     within_receive_maximum = run.within_receive_maximum;
     published = run.published;
+    sessions = run.sessions;
   }
