@@ -96,6 +96,7 @@ impl<
         requires received { worker_parts.received ≡ [] }
         requires unsent { AreUnsent handle.ports }
         ensures fresh { IfOk result (λ worker. AreFresh worker_parts handle.ports worker.connections) }
+        ensures routes { IfOk result (λ worker. worker.connections.supply.known.table ≡ shared_broker.now) }
         ensures back { IfErr result (λ back. back ≡ handle) }
     {
         let Ok(known) = shared_broker.observe_routes(alloc) else {
@@ -268,15 +269,16 @@ impl<
         note_came(&mut self.due, self.mailboxes, self.number, came);
     }
 
-    /// What it had of the broker and knows of its desk, its end of the channel, how its connections ended, and where it waited: these are what its run has come to. Any
+    /// What it had of the broker and knows of its routes and its desk, its end of the channel, how its connections ended, and where it waited: these are what its run has come to. Any
     /// connection that is still open ends as where the broker closes.
-    pub fn into_parts(self) -> Returned<B, N, T, Q>
+    pub fn into_parts(self) -> Returned<'a, B, N, T, Q>
         ensures receiver { result.receiver ≡ self.entry.connections.receiver }
         ensures served { result.served ≡ self.entry.connections.served }
         ensures counted { live self.entry.connections ≡ 0 → AreCounted (length self.entry.connections.receiver.received) result.served }
         ensures closed { Q.closed result.poller ≡ self.entry.connections.closed }
         ensures ran { HasRunTo B.group B.Seen.Witness T.counts T.given T.accepted (run_of self.entry.connections) }
         ensures ports { live self.entry.connections ≡ 0 → result.handle.ports ≡ self.entry.connections.supply.ports }
+        ensures known { live self.entry.connections ≡ 0 → result.known ≡ self.entry.connections.supply.known }
         ensures desk { live self.entry.connections ≡ 0 → result.pass ≡ self.entry.connections.supply.desk }
     {
         let Worker {

@@ -12,6 +12,6 @@ mod wakes;
 
 pub use ending::{Emptied, StillOpen, Unemptied};
 pub use shared_broker::SharedBroker;
-pub use supply::SharedSupply;
+pub use supply::{SharedSupply, SupplyParts};
 pub use tallies::Tally;
 pub use wakes::{AskedBack, Wakes};

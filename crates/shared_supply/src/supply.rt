@@ -42,6 +42,17 @@ pub struct SharedSupply<'a, 'g, B: Broker, N: HistoryName, R: Wait> {
     pub(crate) tallies: Tallies,
 }
 
+/// What a worker's supply is made of.
+pub struct SupplyParts<'a, B: Broker, N: HistoryName> {
+    /// A seat of the broker's gate.
+    pub key: Key<B>,
+    pub ports: Ports<B>,
+    /// What it knows of the routes.
+    pub known: KnownRoutes<'a>,
+    /// What it knows of the calls of the desk.
+    pub desk: DeskView<BrokerPlace<B>, N>,
+}
+
 impl<'a, 'g, B: Broker, N: HistoryName, R: Wait> Model for SharedSupply<'a, 'g, B, N, R> {
     ghost use Rattle.std.specs.Prelude.{◌≡◌};
     ghost use Rattle.shared_supply.specs.Workers.{Worker, visitor_of, IsVisitorOf};
@@ -177,18 +188,19 @@ impl<'a, 'g, B: Broker, N: HistoryName, R: Wait> SharedSupply<'a, 'g, B, N, R> {
         self.wakes.keep(most)
     }
 
-    /// Its key and its ports. A worker that is inside leaves first.
-    pub fn into_parts(self) -> (Key<B>, Ports<B>, DeskView<BrokerPlace<B>, N>)
-        ensures key { Ends self.entry.visitor result.0 }
-        ensures ports { result.1 ≡ self.entry.ports }
-        ensures desk { result.2 ≡ self.entry.desk }
+    /// What it is made of. A worker that is inside leaves first.
+    pub fn into_parts(self) -> SupplyParts<'a, B, N>
+        ensures key { Ends self.entry.visitor result.key }
+        ensures ports { result.ports ≡ self.entry.ports }
+        ensures known { result.known ≡ self.entry.known }
+        ensures desk { result.desk ≡ self.entry.desk }
     {
         let SharedSupply {
             rt: _,
             shared_broker,
             visitor,
             ports,
-            known: _,
+            known,
             desk,
             alloc: _,
             wakes: _,
@@ -199,7 +211,12 @@ impl<'a, 'g, B: Broker, N: HistoryName, R: Wait> SharedSupply<'a, 'g, B, N, R> {
         let Some(visitor) = visitor else {
             unreachable!()
         };
-        (Key::of(visitor.leave(shared_broker.gate)), ports, desk)
+        SupplyParts {
+            key: Key::of(visitor.leave(shared_broker.gate)),
+            ports,
+            known,
+            desk,
+        }
     }
 
     /// Enters the gate, unless it is shut, and learns of the routes what others bound.

@@ -33,14 +33,14 @@ HaveCapacity group capacity = (slot : ℕ) → slot < 8 → (group slot).capacit
 pub record AreReports (capacity workers max_inflight : ℕ) (given : List Share) (text : List ℕ) : Type 0 where
   pub group : ℕ → GroupId
   pub room : HaveCapacity group capacity
+  pub shares : List Share
   pub answers : List (Result Report (Unfinished Nobody))
   pub strangers : List Held
   pub calls : List (Call Held PlaceState)
   pub came : List Connection
   pub served : List ServedCounts
   pub closed : List (Option (List Connection))
-  pub headline : KeepsTheHeadline group all_seen (λ (connection : Connection). connection.counts) unknown unknown workers max_inflight came calls answers strangers served closed
-  pub shares : List Share
+  pub headline : KeepsTheHeadline group all_seen (λ (connection : Connection). connection.counts) unknown unknown workers max_inflight came calls shares answers strangers served closed
   pub bound : All (IsBoundIn shares) given
   pub lines : text ≡ lines_of shares (map report_of answers)
 

@@ -1,9 +1,11 @@
 -- What holds of each worker's run: it is within the Receive Maximum of its connections, what its ports accepted was published in it, and each deed keeps the sessions.
-use Rattle.std.proofs.Common.{◌≡◌, ◌≤◌, ℕ, zero, suc, List, [], ◌∷◌, map, Option, refl, sym, subst, arith}
+use Rattle.std.proofs.Common.{◌≡◌, ◌≤◌, ℕ, zero, suc, List, [], ◌∷◌, map, take, Option, refl, sym, subst, arith}
 use Rattle.std.specs.List.{AllByRecursion, slice_set}
 use mathlib.Core.Option.{some}
 use lib.ListN.{get_elem?}
 use mathlib.Core.List.{IsPrefix}
+use Rattle.mqtt_topic.specs.Names.{Share}
+use Rattle.mqtt_topic.specs.Routes.{most_routes}
 use Rattle.transport.specs.declared.counts.Counts.{Counts}
 use Rattle.group_jobs.specs.Stamps.{Held}
 use Rattle.session_desk.specs.Calls.{Call}
@@ -61,9 +63,12 @@ module _ {T : Type 0} (group : ℕ → GroupId) (seen : Sights) (counts : T → 
   each_session (run ∷ runs) = (all_sessions group seen counts given accepted run, each_session runs)
 
   -- a broker that was served kept to it
-  pub within : (limit : ℕ) (came : List T) (calls : List (Call Held PlaceState)) (ports : List (List PortState)) (served : List ServedCounts) (closed : List (Option (List T)))
-      → AreServed group seen counts given accepted (arrivals limit came) calls ports served closed → RunsUntilClosed group seen counts given accepted limit came calls ports served closed
-  within limit came calls ports served closed workers = record {
+  pub within : (limit : ℕ) (came : List T) (calls : List (Call Held PlaceState)) (routes shares : List Share) (ports : List (List PortState)) (served : List ServedCounts)
+      (closed : List (Option (List T))) → shares ≡ take most_routes routes → AreServed group seen counts given accepted (arrivals limit came) calls routes ports served closed
+      → RunsUntilClosed group seen counts given accepted limit came calls shares ports served closed
+  within limit came calls routes shares ports served closed shares_are workers = record {
+    routes = routes;
+    shares_are = shares_are;
     workers = workers;
     within_receive_maximum = each_run limit workers.runs workers.whole
         (of_each (λ (arrived : ArrivedState T). arrived.max_inflight ≤ limit) (arrivals limit came) (map (λ (run : Run T). run.last.received) workers.runs) workers.came_to (limited limit came));
@@ -77,10 +82,12 @@ module _ {T : Type 0} (group : ℕ → GroupId) (seen : Sights) (counts : T → 
   told_longer calls calls' (run ∷ runs) longer told = (begins_longer run.last.supply.desk calls calls' told.0 longer, told_longer calls calls' runs longer told.1)
 
   -- more calls are known of the desk
-  pub known_longer : (limit : ℕ) (came : List T) (calls calls' : List (Call Held PlaceState)) (ports : List (List PortState)) (served : List ServedCounts) (closed : List (Option (List T)))
-      → IsPrefix calls calls' → RunsUntilClosed group seen counts given accepted limit came calls ports served closed
-      → RunsUntilClosed group seen counts given accepted limit came calls' ports served closed
-  known_longer limit came calls calls' ports served closed longer run = record {
+  pub known_longer : (limit : ℕ) (came : List T) (calls calls' : List (Call Held PlaceState)) (shares : List Share) (ports : List (List PortState)) (served : List ServedCounts) (closed : List (Option (List T)))
+      → IsPrefix calls calls' → RunsUntilClosed group seen counts given accepted limit came calls shares ports served closed
+      → RunsUntilClosed group seen counts given accepted limit came calls' shares ports served closed
+  known_longer limit came calls calls' shares ports served closed longer run = record {
+    routes = run.routes;
+    shares_are = run.shares_are;
     workers = record {
       runs = run.workers.runs;
       whole = run.workers.whole;
@@ -89,6 +96,7 @@ module _ {T : Type 0} (group : ℕ → GroupId) (seen : Sights) (counts : T → 
       served_are = run.workers.served_are;
       closed_are = run.workers.closed_are;
       told = told_longer calls calls' run.workers.runs longer run.workers.told;
+      known = run.workers.known;
     };
     within_receive_maximum = run.within_receive_maximum;
     published = run.published;

@@ -1,6 +1,8 @@
 -- What a broker on threads promises of its connections and of the messages of its groups: the headline.
-use Rattle.std.specs.Prelude.{◌≡◌, ℕ, List, length, Option, Result}
+use Rattle.std.specs.Prelude.{◌≡◌, ℕ, List, length, take, Option, Result}
 use Rattle.std.specs.List.{AllByRecursion}
+use Rattle.mqtt_topic.specs.Names.{Share}
+use Rattle.mqtt_topic.specs.Routes.{most_routes}
 use Rattle.transport.specs.declared.counts.Counts.{Counts}
 use Rattle.group_jobs.specs.Stamps.{Held}
 use Rattle.session_desk.specs.Calls.{Call}
@@ -21,10 +23,13 @@ module _ {T : Type 0} (group : ℕ → GroupId) (seen : Sights) (counts : T → 
   -- the run of a broker until it was closed: these connections came to its workers, these calls of its desk are known, these ports and counts the workers gave back, and
   -- these transports they closed, each as it was then; at no moment of it did a connection have more unacknowledged PUBLISH packets than its Receive Maximum, and than
   -- this limit (4.9); all that the ports accepted came of the PUBLISH packets that these connections stepped, each offered to the groups that match and answered as these took
-  -- it (3.3.4); and at each deed what is handed out is what is sent, and what is settled is what a PUBACK came for (4.4)
-  pub record RunsUntilClosed (max_inflight : ℕ) (came : List T) (calls : List (Call Held PlaceState)) (ports : List (List PortState)) (served : List ServedCounts)
+  -- it (3.3.4); and at each deed what is handed out is what is sent, and what is settled is what a PUBACK came for (4.4). The groups that match are those of these shares, slot by
+  -- slot, as far as each worker knew them
+  pub record RunsUntilClosed (max_inflight : ℕ) (came : List T) (calls : List (Call Held PlaceState)) (shares : List Share) (ports : List (List PortState)) (served : List ServedCounts)
       (closed : List (Option (List T))) : Type 0 where
-    pub workers : AreServed group seen counts given accepted (arrivals max_inflight came) calls ports served closed
+    pub routes : List Share
+    pub shares_are : shares ≡ take most_routes routes
+    pub workers : AreServed group seen counts given accepted (arrivals max_inflight came) calls routes ports served closed
     pub within_receive_maximum : AllByRecursion (KeepsReceiveMaximum group seen counts given accepted max_inflight) workers.runs
     pub published : AllByRecursion (IsPublishedBy group seen) workers.runs
     pub sessions : AllByRecursion (KeepsSessions group seen counts given accepted) workers.runs
@@ -34,10 +39,11 @@ module _ {T : Type 0} (group : ℕ → GroupId) (seen : Sights) (counts : T → 
   -- the ports that the runs ended with, and with the sessions, places and messages that the calls of the desk led to, of each group whose report is given (`promises`): each
   -- message that was accepted was first handed to at most one member (`first_once`), each member's first hand-outs from a publisher keep that publisher's order (`in_order`),
   -- a refused message went to nobody else (`refused_for_good`), and the report gives each accepted message exactly one fate (`one_fate`), which it had (`what_happened`). No
-  -- connection had more unacknowledged PUBLISH packets than its Receive Maximum. That nothing is handed out after close is said by the token of the drained gate
-  pub record KeepsTheHeadline {W : Type 0} (workers max_inflight : ℕ) (came : List T) (calls : List (Call Held PlaceState)) (answers : List (Result Report (Unfinished W)))
+  -- connection had more unacknowledged PUBLISH packets than its Receive Maximum. The report of a slot is that of the share that is told at its place: to its group each worker
+  -- offered what matches that share, from when it knew it. That nothing is handed out after close is said by the token of the drained gate
+  pub record KeepsTheHeadline {W : Type 0} (workers max_inflight : ℕ) (came : List T) (calls : List (Call Held PlaceState)) (shares : List Share) (answers : List (Result Report (Unfinished W)))
       (strangers : List Held) (served : List ServedCounts) (closed : List (Option (List T))) : Type 0 where
     pub ports : List (List PortState)
     pub every_worker : length ports ≡ workers
-    pub run : RunsUntilClosed max_inflight came calls ports served closed
+    pub run : RunsUntilClosed max_inflight came calls shares ports served closed
     pub promises : KeptItsPromisesBehind group calls ports answers strangers

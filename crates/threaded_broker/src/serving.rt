@@ -1,6 +1,8 @@
 //! A broker that is served to its end.
-ghost use Rattle.std.specs.Prelude.{◌≡◌, ◌+◌, ◌≤◌, List, [], All, length, map, vec_capacity, IfOk, MatchResult};
+ghost use Rattle.std.specs.Prelude.{◌≡◌, ◌+◌, ◌≤◌, List, [], All, length, map, take, vec_capacity, IfOk, MatchResult};
 ghost use mathlib.Core.List.{IsPrefix};
+ghost use Rattle.mqtt_topic.specs.Names.{Share as ShareState};
+ghost use Rattle.mqtt_topic.specs.Routes.{most_routes};
 ghost use Rattle.final_report.specs.Brokers.{KeptItsPromisesBehind};
 ghost use Rattle.broker_groups.specs.Naming.{AreUnsent};
 ghost use Rattle.worker_pool.specs.Accepting.{Gave, arrivals};
@@ -127,7 +129,7 @@ where
     B::Seen: LawfulWitness + Send + Sync,
     requires setup { length setup.worker_io.items ≡ broker }
     ensures headline { IfOk result (λ outcome. (came : List T) × Gave S.arrived source came outcome.taken.source × (outcome.taken.came ≡ length came)
-        × KeepsTheHeadline B.group B.Seen.Witness T.counts T.given T.accepted broker.entry setup.entry.max_inflight came pass.new outcome.ended.answers.items outcome.ended.strangers.items outcome.served.items (map Q.closed outcome.pollers.items)) }
+        × KeepsTheHeadline B.group B.Seen.Witness T.counts T.given T.accepted broker.entry setup.entry.max_inflight came pass.new outcome.shares.items outcome.ended.answers.items outcome.ended.strangers.items outcome.served.items (map Q.closed outcome.pollers.items)) }
     ensures history { IsPrefix pass.old pass.new }
     ensures closed { IfOk result (λ outcome. outcome.drained ≡ B.gate) }
     ensures taken { IfOk result (λ outcome. (S.tally outcome.taken.source).arrivals ≡ (S.tally source).arrivals + outcome.taken.came) }
@@ -193,7 +195,7 @@ where
     requires setup { length setup.worker_io.items ≡ broker }
     ensures ports { IfOk result (λ closed. length closed.ports.items ≡ broker.entry) }
     ensures run { IfOk result (λ closed. (came : List T) × Gave S.arrived source came closed.taken.source × (closed.taken.came ≡ length came)
-        × RunsUntilClosed B.group B.Seen.Witness T.counts T.given T.accepted setup.entry.max_inflight came pass.new closed.ports.items closed.served.items (map Q.closed closed.pollers.items)) }
+        × RunsUntilClosed B.group B.Seen.Witness T.counts T.given T.accepted setup.entry.max_inflight came pass.new closed.shares.items closed.ports.items closed.served.items (map Q.closed closed.pollers.items)) }
     ensures history { IsPrefix pass.old pass.new }
     ensures closed { IfOk result (λ closed. closed.drained ≡ B.gate) }
     ensures taken { IfOk result (λ closed. (S.tally closed.taken.source).arrivals ≡ (S.tally source).arrivals + closed.taken.came) }
@@ -287,8 +289,8 @@ where
     requires unsent { All (λ handle. AreUnsent handle.ports) handles.items }
     ensures handles { MatchResult result (λ ran. length ran.pooled.handles.items ≡ length handles.items) (λ back. length back.items ≡ length handles.items) }
     ensures taken { IfOk result (λ ran. (S.tally ran.pooled.taken.source).arrivals ≡ (S.tally source).arrivals + ran.pooled.taken.came) }
-    ensures served { IfOk result (λ ran. (came : List T) × Gave S.arrived source came ran.pooled.taken.source × (ran.pooled.taken.came ≡ length came)
-        × AreServed B.group B.Seen.Witness T.counts T.given T.accepted (arrivals setup.entry.max_inflight came) pass.new (map (λ handle. handle.ports) ran.pooled.handles.items) ran.pooled.served.items (map Q.closed ran.pooled.pollers.items)) }
+    ensures served { IfOk result (λ ran. (came : List T) × (routes : List ShareState) × (ran.shares.items ≡ take most_routes routes) × Gave S.arrived source came ran.pooled.taken.source × (ran.pooled.taken.came ≡ length came)
+        × AreServed B.group B.Seen.Witness T.counts T.given T.accepted (arrivals setup.entry.max_inflight came) pass.new routes (map (λ handle. handle.ports) ran.pooled.handles.items) ran.pooled.served.items (map Q.closed ran.pooled.pollers.items)) }
     ensures told { IsPrefix pass.old pass.new }
     ensures watched { IfOk result (λ _. D.has_watched watch.old watch.new input.old input.new) }
     ensures shares { IfOk result (λ ran. All (IsBoundIn ran.shares.items) shares.now) }
@@ -309,6 +311,7 @@ where
         accepting,
         watch,
         input,
+        &mut known,
         pass,
     ) {
         Ok(pooled) => {

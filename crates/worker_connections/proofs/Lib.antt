@@ -1,5 +1,6 @@
 pub mod Accounting
 pub mod Chaining
+pub mod Knowing
 pub mod Living
 pub mod Parts
 pub mod Quotas

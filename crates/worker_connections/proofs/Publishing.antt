@@ -7,7 +7,6 @@ use Rattle.mqtt_packet.specs.declared.packet.Delivery.TheVariants.{AtMostOnce, A
 use Rattle.mqtt_packet.specs.declared.packet.Packet.{Packet}
 use Rattle.mqtt_packet.specs.declared.packet.Packet.TheVariants as packets
 use Rattle.mqtt_packet.specs.declared.packet.Publish.{Publish}
-use Rattle.mqtt_topic.specs.Routes.{places_of, routed}
 use Rattle.transport.specs.declared.counts.Counts.{Counts}
 use Rattle.group_jobs.specs.declared.message.Message.{Message}
 use Rattle.group_jobs.specs.declared.stamp.Stamp.{Stamp}
@@ -345,7 +344,7 @@ module _ (group : ℕ → GroupId) (seen : Sights) where
       (at_failed inputs.EndOfInput old new client.conn.number (moment_of client now) client.conn.phase fails.failed)
 
   -- what others do is in no round
-  no_others : (now : ℕ) (from to : Stand) → Treads now from Others to → ⊥
+  pub no_others : (now : ℕ) (from to : Stand) → Treads now from Others to → ⊥
   no_others now Outside to treads = treads
   no_others now (Inside is_open) to treads = treads
   no_others now Behind to treads = treads

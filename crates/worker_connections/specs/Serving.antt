@@ -4,7 +4,7 @@ use Rattle.transport.specs.declared.counts.Counts.{Counts}
 use Rattle.group_queue.specs.Ports.{GroupId, PortState}
 use Rattle.broker_groups.specs.Answers.{Sights}
 use Rattle.group_queue.specs.Places.{PlaceState}
-use Rattle.conn_channel.specs.Ends.{ReceiverState}
+use Rattle.conn_channel.specs.Ends.{ChannelId, ReceiverState}
 use Rattle.conn_service.specs.declared.served.Served.{Served}
 use Rattle.conn_service.specs.declared.served.Served.TheVariants.{Memory}
 use Rattle.conn_service.specs.Services.{ServiceState}
@@ -68,9 +68,13 @@ pub record AreFresh {T : Type 0} (receiver : ReceiverState (ArrivedState T)) (po
   pub none_ended : connections.served ≡ none_served
   pub none_waits : wakes_of connections ≡ no_wakes
 
--- they come through the same channel as before
+-- what they belong to: the channel that they come through, and the table of the routes
+abbrev pub ties_of : {T : Type 0} → ConnectionsState T → ChannelId (ArrivedState T) × List ℕ
+ties_of connections = (connections.receiver.channel, connections.supply.known.table)
+
+-- they belong to the same
 abbrev pub StaysOf : {T : Type 0} → ConnectionsState T → ConnectionsState T → Type 0
-StaysOf old new = new.receiver.channel ≡ old.receiver.channel
+StaysOf old new = ties_of new ≡ ties_of old
 
 -- after a round too, which leaves the worker's moment and the number of cells as they are
 pub record Rounds {T : Type 0} (old new : ConnectionsState T) : Type 0 where

@@ -28,7 +28,8 @@ use call_history::HistoryName;
 use conn_channel::{Received, Receiver};
 use conn_service::{Direction, Round};
 use shared_desk::DeskView;
-use shared_supply::{SharedSupply, Tally, Wakes};
+use shared_routes::KnownRoutes;
+use shared_supply::{SharedSupply, SupplyParts, Tally, Wakes};
 use std::marker::Model;
 use std::sync::Wait;
 use transport::{Crossing, Transport};
@@ -75,13 +76,15 @@ impl<'a, 'g, B: Broker, N: HistoryName, T: Transport + Drop, Q: Poller<T>, R: Wa
 }
 
 /// What the connections of a worker give back.
-pub struct Returned<B: Broker, N: HistoryName, T: Transport + Drop, Q> {
+pub struct Returned<'a, B: Broker, N: HistoryName, T: Transport + Drop, Q> {
     /// What they had of the broker.
     pub handle: WorkerHandle<B>,
     /// Their end of the channel.
     pub receiver: Receiver<Arrived<T>>,
     /// How they ended.
     pub served: ServedCounts,
+    /// What they know of the routes.
+    pub known: KnownRoutes<'a>,
     /// What they know of the calls of the broker's desk.
     pub pass: DeskView<BrokerPlace<B>, N>,
     /// Where their worker waited, which closed their transports.
@@ -133,7 +136,8 @@ impl<'a, 'g, B: Broker, N: HistoryName, T: Transport + Drop, Q: Poller<T>, R: Wa
         requires supply { supply.wakes ≡ no_wakes }
         requires unsent { AreUnsent supply.ports }
         requires closed { HasClosedNone (Q.closed poller) }
-        ensures { AreFresh receiver supply.entry.ports result }
+        ensures fresh { AreFresh receiver supply.entry.ports result }
+        ensures known { result.supply.known ≡ supply.entry.known }
     {
         Connections {
             receiver,
@@ -375,15 +379,16 @@ impl<'a, 'g, B: Broker, N: HistoryName, T: Transport + Drop, Q: Poller<T>, R: Wa
         settle(&mut self.poller, cell, cell_outcome)
     }
 
-    /// What they had of the broker and know of its desk, the end of the channel, how they ended, and where their worker waited: these are what their run has come to. Any
-    /// that is still open ends as where the broker closes.
-    pub fn into_parts(self) -> Returned<B, N, T, Q>
+    /// What they had of the broker and know of its routes and its desk, the end of the channel, how they ended, and where their worker waited: these are what their run has
+    /// come to. Any that is still open ends as where the broker closes.
+    pub fn into_parts(self) -> Returned<'a, B, N, T, Q>
         ensures receiver { result.receiver ≡ self.entry.receiver }
         ensures served { result.served ≡ self.entry.served }
         ensures counted { live self.entry ≡ 0 → AreCounted (length self.entry.receiver.received) result.served }
         ensures closed { Q.closed result.poller ≡ self.entry.closed }
         ensures ran { HasRunTo B.group B.Seen.Witness T.counts T.given T.accepted (run_of self.entry) }
         ensures ports { live self.entry ≡ 0 → result.handle.ports ≡ self.entry.supply.ports }
+        ensures known { live self.entry ≡ 0 → result.known ≡ self.entry.supply.known }
         ensures desk { live self.entry ≡ 0 → result.pass ≡ self.entry.supply.desk }
     {
         let Connections {
@@ -397,12 +402,18 @@ impl<'a, 'g, B: Broker, N: HistoryName, T: Transport + Drop, Q: Poller<T>, R: Wa
         } = self;
         drop(members);
         abandon(table, &mut supply);
-        let (key, ports, pass) = supply.into_parts();
+        let SupplyParts {
+            key,
+            ports,
+            known,
+            desk,
+        } = supply.into_parts();
         Returned {
             handle: WorkerHandle { key, ports },
             receiver,
             served,
-            pass,
+            known,
+            pass: desk,
             poller,
         }
     }
@@ -425,6 +436,7 @@ fn make_round<'a, 'g, B: Broker, N: HistoryName, T: Transport, R: Wait, X: Cross
     ensures way { InCell table.old cell (λ before after. FollowsIn T.given T.accepted direction now before result after) table.new }
     ensures len { length table.new ≡ length table.old }
     ensures count { occupied table.old ≡ occupied table.new + ended_by result }
+    ensures routes { supply.new.known.table ≡ supply.old.known.table }
 {
     table.round(cell, supply, crossing, worker, now, buffer, direction)
 }

@@ -1,12 +1,12 @@
 -- What was accepted goes on.
-use Rattle.std.proofs.Common.{◌≡◌, ◌+◌, ℕ, List, [], ◌∷◌, ◌++◌, length, map, Option, Some, None, refl, sym, subst, ap, ◌∙◌, append-nil, append_assoc, length-append, arith}
+use Rattle.std.proofs.Common.{◌≡◌, ℕ, List, [], ◌∷◌, ◌++◌, length, Option, Some, None, refl, sym, ap, ◌∙◌, append-nil, append_assoc, length-append, arith}
 use Rattle.std.specs.Prelude.{option_map}
 use Rattle.transport.specs.declared.answers.Arrival.TheVariants.{Came}
 use Rattle.transport.specs.declared.counts.Tally.{Tally}
 use Rattle.transport.specs.Counting.{after_arrival, after_came}
 use Rattle.conn_channel.specs.Ends.{SenderState}
 use Rattle.worker_connections.specs.Arrivals.{ArrivedState}
-use Rattle.worker_pool.specs.Accepting.{AcceptorState, Gave, HasAccepted, OnlyMarks, arrivals}
+use Rattle.worker_pool.specs.Accepting.{AcceptorState, HasAccepted, OnlyMarks, arrivals}
 
 arrivals-append : {T : Type 0} (limit : ℕ) (these those : List T) → arrivals limit (these ++ those) ≡ arrivals limit these ++ arrivals limit those
 arrivals-append limit [] those = refl

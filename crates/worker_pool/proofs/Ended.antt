@@ -13,5 +13,5 @@ pub all_run : {T : Type 0} (olds news : List (WorkerState T)) → length news �
     → ((i : ℕ) (d : WorkerState T) → i < length olds → HasRun (get_or olds i d) (get_or news i d)) → HaveRun olds news
 all_run olds news same ran = record {
   count = same;
-  served = λ channel hired k d h. let within : k < length olds = omega arith in ((ran k d within).0 ∙ hired k d within, (ran k d within).1);
+  served = λ ties hired k d h. let within : k < length olds = omega arith in ((ran k d within).0 ∙ hired k d within, (ran k d within).1);
 }

@@ -1,9 +1,10 @@
 -- What workers give back, all together.
-use Rattle.std.proofs.Common.{◌≡◌, ℕ, ◌+◌, ◌<◌, List, [], ◌∷◌, ◌++◌, length, map, sum_by, Option, refl, sym, subst, ◌∙◌, ap, append-nil, append_assoc, arith}
+use Rattle.std.proofs.Common.{◌≡◌, ℕ, ◌<◌, List, [], ◌∷◌, ◌++◌, length, map, Option, refl, sym, subst, ◌∙◌, ap, append-nil, append_assoc, arith}
 use Rattle.std.specs.List.{AllByRecursion, AllZip}
 use mathlib.Core.List.{IsPrefix}
 use Rattle.std.proofs.lemmas.List.Sums.{sum_by-cons}
 use Rattle.transport.specs.declared.counts.Counts.{Counts}
+use Rattle.mqtt_topic.specs.Names.{Share}
 use Rattle.group_jobs.specs.Stamps.{Held}
 use Rattle.session_desk.specs.Calls.{Call}
 use Rattle.group_queue.specs.Ports.{GroupId, PortState}
@@ -12,11 +13,11 @@ use Rattle.group_queue.specs.Places.{PlaceState}
 use Rattle.conn_channel.specs.Ends.{IsSettled, ReceiverState, SenderState, end_marks_received_by, lists_of, received_by}
 use Rattle.conn_channel.specs.Interleavings.{IsInterleaving}
 use Rattle.conn_service.specs.declared.served.Served.{Served}
+use Rattle.shared_routes.specs.Known.{AreFirst, KnownState}
 use Rattle.worker_connections.specs.Cells.{occupied}
 use Rattle.worker_connections.specs.declared.served.ServedCounts.{ServedCounts}
 use Rattle.worker_connections.specs.Arrivals.{ArrivedState}
 use Rattle.worker_connections.specs.Chains.{HasRunTo, IsWholeRun, Run, RunState}
-use Rattle.worker_connections.specs.Counting.{counts_of}
 use Rattle.worker_connections.specs.Serving.{AreCounted, ConnectionsState, live, run_of}
 use Rattle.worker_pool.specs.Pools.{AreAllCounted, AreServed, CountsAll, HaveEnded, total_in}
 use Rattle.worker_pool.proofs.Counted.{of_all}
@@ -43,6 +44,11 @@ all_weaker P Q weaker (x ∷ xs) all = (weaker x all.0, all_weaker P Q weaker xs
 -- what begins a list begins each that goes on from it
 pub begins_longer : {A : Type 0} (xs ys zs : List A) → IsPrefix xs ys → IsPrefix ys zs → IsPrefix xs zs
 begins_longer {A} xs ys zs one two = (one.0 ++ two.0, sym (append_assoc xs one.0 two.0) ∙ ap (λ (l : List A). l ++ two.0) one.1 ∙ two.1)
+
+-- the first shares of some are the first of those that these are the first of
+first_of_more : (ones some all : List Share) → AreFirst ones some → AreFirst some all → AreFirst ones all
+first_of_more ones some all first more =
+    (first.0 ++ more.0, more.1 ∙ ap (λ (l : List Share). l ++ more.0) first.1 ∙ append_assoc ones first.0 more.0)
 
 pub begins_itself : {A : Type 0} (xs : List A) → IsPrefix xs xs
 begins_itself xs = ([], append-nil xs)
@@ -76,21 +82,23 @@ counts_all came served counts few = counts.all ∙ (sym (of_all counts.endings (
 
 module _ {T : Type 0} (group : ℕ → GroupId) (seen : Sights) (counts : T → Counts) (given accepted : T → Option (List ℕ)) where
   -- no worker gave anything back yet
-  pub nobody : (calls : List (Call Held PlaceState)) → HaveEnded group seen counts given accepted [] [] [] [] calls
-  nobody calls = record { runs = []; whole = tt; ports_are = refl; received_are = refl; served_are = refl; closed_are = refl; told = tt }
+  pub nobody : (calls : List (Call Held PlaceState)) (routes : List Share) → HaveEnded group seen counts given accepted [] [] [] [] calls routes
+  nobody calls routes = record { runs = []; whole = tt; ports_are = refl; received_are = refl; served_are = refl; closed_are = refl; told = tt; known = tt }
 
   -- one worker more did
   pub ends : (ports ports' : List (List PortState)) (receivers receivers' : List (ReceiverState (ArrivedState T))) (served served' : List ServedCounts)
-      (closed closed' : List (Option (List T))) (calls calls' known : List (Call Held PlaceState)) (its : List PortState) (receiver : ReceiverState (ArrivedState T)) (counted : ServedCounts)
+      (closed closed' : List (Option (List T))) (calls calls' known : List (Call Held PlaceState)) (routes routes' : List Share) (seen_routes : KnownState) (its : List PortState) (receiver : ReceiverState (ArrivedState T)) (counted : ServedCounts)
       (shut : Option (List T)) (connections : ConnectionsState T)
-      → HaveEnded group seen counts given accepted ports receivers served closed calls → ports' ≡ ports ++ its ∷ [] → receivers' ≡ receivers ++ receiver ∷ [] → served' ≡ served ++ counted ∷ []
+      → HaveEnded group seen counts given accepted ports receivers served closed calls routes → ports' ≡ ports ++ its ∷ [] → receivers' ≡ receivers ++ receiver ∷ [] → served' ≡ served ++ counted ∷ []
       → closed' ≡ closed ++ shut ∷ []
       → HasRunTo group seen counts given accepted (run_of connections) → live connections ≡ 0 → its ≡ connections.supply.ports → receiver ≡ connections.receiver → counted ≡ connections.served
-      → shut ≡ connections.closed → known ≡ connections.supply.desk → IsPrefix calls calls' → IsPrefix known calls' → HaveEnded group seen counts given accepted ports' receivers' served' closed' calls'
-  ends ports ports' receivers receivers' served served' closed closed' calls calls' known its receiver counted shut connections all ports_are receivers_are served_are closed_are ran none its_are
-      receiver_is counted_is shut_is known_is before knows =
+      → shut ≡ connections.closed → known ≡ connections.supply.desk → IsPrefix calls calls' → IsPrefix known calls' → seen_routes ≡ connections.supply.known → AreFirst routes routes'
+      → AreFirst seen_routes.shares routes' → HaveEnded group seen counts given accepted ports' receivers' served' closed' calls' routes'
+  ends ports ports' receivers receivers' served served' closed closed' calls calls' known routes routes' seen_routes its receiver counted shut connections all ports_are receivers_are served_are closed_are ran none its_are
+      receiver_is counted_is shut_is known_is before knows routes_is grown learnt =
       let run : Run T = ran.run in
       let Begins : List (Call Held PlaceState) → Run T → Type 0 = λ those one. IsPrefix one.last.supply.desk those in
+      let Knows : List Share → Run T → Type 0 = λ those one. AreFirst one.last.supply.known.shares those in
       record {
         runs = all.runs ++ run ∷ [];
         whole = all_push (IsWholeRun group seen counts given accepted) all.runs run all.whole
@@ -112,13 +120,17 @@ module _ {T : Type 0} (group : ℕ → GroupId) (seen : Sights) (counts : T → 
         told = all_push (Begins calls') all.runs run
             (all_weaker (Begins calls) (Begins calls') (λ one begins. begins_longer one.last.supply.desk calls calls' begins before) all.runs all.told)
             (subst (λ (l : List (Call Held PlaceState)). IsPrefix l calls') (known_is ∙ sym (ap (λ (state : RunState T). state.supply.desk) ran.here)) knows);
+        known = all_push (Knows routes') all.runs run
+            (all_weaker (Knows routes) (Knows routes') (λ one knew. first_of_more one.last.supply.known.shares routes routes' knew grown) all.runs all.known)
+            (subst (λ (k : KnownState). AreFirst k.shares routes') (routes_is ∙ sym (ap (λ (state : RunState T). state.supply.known) ran.here)) learnt);
       }
 
   -- what was sent came to them, as nothing is left where an end mark was received
   pub serve : (sender : SenderState (ArrivedState T)) (sent : List (ArrivedState T)) (ports : List (List PortState)) (receivers : List (ReceiverState (ArrivedState T))) (served : List ServedCounts)
-      (closed : List (Option (List T))) (calls : List (Call Held PlaceState)) → sent ≡ sender.sent → HaveEnded group seen counts given accepted ports receivers served closed calls
-      → IsSettled sender receivers → 0 < end_marks_received_by receivers → AreServed group seen counts given accepted sent calls ports served closed
-  serve sender sent ports receivers served closed calls same all settled some =
+      (closed : List (Option (List T))) (calls : List (Call Held PlaceState)) (routes : List Share) → sent ≡ sender.sent
+      → HaveEnded group seen counts given accepted ports receivers served closed calls routes
+      → IsSettled sender receivers → 0 < end_marks_received_by receivers → AreServed group seen counts given accepted sent calls routes ports served closed
+  serve sender sent ports receivers served closed calls routes same all settled some =
       let whole : sent ≡ settled.past = same ∙ settled.sent ∙ ap (λ (l : List (ArrivedState T)). settled.past ++ l) (settled.last some) ∙ append-nil settled.past in
       let Came : List (List (ArrivedState T)) → Type 0 = λ lists. IsInterleaving settled.past lists in
       record {
@@ -129,4 +141,22 @@ module _ {T : Type 0} (group : ℕ → GroupId) (seen : Sights) (counts : T → 
         served_are = all.served_are;
         closed_are = all.closed_are;
         told = all.told;
+        known = all.known;
+      }
+
+  -- and more is known of the routes
+  pub more_known : (sent : List (ArrivedState T)) (calls : List (Call Held PlaceState)) (routes routes' : List Share) (ports : List (List PortState)) (served : List ServedCounts)
+      (closed : List (Option (List T))) → AreFirst routes routes' → AreServed group seen counts given accepted sent calls routes ports served closed
+      → AreServed group seen counts given accepted sent calls routes' ports served closed
+  more_known sent calls routes routes' ports served closed grown workers =
+      let Knows : List Share → Run T → Type 0 = λ those one. AreFirst one.last.supply.known.shares those in
+      record {
+        runs = workers.runs;
+        whole = workers.whole;
+        came_to = workers.came_to;
+        ports_are = workers.ports_are;
+        served_are = workers.served_are;
+        closed_are = workers.closed_are;
+        told = workers.told;
+        known = all_weaker (Knows routes) (Knows routes') (λ one knew. first_of_more one.last.supply.known.shares routes routes' knew grown) workers.runs workers.known;
       }

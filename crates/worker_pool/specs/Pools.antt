@@ -3,6 +3,7 @@ use Rattle.std.specs.Prelude.{◌≡◌, ℕ, List, map, length, sum_by, Option}
 use Rattle.std.specs.List.{AllByRecursion, AllZip}
 use mathlib.Core.List.{IsPrefix}
 use Rattle.transport.specs.declared.counts.Counts.{Counts}
+use Rattle.mqtt_topic.specs.Names.{Share}
 use Rattle.group_jobs.specs.Stamps.{Held}
 use Rattle.session_desk.specs.Calls.{Call}
 use Rattle.group_queue.specs.Ports.{GroupId, PortState}
@@ -11,6 +12,7 @@ use Rattle.group_queue.specs.Places.{PlaceState}
 use Rattle.conn_channel.specs.Ends.{ReceiverState, lists_of}
 use Rattle.conn_channel.specs.Interleavings.{IsInterleaving}
 use Rattle.conn_service.specs.declared.served.Served.{Served}
+use Rattle.shared_routes.specs.Known.{AreFirst}
 use Rattle.worker_connections.specs.declared.served.ServedCounts.{ServedCounts}
 use Rattle.worker_connections.specs.Arrivals.{ArrivedState}
 use Rattle.worker_connections.specs.Chains.{IsWholeRun, Run}
@@ -32,9 +34,9 @@ abbrev pub AreAllCounted : {T : Type 0} → List (ReceiverState T) → List Serv
 AreAllCounted receivers served = AllZip (λ receiver counted. AreCounted (length receiver.received) counted) receivers served
 
 module _ {T : Type 0} (group : ℕ → GroupId) (seen : Sights) (counts : T → Counts) (given accepted : T → Option (List ℕ)) where
-  -- workers ran to their ends, and gave this back, all in one order; and what each knew of the desk is a beginning of these calls
+  -- workers ran to their ends, and gave this back, all in one order; what each knew of the desk is a beginning of these calls, and what it knew of the routes, of these shares
   pub record HaveEnded (ports : List (List PortState)) (receivers : List (ReceiverState (ArrivedState T))) (served : List ServedCounts) (closed : List (Option (List T)))
-      (calls : List (Call Held PlaceState)) : Type 0 where
+      (calls : List (Call Held PlaceState)) (routes : List Share) : Type 0 where
     pub runs : List (Run T)
     pub whole : AllByRecursion (IsWholeRun group seen counts given accepted) runs
     pub ports_are : ports ≡ map (λ run. run.last.supply.ports) runs
@@ -42,11 +44,13 @@ module _ {T : Type 0} (group : ℕ → GroupId) (seen : Sights) (counts : T → 
     pub served_are : served ≡ map (λ run. run.last.served) runs
     pub closed_are : closed ≡ map (λ run. run.last.closed) runs
     pub told : AllByRecursion (λ run. IsPrefix run.last.supply.desk calls) runs
+    pub known : AllByRecursion (λ run. AreFirst run.last.supply.known.shares routes) runs
 
   -- **The run of a pool**: each worker ran to its end, through ports through which nothing was published before. These connections came, in this order, each to one of
   -- the workers, once (`came_to`). The ports and the counts are those that the runs ended with, and so are the transports that were closed, each as it was then, all in
-  -- one order; and what each worker knew of the desk is a beginning of these calls
-  pub record AreServed (came : List (ArrivedState T)) (calls : List (Call Held PlaceState)) (ports : List (List PortState)) (served : List ServedCounts) (closed : List (Option (List T))) : Type 0 where
+  -- one order; what each worker knew of the desk is a beginning of these calls; and what it knew of the routes is a beginning of these shares, slot by slot
+  pub record AreServed (came : List (ArrivedState T)) (calls : List (Call Held PlaceState)) (routes : List Share) (ports : List (List PortState)) (served : List ServedCounts)
+      (closed : List (Option (List T))) : Type 0 where
     pub runs : List (Run T)
     pub whole : AllByRecursion (IsWholeRun group seen counts given accepted) runs
     pub came_to : IsInterleaving came (map (λ run. run.last.received) runs)
@@ -54,3 +58,4 @@ module _ {T : Type 0} (group : ℕ → GroupId) (seen : Sights) (counts : T → 
     pub served_are : served ≡ map (λ run. run.last.served) runs
     pub closed_are : closed ≡ map (λ run. run.last.closed) runs
     pub told : AllByRecursion (λ run. IsPrefix run.last.supply.desk calls) runs
+    pub known : AllByRecursion (λ run. AreFirst run.last.supply.known.shares routes) runs

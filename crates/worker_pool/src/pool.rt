@@ -18,6 +18,7 @@ use broker_worker::{Mailboxes, Worker, WorkerParts};
 use call_history::HistoryName;
 use conn_channel::{Receiver, Sender};
 use shared_desk::DeskView;
+use shared_routes::KnownRoutes;
 use shared_supply::SharedBroker;
 use std::alloc::Global;
 use std::rt::Clock as SystemClock;
@@ -50,7 +51,7 @@ pub struct Unbegun<B: Broker, S> {
 /// is shut. Nothing was published through the ports of the handles before.
 ///
 /// All that workers had of the broker comes back, and so do their pollers, with what they closed. Each connection that the source gave came to one worker, once, and is in
-/// its run, from its opening to its end (`served`). The pass knows then what each worker knew of the calls of the desk.
+/// its run, from its opening to its end (`served`). Then the pass knows what each worker knew of the calls of the desk, and `routes` was told of the shares that each knew.
 ///
 /// # Errors
 ///
@@ -77,6 +78,7 @@ pub fn run<
     closer: Closer<'_, B>,
     watch: &mut D,
     input: &mut I,
+    routes: &mut KnownRoutes<'_>,
     me: &mut DeskView<BrokerPlace<B>, N>,
 ) -> Result<Pooled<B, S, Q>, Unbegun<B, S>>
 where
@@ -84,13 +86,15 @@ where
     requires workers { (1 ≤ length handles.items) × (length handles.items ≤ 64) }
     requires setup { length setup.worker_io.items ≡ length handles.items }
     requires unsent { All (λ handle. AreUnsent handle.ports) handles.items }
+    requires routes { routes.old.table ≡ shared_broker.now }
     ensures handles { MatchResult result (λ pooled. length pooled.handles.items ≡ length handles.items) (λ unbegun. length unbegun.handles.items ≡ length handles.items) }
     ensures taken { IfOk result (λ pooled. (S.tally pooled.taken.source).arrivals ≡ (S.tally source).arrivals + pooled.taken.came) }
     ensures served { IfOk result (λ pooled. (came : List T) × Gave S.arrived source came pooled.taken.source × (pooled.taken.came ≡ length came)
-        × AreServed B.group B.Seen.Witness T.counts T.given T.accepted (arrivals setup.entry.max_inflight came) me.new (map (λ handle. handle.ports) pooled.handles.items) pooled.served.items (map Q.closed pooled.pollers.items)) }
+        × AreServed B.group B.Seen.Witness T.counts T.given T.accepted (arrivals setup.entry.max_inflight came) me.new routes.new.told (map (λ handle. handle.ports) pooled.handles.items) pooled.served.items (map Q.closed pooled.pollers.items)) }
     ensures counted { IfOk result (λ pooled. pooled.taken.came < 2 ^ 64 → pooled.taken.came ≡ total_in pooled.served.items) }
     ensures watched { IfOk result (λ _. D.has_watched watch.old watch.new input.old input.new) }
     ensures untouched { IfErr result (λ unbegun. unbegun.source ≡ source) }
+    ensures routes { routes.new ≡ record routes.old { told = routes.new.told } }
     ensures told { IsPrefix me.old me.new }
 {
     let PoolSetup {
@@ -136,6 +140,7 @@ where
         receivers,
         served,
         pollers,
+        routes,
         me,
     ))
 }
@@ -172,7 +177,7 @@ fn hire<
     requires all_worker_parts { length all_worker_parts.items ≡ length handles.items }
     requires unsent { All (λ handle. AreUnsent handle.ports) handles.items }
     requires each { All (λ worker_parts. worker_parts ≡ new_receiver sender.now.channel) all_worker_parts.items }
-    ensures hired { IfOk result (λ made. (length made.0.items ≡ length handles.items) × All (IsHired sender.now.channel) made.0.items) }
+    ensures hired { IfOk result (λ made. (length made.0.items ≡ length handles.items) × All (IsHired (sender.now.channel, shared_broker.now)) made.0.items) }
     ensures handles { IfOk result (λ made. (made.1.items ≡ []) × (length handles.items ≤ vec_capacity made.1)) }
     ensures back { IfErr result (λ back. length back.items ≡ length handles.items) }
 {
@@ -227,6 +232,7 @@ fn release<
             handle,
             receiver: _,
             served: _,
+            known: _,
             pass: _,
             poller,
         } = worker.into_parts();
@@ -257,9 +263,11 @@ fn retire<
     receivers: Vec<Receiver<Arrived<T>>>,
     served: Vec<ServedCounts>,
     pollers: Vec<Q>,
+    routes: &mut KnownRoutes<'_>,
     me: &mut DeskView<BrokerPlace<B>, N>,
 ) -> Pooled<B, S, Q>
-    requires workers { All (HasServed acceptor.sender.channel) workers.items }
+    requires workers { All (HasServed (acceptor.sender.channel, shared_broker.now)) workers.items }
+    requires routes { routes.old.table ≡ shared_broker.now }
     requires count { (1 ≤ length workers.items) × (length workers.items ≡ acceptor.sender.receivers) }
     requires handles { (handles.items ≡ []) × (length workers.items ≤ vec_capacity handles) }
     requires receivers { (receivers.items ≡ []) × (length workers.items ≤ vec_capacity receivers) }
@@ -268,9 +276,10 @@ fn retire<
     ensures handles { length result.handles.items ≡ length workers.entry.items }
     ensures source { result.taken.source ≡ acceptor.entry.source }
     ensures came { result.taken.came ≡ length acceptor.entry.sender.sent }
-    ensures served { AreServed B.group B.Seen.Witness T.counts T.given T.accepted acceptor.entry.sender.sent me.new (map (λ handle. handle.ports) result.handles.items) result.served.items (map Q.closed result.pollers.items) }
+    ensures served { AreServed B.group B.Seen.Witness T.counts T.given T.accepted acceptor.entry.sender.sent me.new routes.new.told (map (λ handle. handle.ports) result.handles.items) result.served.items (map Q.closed result.pollers.items) }
     ensures counted { CountsAll result.taken.came result.served.items }
     ensures told { IsPrefix me.old me.new }
+    ensures routes { routes.new ≡ record routes.old { told = routes.new.told } }
 {
     let mut handles = handles;
     let mut receivers = receivers;
@@ -284,6 +293,7 @@ fn retire<
         &mut receivers,
         &mut served,
         &mut pollers,
+        routes,
         me,
     );
     let (sender, taken) = acceptor.into_parts();
@@ -316,23 +326,26 @@ fn gather<
     receivers: &mut Vec<Receiver<Arrived<T>>>,
     served: &mut Vec<ServedCounts>,
     pollers: &mut Vec<Q>,
+    routes: &mut KnownRoutes<'_>,
     me: &mut DeskView<BrokerPlace<B>, N>,
 )
-    requires workers { All (HasServed sender.now.channel) workers.items }
+    requires workers { All (HasServed (sender.now.channel, shared_broker.now)) workers.items }
+    requires routes { routes.old.table ≡ shared_broker.now }
     requires handles { length handles.old.items + length workers.items ≤ vec_capacity handles.old }
     requires receivers { length receivers.old.items + length workers.items ≤ vec_capacity receivers.old }
     requires served { length served.old.items + length workers.items ≤ vec_capacity served.old }
     requires pollers { length pollers.old.items + length workers.items ≤ vec_capacity pollers.old }
     requires of { AreOf sender.now.channel receivers.old.items }
     requires all { AreAllCounted receivers.old.items served.old.items }
-    requires ended { HaveEnded B.group B.Seen.Witness T.counts T.given T.accepted (map (λ handle. handle.ports) handles.old.items) receivers.old.items served.old.items (map Q.closed pollers.old.items) me.old }
+    requires ended { HaveEnded B.group B.Seen.Witness T.counts T.given T.accepted (map (λ handle. handle.ports) handles.old.items) receivers.old.items served.old.items (map Q.closed pollers.old.items) me.old routes.old.told }
     ensures handles { length handles.new.items ≡ length handles.old.items + length workers.entry.items }
     ensures receivers { length receivers.new.items ≡ length receivers.old.items + length workers.entry.items }
     ensures of { AreOf sender.now.channel receivers.new.items }
     ensures marks { end_marks_received_by receivers.new.items ≡ end_marks_received_by receivers.old.items + length workers.entry.items }
     ensures all { AreAllCounted receivers.new.items served.new.items }
-    ensures ended { HaveEnded B.group B.Seen.Witness T.counts T.given T.accepted (map (λ handle. handle.ports) handles.new.items) receivers.new.items served.new.items (map Q.closed pollers.new.items) me.new }
+    ensures ended { HaveEnded B.group B.Seen.Witness T.counts T.given T.accepted (map (λ handle. handle.ports) handles.new.items) receivers.new.items served.new.items (map Q.closed pollers.new.items) me.new routes.new.told }
     ensures told { IsPrefix me.old me.new }
+    ensures routes { routes.new ≡ record routes.old { told = routes.new.told } }
 {
     let mut workers = workers;
     'workers: while let Some(worker) = workers.pop() {
@@ -340,6 +353,7 @@ fn gather<
             handle,
             receiver,
             served: counts,
+            mut known,
             pass,
             poller,
         } = worker.into_parts();
@@ -347,6 +361,7 @@ fn gather<
         receivers.push_reserved(receiver);
         served.push_reserved(counts);
         pollers.push_reserved(poller);
+        known.publish(routes);
         shared_broker.agree(me, pass);
     }
     workers.destroy_empty();

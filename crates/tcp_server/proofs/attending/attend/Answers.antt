@@ -8,6 +8,7 @@ returns-clause-reported g c = record {
   reports = record {
     group = g.B.Broker.group;
     room = c.requires.capacity;
+    shares = c.in-Ok.outcome.shares.items;
     answers = c.in-Ok.outcome.ended.answers.items;
     strangers = c.in-Ok.outcome.ended.strangers.items;
     calls = c.serve.new.pass;
@@ -15,7 +16,6 @@ returns-clause-reported g c = record {
     served = c.in-Ok.outcome.served.items;
     closed = map (λ _. None) c.in-Ok.outcome.pollers.items;
     headline = c.in-Ok.ensures.headline.3;
-    shares = c.in-Ok.outcome.shares.items;
     bound = subst (λ these. All (IsBoundIn c.in-Ok.outcome.shares.items) these) c.shares.ensures.value c.in-Ok.ensures.shares;
     lines = c.in_ok-reported.ensures.lines;
   };

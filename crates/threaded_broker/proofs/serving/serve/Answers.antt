@@ -14,7 +14,7 @@ returns-clause-headline g c =
       record {
         ports = closed.ports.items;
         every_worker = c.in_ok-closed.ensures.ports;
-        run = known_longer g.B.Broker.group (record { saw_ledger = g.B.Seen.LedgerWitness.saw_ledger; saw_main = g.B.Seen.Witness.saw_main; saw_returns = g.B.Seen.Witness.saw_returns }) g.T.Transport.counts g.T.Transport.given g.T.Transport.accepted c.args.setup.max_inflight ran.0 _ c.end.new.pass closed.ports.items closed.served.items
+        run = known_longer g.B.Broker.group (record { saw_ledger = g.B.Seen.LedgerWitness.saw_ledger; saw_main = g.B.Seen.Witness.saw_main; saw_returns = g.B.Seen.Witness.saw_returns }) g.T.Transport.counts g.T.Transport.given g.T.Transport.accepted c.args.setup.max_inflight ran.0 _ c.end.new.pass closed.shares.items closed.ports.items closed.served.items
             (map g.Q.Poller.closed closed.pollers.items) c.end.ensures.before ran.3;
         promises = c.in_ok-ended.ensures.kept;
       },

@@ -20,7 +20,7 @@ begin-requires-clause-unsent g c = (All-pop Unsent c.all_worker_parts.handles.it
 pub all_worker_parts-preserved : goal.all_worker_parts-preserved
 all_worker_parts-preserved g c =
     let IsNew : ReceiverState (ArrivedState g.row.T.Denot) → Type 0 = λ worker_parts. worker_parts ≡ new_receiver c.args.sender.now.channel in
-    let Hired : WorkerState g.row.T.Denot → Type 0 = λ worker. IsHired c.args.sender.now.channel worker in
+    let Hired : WorkerState g.row.T.Denot → Type 0 = λ worker. IsHired (c.args.sender.now.channel, c.args.shared_broker.now) worker in
     let split = All-pop IsNew c.all_worker_parts.all_worker_parts.items c.pop.new.self.items (Some c.in-Some.worker_parts) c.in-Some.ensures.items c.all_worker_parts.invariant.each in
     let unsent = All-pop Unsent c.all_worker_parts.handles.items _ (Some c.in-Some-pop.handle) c.in-Some-pop.ensures.items c.all_worker_parts.invariant.unsent in
     let all_worker_parts = simp length-append at (ap length c.in-Some.ensures.items) in
@@ -33,7 +33,7 @@ all_worker_parts-preserved g c =
       count = omega (arith, handles, pushed, c.all_worker_parts.invariant.count);
       hired =
           All-same Hired c.push_reserved.new.self.items (c.all_worker_parts.workers.items ++ c.in-Ok-begin.worker ∷ []) c.push_reserved.ensures.items
-          (All-push Hired c.all_worker_parts.workers.items c.in-Ok-begin.worker c.all_worker_parts.invariant.hired channel);
+          (All-push Hired c.all_worker_parts.workers.items c.in-Ok-begin.worker c.all_worker_parts.invariant.hired (cc (channel, c.in-Ok-begin.ensures.routes)));
       unsent = unsent.0;
       handles = omega (arith, c.all_worker_parts.invariant.handles, c.in-Some-pop.ensures.capacity);
       workers = omega (arith, c.all_worker_parts.invariant.workers, c.push_reserved.ensures.capacity);

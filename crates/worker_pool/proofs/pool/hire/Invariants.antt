@@ -10,7 +10,7 @@ invariant-all_worker_parts g l = record {
   all_worker_parts : length l.all_worker_parts.items ≡ length l.handles.items;
   each : All (λ worker_parts. worker_parts ≡ new_receiver l.sender.channel) l.all_worker_parts.items;
   count : length l.workers.items + length l.handles.items ≡ length l.fn.handles.items;
-  hired : All (IsHired l.sender.channel) l.workers.items;
+  hired : All (IsHired (l.sender.channel, l.shared_broker)) l.workers.items;
   unsent : All (λ handle. AreUnsent handle.ports) l.handles.items;
   handles : length l.fn.handles.items ≤ vec_capacity l.handles;
   workers : length l.fn.handles.items ≤ vec_capacity l.workers;

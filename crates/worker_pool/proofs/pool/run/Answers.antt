@@ -1,9 +1,9 @@
 -- What a pool gives back.
-use Rattle.std.proofs.Common.{◌≡◌, ◌++◌, List, [], length, map, All, sym, subst, ◌∙◌, ap, arith}
+use Rattle.std.proofs.Common.{List, map, All, sym, subst, ◌∙◌, ap, arith}
 use Rattle.conn_channel.specs.Ends.{ChannelId}
 use Rattle.worker_connections.specs.declared.handle.WorkerHandle.{WorkerHandle}
 use Rattle.worker_connections.specs.Arrivals.{ArrivedState}
-use Rattle.worker_pool.specs.Accepting.{AcceptorState, Gave, arrivals}
+use Rattle.worker_pool.specs.Accepting.{AcceptorState, Gave}
 use Rattle.worker_pool.specs.Pools.{AreServed}
 use Rattle.worker_pool.specs.Workers.{HasServed}
 use Rattle.worker_pool.proofs.Accepted.{came_count, sent_is}
@@ -13,8 +13,8 @@ use Rattle.worker_pool.proofs.pool.run.Goals as goal
 pub retire-requires-clause-workers : goal.retire-requires-clause-workers
 retire-requires-clause-workers g c =
     let channel = c.run_all.ensures.accepted.channel ∙ ap (λ (a : AcceptorState g.row.T.Denot g.row.S.Denot). a.sender.channel) c.new-acceptor.ensures in
-    let Of : ChannelId (ArrivedState g.row.T.Denot) → Type 0 = λ channel. All (HasServed channel) c.run_all.new.workers.items in
-    subst Of (sym channel) (c.run_all.ensures.run.served c.in-Ok.field-0.sender.channel c.in-Ok-hire.ensures.hired.1)
+    let Of : ChannelId (ArrivedState g.row.T.Denot) → Type 0 = λ channel. All (HasServed (channel, c.args.shared_broker.now)) c.run_all.new.workers.items in
+    subst Of (sym channel) (c.run_all.ensures.run.served (c.in-Ok.field-0.sender.channel, c.args.shared_broker.now) c.in-Ok-hire.ensures.hired.1)
 
 pub retire-requires-clause-count : goal.retire-requires-clause-count
 retire-requires-clause-count g c =
@@ -42,7 +42,7 @@ returns-clause-served g c =
     let sent = sent_is accepted.came _ _ _ _ none limit accepted.sent in
     let Source : g.row.S.Denot → g.row.S.Denot → Type 0 = λ old new. Gave g.S.Source.arrived old accepted.came new in
     let Served : List (ArrivedState g.row.T.Denot) → Type 0 = λ arrived.
-    AreServed g.B.Broker.group (record { saw_ledger = g.B.Seen.LedgerWitness.saw_ledger; saw_main = g.B.Seen.Witness.saw_main; saw_returns = g.B.Seen.Witness.saw_returns }) g.T.Transport.counts g.T.Transport.given g.T.Transport.accepted arrived c.retire.new.me (map (λ (handle : WorkerHandle g.row.B.Denot g.row.B-Seen.Denot). handle.ports) c.retire.result.handles.items) c.retire.result.served.items
+    AreServed g.B.Broker.group (record { saw_ledger = g.B.Seen.LedgerWitness.saw_ledger; saw_main = g.B.Seen.Witness.saw_main; saw_returns = g.B.Seen.Witness.saw_returns }) g.T.Transport.counts g.T.Transport.given g.T.Transport.accepted arrived c.retire.new.me c.retire.new.routes.told (map (λ (handle : WorkerHandle g.row.B.Denot g.row.B-Seen.Denot). handle.ports) c.retire.result.handles.items) c.retire.result.served.items
     (map g.Q.Poller.closed c.retire.result.pollers.items) in (
       accepted.came,
       subst (λ new. Source c.args.source new) (sym c.retire.ensures.source)

@@ -24,6 +24,12 @@ returns-clause-ports g c none =
     let supply = ap (λ (state : ConnectionsState g.row.T.Denot). state.supply) c.self.view_is in
     c.into_parts-key.ensures.ports ∙ ap (λ (w : Worker). w.ports) (c.abandon.ensures free ∙ supply)
 
+pub returns-clause-known : goal.returns-clause-known
+returns-clause-known g c none =
+    let free = ap (λ (state : ConnectionsState g.row.T.Denot). live state) c.self.view_is ∙ none in
+    let supply = ap (λ (state : ConnectionsState g.row.T.Denot). state.supply) c.self.view_is in
+    c.into_parts-key.ensures.known ∙ ap (λ (w : Worker). w.known) (c.abandon.ensures free ∙ supply)
+
 pub returns-clause-desk : goal.returns-clause-desk
 returns-clause-desk g c none =
     let free = ap (λ (state : ConnectionsState g.row.T.Denot). live state) c.self.view_is ∙ none in

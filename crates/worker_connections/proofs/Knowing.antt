@@ -1,0 +1,126 @@
+-- What a worker knows of the routes is of one table, whatever its connections do.
+use Rattle.std.proofs.Common.{◌≡◌, ℕ, Bool, true, false, List, [], ◌∷◌, Option, Some, None, Result, Ok, Err, refl, ap, ◌∙◌, inl, inr}
+use Rattle.mqtt_topic.specs.Names.{Share}
+use Rattle.transport.specs.declared.counts.Counts.{Counts}
+use Rattle.group_queue.specs.Ports.{GroupId}
+use Rattle.group_queue.specs.Places.{PlaceState}
+use Rattle.broker_groups.specs.Answers.{Sights}
+use Rattle.conn_supply.specs.declared.supply.BindRefusal.{BindRefusal}
+use Rattle.conn_supply.specs.declared.supply.BindRefusal.TheVariants as bind
+use Rattle.conn_supply.specs.SupplyCalls.{SupplyCall}
+use Rattle.conn_supply.specs.SupplyCalls.SupplyCall.{Attach, Withdraw, Kicked, Park, ParkAsIs, Keep, Bury, Sweep, LendPlace, TakePlace, Bind, Find, Match, Offer, MayTake, Take, TakeBack, Settle, GiveBack}
+use Rattle.conn_engine.specs.declared.input.Input.TheVariants as inputs
+use Rattle.conn_laws.specs.Calls.{MakesAll as MakesCalls}
+use Rattle.conn_laws.proofs.Failing.{failed}
+use Rattle.conn_laws.proofs.Stepping.{stepped}
+use Rattle.client_table.specs.Clients.{ClientState, IsGivenUp, moment_of}
+use Rattle.conn_service.specs.Acts.{Act, Enters, Leaves as Left, Asks, Reads, Writes, Steps, Loses, Fails, Starves, IsFull, IsStopped, Stalls, GivesUp, Ends, Others}
+use Rattle.conn_service.specs.Lives.{Does, DoesAll}
+use Rattle.conn_service.specs.Services.{ServiceState}
+use Rattle.conn_service.specs.Visits.{Stand, Outside, Behind, Treads, Walks}
+use Rattle.shared_routes.specs.Known.{KnownState, BindAnswers}
+use Rattle.shared_supply.specs.Calls.{Binds, Calls, missing}
+use Rattle.shared_supply.specs.Workers.{Worker, Begins, Leaves, is_visiting}
+use Rattle.worker_connections.specs.declared.cell_outcome.CellOutcome.{CellOutcome}
+use Rattle.worker_connections.specs.Cells.{InCell, Turns}
+use Rattle.worker_connections.proofs.Publishing.{no_others}
+
+-- the table of the routes that a worker knows
+abbrev pub table_of : Worker → List ℕ
+table_of worker = worker.known.table
+
+answered : (old : KnownState) (share : Share) (slot : ℕ) (new : KnownState) → BindAnswers old share (Ok slot) new → new.table ≡ old.table
+answered old share slot new (inl known) = ap (λ (k : KnownState). k.table) known.1
+answered old share slot new (inr bound) = bound.grown.table
+
+bound_in : (old : KnownState) (share : Share) (answer : Result ℕ BindRefusal) (new : KnownState) → Binds old share answer new → new.table ≡ old.table
+bound_in old share (Ok slot) new is = answered old share slot new is
+bound_in old share (Err bind.NoSlot) new is = is.grown.table
+bound_in old share (Err bind.Memory) new is = ap (λ (k : KnownState). k.table) is.1
+
+missed_table : (is_missed : Bool) (worker : Worker) → table_of (missing is_missed worker) ≡ table_of worker
+missed_table true worker = refl
+missed_table false worker = refl
+
+abbrev slot_of : PlaceState → ℕ
+slot_of place = place.group
+
+module _ (group : ℕ → GroupId) (seen : Sights) where
+  called : (supply_call : SupplyCall PlaceState) (old new : Worker) → Calls group seen old supply_call new → table_of new ≡ table_of old
+  called (Attach request answer) old new is = ap table_of is.1
+  called (Withdraw connection) old new is = ap table_of is.1
+  called (Kicked connection answer) old new (inl same) = ap table_of same.1
+  called (Kicked connection answer) old new (inr told) = ap table_of told.1
+  called (Park session now answer) old new is = ap table_of is.1
+  called (ParkAsIs session) old new is = ap table_of is.1.1
+  called (Keep session) old new is = ap table_of is.1.1
+  called (Bury session) old new is = ap table_of is.1.1
+  called (Sweep now answer) old new (inl same) = ap table_of same.1
+  called (Sweep now answer) old new (inr told) = ap table_of told.1
+  called (LendPlace slot answer) old new is = ap table_of is.1
+  called (TakePlace place) old new is = ap table_of is.1.1
+  called (Bind share answer) old new is = bound_in old.known share answer new.known is.0
+  called (Find share answer) old new is = ap table_of is.1
+  called (Match topic slots) old new is = ap table_of is.1
+  called (Offer slot connection message answer) old new is = ap table_of is.1
+  called (MayTake place answer) old new is = ap table_of is.1
+  called (Take place place' answer) old new is = ap table_of is.1
+  called (TakeBack place place' answer) old new is = ap table_of is.1
+  called (Settle place place' envelope fate) old new is = ap table_of is.2 ∙ missed_table is.0 old
+  called (GiveBack place place' envelope answer) old new is = ap table_of is.1
+
+  all_called : (supply_calls : List (SupplyCall PlaceState)) (old new : Worker) → MakesCalls (Calls group seen) old supply_calls new → table_of new ≡ table_of old
+  all_called [] old new made = ap table_of made
+  all_called (supply_call ∷ supply_calls) old new made = all_called supply_calls made.0 new made.2 ∙ called supply_call old made.0 made.1
+
+  given_up : (old new : Worker) (client client' : ClientState PlaceState) (now : ℕ) → IsGivenUp (Calls group seen) slot_of old client now inputs.EndOfInput client' new → table_of new ≡ table_of old
+  given_up old new client client' now (inl moved) =
+      let calls = stepped (Calls group seen) slot_of old new client.conn.number (moment_of client now) client.conn.phase client'.conn.phase inputs.EndOfInput moved.0.packets moved.0.next moved.1.stepped in
+      all_called calls.supply_calls old new calls.made
+  given_up old new client client' now (inr fails) =
+      let calls = failed (Calls group seen) slot_of old new client.conn.number (moment_of client now) client.conn.phase inputs.EndOfInput fails.failed in
+      all_called calls.supply_calls old new calls.made
+
+  module _ {T : Type 0} (counts : T → Counts) (given accepted : T → Option (List ℕ)) where
+    acted : (act : Act) (old new : ServiceState PlaceState T) (supply supply' : Worker) (now : ℕ) (from to : Stand)
+        → Does (Calls group seen) Begins Leaves is_visiting slot_of counts given accepted act old supply new supply' → Treads now from act to → table_of supply' ≡ table_of supply
+    acted (Enters is_open reads) old new supply supply' now from to does treads = does.begun.known.1.table
+    acted Left old new supply supply' now from to does treads = ap table_of does.ended.becomes
+    acted (Asks is_kicked) old new supply supply' now from to does treads = called (Kicked old.client.conn.number is_kicked) supply supply' does.asked
+    acted (Reads size got bytes) old new supply supply' now from to does treads = ap table_of does.same
+    acted (Writes at put) old new supply supply' now from to does treads = ap table_of does.same
+    acted (Steps at input these next) old new supply supply' now from to does treads =
+        let calls = stepped (Calls group seen) slot_of supply supply' old.client.conn.number (moment_of old.client at) old.client.conn.phase new.client.conn.phase input these next does.moved.stepped in
+        all_called calls.supply_calls supply supply' calls.made
+    acted (Loses at input these next) old new supply supply' now from to does treads =
+        let calls = stepped (Calls group seen) slot_of supply supply' old.client.conn.number (moment_of old.client at) old.client.conn.phase new.client.conn.phase input these next does.moved.stepped in
+        all_called calls.supply_calls supply supply' calls.made
+    acted (Fails at input) old new supply supply' now from to does treads =
+        let calls = failed (Calls group seen) slot_of supply supply' old.client.conn.number (moment_of old.client at) old.client.conn.phase input does.failed.failed in
+        all_called calls.supply_calls supply supply' calls.made
+    acted (Starves got bytes) old new supply supply' now from to does treads = ap table_of does.same
+    acted (IsFull at) old new supply supply' now from to does treads = given_up supply supply' old.client new.client at does.given_up
+    acted IsStopped old new supply supply' now from to does treads = ap table_of does.same
+    acted (Stalls at) old new supply supply' now from to does treads = ap table_of does.same
+    acted (GivesUp at) old new supply supply' now from to does treads = given_up supply supply' old.client new.client at does.given_up
+    acted Ends old new supply supply' now from to does treads = ap table_of does.same
+    acted Others old new supply supply' now from to does treads = absurd (no_others group seen now from to treads)
+
+    walked : (acts : List Act) (old new : ServiceState PlaceState T) (supply supply' : Worker) (now : ℕ) (from to : Stand)
+        → DoesAll (Calls group seen) Begins Leaves is_visiting slot_of counts given accepted acts old supply new supply' → Walks now from acts to → table_of supply' ≡ table_of supply
+    walked [] old new supply supply' now from to does walks = ap table_of does.1
+    walked (act ∷ acts) old new supply supply' now from to does walks =
+        walked acts does.0 new does.1 supply' now walks.0 to does.3 walks.2 ∙ acted act old does.0 supply does.1 now from walks.0 does.2 walks.1
+
+    turned : (now : ℕ) (before : Option (ServiceState PlaceState T)) (supply : Worker) (cell_outcome : CellOutcome T) (after : Option (ServiceState PlaceState T)) (supply' : Worker)
+        → Turns (Calls group seen) Begins Leaves is_visiting slot_of counts given accepted now before supply cell_outcome after supply' → table_of supply' ≡ table_of supply
+    turned now None supply cell_outcome after supply' is = ap table_of is.2
+    turned now (Some service) supply cell_outcome after supply' is =
+        let round = is.1 in
+        walked round.led.acts service is.0 supply supply' now Outside Behind round.led.does round.led.walks
+
+    -- so it is after a round of the connection in a cell
+    pub same_table : (now cell : ℕ) (cells cells' : List (Option (ServiceState PlaceState T))) (supply : Worker) (cell_outcome : CellOutcome T) (supply' : Worker)
+        → InCell cells cell (λ before after. Turns (Calls group seen) Begins Leaves is_visiting slot_of counts given accepted now before supply cell_outcome after supply') cells'
+        → table_of supply' ≡ table_of supply
+    same_table now cell cells cells' supply cell_outcome supply' is = turned now is.before supply cell_outcome is.after supply' is.becomes
