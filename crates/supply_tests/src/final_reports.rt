@@ -13,7 +13,7 @@ use gate_word::{Drained, Gate};
 use group_queue::Nobody;
 use session_desk::All;
 use shared_desk::DeskView;
-use shared_supply::SharedBroker;
+use shared_supply::{SharedBroker, SupplyParts};
 use std::alloc::Global;
 use std::sync::Wait;
 use std::test::Fail;
@@ -38,7 +38,12 @@ fn work<B: Broker, N: HistoryName, R: Wait>(
     match supply_of(rt, alloc, shared_broker, handle) {
         Ok(mut supply) => {
             offer(alloc, &mut supply);
-            let (_key, ports, _desk) = supply.into_parts();
+            let SupplyParts {
+                key: _,
+                ports,
+                known: _,
+                desk: _,
+            } = supply.into_parts();
             ports
         }
         Err(ports) => ports,

@@ -1,10 +1,10 @@
 //! A broker that is opened, and served to its end over connections in memory.
-ghost use Rattle.std.specs.Prelude.{◌≡◌, ◌≤◌, All, IfSome};
+ghost use Rattle.std.specs.Prelude.{◌≡◌, ◌≤◌, ◌+◌, length};
 ghost use Rattle.gate_word.specs.Seats.{AreSeatsOf};
-ghost use Rattle.broker_groups.specs.Naming.{AreUnsent, IsOfBroker};
+ghost use Rattle.broker_groups.specs.Naming.{IsOfBroker};
 
 use crate::in_memory::connections::{AlwaysReady, Meeting, NothingToWatch, Silent};
-use broker_groups::{Broker, BrokerName, BrokerPlace, Ended, Key, Named, Opened, Ports, Witnessed};
+use broker_groups::{Broker, BrokerName, BrokerPlace, Ended, Opened, Witnessed};
 use broker_worker::WorkerIo;
 use call_history::HistoryName;
 use conn_rules::MaxInflight;
@@ -12,17 +12,14 @@ use gate_word::{Gate, GateSeat};
 use group_jobs::Envelope;
 use group_queue::Nobody;
 use shared_desk::{DeskView, OpenedDesk};
-use shared_routes::SharedRoutes;
-use shared_supply::SharedBroker;
 use std::alloc::{AllocError, Global};
 use std::marker::Brand;
 use std::rt::Clock;
 use std::sync::Wait;
 use std::thread::Threads;
-use threaded_broker::{Outcome, abandon, serve};
+use threaded_broker::{Closers, OpenBroker, Outcome, serve};
 use transport::{Scripted, SetClock, Source};
-use worker_connections::WorkerHandle;
-use worker_pool::Closer;
+use worker_pool::{Closer, PoolSetup};
 
 /// How many messages each group has room for.
 const CAPACITY: usize = 8;
@@ -94,53 +91,6 @@ fn told_of<S: Drop>(outcome: Outcome<'_, Nobody, S, AlwaysReady>) -> Told {
     }
 }
 
-/// The last seat.
-fn take_seat(gate: &Gate, seats: &mut Vec<GateSeat>) -> Option<GateSeat>
-    requires { AreSeatsOf gate.now seats.old.items }
-    ensures seat { IfSome result (λ seat. seat.gate ≡ gate.now) }
-    ensures others { AreSeatsOf gate.now seats.new.items }
-{
-    let _ = gate;
-    seats.pop()
-}
-
-/// What a worker has, by the last seat.
-fn hand_of<B: Broker>(
-    gate: &Gate,
-    seats: &mut Vec<GateSeat>,
-    ports: Ports<B>,
-) -> Option<WorkerHandle<B>>
-    requires gate { gate.now ≡ B.gate }
-    requires seats { AreSeatsOf gate.now seats.old.items }
-    ensures seats { AreSeatsOf gate.now seats.new.items }
-    ensures ports { IfSome result (λ handle. handle.ports ≡ ports) }
-{
-    let key = Key::of(take_seat(gate, seats)?);
-    Some(WorkerHandle { key, ports })
-}
-
-/// What each worker has: a seat and ports. `None` where memory is refused.
-fn take_ports<B: Broker>(
-    alloc: Global,
-    gate: &Gate,
-    seats: &mut Vec<GateSeat>,
-    ports: Vec<Ports<B>>,
-) -> Option<Vec<WorkerHandle<B>>>
-    requires gate { gate.now ≡ B.gate }
-    requires seats { AreSeatsOf gate.now seats.old.items }
-    requires unsent { All AreUnsent ports.items }
-    ensures seats { AreSeatsOf gate.now seats.new.items }
-    ensures unsent { IfSome result (λ handles. All (λ handle. AreUnsent handle.ports) handles.items) }
-{
-    let mut handles = Vec::with_capacity(alloc, ports.len()).ok()?;
-    let mut left = ports;
-    'handles: while let Some(ports) = left.pop() {
-        let handle = hand_of(gate, seats, ports)?;
-        handles.push_reserved(handle);
-    }
-    Some(handles)
-}
-
 /// Where each of so many workers waits, and its clock.
 fn worker_io_for(
     alloc: Global,
@@ -155,19 +105,6 @@ fn worker_io_for(
     Ok((worker_io, alarms))
 }
 
-/// Who takes connections, and who ends the broker.
-fn closers<'a, B: Broker>(
-    gate: &'a Gate,
-    seats: &mut Vec<GateSeat>,
-) -> Option<(Closer<'a, B>, Closer<'a, B>)>
-    requires gate { gate.now ≡ B.gate }
-    requires seats { AreSeatsOf gate.now seats.old.items }
-{
-    let accepting = Closer::new(gate, take_seat(gate, seats)?);
-    let ending = Closer::new(gate, take_seat(gate, seats)?);
-    Some((accepting, ending))
-}
-
 /// Serves what comes from a source with all workers of a broker, who meet before each write.
 fn attend<
     B: Broker<Seen = Nobody> + Send + Sync,
@@ -177,42 +114,37 @@ fn attend<
 >(
     rt: &R,
     alloc: Global,
-    shared_broker: SharedBroker<'_, B, N>,
-    handles: Vec<WorkerHandle<B>>,
+    broker: OpenBroker<'_, B, N>,
     workers: u8,
     source: S,
-    accepting: Closer<'_, B>,
-    ending: Closer<'_, B>,
+    closers: Closers<'_, B>,
     pass: &mut DeskView<BrokerPlace<B>, N>,
 ) -> Option<Told>
-    requires { All (λ handle. AreUnsent handle.ports) handles.items }
+    requires { broker ≡ workers }
 {
-    let (Ok(room), Ok((worker_io, alarms))) = (
-        Vec::with_capacity(alloc, handles.len()),
-        worker_io_for(alloc, handles.len()),
-    ) else {
-        abandon(shared_broker, Vec::new(alloc));
+    let count = usize::from(workers);
+    let Ok((worker_io, alarms)) = worker_io_for(alloc, count) else {
+        broker.abandon();
         return None;
     };
-    if handles.is_empty() || handles.len() > 64 || worker_io.len() != handles.len() {
-        abandon(shared_broker, Vec::new(alloc));
+    if worker_io.len() != count {
+        broker.abandon();
         return None;
     }
-    let crossing = Meeting::new(rt, workers);
+    let setup = PoolSetup {
+        worker_io,
+        alarms,
+        crossing: &Meeting::new(rt, workers),
+        max_inflight: MaxInflight::most(),
+    };
     let served = serve(
         rt,
         alloc,
-        shared_broker,
+        broker,
         &[],
-        handles,
-        room,
-        worker_io,
-        alarms,
+        setup,
         source,
-        MaxInflight::most(),
-        &crossing,
-        accepting,
-        ending,
+        closers,
         &mut NothingToWatch,
         &mut (),
         pass,
@@ -220,7 +152,7 @@ fn attend<
     Some(told_of(served.ok()?))
 }
 
-/// Opens the desk, names what was opened, and serves.
+/// Opens the desk, and serves.
 fn live<
     M: BrokerName + Send + Sync,
     S: Source<Scripted> + Drop + Send,
@@ -229,13 +161,14 @@ fn live<
     rt: &R,
     alloc: Global,
     gate: &Gate,
-    seats: &mut Vec<GateSeat>,
+    seats: Vec<GateSeat>,
     opened: Opened<'_>,
     workers: u8,
     source: S,
 ) -> Option<Told>
     requires gate { gate.now ≡ M.gate }
-    requires seats { AreSeatsOf gate.now seats.old.items }
+    requires workers { (1 ≤ workers) × (workers ≤ 64) }
+    requires seats { AreSeatsOf gate.now seats.items × (length seats.items ≡ workers + 2) }
     requires opened { IsOfBroker M.gate M.group workers opened }
 {
     match OpenedDesk::open(alloc) {
@@ -259,52 +192,32 @@ fn live_with<
     rt: &R,
     alloc: Global,
     gate: &Gate,
-    seats: &mut Vec<GateSeat>,
+    seats: Vec<GateSeat>,
     opened: Opened<'_>,
     desk: OpenedDesk<BrokerPlace<B>>,
     workers: u8,
     source: S,
 ) -> Option<Told>
     requires gate { gate.now ≡ B.gate }
-    requires seats { AreSeatsOf gate.now seats.old.items }
+    requires workers { (1 ≤ workers) × (workers ≤ 64) }
+    requires seats { AreSeatsOf gate.now seats.items × (length seats.items ≡ workers + 2) }
     requires opened { IsOfBroker B.gate B.group workers opened }
     requires desk { desk ≡ N.history }
 {
-    let Named {
-        groups,
-        ports,
-        places,
-    } = match opened.name::<B>(alloc, workers) {
-        Ok(named) => named,
-        Err(_) => {
-            desk.abandon();
-            return None;
-        }
-    };
-    let (desk, mut pass) = desk.name::<N>();
-    desk.take_places(rt, &mut pass, places);
-    let shared_broker = SharedBroker::new(gate, groups, desk, SharedRoutes::new(alloc));
-    let (Some(handles), Some((accepting, ending))) = (
-        take_ports(alloc, gate, seats, ports),
-        closers(gate, seats),
+    let mut seats = seats;
+    let Ok((broker, mut pass)) = OpenBroker::<B, N>::open(
+        rt, alloc, gate, &mut seats, opened, desk, workers,
     ) else {
-        abandon(shared_broker, Vec::new(alloc));
         return None;
     };
-    attend(
-        rt,
-        alloc,
-        shared_broker,
-        handles,
-        workers,
-        source,
-        accepting,
-        ending,
-        &mut pass,
-    )
+    let closers = Closers {
+        accepting: Closer::take(gate, &mut seats),
+        ending: Closer::take(gate, &mut seats),
+    };
+    attend(rt, alloc, broker, workers, source, closers, &mut pass)
 }
 
-/// Opens a broker of so many workers, and serves what comes from a source until that has ended. `None` where memory is refused.
+/// Opens a broker of so many workers, and serves what comes from a source until that has ended. `None` where an allocation fails.
 pub(crate) fn serve_all<S: Source<Scripted> + Drop + Send, R: Threads + Wait + Clock + Sync>(
     rt: &R,
     alloc: Global,
@@ -313,7 +226,7 @@ pub(crate) fn serve_all<S: Source<Scripted> + Drop + Send, R: Threads + Wait + C
 ) -> Option<Told>
     requires { (1 ≤ workers) × (workers ≤ 64) }
 {
-    let (gate, mut seats) = Gate::open(alloc, usize::from(workers) + 2).ok()?;
+    let (gate, seats) = Gate::open(alloc, usize::from(workers) + 2).ok()?;
     let opened = Opened::open(alloc, &gate, CAPACITY, workers).ok()?;
-    live::<Brand, S, R>(rt, alloc, &gate, &mut seats, opened, workers, source)
+    live::<Brand, S, R>(rt, alloc, &gate, seats, opened, workers, source)
 }

@@ -13,7 +13,7 @@ use conn_supply::Supply;
 use gate_word::{Gate, GateSeat};
 use group_queue::Nobody;
 use shared_desk::OpenedDesk;
-use shared_supply::SharedBroker;
+use shared_supply::{SharedBroker, SupplyParts};
 use std::alloc::Global;
 use std::marker::Brand;
 use std::sync::Wait;
@@ -74,7 +74,12 @@ fn work<B: Broker, N: HistoryName, C: Crew, R: Wait>(
         Ok(supply) => {
             let mut supply = supply;
             let seen = crew.work(alloc, &mut supply, number);
-            let (_key, ports, _desk) = supply.into_parts();
+            let SupplyParts {
+                key: _,
+                ports,
+                known: _,
+                desk: _,
+            } = supply.into_parts();
             OneBack { seen, ports }
         }
         Err(ports) => OneBack { seen: None, ports },

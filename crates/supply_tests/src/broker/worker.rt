@@ -8,7 +8,7 @@ use call_history::HistoryName;
 use conn_supply::Supply;
 use gate_word::Gate;
 use group_queue::Nobody;
-use shared_supply::{SharedBroker, SharedSupply};
+use shared_supply::{SharedBroker, SharedSupply, SupplyParts};
 use std::alloc::Global;
 use std::sync::Wait;
 
@@ -55,7 +55,12 @@ fn work<B: Broker, N: HistoryName, H: Shift, R: Wait>(
         Ok(supply) => {
             let mut supply = supply;
             shift.work(alloc, &mut supply, gate, spare);
-            let (_key, ports, _desk) = supply.into_parts();
+            let SupplyParts {
+                key: _,
+                ports,
+                known: _,
+                desk: _,
+            } = supply.into_parts();
             ports
         }
         Err(ports) => ports,

@@ -16,7 +16,7 @@ use gate_word::Gate;
 use group_jobs::Envelope;
 use group_queue::Nobody;
 use session_desk::Place;
-use shared_supply::{AskedBack, SharedBroker, Wakes};
+use shared_supply::{AskedBack, SharedBroker, SupplyParts, Wakes};
 use std::alloc::Global;
 use std::sync::Wait;
 use std::test::Fail;
@@ -111,7 +111,12 @@ fn act<B: Broker, N: HistoryName, R: Wait>(
     told.wakes = Some(supply.take_wakes());
     told.is_drained = shut(gate, spare);
     told.is_let_in = supply.begin();
-    let (_key, ports, _desk) = supply.into_parts();
+    let SupplyParts {
+        key: _,
+        ports,
+        known: _,
+        desk: _,
+    } = supply.into_parts();
     (out, ports)
 }
 
