@@ -1,5 +1,5 @@
 -- What was so amid rounds is so amid more of them.
-use Rattle.std.proofs.Common.{◌≡◌, ◌⊎◌, ◌<◌, ◌≤◌, ◌≢◌, ℕ, List, Option, Some, None, length, refl, sym, subst, ap, ◌∙◌, inl, inr, ⊎_elim, arith}
+use Rattle.std.proofs.Common.{◌≡◌, ◌≢◌, ℕ, List, Option, Some, refl, sym, subst, ap, ◌∙◌, inl, inr, ⊎_elim, arith}
 use Rattle.std.proofs.Math.Nat.{le_trans}
 use Rattle.transport.specs.declared.counts.Counts.{Counts}
 use Rattle.group_queue.specs.Ports.{GroupId}
@@ -7,8 +7,7 @@ use Rattle.broker_groups.specs.Answers.{Sights}
 use Rattle.shared_supply.specs.declared.wakes.Wakes.{Wakes}
 use Rattle.worker_connections.specs.Members.{HasTaker, TakesIn}
 use Rattle.worker_connections.specs.Serving.{ConnectionsState, GoesBy, Rounds, StaysOf, round_of, with_wakes}
-use Rattle.worker_connections.specs.Sweeping.{KeepsMoment}
-use Rattle.broker_worker.specs.Offering.{Amid, IsAsked, IsOffered, MightTake, Offers, OffersEach, OffersInSweep}
+use Rattle.broker_worker.specs.Offering.{Amid, IsAsked, IsOffered, Offers, OffersEach, OffersInSweep}
 use Rattle.conn_service.specs.declared.served.Direction.TheVariants.{Outbound}
 use Rattle.conn_service.specs.declared.served.Round.{Round}
 use Rattle.conn_service.specs.declared.served.Round.TheVariants.{Writing}

@@ -1,6 +1,6 @@
 //! A worker: what it has, and its turns.
 ghost use Rattle.std.specs.Prelude.{◌≡◌, [], None, true, length, replicate, IfErr, IfOk};
-ghost use Rattle.broker_groups.specs.Naming.{AreUnsent};
+ghost use Rattle.worker_connections.specs.Handles.{IsUnused};
 ghost use Rattle.worker_connections.specs.Chains.{HasRunTo};
 ghost use Rattle.worker_connections.specs.Serving.{AreCounted, AreFresh, IsDone, Rounds, StaysOf, live, run_of, wakes_of};
 ghost use Rattle.broker_worker.specs.Offering.{OffersEach, OffersInSweep};
@@ -79,7 +79,8 @@ impl<
     C: Clock + Drop,
     R: Wait,
 > Worker<'a, 'g, B, N, T, Q, W, X, C, R> {
-    /// A worker that has no connection yet. It receives through the channel of its parts, and publishes through the ports of its handle, through which nothing was published.
+    /// A worker that has no connection yet. It receives through the channel of its parts, publishes through the ports of its handle, through which nothing was published,
+    /// and calls the desk as the caller of its handle, which made no call.
     ///
     /// # Errors
     ///
@@ -88,15 +89,16 @@ impl<
         rt: &'a R,
         alloc: Global,
         shared_broker: &'a SharedBroker<'g, B, N>,
-        handle: WorkerHandle<B>,
+        handle: WorkerHandle<B, N>,
         worker_parts: WorkerParts<T, Q, W, C>,
         mailboxes: &'a Mailboxes<W>,
         crossing: &'a X,
-    ) -> Result<Worker<'a, 'g, B, N, T, Q, W, X, C, R>, WorkerHandle<B>>
+    ) -> Result<Worker<'a, 'g, B, N, T, Q, W, X, C, R>, WorkerHandle<B, N>>
         requires received { worker_parts.received ≡ [] }
-        requires unsent { AreUnsent handle.ports }
+        requires unused { IsUnused handle.ports handle.desk }
         ensures fresh { IfOk result (λ worker. AreFresh worker_parts handle.ports worker.connections) }
         ensures routes { IfOk result (λ worker. worker.connections.supply.known.table ≡ shared_broker.now) }
+        ensures desk { IfOk result (λ worker. worker.connections.supply.desk ≡ handle.desk) }
         ensures back { IfErr result (λ back. back ≡ handle) }
     {
         let Ok(known) = shared_broker.observe_routes(alloc) else {
@@ -117,8 +119,8 @@ impl<
             due,
             members,
         } = worker_parts;
-        let WorkerHandle { key, ports } = handle;
-        let supply = SharedSupply::new(rt, alloc, shared_broker, key, ports, known);
+        let WorkerHandle { key, ports, desk } = handle;
+        let supply = SharedSupply::new(rt, alloc, shared_broker, key, ports, known, desk);
         let (poller, clock) = worker_io.into_parts();
         let connections = Connections::new(receiver, table, supply, members, poller);
         Ok(Worker::of(
@@ -279,7 +281,7 @@ impl<
         ensures ran { HasRunTo B.group B.Seen.Witness T.counts T.given T.accepted (run_of self.entry.connections) }
         ensures ports { live self.entry.connections ≡ 0 → result.handle.ports ≡ self.entry.connections.supply.ports }
         ensures known { live self.entry.connections ≡ 0 → result.known ≡ self.entry.connections.supply.known }
-        ensures desk { live self.entry.connections ≡ 0 → result.pass ≡ self.entry.connections.supply.desk }
+        ensures desk { live self.entry.connections ≡ 0 → result.handle.desk ≡ self.entry.connections.supply.desk }
     {
         let Worker {
             number: _,

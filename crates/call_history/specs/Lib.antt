@@ -1,2 +1,4 @@
-pub mod Tables
+pub mod Numbers
+pub mod Callers
 pub mod Rule
+pub mod Tables

@@ -1,6 +1,8 @@
-//! A history, its keeper, and those who know beginnings of it.
-ghost use Rattle.std.specs.Prelude.{◌≡◌, ◌++◌, ◌⊎◌, [], IfOk};
+//! A history, its keeper, and those who call.
+ghost use Rattle.std.specs.Prelude.{◌≡◌, ◌<◌, ◌-◌, ◌++◌, ◌⊎◌, [], length, IfOk};
 ghost use mathlib.Core.List.{IsPrefix};
+ghost use Rattle.call_history.specs.Callers.{all_parts, calling, first_caller, joined, new_caller};
+ghost use Rattle.call_history.specs.Numbers.{IsEachOnce};
 
 use crate::names::{Entries, HistoryName};
 use crate::word;
@@ -27,13 +29,13 @@ pub struct Opened<E> {
 impl<E> Model for Opened<E> {
     ghost use Rattle.std.specs.Prelude.{◌≡◌, []};
     ghost use Rattle.atomic_table.specs.Seated.{TableId};
-    ghost use Rattle.call_history.specs.Rule.{IsPassOf, keeper};
+    ghost use Rattle.call_history.specs.Rule.{IsPassOf, first};
 
     ghost Value = { TableId };
 
     ghost view = { λ o. o.word.shared.table_id };
 
-    ghost invariant = { λ o. IsPassOf o.word.shared.table_id o.pass.table_id × (o.pass.me ≡ (keeper [], [])) };
+    ghost invariant = { λ o. IsPassOf o.word.shared.table_id o.pass.table_id × (o.pass.me ≡ (first, [])) };
 }
 
 impl<E> Opened<E> {
@@ -47,12 +49,14 @@ impl<E> Opened<E> {
         Ok(Opened { word, pass })
     }
 
-    /// The history under a name, with its keeper.
-    pub fn name<N: HistoryName>(self) -> (CallHistory<E, N>, Keeper<E, N>)
+    /// The history under a name, with its keeper, and the caller that has the whole right to call.
+    pub fn name<N: HistoryName>(self) -> (CallHistory<E, N>, Keeper<E, N>, Caller<E, N>)
         requires { self ≡ N.history }
-        ensures { result.1 ≡ [] }
+        ensures keeper { result.1 ≡ [] }
+        ensures caller { result.2 ≡ first_caller }
     {
-        let Opened { word, pass } = self;
+        let Opened { word, mut pass } = self;
+        let right = word::give(&word, &mut pass);
         (
             CallHistory {
                 word,
@@ -60,6 +64,10 @@ impl<E> Opened<E> {
             },
             Keeper {
                 pass,
+                of: PhantomData,
+            },
+            Caller {
+                pass: right,
                 of: PhantomData,
             },
         )
@@ -102,70 +110,66 @@ impl<E, N: HistoryName> Model for Keeper<E, N> {
     ghost invariant = { λ k. (k.pass.table_id ≡ N.history) × (k.pass.me ≡ (keeper k.pass.me.0.calls, [])) };
 }
 
-/// Who knows a beginning of a history. Contracts see it as that beginning, in the order of its calls. It may go to another thread: it is `Send`, and not `Sync`.
+/// Who calls: it knows a beginning of the history, and which of its calls are its own; each call is one caller's own. It may go to another thread: it is `Send`, and not
+/// `Sync`.
+///
+/// There are 128 parts of the right to call, and each caller has one at least. Who has them all has made, or taken over, each call that there was.
 #[derive(Drop)]
-pub struct Known<E, N: HistoryName> {
+pub struct Caller<E, N: HistoryName> {
     pass: Pass<E>,
     of: PhantomData<N>,
 }
 
-impl<E, N: HistoryName> Model for Known<E, N> {
-    ghost use Rattle.std.specs.Prelude.{◌≡◌, List, []};
-    ghost use Rattle.call_history.specs.Rule.{knower};
+impl<E, N: HistoryName> Model for Caller<E, N> {
+    ghost use Rattle.std.specs.Prelude.{◌≡◌, ◌<◌, []};
+    ghost use Rattle.call_history.specs.Callers.{CallerState};
+    ghost use Rattle.call_history.specs.Rule.{caller, caller_of};
 
-    ghost Value = { List E };
+    ghost Value = { CallerState E };
 
-    ghost view = { λ k. k.pass.me.0.calls };
+    ghost view = { λ c. caller_of c.pass.me.0 };
 
-    ghost invariant = { λ k. (k.pass.table_id ≡ N.history) × (k.pass.me ≡ (knower k.pass.me.0.calls, [])) };
+    ghost invariant = { λ c. (c.pass.table_id ≡ N.history) × (c.pass.me ≡ (caller (caller_of c.pass.me.0), [])) × (0 < c.pass.me.0.parts) };
 }
 
 impl<E, N: HistoryName> Keeper<E, N> {
-    /// Adds to the history, and lets somebody know all of it, whose knowledge was a beginning of what it was before.
-    pub fn add<J: Entries<E>>(&mut self, history: &CallHistory<E, N>, known: &mut Known<E, N>)
+    /// Adds to the history what a caller did, and lets it know all of it: what it knew was a beginning of what the history was before. Where it has the whole right to call, all calls
+    /// before were its own.
+    pub fn add<J: Entries<E>>(&mut self, history: &CallHistory<E, N>, caller: &mut Caller<E, N>)
         ensures added { self.new ≡ self.old ++ J.added }
-        ensures told { known.new ≡ self.new }
-        ensures before { IsPrefix known.old self.old }
+        ensures told { caller.new ≡ calling caller.old self.old J.added }
+        ensures before { IsPrefix caller.old.calls self.old }
+        ensures once { caller.old.parts ≡ all_parts → IsEachOnce caller.old.own (length self.old) }
     {
-        let told = word::tell(&history.word, &mut known.pass);
-        word::show(&history.word, &mut self.pass, told);
+        let right = word::give(&history.word, &mut caller.pass);
+        word::show(&history.word, &mut self.pass, right);
         word::add::<E, J>(&history.word, &mut self.pass);
-        known.pass = word::tell(&history.word, &mut self.pass);
-    }
-
-    /// One more who knows all of it.
-    pub fn tell(&mut self, history: &CallHistory<E, N>) -> Known<E, N>
-        ensures same { self.new ≡ self.old }
-        ensures told { result ≡ self.new }
-    {
-        let pass = word::tell(&history.word, &mut self.pass);
-        Known {
-            pass,
-            of: PhantomData,
-        }
+        caller.pass = word::give(&history.word, &mut self.pass);
     }
 }
 
-impl<E, N: HistoryName> Known<E, N> {
-    /// One more who knows the same.
-    pub fn tell(&mut self, history: &CallHistory<E, N>) -> Known<E, N>
-        ensures same { self.new ≡ self.old }
-        ensures told { result ≡ self.new }
+impl<E, N: HistoryName> Caller<E, N> {
+    /// A further caller, which has one part of the right to call, and knows the same.
+    pub fn share(&mut self, history: &CallHistory<E, N>) -> Caller<E, N>
+        requires { 1 < self.old.parts }
+        ensures kept { self.new ≡ record self.old { parts = self.old.parts - 1 } }
+        ensures new { result ≡ new_caller self.old.calls }
     {
-        let pass = word::tell(&history.word, &mut self.pass);
-        Known {
+        let pass = word::share(&history.word, &mut self.pass);
+        Caller {
             pass,
             of: PhantomData,
         }
     }
 
-    /// Takes in another: the longer of two beginnings, which the other begins.
-    pub fn agree(&mut self, history: &CallHistory<E, N>, other: Known<E, N>)
-        ensures one { (self.new ≡ self.old) ⊎ (self.new ≡ other) }
-        ensures mine { IsPrefix self.old self.new }
-        ensures others { IsPrefix other self.new }
+    /// Takes in another: the longer of two beginnings, which the other begins, and its calls and its right to call.
+    pub fn agree(&mut self, history: &CallHistory<E, N>, other: Caller<E, N>)
+        ensures joined { self.new ≡ joined self.old other self.new.calls }
+        ensures one { (self.new.calls ≡ self.old.calls) ⊎ (self.new.calls ≡ other.calls) }
+        ensures mine { IsPrefix self.old.calls self.new.calls }
+        ensures others { IsPrefix other.calls self.new.calls }
     {
-        let Known { pass, of: _ } = other;
+        let Caller { pass, of: _ } = other;
         word::agree(&history.word, &mut self.pass, pass);
     }
 }

@@ -1,6 +1,8 @@
 //! How a broker ends whose gate is shut and drained, and what it then promises of every message that it accepted.
-ghost use Rattle.std.specs.Prelude.{◌≡◌, List, IfOk, IfErr};
+ghost use Rattle.std.specs.Prelude.{◌≡◌, List, length, IfOk, IfErr};
 ghost use mathlib.Core.List.{IsPrefix};
+ghost use Rattle.call_history.specs.Callers.{all_parts};
+ghost use Rattle.call_history.specs.Numbers.{IsEachOnce};
 ghost use Rattle.group_jobs.specs.Stamps.{Held};
 ghost use Rattle.session_desk.specs.Calls.{Call};
 ghost use Rattle.group_queue.specs.Places.{PlaceState};
@@ -73,8 +75,8 @@ where
 /// sessions held, that its desk has. These are just the messages that are out at these places, so no group lacks one at its end
 /// (`none_lacks`): where one has no report, a port or a place of it is not there, or an allocation failed.
 ///
-/// The pass knows all calls that were made of the desk then, of which what it knew is the beginning (`before`). They lead to the sessions, places and messages
-/// that the groups end with (`kept`).
+/// The caller knows all calls that were made of the desk then, of which what it knew is the beginning (`before`). They lead to the sessions, places and messages
+/// that the groups end with (`kept`). Where it has the whole right to call, each of them is its own, or of one that it took in (`once`).
 ///
 /// # Errors
 ///
@@ -90,9 +92,11 @@ pub fn end_broker<'g, B: Broker, N: HistoryName, R: Wait>(
 where
     B::Seen: LawfulWitness,
     requires drained { drained.now ≡ B.gate }
-    ensures before { IsPrefix me.old me.new }
-    ensures kept { IfOk result (λ ended. KeptItsPromisesBehind B.group me.new ports.items ended.answers.items ended.strangers.items) }
-    ensures left { IfErr result (IsLeft me.new shared_broker.entry ports.items) }
+    ensures before { IsPrefix me.old.calls me.new.calls }
+    ensures same { me.new ≡ record me.old { calls = me.new.calls } }
+    ensures once { me.old.parts ≡ all_parts → IsEachOnce me.old.own (length me.new.calls) }
+    ensures kept { IfOk result (λ ended. KeptItsPromisesBehind B.group me.new.calls ports.items ended.answers.items ended.strangers.items) }
+    ensures left { IfErr result (IsLeft me.new.calls shared_broker.entry ports.items) }
 {
     let _ = drained;
     one_fate_law();

@@ -3,6 +3,7 @@ use Rattle.std.proofs.Common.{List, [], ◌∷◌, ◌++◌, sym, ap, ◌∙◌,
 use mathlib.Core.List.{IsPrefix}
 use Rattle.group_jobs.specs.Stamps.{Held}
 use Rattle.session_desk.specs.Calls.{Call}
+use Rattle.call_history.specs.Callers.{CallerState}
 use Rattle.shared_desk.specs.Histories.{AddsCall}
 use Rattle.sessions_tests.specs.declared.spot.Spot.{Spot}
 use Rattle.sessions_tests.specs.Spots.{any_out, number_of_spot}
@@ -15,5 +16,5 @@ stands_on call calls more stands on = (
   sym on.1 ∙ ap (λ l. l ++ on.0) stands.2 ∙ append_assoc stands.0 (call ∷ stands.1) on.0,
 )
 
-pub stands_told : (call : Call Held Spot) (known now : List (Call Held Spot)) → AddsCall any_out (λ _. 3) number_of_spot known call now → Stands call now
-stands_told call known now told = (known ++ told.since, [], told.is)
+pub stands_told : (call : Call Held Spot) (old new : CallerState (Call Held Spot)) → AddsCall any_out (λ _. 3) number_of_spot old call new → Stands call new.calls
+stands_told call old new told = (old.calls ++ told.since, [], ap (λ (c : CallerState (Call Held Spot)). c.calls) told.is)

@@ -18,7 +18,7 @@ fn withdraw_as<D: HistoryName, R: Wait>(
     mut me: DeskView<Spot, D>,
     connection: u16,
 ) -> DeskView<Spot, D>
-    ensures { Stands (Withdraw connection) result }
+    ensures { Stands (Withdraw connection) result.calls }
 {
     desk.withdraw(rt, &mut me, connection);
     me
@@ -31,17 +31,17 @@ pub fn both_withdraw<D: HistoryName + Send + Sync, R: Threads + Wait + Sync>(
     one: DeskView<Spot, D>,
     other: DeskView<Spot, D>,
 ) -> DeskView<Spot, D>
-    ensures first { Stands (Withdraw 0) result }
-    ensures second { Stands (Withdraw 1) result }
-    ensures legal { IsHistory any_out (λ _. 3) number_of_spot result }
+    ensures first { Stands (Withdraw 0) result.calls }
+    ensures second { Stands (Withdraw 1) result.calls }
+    ensures legal { IsHistory any_out (λ _. 3) number_of_spot result.calls }
 {
     let (mut one, other) = join(
         rt,
         move || -> DeskView<Spot, D>
-            ensures { Stands (Withdraw 0) result }
+            ensures { Stands (Withdraw 0) result.calls }
         { withdraw_as(rt, desk, one, 0) },
         move || -> DeskView<Spot, D>
-            ensures { Stands (Withdraw 1) result }
+            ensures { Stands (Withdraw 1) result.calls }
         { withdraw_as(rt, desk, other, 1) },
     );
     desk.agree(&mut one, other);

@@ -8,6 +8,7 @@ use Rattle.session_desk.specs.Calls.{Call, IsAllowed, Makes, MakesAll}
 use Rattle.session_desk.specs.Everywhere.{GoesIn, AllGoIn}
 use Rattle.session_desk.specs.Places.{cell_at}
 use Rattle.conn_supply.specs.Holding.{IsOutAtPlace}
+use Rattle.call_history.specs.Callers.{CallerState, calling}
 use Rattle.shared_desk.specs.Books.{IsLawful}
 use Rattle.shared_desk.specs.Histories.{Leads, IsHistory, AddsCall}
 use Rattle.shared_desk.proofs.Desks.{new_is_lawful, kept}
@@ -46,26 +47,33 @@ module _ {P : Type 0} (HasOut : P → List Held → Type 0) (slot_of number_of :
       subst (λ l. Leads HasOut slot_of number_of l new) (sym is)
       (record { made = makes_next calls new_books old new call leads.made allowed makes; going = go_next calls call leads.going goes })
 
-  pub is_told : (known calls after now : List (Call Held P)) (new : Books Held P) (call : Call Held P) → Leads HasOut slot_of number_of after new
-      → after ≡ calls ++ call ∷ [] → now ≡ after → IsPrefix known calls → AddsCall HasOut slot_of number_of known call now
-  is_told known calls after now new call leads is told before = record {
+  pub is_told : (calls : List (Call Held P)) (old new : CallerState (Call Held P)) (books : Books Held P) (call : Call Held P) → Leads HasOut slot_of number_of (calls ++ call ∷ []) books
+      → new ≡ calling old calls (call ∷ []) → IsPrefix old.calls calls → AddsCall HasOut slot_of number_of old call new
+  is_told calls old new books call leads told before = record {
     since = before.0;
-    is = told ∙ is ∙ ap (λ l. l ++ call ∷ []) (sym before.1);
-    legal = (new, subst (λ l. Leads HasOut slot_of number_of l new) (sym told) leads);
+    is = told ∙ ap (λ l. calling old l (call ∷ [])) (sym before.1);
+    legal = (books, subst (λ (c : CallerState (Call Held P)). Leads HasOut slot_of number_of c.calls books) (sym told) leads);
   }
 
-  -- a call that is noted leads on, and the thread is told it
-  pub noted : (calls after known now : List (Call Held P)) (old new : Books Held P) (call : Call Held P) → Leads HasOut slot_of number_of calls old
+  -- a call that is noted leads on, and the caller is told it
+  pub noted : (calls after : List (Call Held P)) (caller caller' : CallerState (Call Held P)) (old new : Books Held P) (call : Call Held P) → Leads HasOut slot_of number_of calls old
       → IsAllowed call → GoesIn (IsOutAtPlace HasOut) Fits call → Makes cell old call new
-      → after ≡ calls ++ call ∷ [] → now ≡ after → IsPrefix known calls
-      → Leads HasOut slot_of number_of after new × AddsCall HasOut slot_of number_of known call now
-  noted calls after known now old new call leads allowed goes makes is told before =
+      → after ≡ calls ++ call ∷ [] → caller' ≡ calling caller calls (call ∷ []) → IsPrefix caller.calls calls
+      → Leads HasOut slot_of number_of after new × AddsCall HasOut slot_of number_of caller call caller'
+  noted calls after caller caller' old new call leads allowed goes makes is told before =
       let next = leads_on calls after old new call leads allowed goes makes is in
-      (next, is_told known calls after now new call next is told before)
+      (next, is_told calls caller caller' new call (subst (λ l. Leads HasOut slot_of number_of l new) is next) told before)
 
   pub not_yet : (calls : List (Call Held P)) → calls ≡ [] → IsHistory HasOut slot_of number_of calls
   not_yet calls none = (new_books, starts calls new_books none refl)
 
   -- what all calls led to, they lead to where they are known in full
-  pub in_full : (calls after now : List (Call Held P)) (books : Books Held P) → Leads HasOut slot_of number_of calls books → after ≡ calls ++ [] → now ≡ after → Leads HasOut slot_of number_of now books
-  in_full calls after now books leads is told = subst (λ l. Leads HasOut slot_of number_of l books) (sym (told ∙ is ∙ append-nil calls)) leads
+  pub in_full : (calls : List (Call Held P)) (old new : CallerState (Call Held P)) (books : Books Held P) → Leads HasOut slot_of number_of calls books → new ≡ calling old calls []
+      → Leads HasOut slot_of number_of new.calls books
+  in_full calls old new books leads told =
+      subst (λ l. Leads HasOut slot_of number_of l books) (sym (ap (λ (c : CallerState (Call Held P)). c.calls) told ∙ append-nil calls)) leads
+
+  -- who made no call has the calls that it had
+  pub no_more : (calls : List (Call Held P)) (old new : CallerState (Call Held P)) → new ≡ calling old calls [] → new ≡ record old { calls = new.calls }
+  no_more calls old new told =
+      told ∙ (λ i. record old { calls = calls ++ []; own = append-nil old.own i }) ∙ ap (λ (c : CallerState (Call Held P)). record old { calls = c.calls }) (sym told)

@@ -3,3 +3,4 @@ pub mod Parts
 pub mod Holders
 pub mod Histories
 pub mod Pasts
+pub mod FreePlaces

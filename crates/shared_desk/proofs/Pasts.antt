@@ -1,5 +1,5 @@
 -- What a history says of its beginnings.
-use Rattle.std.proofs.Common.{◌≡◌, ℕ, ◌<◌, List, [], ◌∷◌, ◌++◌, Some, true, false, refl, sym, ◌∙◌, subst, arith, ⊎_elim, append_assoc}
+use Rattle.std.proofs.Common.{◌≡◌, ℕ, ◌<◌, List, [], ◌∷◌, ◌++◌, Some, true, false, refl, sym, ap, ◌∙◌, subst, arith, ⊎_elim, append_assoc}
 use Rattle.std.proofs.lemmas.List.{length-replicate}
 use mathlib.Core.List.{IsPrefix}
 use Rattle.group_jobs.specs.Stamps.{Held}
@@ -14,6 +14,7 @@ use Rattle.session_desk.proofs.LastIn.{very_session}
 use Rattle.session_desk.proofs.Marked.{marked_all, none_marked}
 use Rattle.session_desk.proofs.OneHand.{law_all, law_new}
 use Rattle.conn_supply.specs.Holding.{IsOutAtPlace}
+use Rattle.call_history.specs.Callers.{CallerState}
 use Rattle.shared_desk.specs.Books.{IsMade}
 use Rattle.shared_desk.specs.Histories.{IsHistory, AddsCall}
 use Rattle.shared_desk.proofs.Desks.{made}
@@ -43,11 +44,12 @@ module _ {P : Type 0} (HasOut : P → List Held → Type 0) (slot_of number_of :
       let going = going_parts before (call ∷ after) history.1.going in
       made HasOut slot_of number_of all.0 all.2.1.0 call (lawful HasOut slot_of number_of before all.0 (record { made = all.1; going = going.0 })) all.2.0 going.1.0 all.2.1.1
 
-  pub was_told : (known now : List (Call Held P)) (call : Call Held P) → AddsCall HasOut slot_of number_of known call now → IsMade HasOut slot_of number_of call × IsPrefix known now
-  was_told known now call told = (
-    was_made (known ++ told.since) [] call (subst (IsHistory HasOut slot_of number_of) told.is told.legal),
-    (told.since ++ call ∷ [], sym (append_assoc known told.since (call ∷ [])) ∙ sym told.is),
-  )
+  pub was_told : (old new : CallerState (Call Held P)) (call : Call Held P) → AddsCall HasOut slot_of number_of old call new → IsMade HasOut slot_of number_of call × IsPrefix old.calls new.calls
+  was_told old new call told =
+      let calls_are : new.calls ≡ (old.calls ++ told.since) ++ call ∷ [] = ap (λ (c : CallerState (Call Held P)). c.calls) told.is in (
+        was_made (old.calls ++ told.since) [] call (subst (IsHistory HasOut slot_of number_of) calls_are told.legal),
+        (told.since ++ call ∷ [], sym (append_assoc old.calls told.since (call ∷ [])) ∙ sym calls_are),
+      )
 
   pub very : (before after : List (Call Held P)) (next : Call Held P) (session : Session Held P) → IsHistory HasOut slot_of number_of (before ++ next ∷ after)
       → TakesOut next session → last_in session.identity.number before ≡ Some session

@@ -6,6 +6,7 @@ use Rattle.session_desk.specs.Calls.{Call, MakesAll, TakePlace}
 use Rattle.session_desk.specs.Everywhere.{AllGoIn}
 use Rattle.session_desk.specs.Places.{cell_at}
 use Rattle.conn_supply.specs.Holding.{IsOutAtPlace}
+use Rattle.call_history.specs.Callers.{CallerState, calling}
 
 module _ {P : Type 0} (HasOut : P → List Held → Type 0) (slot_of number_of : P → ℕ) where
   -- these calls, one after the other, made these books of a new desk, and what went in had out at its place what it holds
@@ -17,14 +18,14 @@ module _ {P : Type 0} (HasOut : P → List Held → Type 0) (slot_of number_of :
   abbrev pub IsHistory : List (Call Held P) → Type 0
   IsHistory calls = (books : Books Held P) × Leads calls books
 
-  -- the call was made after what was known and what others did since
-  pub record AddsCall (known : List (Call Held P)) (call : Call Held P) (now : List (Call Held P)) : Type 0 where
+  -- the caller made this call, after what it knew and what others did since, and it is one of its own
+  pub record AddsCall (old : CallerState (Call Held P)) (call : Call Held P) (new : CallerState (Call Held P)) : Type 0 where
     pub since : List (Call Held P)
-    pub is : now ≡ known ++ since ++ call ∷ []
-    pub legal : IsHistory now
+    pub is : new ≡ calling old (old.calls ++ since) (call ∷ [])
+    pub legal : IsHistory new.calls
 
   -- these places were handed in, one after the other, with calls of others between
-  abbrev pub TakesEach : List (Call Held P) → List P → List (Call Held P) → Type 0
-  TakesEach known [] now = now ≡ known
-  TakesEach known (place ∷ places) now =
-      (back : Option P) × (between : List (Call Held P)) × AddsCall known (TakePlace place back) between × TakesEach between places now
+  abbrev pub TakesEach : CallerState (Call Held P) → List P → CallerState (Call Held P) → Type 0
+  TakesEach old [] new = new ≡ old
+  TakesEach old (place ∷ places) new =
+      (back : Option P) × (between : CallerState (Call Held P)) × AddsCall old (TakePlace place back) between × TakesEach between places new

@@ -1,3 +1,4 @@
 pub mod Books
 pub mod Histories
 pub mod Holders
+pub mod FreePlaces

@@ -9,12 +9,14 @@ ghost use Rattle.session_desk.specs.Places.{IsOfSlot};
 ghost use Rattle.session_desk.specs.declared.session.Session as Sessions;
 ghost use Rattle.conn_supply.specs.Holding.{IsOutAtPlace};
 ghost use Rattle.conn_supply.specs.Ready.{IsReady, IsSoundSession};
+ghost use Rattle.call_history.specs.Callers.{all_parts, calling};
+ghost use Rattle.call_history.specs.Numbers.{IsEachOnce};
 ghost use Rattle.shared_desk.specs.Books.{IsLawful, IsMade};
 ghost use Rattle.shared_desk.specs.Histories.{AddsCall, Leads};
 
 use crate::view::{DeskCall, DeskHistory, DeskView};
 use bytes::Bytes;
-use call_history::{Entries, HistoryName, Keeper, Known};
+use call_history::{Caller, Entries, HistoryName, Keeper};
 use conn_supply::HoldingPlace;
 use group_jobs::Envelope;
 use session_desk::{Attached, Desk, DeskError, Session};
@@ -45,19 +47,20 @@ impl<P: HoldingPlace, D: HistoryName> Model for LawfulDesk<P, D> {
     ghost invariant = { λ d. Leads P.has_out P.slot_of P.number_of d.keeper d.desk };
 }
 
-/// Notes a call, with what was asked and answered, which the proof of a call of this one says, and lets a thread know all calls so far.
+/// Notes a call of a caller, with what was asked and answered, which the proof of a call of this one says, and lets it know all calls so far.
 fn note<P: HoldingPlace, D: HistoryName, A, B, J: Entries<DeskCall<P>>>(
     keeper: &mut Keeper<DeskCall<P>, D>,
     history: &DeskHistory<P, D>,
-    known: &mut Known<DeskCall<P>, D>,
+    caller: &mut Caller<DeskCall<P>, D>,
     _asked: &A,
     _answer: &B,
 )
     ensures added { keeper.new ≡ keeper.old ++ J.added }
-    ensures told { known.new ≡ keeper.new }
-    ensures before { IsPrefix known.old keeper.old }
+    ensures told { caller.new ≡ calling caller.old keeper.old J.added }
+    ensures before { IsPrefix caller.old.calls keeper.old }
+    ensures once { caller.old.parts ≡ all_parts → IsEachOnce caller.old.own (length keeper.old) }
 {
-    keeper.add::<J>(history, known);
+    keeper.add::<J>(history, caller);
 }
 
 impl<P: HoldingPlace, D: HistoryName> LawfulDesk<P, D> {
@@ -67,14 +70,6 @@ impl<P: HoldingPlace, D: HistoryName> LawfulDesk<P, D> {
         requires keeper { keeper ≡ [] }
     {
         LawfulDesk { desk, keeper }
-    }
-
-    /// A pass that knows all calls so far.
-    pub fn pass(&mut self, history: &DeskHistory<P, D>) -> DeskView<P, D>
-        ensures { self.new ≡ self.old }
-    {
-        let known = self.keeper.tell(history);
-        DeskView { known }
     }
 
     pub fn attach(
@@ -98,7 +93,7 @@ impl<P: HoldingPlace, D: HistoryName> LawfulDesk<P, D> {
         note::<P, D, (), Result<Attached<Envelope, P>, DeskError>, Brand>(
             &mut self.keeper,
             history,
-            &mut me.known,
+            &mut me.caller,
             &(),
             &answer,
         );
@@ -115,7 +110,7 @@ impl<P: HoldingPlace, D: HistoryName> LawfulDesk<P, D> {
         ensures told { AddsCall P.has_out P.slot_of P.number_of me.old (Withdraw connection) me.new }
     {
         self.desk.withdraw(connection);
-        note::<P, D, u16, (), Brand>(&mut self.keeper, history, &mut me.known, &connection, &());
+        note::<P, D, u16, (), Brand>(&mut self.keeper, history, &mut me.caller, &connection, &());
     }
 
     pub fn kicked(
@@ -131,7 +126,7 @@ impl<P: HoldingPlace, D: HistoryName> LawfulDesk<P, D> {
         note::<P, D, u16, bool, Brand>(
             &mut self.keeper,
             history,
-            &mut me.known,
+            &mut me.caller,
             &connection,
             &is_kicked,
         );
@@ -156,7 +151,7 @@ impl<P: HoldingPlace, D: HistoryName> LawfulDesk<P, D> {
         note::<P, D, u64, Option<Session<Envelope, P>>, Brand>(
             &mut self.keeper,
             history,
-            &mut me.known,
+            &mut me.caller,
             &now,
             &back,
         );
@@ -180,7 +175,7 @@ impl<P: HoldingPlace, D: HistoryName> LawfulDesk<P, D> {
         note::<P, D, (), Option<Session<Envelope, P>>, Brand>(
             &mut self.keeper,
             history,
-            &mut me.known,
+            &mut me.caller,
             &(),
             &back,
         );
@@ -204,7 +199,7 @@ impl<P: HoldingPlace, D: HistoryName> LawfulDesk<P, D> {
         note::<P, D, (), Option<Session<Envelope, P>>, Brand>(
             &mut self.keeper,
             history,
-            &mut me.known,
+            &mut me.caller,
             &(),
             &back,
         );
@@ -228,7 +223,7 @@ impl<P: HoldingPlace, D: HistoryName> LawfulDesk<P, D> {
         note::<P, D, (), Option<Session<Envelope, P>>, Brand>(
             &mut self.keeper,
             history,
-            &mut me.known,
+            &mut me.caller,
             &(),
             &back,
         );
@@ -249,7 +244,7 @@ impl<P: HoldingPlace, D: HistoryName> LawfulDesk<P, D> {
         note::<P, D, u64, Option<Session<Envelope, P>>, Brand>(
             &mut self.keeper,
             history,
-            &mut me.known,
+            &mut me.caller,
             &now,
             &session,
         );
@@ -268,7 +263,13 @@ impl<P: HoldingPlace, D: HistoryName> LawfulDesk<P, D> {
         ensures told { AddsCall P.has_out P.slot_of P.number_of me.old (LendPlace slot result) me.new }
     {
         let place = self.desk.lend_place(slot);
-        note::<P, D, u8, Option<P>, Brand>(&mut self.keeper, history, &mut me.known, &slot, &place);
+        note::<P, D, u8, Option<P>, Brand>(
+            &mut self.keeper,
+            history,
+            &mut me.caller,
+            &slot,
+            &place,
+        );
         place
     }
 
@@ -286,7 +287,7 @@ impl<P: HoldingPlace, D: HistoryName> LawfulDesk<P, D> {
         ensures told { AddsCall P.has_out P.slot_of P.number_of me.old (TakePlace place result) me.new }
     {
         let back = self.desk.take_place(place);
-        note::<P, D, (), Option<P>, Brand>(&mut self.keeper, history, &mut me.known, &(), &back);
+        note::<P, D, (), Option<P>, Brand>(&mut self.keeper, history, &mut me.caller, &(), &back);
         back
     }
 
@@ -301,14 +302,16 @@ impl<P: HoldingPlace, D: HistoryName> LawfulDesk<P, D> {
         desk
     }
 
-    /// The desk, and lets a thread know all calls that were made of it.
+    /// The desk, and lets a caller know all calls that were made of it.
     pub fn finish(self, history: &DeskHistory<P, D>, me: &mut DeskView<P, D>) -> Desk<Envelope, P>
         ensures lawful { IsLawful P.has_out result }
-        ensures before { IsPrefix me.old me.new }
-        ensures all { Leads P.has_out P.slot_of P.number_of me.new result }
+        ensures before { IsPrefix me.old.calls me.new.calls }
+        ensures same { me.new ≡ record me.old { calls = me.new.calls } }
+        ensures all { Leads P.has_out P.slot_of P.number_of me.new.calls result }
+        ensures once { me.old.parts ≡ all_parts → IsEachOnce me.old.own (length me.new.calls) }
     {
         let LawfulDesk { desk, mut keeper } = self;
-        note::<P, D, (), (), Brand>(&mut keeper, history, &mut me.known, &(), &());
+        note::<P, D, (), (), Brand>(&mut keeper, history, &mut me.caller, &(), &());
         desk
     }
 }

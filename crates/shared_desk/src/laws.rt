@@ -4,11 +4,14 @@ ghost use Rattle.std.specs.Prelude.{◌≡◌, ℕ, ◌+◌, ◌<◌, ◌≤◌,
 ghost use mathlib.Core.List.{IsPrefix};
 ghost use Rattle.group_jobs.specs.Stamps.{Held};
 ghost use Rattle.session_desk.specs.AskedBack.{IsAskedBack};
-ghost use Rattle.session_desk.specs.Calls.{Call, Kicked};
+ghost use Rattle.session_desk.specs.Calls.{Call, Kicked, LendPlace};
 ghost use Rattle.session_desk.specs.Hands.{handed_in, handed_out, total};
+ghost use Rattle.session_desk.specs.Places.{cell_at};
 ghost use Rattle.session_desk.specs.Stored.{TakesOut, last_in};
 ghost use Rattle.session_desk.specs.declared.session.Session.{Session};
+ghost use Rattle.call_history.specs.Callers.{CallerState};
 ghost use Rattle.shared_desk.specs.Books.{IsMade};
+ghost use Rattle.shared_desk.specs.FreePlaces.{last_freed};
 ghost use Rattle.shared_desk.specs.Histories.{IsHistory, AddsCall};
 ghost use Rattle.shared_desk.specs.Holders.{IsHolder};
 
@@ -19,8 +22,8 @@ pub fn histories<P: HoldingPlace>()
     ensures begins { (calls more : List (Call Held P)) → IsHistory P.has_out P.slot_of P.number_of (calls ++ more) → IsHistory P.has_out P.slot_of P.number_of calls }
     ensures made { (before after : List (Call Held P)) (call : Call Held P) →
         IsHistory P.has_out P.slot_of P.number_of (before ++ call ∷ after) → IsMade P.has_out P.slot_of P.number_of call }
-    ensures told { (known now : List (Call Held P)) (call : Call Held P) →
-        AddsCall P.has_out P.slot_of P.number_of known call now → IsMade P.has_out P.slot_of P.number_of call × IsPrefix known now }
+    ensures told { (old new : CallerState (Call Held P)) (call : Call Held P) →
+        AddsCall P.has_out P.slot_of P.number_of old call new → IsMade P.has_out P.slot_of P.number_of call × IsPrefix old.calls new.calls }
 {}
 
 /// **A session is in one pair of hands**, whichever threads call. It was handed out as often as it was handed in, or once more (`hands`). Between a call that
@@ -46,6 +49,14 @@ pub fn very_session<P: HoldingPlace>()
     ensures { (before after : List (Call Held P)) (next : Call Held P) (session : Session Held P) →
         IsHistory P.has_out P.slot_of P.number_of (before ++ next ∷ after) → TakesOut next session →
         last_in session.identity.number before ≡ Some session }
+{}
+
+/// **What is lent is the very place that became free last at its cell**, whichever threads call: a place that is lent is, in all its parts, the one that was put last
+/// into the cell of its slot and number, where it was taken in or its session was buried.
+pub fn very_place<P: HoldingPlace>()
+    ensures { (before after : List (Call Held P)) (slot : ℕ) (place : P) →
+        IsHistory P.has_out P.slot_of P.number_of (before ++ LendPlace slot (Some place) ∷ after) →
+        last_freed (λ other. cell_at (P.slot_of other) (P.number_of other)) (cell_at (P.slot_of place) (P.number_of place)) before ≡ Some place }
 {}
 
 /// **Who is kicked was asked**, whichever threads call: one of the calls before answered Replace with this connection as the holder, and none after that lent a

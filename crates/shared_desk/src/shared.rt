@@ -1,5 +1,5 @@
 //! The desk behind a lock, and how it is opened.
-ghost use Rattle.std.specs.Prelude.{◌≡◌, ◌<◌, ◌≤◌, ◌⊎◌, [], false, true, All, length, reverse, Some, None, IfOk, IfSome};
+ghost use Rattle.std.specs.Prelude.{◌≡◌, ◌<◌, ◌≤◌, ◌-◌, ◌⊎◌, [], false, true, All, length, reverse, Some, None, IfOk, IfSome};
 ghost use mathlib.Core.List.{IsPrefix};
 ghost use Rattle.group_jobs.specs.Stamps.{Held};
 ghost use Rattle.session_desk.specs.Attaching.{asked};
@@ -8,6 +8,8 @@ ghost use Rattle.session_desk.specs.Calls.{Attach, Withdraw, Kicked, Park, ParkA
 ghost use Rattle.session_desk.specs.Places.{IsOfSlot};
 ghost use Rattle.conn_supply.specs.Holding.{IsOutAtPlace};
 ghost use Rattle.conn_supply.specs.Ready.{IsReady, IsSoundSession};
+ghost use Rattle.call_history.specs.Callers.{all_parts, first_caller, joined, new_caller};
+ghost use Rattle.call_history.specs.Numbers.{IsEachOnce};
 ghost use Rattle.shared_desk.specs.Books.{IsLawful, IsMade};
 ghost use Rattle.shared_desk.specs.Histories.{IsHistory, AddsCall, Leads, TakesEach};
 
@@ -63,10 +65,10 @@ impl<P: HoldingPlace> OpenedDesk<P> {
         })
     }
 
-    /// The desk under a name, and a pass that knows of no call.
+    /// The desk under a name, and its one caller, which has the whole right to call.
     pub fn name<D: HistoryName>(self) -> (SharedDesk<P, D>, DeskView<P, D>)
         requires { self ≡ D.history }
-        ensures { result.1 ≡ [] }
+        ensures { result.1 ≡ first_caller }
     {
         let OpenedDesk {
             desk,
@@ -74,8 +76,7 @@ impl<P: HoldingPlace> OpenedDesk<P> {
             soonest,
             marks,
         } = self;
-        let (history, mut keeper) = opened.name::<D>();
-        let known = keeper.tell(&history);
+        let (history, keeper, caller) = opened.name::<D>();
         let desk = Mutex::new(LawfulDesk::new(desk, keeper));
         (
             SharedDesk {
@@ -84,7 +85,7 @@ impl<P: HoldingPlace> OpenedDesk<P> {
                 soonest,
                 marks,
             },
-            DeskView { known },
+            DeskView { caller },
         )
     }
 }
@@ -300,28 +301,25 @@ impl<P: HoldingPlace, D: HistoryName> SharedDesk<P, D> {
         self.desk.lock(rt).take_place(&self.history, me, place)
     }
 
-    /// One more pass that knows what this one does.
-    pub fn pass(&self, me: &mut DeskView<P, D>) -> DeskView<P, D>
-        ensures same { me.new ≡ me.old }
-        ensures new { result ≡ me.old }
+    /// A further caller, which has one part of the right to call, and knows the same.
+    pub fn share(&self, me: &mut DeskView<P, D>) -> DeskView<P, D>
+        requires { 1 < me.old.parts }
+        ensures kept { me.new ≡ record me.old { parts = me.old.parts - 1 } }
+        ensures new { result ≡ new_caller me.old.calls }
     {
-        let known = me.known.tell(&self.history);
-        DeskView { known }
+        let caller = me.caller.share(&self.history);
+        DeskView { caller }
     }
 
-    /// Two passes become one, which knows the longer of what they knew: it goes on from either.
+    /// Two callers become one, which knows the longer of what they knew: it goes on from either, and has the calls and the right to call of both.
     pub fn agree(&self, me: &mut DeskView<P, D>, other: DeskView<P, D>)
-        ensures mine { IsPrefix me.old me.new }
-        ensures others { IsPrefix other me.new }
-        ensures legal { IsHistory P.has_out P.slot_of P.number_of me.new }
+        ensures joined { me.new ≡ joined me.old other me.new.calls }
+        ensures mine { IsPrefix me.old.calls me.new.calls }
+        ensures others { IsPrefix other.calls me.new.calls }
+        ensures legal { IsHistory P.has_out P.slot_of P.number_of me.new.calls }
     {
-        let DeskView { known } = other;
-        me.known.agree(&self.history, known);
-    }
-
-    /// A pass that knows all calls so far.
-    pub fn observe<R: Wait>(&self, rt: &R) -> DeskView<P, D> {
-        self.desk.lock(rt).pass(&self.history)
+        let DeskView { caller } = other;
+        me.caller.agree(&self.history, caller);
     }
 
     /// The desk, once no other thread has it.
@@ -337,11 +335,14 @@ impl<P: HoldingPlace, D: HistoryName> SharedDesk<P, D> {
         desk.into_inner().into_desk()
     }
 
-    /// The desk, once no other thread has it, and lets a thread know all calls that were made of it: what the thread knew is the beginning of them.
+    /// The desk, once no other thread has it, and lets a caller know all calls that were made of it: what the caller knew is the beginning of them. Where it has the whole right to
+    /// call, each of them is its own, or of a caller that it took in (`once`).
     pub fn finish(self, me: &mut DeskView<P, D>) -> Desk<Envelope, P>
         ensures lawful { IsLawful P.has_out result }
-        ensures before { IsPrefix me.old me.new }
-        ensures all { Leads P.has_out P.slot_of P.number_of me.new result }
+        ensures before { IsPrefix me.old.calls me.new.calls }
+        ensures same { me.new ≡ record me.old { calls = me.new.calls } }
+        ensures all { Leads P.has_out P.slot_of P.number_of me.new.calls result }
+        ensures once { me.old.parts ≡ all_parts → IsEachOnce me.old.own (length me.new.calls) }
     {
         let SharedDesk {
             desk,
@@ -358,7 +359,8 @@ impl<P: HoldingPlace + Drop, D: HistoryName> SharedDesk<P, D> {
     /// let go.
     pub fn take_places<R: Wait>(&self, rt: &R, me: &mut DeskView<P, D>, places: Vec<P>)
         requires { All (λ place. P.has_out place []) places.items }
-        ensures { TakesEach P.has_out P.slot_of P.number_of me.old (reverse places.items) me.new }
+        ensures taken { TakesEach P.has_out P.slot_of P.number_of me.old (reverse places.items) me.new }
+        ensures right { me.new.parts ≡ me.old.parts }
     {
         let mut places = places;
         'places: while let Some(place) = places.pop() {

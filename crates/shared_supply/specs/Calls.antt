@@ -1,11 +1,12 @@
 -- What each call of a connection makes of its worker, and what it answers.
-use Rattle.std.specs.Prelude.{◌≡◌, ◌⊎◌, ℕ, ◌<◌, ◌+◌, ◌-◌, ◌^◌, min, Bool, true, false, List, Option, None, Result, Ok, Err}
+use Rattle.std.specs.Prelude.{◌≡◌, ◌⊎◌, ℕ, ◌<◌, ◌+◌, ◌-◌, ◌^◌, min, Bool, true, false, Option, None, Result, Ok, Err}
 use Rattle.mqtt_topic.specs.Names.{Share}
 use Rattle.mqtt_topic.specs.Routes.{slot_of, routed, places_of}
 use Rattle.group_jobs.specs.Stamps.{Held}
 use Rattle.session_desk.specs.declared.session.Session.{Session}
 use Rattle.session_desk.specs.Calls.{Call}
 use Rattle.session_desk.specs.Calls as desk
+use Rattle.call_history.specs.Callers.{CallerState}
 use Rattle.shared_desk.specs.Histories.{AddsCall}
 use Rattle.conn_supply.specs.declared.supply.BindRefusal.{BindRefusal}
 use Rattle.conn_supply.specs.declared.supply.BindRefusal.TheVariants as bind
@@ -22,9 +23,9 @@ use Rattle.shared_supply.specs.Waking.{asking_back, freeing, one_more_if, one_ta
 use Rattle.shared_supply.specs.Workers.{Worker}
 use Rattle.shared_supply.specs.Settling.{SettlesAndGathers}
 
--- the desk was called after what was known of its calls and what others did since, in the one history of its calls
-abbrev pub IsToldOfDesk : List (Call Held PlaceState) → Call Held PlaceState → List (Call Held PlaceState) → Type 0
-IsToldOfDesk known call now = AddsCall HasOut (λ (p : PlaceState). p.group) (λ (p : PlaceState). p.number) known call now
+-- the desk was called after what was known of its calls and what others did since, in the one history of its calls; and the call is the caller's own
+abbrev pub IsToldOfDesk : CallerState (Call Held PlaceState) → Call Held PlaceState → CallerState (Call Held PlaceState) → Type 0
+IsToldOfDesk old call new = AddsCall HasOut (λ (p : PlaceState). p.group) (λ (p : PlaceState). p.number) old call new
 
 -- the same worker, who has these to wake
 abbrev pub waking : Worker → Wakes → Worker

@@ -1,11 +1,12 @@
 -- What a worker of a broker has: where it stands at the gate, what it publishes through, what it knows of the routes and of the calls of the desk, and whom it has to wake.
-use Rattle.std.specs.Prelude.{◌≡◌, ◌⊎◌, ℕ, Bool, true, false, List, Option, Some, None}
+use Rattle.std.specs.Prelude.{◌≡◌, ℕ, Bool, true, false, List, Option, Some, None}
 use Rattle.gate_word.specs.declared.visitor.Visitor.{Visitor}
 use Rattle.gate_word.specs.declared.visitor.Visitor.TheVariants.{Outside, Inside}
 use Rattle.gate_word.specs.Seats.{GateId, Seat, new_seat}
 use Rattle.gate_word.specs.Visits.{seat_in, Tries, Ends}
 use Rattle.group_jobs.specs.Stamps.{Held}
 use Rattle.session_desk.specs.Calls.{Call}
+use Rattle.call_history.specs.Callers.{CallerState}
 use Rattle.group_queue.specs.Ports.{PortState}
 use Rattle.group_queue.specs.Places.{PlaceState}
 use Rattle.shared_routes.specs.Known.{KnownState, AreFirst, Grows}
@@ -16,8 +17,8 @@ pub record Worker : Type 0 where
   pub visitor : Visitor
   pub ports : List PortState
   pub known : KnownState
-  -- in the order of the desk's lock, up to the worker's own last one
-  pub desk : List (Call Held PlaceState)
+  -- the calls of the desk in the order of its lock, up to the worker's own last one, and which of them are its own
+  pub desk : CallerState (Call Held PlaceState)
   pub wakes : Wakes
   -- how many more messages it may be handed for its members, until it is allowed others
   pub allowance : ℕ

@@ -1,6 +1,8 @@
 //! How a broker ends, once its workers have left.
-ghost use Rattle.std.specs.Prelude.{◌≡◌, IfOk, IfErr, MatchResult};
+ghost use Rattle.std.specs.Prelude.{◌≡◌, length, IfOk, IfErr, MatchResult};
 ghost use mathlib.Core.List.{IsPrefix};
+ghost use Rattle.call_history.specs.Callers.{all_parts};
+ghost use Rattle.call_history.specs.Numbers.{IsEachOnce};
 ghost use Rattle.shared_supply.specs.Endings.{IsAllBehind, IsEnded, IsLedTo, IsLeft};
 
 use crate::discarding::discard;
@@ -65,8 +67,8 @@ impl<'g, B: Broker> StillOpen<'g, B> {
 }
 
 impl<'g, B: Broker, N: HistoryName> SharedBroker<'g, B, N> {
-    /// Takes the broker apart: its desk gives all places, and the messages that its sessions held. The pass then knows all calls that were made of the desk, and by
-    /// these it had just those places and messages.
+    /// Takes the broker apart: its desk gives all places, and the messages that its sessions held. The caller then knows all calls that were made of the desk, and by
+    /// these it had just those places and messages. Where it has the whole right to call, each of these is its own, or of one that it took in (`once`).
     ///
     /// # Errors
     ///
@@ -75,9 +77,11 @@ impl<'g, B: Broker, N: HistoryName> SharedBroker<'g, B, N> {
         self,
         me: &mut DeskView<BrokerPlace<B>, N>,
     ) -> Result<Emptied<'g, B>, Unemptied<'g, B>>
-        ensures before { IsPrefix me.old me.new }
-        ensures all { IfOk result (λ emptied. IsAllBehind me.new emptied.places.items emptied.held.items) }
-        ensures desk { IfErr result (λ left. IsLedTo me.new left.desk) }
+        ensures before { IsPrefix me.old.calls me.new.calls }
+        ensures same { me.new ≡ record me.old { calls = me.new.calls } }
+        ensures once { me.old.parts ≡ all_parts → IsEachOnce me.old.own (length me.new.calls) }
+        ensures all { IfOk result (λ emptied. IsAllBehind me.new.calls emptied.places.items emptied.held.items) }
+        ensures desk { IfErr result (λ left. IsLedTo me.new.calls left.desk) }
         ensures routes { MatchResult result (λ emptied. emptied.routes ≡ self.entry) (λ left. left.routes ≡ self.entry) }
     {
         let (groups, desk, routes) = self.into_parts();
@@ -102,7 +106,7 @@ where
     B::Seen: LawfulWitness,
 {
     /// Ends the broker: its desk gives all places, and the messages that its sessions held, and each group ends with what is its own, as
-    /// [`BrokerGroups::finish`] says. A step of a queue may wait for another thread's.
+    /// [`BrokerGroups::finish`] says, and the caller knows what [`SharedBroker::empty`] tells it. A step of a queue may wait for another thread's.
     ///
     /// # Errors
     ///
@@ -114,9 +118,11 @@ where
         ports: Vec<Ports<B>>,
         me: &mut DeskView<BrokerPlace<B>, N>,
     ) -> Result<Ended<'g, B::Seen>, StillOpen<'g, B>>
-        ensures before { IsPrefix me.old me.new }
-        ensures ended { IfOk result (λ ended. IsEnded B.group me.new ports.items ended.answers.items ended.strangers.items) }
-        ensures left { IfErr result (IsLeft me.new self.entry ports.items) }
+        ensures before { IsPrefix me.old.calls me.new.calls }
+        ensures same { me.new ≡ record me.old { calls = me.new.calls } }
+        ensures once { me.old.parts ≡ all_parts → IsEachOnce me.old.own (length me.new.calls) }
+        ensures ended { IfOk result (λ ended. IsEnded B.group me.new.calls ports.items ended.answers.items ended.strangers.items) }
+        ensures left { IfErr result (IsLeft me.new.calls self.entry ports.items) }
     {
         match self.empty(me) {
             Ok(

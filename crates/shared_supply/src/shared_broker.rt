@@ -1,6 +1,7 @@
 //! What all workers of a broker share by reference.
 ghost use Rattle.std.specs.Prelude.{◌≡◌, [], IfOk};
 ghost use mathlib.Core.List.{IsPrefix};
+ghost use Rattle.call_history.specs.Callers.{joined};
 
 use broker_groups::{Broker, BrokerGroups, BrokerPlace};
 use call_history::HistoryName;
@@ -60,10 +61,11 @@ impl<'g, B: Broker, N: HistoryName> SharedBroker<'g, B, N> {
         KnownRoutes::new(alloc, &self.routes)
     }
 
-    /// A pass takes in what another one knows of the calls of the desk.
+    /// A caller of the desk takes in another: what it knows, its calls and its right to call.
     pub fn agree(&self, me: &mut DeskView<BrokerPlace<B>, N>, other: DeskView<BrokerPlace<B>, N>)
-        ensures mine { IsPrefix me.old me.new }
-        ensures others { IsPrefix other me.new }
+        ensures joined { me.new ≡ joined me.old other me.new.calls }
+        ensures mine { IsPrefix me.old.calls me.new.calls }
+        ensures others { IsPrefix other.calls me.new.calls }
     {
         self.desk.agree(me, other);
     }

@@ -49,7 +49,7 @@ pub struct SupplyParts<'a, B: Broker, N: HistoryName> {
     pub ports: Ports<B>,
     /// What it knows of the routes.
     pub known: KnownRoutes<'a>,
-    /// What it knows of the calls of the desk.
+    /// What it knows of the calls of the desk, and which of them are its own.
     pub desk: DeskView<BrokerPlace<B>, N>,
 }
 
@@ -65,7 +65,7 @@ impl<'a, 'g, B: Broker, N: HistoryName, R: Wait> Model for SharedSupply<'a, 'g, 
 }
 
 impl<'a, 'g, B: Broker, N: HistoryName, R: Wait> SharedSupply<'a, 'g, B, N, R> {
-    /// A worker's, which is outside the gate; until [`SharedSupply::allow`] says otherwise, 2^32 - 1 messages may be handed to its members. Its places gather with this memory, and so does what it binds. It waits while another thread is in the desk.
+    /// A worker's, which is outside the gate; until [`SharedSupply::allow`] says otherwise, 2^32 - 1 messages may be handed to its members. Its places gather with this memory, and so does what it binds. It calls the desk as this caller.
     pub fn new(
         rt: &'a R,
         alloc: Global,
@@ -73,9 +73,10 @@ impl<'a, 'g, B: Broker, N: HistoryName, R: Wait> SharedSupply<'a, 'g, B, N, R> {
         key: Key<B>,
         ports: Ports<B>,
         known: KnownRoutes<'a>,
+        desk: DeskView<BrokerPlace<B>, N>,
     ) -> SharedSupply<'a, 'g, B, N, R>
         requires { known.table ≡ shared_broker.now }
-        ensures { result ≡ record { visitor = Outside key; ports = ports; known = known.entry; desk = result.desk; wakes = no_wakes; allowance = u32.MAX; missed = 0 } }
+        ensures { result ≡ record { visitor = Outside key; ports = ports; known = known.entry; desk = desk; wakes = no_wakes; allowance = u32.MAX; missed = 0 } }
     {
         SharedSupply {
             rt,
@@ -83,7 +84,7 @@ impl<'a, 'g, B: Broker, N: HistoryName, R: Wait> SharedSupply<'a, 'g, B, N, R> {
             visitor: Some(key.into_visitor()),
             ports,
             known,
-            desk: shared_broker.desk.observe(rt),
+            desk,
             alloc,
             wakes: Wakes::none(),
             allowance: u32::MAX,

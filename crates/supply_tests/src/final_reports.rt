@@ -33,7 +33,7 @@ fn work<B: Broker, N: HistoryName, R: Wait>(
     rt: &R,
     alloc: Global,
     shared_broker: &SharedBroker<'_, B, N>,
-    handle: WorkerHandle<B>,
+    handle: WorkerHandle<B, N>,
 ) -> Ports<B> {
     match supply_of(rt, alloc, shared_broker, handle) {
         Ok(mut supply) => {

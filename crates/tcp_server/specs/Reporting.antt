@@ -4,15 +4,14 @@ use Rattle.mqtt_topic.specs.Names.{Share}
 use Rattle.text_io.specs.declared.error.RunError.{RunError}
 use Rattle.group_jobs.specs.Stamps.{Held}
 use Rattle.group_jobs.specs.declared.report.Report.{Report}
-use Rattle.session_desk.specs.Calls.{Call}
 use Rattle.group_queue.specs.Ports.{GroupId}
-use Rattle.group_queue.specs.Places.{PlaceState}
 use Rattle.group_queue.specs.declared.finish.Unfinished.{Unfinished}
 use Rattle.group_queue.specs.declared.witness.Nobody.{Nobody}
 use Rattle.tcp_edge.specs.Sockets.{SocketState}
 use Rattle.mio.specs.declared.net.stream.TcpStream.{TcpStream}
 use Rattle.worker_connections.specs.declared.served.ServedCounts.{ServedCounts}
 use Rattle.broker_groups.specs.Answers.{all_seen}
+use Rattle.threaded_broker.specs.Callers.{DeskCaller}
 use Rattle.threaded_broker.specs.Headline.{KeepsTheHeadline}
 use Rattle.threaded_broker.specs.Shares.{IsBoundIn}
 use Rattle.tcp_server.specs.Lines.{lines_of, report_of, EndsBy}
@@ -36,11 +35,12 @@ pub record AreReports (capacity workers max_inflight : ℕ) (given : List Share)
   pub shares : List Share
   pub answers : List (Result Report (Unfinished Nobody))
   pub strangers : List Held
-  pub calls : List (Call Held PlaceState)
+  pub before : DeskCaller
+  pub after : DeskCaller
   pub came : List Connection
   pub served : List ServedCounts
   pub closed : List (Option (List Connection))
-  pub headline : KeepsTheHeadline group all_seen (λ (connection : Connection). connection.counts) unknown unknown workers max_inflight came calls shares answers strangers served closed
+  pub headline : KeepsTheHeadline group all_seen (λ (connection : Connection). connection.counts) unknown unknown workers max_inflight came before after shares answers strangers served closed
   pub bound : All (IsBoundIn shares) given
   pub lines : text ≡ lines_of shares (map report_of answers)
 

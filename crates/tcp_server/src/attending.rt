@@ -10,11 +10,10 @@ use crate::reporting::{end_by, let_go_of_all, lines, reports_in};
 use crate::serving::Served;
 use crate::setup::SocketSetup;
 use crate::watching::Watching;
-use broker_groups::{Broker, BrokerPlace, Ended};
+use broker_groups::{Broker, Ended};
 use call_history::HistoryName;
 use group_queue::Nobody;
 use mqtt_topic::Routes;
-use shared_desk::DeskView;
 use std::alloc::Global;
 use std::io::Read;
 use std::net::Net;
@@ -56,11 +55,10 @@ pub(crate) fn attend<
     closers: Closers<'_, B>,
     stopper: Closer<'_, B>,
     input: &mut I,
-    pass: &mut DeskView<BrokerPlace<B>, N>,
 ) -> Result<Reported, RunError>
     requires capacity { HaveCapacity B.group (B.group 0).capacity }
-    requires setup { length setup.worker_io.items ≡ broker }
-    ensures reported { IfOk result (λ reported. AreReportsAt reported.end (B.group 0).capacity broker.entry setup.entry.max_inflight groups.now reported.text.items) }
+    requires setup { length setup.worker_io.items ≡ broker.workers }
+    ensures reported { IfOk result (λ reported. AreReportsAt reported.end (B.group 0).capacity broker.entry.workers setup.entry.max_inflight groups.now reported.text.items) }
     ensures read { IfOk result (λ reported. reported.end ≡ Ok Served.Ended → IsAtEnd (I.remaining input.new)) }
     ensures cause { IfErr result (λ error. error ≡ Memory) }
 {
@@ -81,7 +79,6 @@ pub(crate) fn attend<
         closers,
         &mut watching,
         input,
-        pass,
     ) else {
         return Err(RunError::Memory);
     };
@@ -90,9 +87,9 @@ pub(crate) fn attend<
 }
 
 /// What is written of a broker that has ended, and how it ends.
-fn tell<S: Drop, Q: Drop>(
+fn tell<B: Broker<Seen = Nobody>, N: HistoryName, S: Drop, Q: Drop>(
     alloc: Global,
-    outcome: Outcome<'_, Nobody, S, Q>,
+    outcome: Outcome<'_, B, N, S, Q>,
     is_read: bool,
 ) -> Result<Reported, RunError>
     ensures lines { IfOk result (λ reported. reported.text.items ≡ lines_of outcome.entry.shares.items (map report_of outcome.entry.ended.answers.items)) }
@@ -106,6 +103,7 @@ fn tell<S: Drop, Q: Drop>(
         served: _,
         taken,
         pollers: _,
+        caller: _,
         drained: _,
     } = outcome;
     let_go_of_all(strangers);

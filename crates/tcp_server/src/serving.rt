@@ -242,9 +242,8 @@ fn live_with<
     ensures failed { IfErr result (λ error. EndsUnreported line.now error (O.contents output.old) (O.contents output.new)) }
 {
     let mut seats = seats;
-    let Ok((broker, mut pass)) = OpenBroker::<B, N>::open(
-        rt, alloc, gate, &mut seats, opened, desk, workers,
-    ) else {
+    let Ok(broker) = OpenBroker::<B, N>::open(rt, alloc, gate, &mut seats, opened, desk, workers)
+    else {
         return Err(RunError::Memory);
     };
     let closers = Closers {
@@ -260,7 +259,7 @@ fn live_with<
     };
     match write_all(output, line) {
         Ok(()) => attend(
-            rt, alloc, broker, groups, setup, source, closers, stopper, input, &mut pass,
+            rt, alloc, broker, groups, setup, source, closers, stopper, input,
         ),
         Err(error) => {
             broker.abandon();

@@ -1,5 +1,8 @@
 -- What holds of each worker's run: it is within the Receive Maximum of its connections, what its ports accepted was published in it, and each deed keeps the sessions.
-use Rattle.std.proofs.Common.{◌≡◌, ◌≤◌, ℕ, zero, suc, List, [], ◌∷◌, map, take, Option, refl, sym, subst, arith}
+use Rattle.std.proofs.Common.{◌≡◌, ◌+◌, ◌≤◌, ℕ, zero, suc, List, [], ◌∷◌, length, map, take, Option, refl, sym, ap, subst, ◌∙◌, arith}
+use Rattle.std.specs.Prelude.{sum_by}
+use Rattle.std.proofs.lemmas.List.Sums.{sum_by-cons}
+use Rattle.std.proofs.lemmas.List.{length-map}
 use Rattle.std.specs.List.{AllByRecursion, slice_set}
 use mathlib.Core.Option.{some}
 use lib.ListN.{get_elem?}
@@ -7,11 +10,9 @@ use mathlib.Core.List.{IsPrefix}
 use Rattle.mqtt_topic.specs.Names.{Share}
 use Rattle.mqtt_topic.specs.Routes.{most_routes}
 use Rattle.transport.specs.declared.counts.Counts.{Counts}
-use Rattle.group_jobs.specs.Stamps.{Held}
-use Rattle.session_desk.specs.Calls.{Call}
+use Rattle.call_history.specs.Callers.{all_parts}
 use Rattle.group_queue.specs.Ports.{GroupId, PortState}
 use Rattle.broker_groups.specs.Answers.{Sights}
-use Rattle.group_queue.specs.Places.{PlaceState}
 use Rattle.conn_channel.specs.Interleavings.{IsInterleaving}
 use Rattle.worker_connections.specs.declared.served.ServedCounts.{ServedCounts}
 use Rattle.worker_connections.specs.Arrivals.{ArrivedState}
@@ -23,8 +24,10 @@ use Rattle.worker_connections.proofs.Quotas.{within_quota}
 use Rattle.worker_connections.proofs.Sessions.{all_sessions}
 use Rattle.worker_pool.specs.Accepting.{arrivals}
 use Rattle.worker_pool.specs.Pools.{AreServed}
-use Rattle.worker_pool.proofs.Gathered.{begins_longer}
+use Rattle.group_queue.specs.Places.{PlaceState}
+use Rattle.threaded_broker.specs.Callers.{DeskCaller, HasPutIn, HasTakenIn}
 use Rattle.threaded_broker.specs.Headline.{RunsUntilClosed}
+use Rattle.threaded_broker.proofs.Callers.{taken_longer}
 
 -- what holds of a list with one in place of another holds of it, where it holds of the other
 each_in : {X : Type 0} (P : List X → Type 0) (lists : List (List X)) (i : ℕ) (list other : List X) → get_elem? lists i ≡ some other → (P list → P other)
@@ -62,42 +65,47 @@ module _ {T : Type 0} (group : ℕ → GroupId) (seen : Sights) (counts : T → 
   each_session [] = tt
   each_session (run ∷ runs) = (all_sessions group seen counts given accepted run, each_session runs)
 
-  -- a broker that was served kept to it
-  pub within : (limit : ℕ) (came : List T) (calls : List (Call Held PlaceState)) (routes shares : List Share) (ports : List (List PortState)) (served : List ServedCounts)
-      (closed : List (Option (List T))) → shares ≡ take most_routes routes → AreServed group seen counts given accepted (arrivals limit came) calls routes ports served closed
-      → RunsUntilClosed group seen counts given accepted limit came calls shares ports served closed
-  within limit came calls routes shares ports served closed shares_are workers = record {
-    routes = routes;
-    shares_are = shares_are;
-    workers = workers;
-    within_receive_maximum = each_run limit workers.runs workers.whole
-        (of_each (λ (arrived : ArrivedState T). arrived.max_inflight ≤ limit) (arrivals limit came) (map (λ (run : Run T). run.last.received) workers.runs) workers.came_to (limited limit came));
-    published = each_published workers.runs workers.whole;
-    sessions = each_session workers.runs;
-  }
+  -- the parts of so many workers
+  parts_of_all : (runs : List (Run T)) → AllByRecursion (λ (run : Run T). run.last.supply.desk.parts ≡ 1) runs
+      → sum_by (λ (caller : DeskCaller). caller.parts) (map (λ (run : Run T). run.last.supply.desk) runs) ≡ length runs
+  parts_of_all [] one = refl
+  parts_of_all (run ∷ runs) one =
+      omega (arith, one.0, parts_of_all runs one.1, sum_by-cons (λ (caller : DeskCaller). caller.parts) run.last.supply.desk (map (λ (one : Run T). one.last.supply.desk) runs))
 
-  told_longer : (calls calls' : List (Call Held PlaceState)) (runs : List (Run T)) → IsPrefix calls calls' → AllByRecursion (λ (run : Run T). IsPrefix run.last.supply.desk calls) runs
-      → AllByRecursion (λ (run : Run T). IsPrefix run.last.supply.desk calls') runs
-  told_longer calls calls' [] longer told = tt
-  told_longer calls calls' (run ∷ runs) longer told = (begins_longer run.last.supply.desk calls calls' told.0 longer, told_longer calls calls' runs longer told.1)
+  -- a broker that was served kept to it
+  pub within : (limit workers : ℕ) (came : List T) (before after : DeskCaller) (routes shares : List Share) (ports : List (List PortState)) (callers : List DeskCaller) (served : List ServedCounts)
+      (closed : List (Option (List T))) → shares ≡ take most_routes routes → AreServed group seen counts given accepted (arrivals limit came) routes ports callers served closed
+      → (places : List PlaceState) × HasPutIn before places → HasTakenIn before callers after → length callers ≡ workers → before.parts + workers ≡ all_parts
+      → RunsUntilClosed group seen counts given accepted limit came before after shares ports served closed
+  within limit workers came before after routes shares ports callers served closed shares_are ran opened taken_in count right =
+      let parts = ap (sum_by (λ (caller : DeskCaller). caller.parts)) ran.callers_are ∙ parts_of_all ran.runs ran.one_part in
+      let many = sym (ap length ran.callers_are ∙ length-map ran.runs (λ (run : Run T). run.last.supply.desk)) in
+      record {
+        routes = routes;
+        shares_are = shares_are;
+        callers = callers;
+        opened = opened;
+        workers = ran;
+        taken_in = taken_in;
+        whole_right = omega (arith, taken_in.parts, parts, many, count, right);
+        within_receive_maximum = each_run limit ran.runs ran.whole
+            (of_each (λ (arrived : ArrivedState T). arrived.max_inflight ≤ limit) (arrivals limit came) (map (λ (run : Run T). run.last.received) ran.runs) ran.came_to (limited limit came));
+        published = each_published ran.runs ran.whole;
+        sessions = each_session ran.runs;
+      }
 
   -- more calls are known of the desk
-  pub known_longer : (limit : ℕ) (came : List T) (calls calls' : List (Call Held PlaceState)) (shares : List Share) (ports : List (List PortState)) (served : List ServedCounts) (closed : List (Option (List T)))
-      → IsPrefix calls calls' → RunsUntilClosed group seen counts given accepted limit came calls shares ports served closed
-      → RunsUntilClosed group seen counts given accepted limit came calls' shares ports served closed
-  known_longer limit came calls calls' shares ports served closed longer run = record {
+  pub known_longer : (limit : ℕ) (came : List T) (before mid after : DeskCaller) (shares : List Share) (ports : List (List PortState)) (served : List ServedCounts) (closed : List (Option (List T)))
+      → IsPrefix mid.calls after.calls → after ≡ record mid { calls = after.calls } → RunsUntilClosed group seen counts given accepted limit came before mid shares ports served closed
+      → RunsUntilClosed group seen counts given accepted limit came before after shares ports served closed
+  known_longer limit came before mid after shares ports served closed longer same run = record {
     routes = run.routes;
     shares_are = run.shares_are;
-    workers = record {
-      runs = run.workers.runs;
-      whole = run.workers.whole;
-      came_to = run.workers.came_to;
-      ports_are = run.workers.ports_are;
-      served_are = run.workers.served_are;
-      closed_are = run.workers.closed_are;
-      told = told_longer calls calls' run.workers.runs longer run.workers.told;
-      known = run.workers.known;
-    };
+    callers = run.callers;
+    opened = run.opened;
+    workers = run.workers;
+    taken_in = taken_longer before mid after run.callers run.taken_in longer same;
+    whole_right = ap (λ (caller : DeskCaller). caller.parts) same ∙ run.whole_right;
     within_receive_maximum = run.within_receive_maximum;
     published = run.published;
     sessions = run.sessions;

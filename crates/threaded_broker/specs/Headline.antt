@@ -5,31 +5,37 @@ use Rattle.mqtt_topic.specs.Names.{Share}
 use Rattle.mqtt_topic.specs.Routes.{most_routes}
 use Rattle.transport.specs.declared.counts.Counts.{Counts}
 use Rattle.group_jobs.specs.Stamps.{Held}
-use Rattle.session_desk.specs.Calls.{Call}
+use Rattle.call_history.specs.Callers.{all_parts}
+use Rattle.call_history.specs.Numbers.{IsEachOnce}
 use Rattle.group_jobs.specs.declared.report.Report.{Report}
 use Rattle.group_queue.specs.declared.finish.Unfinished.{Unfinished}
 use Rattle.group_queue.specs.Ports.{GroupId, PortState}
 use Rattle.broker_groups.specs.Answers.{Sights}
-use Rattle.group_queue.specs.Places.{PlaceState}
 use Rattle.worker_connections.specs.declared.served.ServedCounts.{ServedCounts}
 use Rattle.worker_connections.specs.Chains.{KeepsReceiveMaximum}
 use Rattle.worker_connections.specs.Publishing.{IsPublishedBy}
 use Rattle.worker_connections.specs.Sessions.{KeepsSessions}
 use Rattle.worker_pool.specs.Accepting.{arrivals}
 use Rattle.worker_pool.specs.Pools.{AreServed}
+use Rattle.group_queue.specs.Places.{PlaceState}
+use Rattle.threaded_broker.specs.Callers.{DeskCaller, HasPutIn, HasTakenIn}
 use Rattle.final_report.specs.Brokers.{KeptItsPromisesBehind}
 
 module _ {T : Type 0} (group : ℕ → GroupId) (seen : Sights) (counts : T → Counts) (given accepted : T → Option (List ℕ)) where
-  -- the run of a broker until it was closed: these connections came to its workers, these calls of its desk are known, these ports and counts the workers gave back, and
-  -- these transports they closed, each as it was then; at no moment of it did a connection have more unacknowledged PUBLISH packets than its Receive Maximum, and than
-  -- this limit (4.9); all that the ports accepted came of the PUBLISH packets that these connections stepped, each offered to the groups that match and answered as these took
-  -- it (3.3.4); and at each deed what is handed out is what is sent, and what is settled is what a PUBACK came for (4.4). The groups that match are those of these shares, slot by
-  -- slot, as far as each worker knew them
-  pub record RunsUntilClosed (max_inflight : ℕ) (came : List T) (calls : List (Call Held PlaceState)) (shares : List Share) (ports : List (List PortState)) (served : List ServedCounts)
+  -- the run of a broker until it was closed: these connections came to its workers, these ports and counts the workers gave back, and these transports they closed, each as it
+  -- was then. The first caller of its desk, which had put places into it and did nothing else (`opened`), took in the workers' callers, and has the whole right to call then. At no moment of the run did a connection have more
+  -- unacknowledged PUBLISH packets than its Receive Maximum, and than this limit (4.9); all that the ports accepted came of the PUBLISH packets that these connections
+  -- stepped, each offered to the groups that match and answered as these took it (3.3.4); and at each deed what is handed out is what is sent, and what is settled is what a
+  -- PUBACK came for (4.4). The groups that match are those of these shares, slot by slot, as far as each worker knew them
+  pub record RunsUntilClosed (max_inflight : ℕ) (came : List T) (before after : DeskCaller) (shares : List Share) (ports : List (List PortState)) (served : List ServedCounts)
       (closed : List (Option (List T))) : Type 0 where
     pub routes : List Share
     pub shares_are : shares ≡ take most_routes routes
-    pub workers : AreServed group seen counts given accepted (arrivals max_inflight came) calls routes ports served closed
+    pub callers : List DeskCaller
+    pub opened : (places : List PlaceState) × HasPutIn before places
+    pub workers : AreServed group seen counts given accepted (arrivals max_inflight came) routes ports callers served closed
+    pub taken_in : HasTakenIn before callers after
+    pub whole_right : after.parts ≡ all_parts
     pub within_receive_maximum : AllByRecursion (KeepsReceiveMaximum group seen counts given accepted max_inflight) workers.runs
     pub published : AllByRecursion (IsPublishedBy group seen) workers.runs
     pub sessions : AllByRecursion (KeepsSessions group seen counts given accepted) workers.runs
@@ -39,11 +45,13 @@ module _ {T : Type 0} (group : ℕ → GroupId) (seen : Sights) (counts : T → 
   -- the ports that the runs ended with, and with the sessions, places and messages that the calls of the desk led to, of each group whose report is given (`promises`): each
   -- message that was accepted was first handed to at most one member (`first_once`), each member's first hand-outs from a publisher keep that publisher's order (`in_order`),
   -- a refused message went to nobody else (`refused_for_good`), and the report gives each accepted message exactly one fate (`one_fate`), which it had (`what_happened`). No
-  -- connection had more unacknowledged PUBLISH packets than its Receive Maximum. The report of a slot is that of the share that is told at its place: to its group each worker
-  -- offered what matches that share, from when it knew it. That nothing is handed out after close is said by the token of the drained gate
-  pub record KeepsTheHeadline {W : Type 0} (workers max_inflight : ℕ) (came : List T) (calls : List (Call Held PlaceState)) (shares : List Share) (answers : List (Result Report (Unfinished W)))
+  -- connection had more unacknowledged PUBLISH packets than its Receive Maximum. Each of those calls put a place into the new desk, or was made in the run of one
+  -- worker, once (`opened`, `taken_in` and `each_call_once`): so no session and no place came out of the desk but by a deed. The report of a slot is that of the share that is told at its place: to its group
+  -- each worker offered what matches that share, from when it knew it. That nothing is handed out after close is said by the token of the drained gate
+  pub record KeepsTheHeadline {W : Type 0} (workers max_inflight : ℕ) (came : List T) (before after : DeskCaller) (shares : List Share) (answers : List (Result Report (Unfinished W)))
       (strangers : List Held) (served : List ServedCounts) (closed : List (Option (List T))) : Type 0 where
     pub ports : List (List PortState)
     pub every_worker : length ports ≡ workers
-    pub run : RunsUntilClosed max_inflight came calls shares ports served closed
-    pub promises : KeptItsPromisesBehind group calls ports answers strangers
+    pub run : RunsUntilClosed max_inflight came before after shares ports served closed
+    pub each_call_once : IsEachOnce after.own (length after.calls)
+    pub promises : KeptItsPromisesBehind group after.calls ports answers strangers

@@ -1,15 +1,19 @@
 //! A broker that is open, and how it is opened.
-ghost use Rattle.std.specs.Prelude.{◌≡◌, ◌+◌, ◌≤◌, [], All, length, map, vec_capacity, IfOk};
+ghost use Rattle.std.specs.Prelude.{◌≡◌, ◌+◌, ◌<◌, ◌≤◌, List, [], All, length, vec_capacity, IfOk};
 ghost use Rattle.gate_word.specs.Seats.{AreSeatsOf};
 ghost use Rattle.broker_groups.specs.Naming.{AreUnsent, IsOfBroker};
+ghost use Rattle.call_history.specs.Callers.{all_parts};
+ghost use Rattle.group_queue.specs.Places.{PlaceState};
+ghost use Rattle.worker_connections.specs.Handles.{IsUnused};
+ghost use Rattle.threaded_broker.specs.Callers.{HasPutIn};
 
-use crate::closing::ports_of;
+use crate::closing::take_in;
 use broker_groups::{Broker, BrokerPlace, Key, Named, Opened, Ports};
 use call_history::HistoryName;
 use conn_supply::NoMemory;
 use gate_word::{Gate, GateSeat};
 use group_queue::Nobody;
-use shared_desk::{DeskView, OpenedDesk};
+use shared_desk::{DeskView, OpenedDesk, SharedDesk};
 use shared_routes::SharedRoutes;
 use shared_supply::{SharedBroker, StillOpen};
 use std::alloc::Global;
@@ -17,31 +21,39 @@ use std::marker::Model;
 use std::sync::Wait;
 use worker_connections::WorkerHandle;
 
-/// A broker that is open: what its workers share, and what each of them has. Nothing was published through the ports of its workers, of whom there are 1 to 64.
+/// A broker that is open: what its workers share, what each of them has, and the first caller of its desk. There are 1 to 64 workers, and nobody has used what they have: nothing was
+/// published through their ports, and they made no call of the desk. The first caller put places into the desk, and did nothing else.
 ///
-/// Contracts see it as the number of its workers.
+/// Contracts see it as the number of its workers, with the first caller: together they have the whole right to call the desk.
 pub struct OpenBroker<'g, B: Broker, N: HistoryName> {
     shared_broker: SharedBroker<'g, B, N>,
-    handles: Vec<WorkerHandle<B>>,
+    handles: Vec<WorkerHandle<B, N>>,
     // Room for the ports of all workers.
     room: Vec<Ports<B>>,
+    caller: DeskView<BrokerPlace<B>, N>,
 }
 
 impl<'g, B: Broker, N: HistoryName> Model for OpenBroker<'g, B, N> {
-    ghost use Rattle.std.specs.Prelude.{◌≡◌, ◌≤◌, ℕ, [], All, length, vec_capacity};
-    ghost use Rattle.broker_groups.specs.Naming.{AreUnsent};
+    ghost use Rattle.std.specs.Prelude.{◌≡◌, ◌+◌, ◌≤◌, List, [], All, length, vec_capacity};
+    ghost use Rattle.call_history.specs.Callers.{all_parts};
+    ghost use Rattle.group_queue.specs.Places.{PlaceState};
+    ghost use Rattle.worker_connections.specs.Handles.{IsUnused};
+    ghost use Rattle.threaded_broker.specs.Callers.{HasPutIn};
+    ghost use Rattle.group_queue.specs.Places.{PlaceState};
+    ghost use Rattle.threaded_broker.specs.Callers.{BrokerState, HasPutIn};
 
-    ghost Value = { ℕ };
+    ghost Value = { BrokerState };
 
-    ghost view = { λ b. length b.handles.items };
+    ghost view = { λ b. record { workers = length b.handles.items; caller = b.caller } };
 
-    ghost invariant = { λ b. (1 ≤ length b.handles.items) × (length b.handles.items ≤ 64) × All (λ handle. AreUnsent handle.ports) b.handles.items
-        × (b.room.items ≡ []) × (length b.handles.items ≤ vec_capacity b.room) };
+    ghost invariant = { λ b. (1 ≤ length b.handles.items) × (length b.handles.items ≤ 64) × All (λ handle. IsUnused handle.ports handle.desk) b.handles.items
+        × (b.room.items ≡ []) × (length b.handles.items ≤ vec_capacity b.room) × (b.caller.parts + length b.handles.items ≡ all_parts)
+        × ((places : List PlaceState) × HasPutIn b.caller places) };
 }
 
 impl<'g, B: Broker<Seen = Nobody>, N: HistoryName> OpenBroker<'g, B, N> {
-    /// Opens a broker over this gate with so many workers: names the groups and the desk that were opened for it, gives the desk all places, and each worker a seat and a port
-    /// of each group. With it comes who knows of the calls of its desk. Some seats are left, for those who shut the gate.
+    /// Opens a broker over this gate with so many workers: names the groups and the desk that were opened for it, gives the desk all places, and each worker a seat, a port
+    /// of each group, and a caller of the desk. Some seats are left, for those who shut the gate.
     ///
     /// # Errors
     ///
@@ -54,14 +66,14 @@ impl<'g, B: Broker<Seen = Nobody>, N: HistoryName> OpenBroker<'g, B, N> {
         opened: Opened<'g>,
         desk: OpenedDesk<BrokerPlace<B>>,
         workers: u8,
-    ) -> Result<(OpenBroker<'g, B, N>, DeskView<BrokerPlace<B>, N>), NoMemory>
+    ) -> Result<OpenBroker<'g, B, N>, NoMemory>
         requires gate { gate.now ≡ B.gate }
         requires desk { desk ≡ N.history }
         requires workers { (1 ≤ workers) × (workers ≤ 64) }
         requires seats { AreSeatsOf gate.now seats.old.items × (workers ≤ length seats.old.items) }
         requires opened { IsOfBroker B.gate B.group workers opened }
         ensures seats { IfOk result (λ _. AreSeatsOf gate.now seats.new.items × (length seats.new.items + workers ≡ length seats.old.items)) }
-        ensures workers { IfOk result (λ made. made.0 ≡ workers) }
+        ensures workers { IfOk result (λ broker. broker.workers ≡ workers) }
     {
         let count = usize::from(workers);
         let (Ok(handles), Ok(room)) = (
@@ -83,43 +95,49 @@ impl<'g, B: Broker<Seen = Nobody>, N: HistoryName> OpenBroker<'g, B, N> {
             desk.abandon();
             return Err(NoMemory);
         };
-        let (desk, mut pass) = desk.name::<N>();
-        desk.take_places(rt, &mut pass, places);
-        let handles = take_ports(gate, seats, ports, handles);
+        let (desk, mut caller) = desk.name::<N>();
+        desk.take_places(rt, &mut caller, places);
+        let handles = take_ports(gate, seats, &desk, &mut caller, ports, handles);
         let shared_broker = SharedBroker::new(gate, groups, desk, SharedRoutes::new(alloc));
-        let broker = OpenBroker {
+        Ok(OpenBroker {
             shared_broker,
             handles,
             room,
-        };
-        Ok((broker, pass))
+            caller,
+        })
     }
 }
 
 /// What an open broker is made of.
 pub(crate) struct BrokerParts<'g, B: Broker, N: HistoryName> {
     pub(crate) shared_broker: SharedBroker<'g, B, N>,
-    pub(crate) handles: Vec<WorkerHandle<B>>,
+    pub(crate) handles: Vec<WorkerHandle<B, N>>,
     pub(crate) room: Vec<Ports<B>>,
+    pub(crate) caller: DeskView<BrokerPlace<B>, N>,
 }
 
 impl<'g, B: Broker, N: HistoryName> OpenBroker<'g, B, N> {
     /// What it is made of.
     pub(crate) fn into_parts(self) -> BrokerParts<'g, B, N>
-        ensures handles { length result.handles.items ≡ self.entry }
-        ensures workers { (1 ≤ self.entry) × (self.entry ≤ 64) }
-        ensures unsent { All (λ handle. AreUnsent handle.ports) result.handles.items }
-        ensures room { (result.room.items ≡ []) × (self.entry ≤ vec_capacity result.room) }
+        ensures handles { length result.handles.items ≡ self.entry.workers }
+        ensures workers { (1 ≤ self.entry.workers) × (self.entry.workers ≤ 64) }
+        ensures unused { All (λ handle. IsUnused handle.ports handle.desk) result.handles.items }
+        ensures room { (result.room.items ≡ []) × (self.entry.workers ≤ vec_capacity result.room) }
+        ensures caller { result.caller ≡ self.entry.caller }
+        ensures right { self.entry.caller.parts + self.entry.workers ≡ all_parts }
+        ensures opened { (places : List PlaceState) × HasPutIn self.entry.caller places }
     {
         let OpenBroker {
             shared_broker,
             handles,
             room,
+            caller,
         } = self;
         BrokerParts {
             shared_broker,
             handles,
             room,
+            caller,
         }
     }
 
@@ -129,8 +147,10 @@ impl<'g, B: Broker, N: HistoryName> OpenBroker<'g, B, N> {
             shared_broker,
             handles,
             room,
+            mut caller,
         } = self;
-        abandon(shared_broker, ports_of(handles, room));
+        let ports = take_in(&shared_broker, &mut caller, handles, room);
+        abandon(shared_broker, ports);
     }
 }
 
@@ -162,39 +182,52 @@ fn take_seat(gate: &Gate, seats: &mut Vec<GateSeat>) -> GateSeat
     seat
 }
 
-/// What each worker has: a seat and ports. There is room for it among the handles, which are empty.
-fn take_ports<B: Broker>(
+/// What each worker has: a seat, ports, and a caller of the desk, which has one part of the right to call of the one that is given. There is room for it among the handles, which
+/// are empty.
+fn take_ports<B: Broker, N: HistoryName>(
     gate: &Gate,
     seats: &mut Vec<GateSeat>,
+    desk: &SharedDesk<BrokerPlace<B>, N>,
+    caller: &mut DeskView<BrokerPlace<B>, N>,
     ports: Vec<Ports<B>>,
-    handles: Vec<WorkerHandle<B>>,
-) -> Vec<WorkerHandle<B>>
+    handles: Vec<WorkerHandle<B, N>>,
+) -> Vec<WorkerHandle<B, N>>
     requires gate { gate.now ≡ B.gate }
     requires seats { AreSeatsOf gate.now seats.old.items × (length ports.items ≤ length seats.old.items) }
+    requires parts { length ports.items < caller.old.parts }
     requires room { (handles.items ≡ []) × (length ports.items ≤ vec_capacity handles) }
     requires unsent { All AreUnsent ports.items }
     ensures seats { AreSeatsOf gate.now seats.new.items × (length seats.new.items + length ports.items ≡ length seats.old.items) }
     ensures handles { length result.items ≡ length ports.items }
-    ensures unsent { All (λ handle. AreUnsent handle.ports) result.items }
+    ensures unused { All (λ handle. IsUnused handle.ports handle.desk) result.items }
+    ensures caller { caller.new ≡ record caller.old { parts = caller.new.parts } }
+    ensures parts { caller.new.parts + length ports.items ≡ caller.old.parts }
 {
     let mut handles = handles;
     let mut left = ports;
     'handles: while let Some(ports) = left.pop() {
         let seat = take_seat(gate, seats);
-        handles.push_reserved(handle_of(gate, seat, ports));
+        handles.push_reserved(handle_of(gate, seat, ports, desk.share(caller)));
     }
     handles
 }
 
 /// What a worker has.
-fn handle_of<B: Broker>(gate: &Gate, seat: GateSeat, ports: Ports<B>) -> WorkerHandle<B>
+fn handle_of<B: Broker, N: HistoryName>(
+    gate: &Gate,
+    seat: GateSeat,
+    ports: Ports<B>,
+    desk: DeskView<BrokerPlace<B>, N>,
+) -> WorkerHandle<B, N>
     requires gate { gate.now ≡ B.gate }
     requires seat { seat.gate ≡ gate.now }
-    ensures { result.ports ≡ ports }
+    ensures ports { result.ports ≡ ports }
+    ensures desk { result.desk ≡ desk }
 {
     let _ = gate;
     WorkerHandle {
         key: Key::of(seat),
         ports,
+        desk,
     }
 }

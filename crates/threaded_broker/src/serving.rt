@@ -4,13 +4,15 @@ ghost use mathlib.Core.List.{IsPrefix};
 ghost use Rattle.mqtt_topic.specs.Names.{Share as ShareState};
 ghost use Rattle.mqtt_topic.specs.Routes.{most_routes};
 ghost use Rattle.final_report.specs.Brokers.{KeptItsPromisesBehind};
-ghost use Rattle.broker_groups.specs.Naming.{AreUnsent};
+ghost use Rattle.call_history.specs.Callers.{all_parts};
+ghost use Rattle.call_history.specs.Numbers.{IsEachOnce};
+ghost use Rattle.worker_connections.specs.Handles.{IsUnused};
 ghost use Rattle.worker_pool.specs.Accepting.{Gave, arrivals};
 ghost use Rattle.worker_pool.specs.Pools.{AreServed};
 ghost use Rattle.threaded_broker.specs.Headline.{KeepsTheHeadline, RunsUntilClosed};
 ghost use Rattle.threaded_broker.specs.Shares.{IsBoundIn};
 
-use crate::closing::{close, ports_of};
+use crate::closing::{close, take_in};
 use crate::opening::{BrokerParts, OpenBroker, abandon};
 use crate::shares::{bind_all, copy_all};
 use bell::Wake;
@@ -19,7 +21,7 @@ use call_history::HistoryName;
 use conn_supply::NoMemory;
 use final_report::end_broker;
 use gate_word::Drained;
-use group_queue::{LawfulWitness, Witness};
+use group_queue::LawfulWitness;
 use mqtt_topic::Share;
 use shared_desk::DeskView;
 use shared_supply::SharedBroker;
@@ -41,9 +43,9 @@ pub struct Closers<'a, B: Broker> {
 }
 
 /// What became of a broker that was served to its end.
-pub struct Outcome<'g, V: Witness, S, Q> {
+pub struct Outcome<'g, B: Broker, N: HistoryName, S, Q> {
     /// The report of each group, in the order of slots, or why there is none.
-    pub ended: Ended<'g, V>,
+    pub ended: Ended<'g, B::Seen>,
     /// The shares that are bound, in the order of their slots.
     pub shares: Vec<Share>,
     /// How the connections of each worker ended.
@@ -52,6 +54,8 @@ pub struct Outcome<'g, V: Witness, S, Q> {
     pub taken: Taken<S>,
     /// Where the workers waited, which closed all connections.
     pub pollers: Vec<Q>,
+    /// The first caller of the desk, which took in those of its workers, and has the whole right to call it.
+    pub caller: DeskView<BrokerPlace<B>, N>,
     /// Nobody is inside the broker's gate, nor ever will be.
     pub drained: Drained,
 }
@@ -69,6 +73,8 @@ pub struct Closed<'g, B: Broker, N: HistoryName, S, Q> {
     pub taken: Taken<S>,
     /// Where the workers waited, which closed all connections.
     pub pollers: Vec<Q>,
+    /// The first caller of the desk, which took in those of its workers, and has the whole right to call it.
+    pub caller: DeskView<BrokerPlace<B>, N>,
     /// Nobody is inside the broker's gate, nor ever will be.
     pub drained: Drained,
 }
@@ -77,8 +83,9 @@ pub struct Closed<'g, B: Broker, N: HistoryName, S, Q> {
 /// shut, and all connections have ended; then ends its groups. Who watches is given the input, and shuts the gate and ends the source, in a thread of its own. The shares that
 /// are given are bound before the first connection is served, in their order.
 ///
-/// The pass knows in the end all calls that were made of the broker's desk, of which what it knew before is the beginning (`history`), and so is what each worker knew. They
-/// led to the sessions, places and messages with which the groups end.
+/// The first caller of the desk comes back, and knows all calls that were made of it; what it knew before, and what each worker knew, are beginnings of these. The calls
+/// led to the sessions, places and messages with which the groups end. Each call put a place into the new desk, or was made in one worker's run, once (`opened`, `each_call_once`): so what lies
+/// with the desk between two connections is as the first of them left it.
 ///
 /// **What a broker promises**, in every schedule of its threads, whatever its transports do (`headline`), is of this one run. The connections that the source gave, in its
 /// order, came each to one worker, once; and what each worker did is one list of deeds, from the ports that it was given, through which nothing was published, to those that
@@ -123,21 +130,19 @@ pub fn serve<
     closers: Closers<'_, B>,
     watch: &mut D,
     input: &mut I,
-    pass: &mut DeskView<BrokerPlace<B>, N>,
-) -> Result<Outcome<'g, B::Seen, S, Q>, NoMemory>
+) -> Result<Outcome<'g, B, N, S, Q>, NoMemory>
 where
     B::Seen: LawfulWitness + Send + Sync,
-    requires setup { length setup.worker_io.items ≡ broker }
+    requires setup { length setup.worker_io.items ≡ broker.workers }
     ensures headline { IfOk result (λ outcome. (came : List T) × Gave S.arrived source came outcome.taken.source × (outcome.taken.came ≡ length came)
-        × KeepsTheHeadline B.group B.Seen.Witness T.counts T.given T.accepted broker.entry setup.entry.max_inflight came pass.new outcome.shares.items outcome.ended.answers.items outcome.ended.strangers.items outcome.served.items (map Q.closed outcome.pollers.items)) }
-    ensures history { IsPrefix pass.old pass.new }
+        × KeepsTheHeadline B.group B.Seen.Witness T.counts T.given T.accepted broker.entry.workers setup.entry.max_inflight came broker.entry.caller outcome.caller outcome.shares.items outcome.ended.answers.items outcome.ended.strangers.items outcome.served.items (map Q.closed outcome.pollers.items)) }
     ensures closed { IfOk result (λ outcome. outcome.drained ≡ B.gate) }
     ensures taken { IfOk result (λ outcome. (S.tally outcome.taken.source).arrivals ≡ (S.tally source).arrivals + outcome.taken.came) }
     ensures watched { IfOk result (λ _. D.has_watched watch.old watch.new input.old input.new) }
     ensures shares { IfOk result (λ outcome. All (IsBoundIn outcome.shares.items) shares.now) }
 {
     let closed = serve_until_closed(
-        rt, alloc, broker, shares, setup, source, closers, watch, input, pass,
+        rt, alloc, broker, shares, setup, source, closers, watch, input,
     )?;
     let Closed {
         shared_broker,
@@ -146,15 +151,17 @@ where
         served,
         taken,
         pollers,
+        mut caller,
         drained,
     } = closed;
-    let ended = end(rt, alloc, &drained, shared_broker, ports, pass)?;
+    let ended = end(rt, alloc, &drained, shared_broker, ports, &mut caller)?;
     Ok(Outcome {
         ended,
         shares,
         served,
         taken,
         pollers,
+        caller,
         drained,
     })
 }
@@ -188,15 +195,13 @@ pub fn serve_until_closed<
     closers: Closers<'_, B>,
     watch: &mut D,
     input: &mut I,
-    pass: &mut DeskView<BrokerPlace<B>, N>,
 ) -> Result<Closed<'g, B, N, S, Q>, NoMemory>
 where
     B::Seen: Send + Sync,
-    requires setup { length setup.worker_io.items ≡ broker }
-    ensures ports { IfOk result (λ closed. length closed.ports.items ≡ broker.entry) }
+    requires setup { length setup.worker_io.items ≡ broker.workers }
+    ensures ports { IfOk result (λ closed. length closed.ports.items ≡ broker.entry.workers) }
     ensures run { IfOk result (λ closed. (came : List T) × Gave S.arrived source came closed.taken.source × (closed.taken.came ≡ length came)
-        × RunsUntilClosed B.group B.Seen.Witness T.counts T.given T.accepted setup.entry.max_inflight came pass.new closed.shares.items closed.ports.items closed.served.items (map Q.closed closed.pollers.items)) }
-    ensures history { IsPrefix pass.old pass.new }
+        × RunsUntilClosed B.group B.Seen.Witness T.counts T.given T.accepted setup.entry.max_inflight came broker.entry.caller closed.caller closed.shares.items closed.ports.items closed.served.items (map Q.closed closed.pollers.items)) }
     ensures closed { IfOk result (λ closed. closed.drained ≡ B.gate) }
     ensures taken { IfOk result (λ closed. (S.tally closed.taken.source).arrivals ≡ (S.tally source).arrivals + closed.taken.came) }
     ensures watched { IfOk result (λ _. D.has_watched watch.old watch.new input.old input.new) }
@@ -210,6 +215,7 @@ where
         shared_broker,
         handles,
         room,
+        mut caller,
     } = broker.into_parts();
     let ran = run_bound(
         rt,
@@ -222,7 +228,6 @@ where
         accepting,
         watch,
         input,
-        pass,
     );
     let drained = close(rt, &mut ending);
     match ran {
@@ -233,26 +238,29 @@ where
                 taken,
                 pollers,
             } = pooled;
+            let ports = take_in(&shared_broker, &mut caller, handles, room);
             Ok(Closed {
                 shared_broker,
-                ports: ports_of(handles, room),
+                ports,
                 shares,
                 served,
                 taken,
                 pollers,
+                caller,
                 drained,
             })
         }
         Err(handles) => {
-            abandon(shared_broker, ports_of(handles, room));
+            let ports = take_in(&shared_broker, &mut caller, handles, room);
+            abandon(shared_broker, ports);
             Err(NoMemory)
         }
     }
 }
 
 /// What a pool gives back, and the shares that are bound then, in the order of their slots.
-struct Ran<B: Broker, S, Q> {
-    pooled: Pooled<B, S, Q>,
+struct Ran<B: Broker, N: HistoryName, S, Q> {
+    pooled: Pooled<B, N, S, Q>,
     shares: Vec<Share>,
 }
 
@@ -274,24 +282,22 @@ fn run_bound<
     alloc: Global,
     shared_broker: &SharedBroker<'_, B, N>,
     shares: &[Share],
-    handles: Vec<WorkerHandle<B>>,
+    handles: Vec<WorkerHandle<B, N>>,
     setup: PoolSetup<'_, T, Q, W, X, C>,
     source: S,
     accepting: Closer<'_, B>,
     watch: &mut D,
     input: &mut I,
-    pass: &mut DeskView<BrokerPlace<B>, N>,
-) -> Result<Ran<B, S, Q>, Vec<WorkerHandle<B>>>
+) -> Result<Ran<B, N, S, Q>, Vec<WorkerHandle<B, N>>>
 where
     B::Seen: Send + Sync,
     requires workers { (1 ≤ length handles.items) × (length handles.items ≤ 64) }
     requires setup { length setup.worker_io.items ≡ length handles.items }
-    requires unsent { All (λ handle. AreUnsent handle.ports) handles.items }
+    requires unused { All (λ handle. IsUnused handle.ports handle.desk) handles.items }
     ensures handles { MatchResult result (λ ran. length ran.pooled.handles.items ≡ length handles.items) (λ back. length back.items ≡ length handles.items) }
     ensures taken { IfOk result (λ ran. (S.tally ran.pooled.taken.source).arrivals ≡ (S.tally source).arrivals + ran.pooled.taken.came) }
     ensures served { IfOk result (λ ran. (came : List T) × (routes : List ShareState) × (ran.shares.items ≡ take most_routes routes) × Gave S.arrived source came ran.pooled.taken.source × (ran.pooled.taken.came ≡ length came)
-        × AreServed B.group B.Seen.Witness T.counts T.given T.accepted (arrivals setup.entry.max_inflight came) pass.new routes (map (λ handle. handle.ports) ran.pooled.handles.items) ran.pooled.served.items (map Q.closed ran.pooled.pollers.items)) }
-    ensures told { IsPrefix pass.old pass.new }
+        × AreServed B.group B.Seen.Witness T.counts T.given T.accepted (arrivals setup.entry.max_inflight came) routes (map (λ handle. handle.ports) ran.pooled.handles.items) (map (λ handle. handle.desk) ran.pooled.handles.items) ran.pooled.served.items (map Q.closed ran.pooled.pollers.items)) }
     ensures watched { IfOk result (λ _. D.has_watched watch.old watch.new input.old input.new) }
     ensures shares { IfOk result (λ ran. All (IsBoundIn ran.shares.items) shares.now) }
 {
@@ -312,7 +318,6 @@ where
         watch,
         input,
         &mut known,
-        pass,
     ) {
         Ok(pooled) => {
             known.refresh();
@@ -332,15 +337,17 @@ fn end<'g, B: Broker, N: HistoryName, R: Wait>(
     drained: &Drained,
     shared_broker: SharedBroker<'g, B, N>,
     ports: Vec<Ports<B>>,
-    pass: &mut DeskView<BrokerPlace<B>, N>,
+    caller: &mut DeskView<BrokerPlace<B>, N>,
 ) -> Result<Ended<'g, B::Seen>, NoMemory>
 where
     B::Seen: LawfulWitness,
     requires { drained.now ≡ B.gate }
-    ensures before { IsPrefix pass.old pass.new }
-    ensures kept { IfOk result (λ ended. KeptItsPromisesBehind B.group pass.new ports.items ended.answers.items ended.strangers.items) }
+    ensures before { IsPrefix caller.old.calls caller.new.calls }
+    ensures same { caller.new ≡ record caller.old { calls = caller.new.calls } }
+    ensures once { caller.old.parts ≡ all_parts → IsEachOnce caller.old.own (length caller.new.calls) }
+    ensures kept { IfOk result (λ ended. KeptItsPromisesBehind B.group caller.new.calls ports.items ended.answers.items ended.strangers.items) }
 {
-    match end_broker(rt, alloc, drained, shared_broker, ports, pass) {
+    match end_broker(rt, alloc, drained, shared_broker, ports, caller) {
         Ok(ended) => Ok(ended),
         Err(left) => {
             left.abandon();

@@ -4,7 +4,7 @@ use Rattle.std.specs.List.{slice_get, slice_set}
 use Rattle.transport.specs.declared.counts.Counts.{Counts}
 use Rattle.group_queue.specs.Ports.{GroupId}
 use Rattle.broker_groups.specs.Answers.{Sights}
-use Rattle.broker_groups.specs.Naming.{AreUnsent}
+use Rattle.worker_connections.specs.Handles.{IsUnused}
 use Rattle.group_queue.specs.Places.{PlaceState}
 use Rattle.conn_service.specs.Services.{ServiceState}
 use Rattle.worker_connections.specs.Cells.{InCell, Turns}
@@ -42,13 +42,13 @@ module _ {T : Type 0} (group : ℕ → GroupId) (seen : Sights) (counts : T → 
 
   -- none yet
   pub runs_from : (count : ℕ) (supply : Worker) (cells : Table) (received : List (ArrivedState T)) (closed : Option (List T)) → cells ≡ replicate count None → received ≡ []
-      → supply.wakes ≡ no_wakes → AreUnsent supply.ports → HasClosedNone closed
+      → supply.wakes ≡ no_wakes → IsUnused supply.ports supply.desk → HasClosedNone closed
       → HasRunTo group seen counts given accepted (record { supply = supply; cells = cells; received = received; served = none_served; closed = closed })
-  runs_from count supply cells received closed free none quiet unsent nothing =
+  runs_from count supply cells received closed free none quiet unused nothing =
       let first : RunState T = record { supply = supply; cells = cells; received = received; served = none_served; closed = closed } in
       record {
         run = record { first = first; deeds = []; last = first };
-        is = record { begun = record { count = count; free = free; none_came = none; none_ended = refl; none_waits = quiet; none_closed = nothing; none_sent = unsent }; made = refl };
+        is = record { begun = record { count = count; free = free; none_came = none; none_ended = refl; none_waits = quiet; none_closed = nothing; none_sent = unused.none_sent; none_called = unused.none_called }; made = refl };
         here = refl;
       }
 

@@ -1,5 +1,5 @@
 -- What comes into the ports of a worker, call by call, step by step, and over its run.
-use Rattle.std.proofs.Common.{◌≡◌, ◌≢◌, ◌⊎◌, ℕ, if◌then◌else◌, Bool, true, false, List, [], ◌∷◌, ◌++◌, length, map, Option, Some, None, Result, is_some, refl, sym, ap, subst, ◌∙◌, inl, inr, ⊎_elim}
+use Rattle.std.proofs.Common.{◌≡◌, ◌≢◌, ◌⊎◌, ℕ, if◌then◌else◌, Bool, true, false, List, [], ◌∷◌, ◌++◌, length, Option, Some, None, Result, Err, is_some, refl, sym, ap, subst, ◌∙◌, inl, inr, ⊎_elim, append-nil}
 use Rattle.std.specs.List.{cons_option, flat_map}
 use Rattle.std.specs.Option.{option_to_list}
 use Rattle.mqtt_packet.specs.declared.packet.Delivery.{Delivery}
@@ -25,18 +25,19 @@ use Rattle.conn_supply.specs.declared.reply.Reply.{Reply}
 use Rattle.conn_supply.specs.declared.reply.Then.{Then}
 use Rattle.conn_supply.specs.declared.reply.Then.TheVariants.{Go, Close, Kicked as TakenOver}
 use Rattle.conn_supply.specs.declared.supply.OfferRefusal.{OfferRefusal}
+use Rattle.conn_supply.specs.declared.supply.OfferRefusal.TheVariants as refusal
 use Rattle.conn_supply.specs.SupplyCalls.{SupplyCall}
 use Rattle.conn_supply.specs.SupplyCalls.SupplyCall.{Attach, Withdraw, Kicked, Park, ParkAsIs, Keep, Bury, Sweep, LendPlace, TakePlace, Bind, Find, Match, Offer, MayTake, Take, TakeBack, Settle, GiveBack}
-use Rattle.conn_supply.specs.Publishing.{Offers, AnswersPublish}
+use Rattle.conn_supply.specs.Publishing.{Offers, OffersFirst, OffersSome, AnswersPublish}
 use Rattle.conn_supply.specs.Replies.{acknowledging}
 use Rattle.conn_engine.specs.declared.input.Input.{Input}
 use Rattle.conn_engine.specs.declared.input.Input.TheVariants as inputs
 use Rattle.conn_engine.specs.declared.phase.ConnectedClient.{ConnectedClient}
 use Rattle.conn_engine.specs.declared.phase.ConnPhase.{ConnPhase}
 use Rattle.conn_engine.specs.declared.phase.ConnPhase.TheVariants.{Unconnected, Waiting, Connected, Ended}
-use Rattle.conn_engine.specs.Step.{AnswersFirst, AnswersPacket, AnswersUnlessKicked, Concludes, FailsToStep, Hands, Reacts, Steps as StepsTo}
+use Rattle.conn_engine.specs.Step.{AnswersFirst, AnswersPacket, AnswersUnlessKicked, Concludes, FailsToHand, FailsToReact, FailsToStep, GivesUp as LeavesOff, Hands, HandsLess, Reacts, Steps as StepsTo, after_hand_out}
 use Rattle.conn_laws.specs.Calls.{offer_of, offered, MakesAll as MakesCalls, OffersToEach, OffersNone, OffersToSome}
-use Rattle.conn_laws.proofs.Calling.{Plain, parted}
+use Rattle.conn_laws.proofs.Calling.{Plain, handed_some, parted}
 use Rattle.conn_laws.proofs.Failing.{failed}
 use Rattle.conn_laws.proofs.Stepping.{handed_behind, stepped}
 use Rattle.client_table.specs.Clients.{ClientState, IsGivenUp, moment_of}
@@ -47,7 +48,7 @@ use Rattle.conn_service.specs.Visits.{Stand, Outside, Inside, Behind, Parting, P
 use Rattle.shared_supply.specs.Calls.{Calls, missing}
 use Rattle.shared_supply.specs.Workers.{Worker, Begins, Leaves, is_visiting}
 use Rattle.worker_connections.specs.Chains.{Deed, Opened, Closed, Allowed, MadeRound, Passed, Called, Notified, NotifiedAll, IsRun, Makes, MakesAll, Run, RunState}
-use Rattle.worker_connections.specs.Publishing.{IsPromised, IsPublished, IsPublishedBy, Publishes, PublishesAll, PublishesAt, PublishesSome, PublisherState, PutsInto, PutsSome, acts_in, publisher_of, slots_matched}
+use Rattle.worker_connections.specs.Publishing.{IsPromised, IsCutShort, IsPublished, IsPublishedBy, Publishes, PublishesAll, PublishesAt, PublishesSome, PublisherState, PutsInto, PutsSome, acts_in, publisher_of, slots_matched}
 
 -- nothing is found in front of a list, and nothing in it
 none_found : {X : Type 0} (found : Option X) (rest : List X) → cons_option found rest ≡ [] → (found ≡ None) × (rest ≡ [])
@@ -130,38 +131,6 @@ module _ (group : ℕ → GroupId) (seen : Sights) where
 
   plain : {given : List Message} (old new : Worker) → Plain (Calls group seen) given old new → new.ports ≡ old.ports
   plain old new calls = all_stay calls.supply_calls old new calls.offers calls.made
-
-  -- the first of some calls, of which the others put a message into what is left of these slots
-  put_first : (supply_call : SupplyCall PlaceState) (supply_calls : List (SupplyCall PlaceState)) (slots : List ℕ) (number : ℕ) (message : Message) (ports mid ports' : List PortState)
-      → OffersOrStays supply_call ports mid → cons_option (offer_of supply_call) (offered supply_calls) ≡ map (λ (slot : ℕ). (slot, number, message)) slots
-      → ((rest : List ℕ) → offered supply_calls ≡ map (λ (slot : ℕ). (slot, number, message)) rest → PutsSome group seen mid message rest ports') → PutsSome group seen ports message slots ports'
-  put_first supply_call supply_calls slots number message ports mid ports' (inl same) offers others =
-      let Found : Option (ℕ × ℕ × Message) → Type 0 = λ found. cons_option found (offered supply_calls) ≡ map (λ (slot : ℕ). (slot, number, message)) slots in
-      subst (λ (those : List PortState). PutsSome group seen those message slots ports') same.1 (others slots (subst Found same.0 offers))
-  put_first supply_call supply_calls [] number message ports mid ports' (inr offer) offers others =
-      let Found : Option (ℕ × ℕ × Message) → Type 0 = λ found. cons_option found (offered supply_calls) ≡ [] in
-      let never = subst Found offer.is offers in
-      absurd (cc never)
-  put_first supply_call supply_calls (slot ∷ slots) number message ports mid ports' (inr offer) offers others =
-      let Found : Option (ℕ × ℕ × Message) → Type 0 = λ found. cons_option found (offered supply_calls) ≡ (slot, number, message) ∷ map (λ (slot : ℕ). (slot, number, message)) slots in
-      let is = subst Found offer.is offers in
-      let heads : (offer.slot, offer.connection, offer.message) ≡ (slot, number, message) = cc is in
-      let tails : offered supply_calls ≡ map (λ (slot : ℕ). (slot, number, message)) slots = cc is in (
-        offer.answer,
-        mid,
-        subst (λ (n : ℕ). OffersTo group seen.saw_main ports n message offer.answer mid) (ap (λ (o : ℕ × ℕ × Message). o.0) heads)
-            (subst (λ (m : Message). OffersTo group seen.saw_main ports offer.slot m offer.answer mid) (ap (λ (o : ℕ × ℕ × Message). o.2) heads) offer.offers),
-        others slots tails,
-      )
-
-  -- calls that offer a message to these slots
-  some_put : (supply_calls : List (SupplyCall PlaceState)) (slots : List ℕ) (number : ℕ) (message : Message) (old new : Worker)
-      → offered supply_calls ≡ map (λ (slot : ℕ). (slot, number, message)) slots → MakesCalls (Calls group seen) old supply_calls new → PutsSome group seen old.ports message slots new.ports
-  some_put [] [] number message old new offers made = ap (λ (w : Worker). w.ports) made
-  some_put [] (slot ∷ slots) number message old new offers made = absurd (cc offers)
-  some_put (supply_call ∷ supply_calls) slots number message old new offers made =
-      put_first supply_call supply_calls slots number message old.ports made.0.ports new.ports (called supply_call old made.0 made.1) offers
-      (λ rest found. some_put supply_calls rest number message made.0 new found made.2)
 
   -- a message is offered to each of these slots
   all_put : (slots : List ℕ) (number : ℕ) (message : Message) (taken : ℕ) (old new : Worker) → Offers (Calls group seen) old number message slots taken new
@@ -318,6 +287,90 @@ module _ (group : ℕ → GroupId) (seen : Sights) where
   at_input inputs.EndOfInput old new number now phase phase' these next steps = of_other _ old new number now phase phase' these next (λ publish is. cc is) steps
   at_input inputs.Closing old new number now phase phase' these next steps = of_other _ old new number now phase phase' these next (λ publish is. cc is) steps
 
+  -- a message that is offered to the first of these groups
+  pub record OffersFew (message : Message) (slots : List ℕ) (old new : List PortState) : Type 0 where
+    pub these : List ℕ
+    pub others : List ℕ
+    pub parts : slots ≡ these ++ others
+    pub puts : PutsSome group seen old message these new
+
+  first_few : (slots : List ℕ) (number : ℕ) (message : Message) (old new : Worker) → OffersFirst (Calls group seen) old number message slots new → OffersFew message slots old.ports new.ports
+  first_few [] number message old new offers = absurd offers
+  first_few (slot ∷ slots) number message old new (inl last) =
+      record { these = slot ∷ []; others = slots; parts = refl; puts = (Err refusal.Memory, new.ports, last.0, refl) }
+  first_few (slot ∷ slots) number message old new (inr offers) =
+      let rest = first_few slots number message offers.1 new offers.5 in
+      record { these = slot ∷ rest.these; others = rest.others; parts = ap (λ (l : List ℕ). slot ∷ l) rest.parts; puts = (offers.0, offers.1.ports, offers.3.0, rest.puts) }
+
+  few : (slots : List ℕ) (number : ℕ) (message : Message) (old new : Worker) → OffersSome (Calls group seen) old number message slots new → OffersFew message slots old.ports new.ports
+  few slots number message old new (inl none) = record { these = []; others = slots; parts = refl; puts = ap (λ (w : Worker). w.ports) none }
+  few slots number message old new (inr offers) = first_few slots number message old new offers
+
+  -- what was offered to all was offered to the first of them
+  all_of_them : (slots : List ℕ) (message : Message) (taken : ℕ) (old new : List PortState) → PutsInto group seen old message slots taken new → PutsSome group seen old message slots new
+  all_of_them [] message taken old new puts = puts.1
+  all_of_them (slot ∷ slots) message taken old new puts = (puts.0, puts.1, puts.4, all_of_them slots message puts.3 puts.1 new puts.6)
+
+  abbrev CutsOrStays : Publish → PublisherState → PublisherState → Type 0
+  CutsOrStays publish old new = IsCutShort group seen publish old new ⊎ (new.ports ≡ old.ports)
+
+  -- a connection that is given up for want of memory
+  left_off : (phase : ConnPhase PlaceState) (old new : Worker) (number now : ℕ) → LeavesOff (Calls group seen) slot_of old number phase now new → new.ports ≡ old.ports
+  left_off (Unconnected opened) old new number now gives = ap (λ (w : Worker). w.ports) gives
+  left_off (Waiting request ticks) old new number now gives = stays (Withdraw number) old.ports new.ports (called (Withdraw number) old new gives) refl
+  left_off (Connected connected) old new number now gives = plain old new (parted (Calls group seen) old new connected.session now gives)
+  left_off Ended old new number now gives = ap (λ (w : Worker). w.ports) gives
+
+  -- an allocation failed for the answer to a PUBLISH
+  unanswered : (phase : ConnPhase PlaceState) (publish : Publish) (old new : Worker) (number now : ℕ)
+      → FailsToReact (Calls group seen) slot_of old number phase now (inputs.Packet (packets.Publish publish)) new → IsCutShort group seen publish (publisher_of old) (publisher_of new)
+  unanswered (Unconnected opened) publish old new number now fails = let never = fails.1 in absurd (cc never)
+  unanswered (Waiting request ticks) publish old new number now fails = absurd fails
+  unanswered (Connected connected) publish old new number now fails =
+      let mid = fails.0 in
+      let answer = fails.2 in
+      let cut = answer.2.0 in
+      let some = few cut.slots number (message_of publish) cut.mid answer.1 cut.offered in
+      let kept = plain answer.1 new (parted (Calls group seen) answer.1 new answer.0.session now answer.3) in
+      let Puts : List PortState → List PortState → Type 0 = λ ports ports'. PutsSome group seen ports (message_of publish) some.these ports' in
+      let from_mid = subst (λ (ports : List PortState). Puts ports answer.1.ports) (ap (λ (w : Worker). w.ports) cut.matched.1) some.puts in
+      let at_mid : IsCutShort group seen publish (publisher_of mid) (publisher_of new) =
+      record { slots = some.these; others = some.others; matched = sym cut.matched.0 ∙ some.parts; puts = subst (Puts mid.ports) (sym kept) from_mid } in
+      subst (λ (from : PublisherState). IsCutShort group seen publish from (publisher_of new)) (asked_of_desk number false old mid fails.1) at_mid
+  unanswered Ended publish old new number now fails = absurd fails
+
+  -- an allocation failed for what is handed out behind the reply
+  handed_less : (between : ConnPhase PlaceState) (old new : Worker) (now : ℕ) → HandsLess (Calls group seen) slot_of old between now new → new.ports ≡ old.ports
+  handed_less (Unconnected opened) old new now hands = absurd hands
+  handed_less (Waiting request ticks) old new now hands = absurd hands
+  handed_less (Connected connected) old new now hands =
+      let some = handed_some (Calls group seen) old hands.2 connected.session.membership connected.session.window hands.0 hands.1 hands.3 in
+      plain hands.2 new (parted (Calls group seen) hands.2 new (after_hand_out connected hands.0 hands.1).session now hands.4) ∙ plain old hands.2 some.1
+  handed_less Ended old new now hands = absurd hands
+
+  publish_failed : (publish : Publish) (old new : Worker) (number now : ℕ) (phase : ConnPhase PlaceState)
+      → FailsToStep (Calls group seen) slot_of old number phase now (inputs.Packet (packets.Publish publish)) new → CutsOrStays publish (publisher_of old) (publisher_of new)
+  publish_failed publish old new number now phase (inl cuts) = inr (left_off phase old new number now cuts)
+  publish_failed publish old new number now phase (inr fails) =
+      ⊎_elim
+      (λ (reply : FailsToReact (Calls group seen) slot_of old number phase now (inputs.Packet (packets.Publish publish)) new). inl (unanswered phase publish old new number now reply))
+      (λ (hand : FailsToHand (Calls group seen) slot_of old number phase now (inputs.Packet (packets.Publish publish)) new).
+      let kept = handed_less hand.between hand.mid new now hand.hands in
+      ⊎_elim
+      (λ (it : (identifier : ℕ) × (publish_answer publish ≡ answers.Offer identifier) × (taken : ℕ)
+      × PutsInto group seen old.ports (message_of publish) (slots_matched (publisher_of old) publish) taken hand.mid.ports
+      × (hand.reply ≡ acknowledging identifier (puback_code (length (slots_matched (publisher_of old) publish)) taken))).
+      inl (record {
+        slots = slots_matched (publisher_of old) publish;
+        others = [];
+        matched = sym (append-nil (slots_matched (publisher_of old) publish));
+        puts = subst (λ (ports : List PortState). PutsSome group seen old.ports (message_of publish) (slots_matched (publisher_of old) publish) ports) (sym kept)
+            (all_of_them (slots_matched (publisher_of old) publish) (message_of publish) it.2 old.ports hand.mid.ports it.3);
+      }))
+      (λ (it : (hand.mid.ports ≡ old.ports) × IsNoPromise hand.reply.packet hand.between). inr (kept ∙ it.0))
+      (reacted phase publish old hand.mid number now hand.between hand.reply hand.reacts))
+      fails
+
   -- a step in which an allocation failed
   at_failed : (input : Input) (old new : Worker) (number now : ℕ) (phase : ConnPhase PlaceState) → FailsToStep (Calls group seen) slot_of old number phase now input new
       → PublishesSome group seen input (publisher_of old) (publisher_of new)
@@ -325,7 +378,10 @@ module _ (group : ℕ → GroupId) (seen : Sights) where
       let calls = failed (Calls group seen) slot_of old new number now phase input fails in
       ⊎_elim
       (λ (some : OffersToSome number input calls.supply_calls).
-      inl (some.publish, some.came, (some.slots, some_put calls.supply_calls some.slots number (message_of some.publish) old new some.offers calls.made)))
+      ⊎_elim
+      (λ (cut : IsCutShort group seen some.publish (publisher_of old) (publisher_of new)). inl (some.publish, some.came, cut))
+      (λ (same : new.ports ≡ old.ports). inr same)
+      (publish_failed some.publish old new number now phase (subst (λ (it : Input). FailsToStep (Calls group seen) slot_of old number phase now it new) some.came fails)))
       (λ (nothing : offered calls.supply_calls ≡ []). inr (all_stay calls.supply_calls old new nothing calls.made))
       calls.offers
 
@@ -338,7 +394,7 @@ module _ (group : ℕ → GroupId) (seen : Sights) where
       (at_input inputs.EndOfInput old new client.conn.number (moment_of client now) client.conn.phase client'.conn.phase moved.0.packets moved.0.next moved.1.stepped)
   given_up old new client client' now (inr fails) =
       ⊎_elim
-      (λ (it : (publish : Publish) × (inputs.EndOfInput ≡ inputs.Packet (packets.Publish publish)) × ((slots : List ℕ) × PutsSome group seen old.ports (message_of publish) slots new.ports)).
+      (λ (it : (publish : Publish) × (inputs.EndOfInput ≡ inputs.Packet (packets.Publish publish)) × IsCutShort group seen publish (publisher_of old) (publisher_of new)).
       let never = it.1 in absurd (cc never))
       (λ (same : new.ports ≡ old.ports). same)
       (at_failed inputs.EndOfInput old new client.conn.number (moment_of client now) client.conn.phase fails.failed)

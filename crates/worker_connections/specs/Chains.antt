@@ -56,7 +56,7 @@ pub record Run (T : Type 0) : Type 0 where
   pub deeds : List (Deed T)
   pub last : RunState T
 
--- nothing came yet, and nothing was published: so what its ports have in the end was published in the run
+-- nothing came yet, nothing was published, and the desk was not called: so what its ports have in the end was published in the run, and the calls that are its own were made in it
 pub record IsFirst {T : Type 0} (state : RunState T) : Type 0 where
   pub count : ℕ
   pub free : state.cells ≡ replicate count None
@@ -65,6 +65,7 @@ pub record IsFirst {T : Type 0} (state : RunState T) : Type 0 where
   pub none_waits : state.supply.wakes ≡ no_wakes
   pub none_closed : HasClosedNone state.closed
   pub none_sent : AreUnsent state.supply.ports
+  pub none_called : state.supply.desk.own ≡ []
 
 -- after a round: it goes on in its cell, or has ended so and left it
 abbrev pub LeavesCell : {T : Type 0} → Option Served → ServiceState PlaceState T → Option (ServiceState PlaceState T) → Type 0

@@ -2,6 +2,7 @@ pub mod Arrivals
 pub mod Chains
 pub mod Closing
 pub mod Counting
+pub mod Handles
 pub mod Lives
 pub mod Members
 pub mod Serving

@@ -1,6 +1,6 @@
 -- How messages come into the ports of a worker: by the PUBLISH packets that its connections step, each through the ports of the groups whose filters match its topic, and by
 -- nothing else; and what their PUBACKs say of them (3.3.4, 3.4.2.1 and 4.7).
-use Rattle.std.specs.Prelude.{◌≡◌, ◌⊎◌, ℕ, ◌+◌, List, [], ◌∷◌, length, Result}
+use Rattle.std.specs.Prelude.{◌≡◌, ◌⊎◌, ℕ, ◌+◌, List, [], ◌∷◌, ◌++◌, length, Result}
 use Rattle.std.specs.List.{flat_map}
 use Rattle.mqtt_packet.specs.declared.packet.Packet.{Packet}
 use Rattle.mqtt_packet.specs.declared.packet.Packet.TheVariants as packets
@@ -74,10 +74,16 @@ module _ (group : ℕ → GroupId) (seen : Sights) where
       ((publish : Publish) × (input ≡ inputs.Packet (packets.Publish publish)) × IsPublished publish sent old new)
       ⊎ ((new.ports ≡ old.ports) × ((publish : Publish) → input ≡ inputs.Packet (packets.Publish publish) → ¬ IsPromised sent))
 
-  -- what a step made of them in which an allocation failed: the message of a PUBLISH was offered to some groups, and nothing was sent; or they are as they were
+  -- a PUBLISH that was cut short, as an allocation failed: its message was offered through the ports of the first of the groups that match, once each, or of all of them
+  pub record IsCutShort (publish : Publish) (old new : PublisherState) : Type 0 where
+    pub slots : List ℕ
+    pub others : List ℕ
+    pub matched : slots_matched old publish ≡ slots ++ others
+    pub puts : PutsSome old.ports (message_of publish) slots new.ports
+
+  -- what a step made of them in which an allocation failed: a PUBLISH was cut short, and nothing was sent; or they are as they were
   abbrev pub PublishesSome : Input → PublisherState → PublisherState → Type 0
-  PublishesSome input old new =
-      ((publish : Publish) × (input ≡ inputs.Packet (packets.Publish publish)) × ((slots : List ℕ) × PutsSome old.ports (message_of publish) slots new.ports)) ⊎ (new.ports ≡ old.ports)
+  PublishesSome input old new = ((publish : Publish) × (input ≡ inputs.Packet (packets.Publish publish)) × IsCutShort publish old new) ⊎ (new.ports ≡ old.ports)
 
   -- what an act made of them; what is known of the routes, others may add to when a visit begins, and a SUBSCRIBE does
   abbrev pub Publishes : Act → PublisherState → PublisherState → Type 0

@@ -68,9 +68,14 @@ pub record AreFresh {T : Type 0} (receiver : ReceiverState (ArrivedState T)) (po
   pub none_ended : connections.served ≡ none_served
   pub none_waits : wakes_of connections ≡ no_wakes
 
--- what they belong to: the channel that they come through, and the table of the routes
-abbrev pub ties_of : {T : Type 0} → ConnectionsState T → ChannelId (ArrivedState T) × List ℕ
-ties_of connections = (connections.receiver.channel, connections.supply.known.table)
+-- what they belong to: the channel that they come through, the table of the routes, and how many parts they have of the right to call the desk
+pub record Ties (T : Type 0) : Type 0 where
+  pub channel : ChannelId (ArrivedState T)
+  pub table : List ℕ
+  pub parts : ℕ
+
+abbrev pub ties_of : {T : Type 0} → ConnectionsState T → Ties T
+ties_of connections = record { channel = connections.receiver.channel; table = connections.supply.known.table; parts = connections.supply.desk.parts }
 
 -- they belong to the same
 abbrev pub StaysOf : {T : Type 0} → ConnectionsState T → ConnectionsState T → Type 0

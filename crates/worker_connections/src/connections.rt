@@ -1,7 +1,6 @@
 //! The connections of a worker: those that it received are open, or have ended and are counted.
 ghost use Rattle.std.specs.Prelude.{◌≡◌, ◌<◌, ◌+◌, ℕ, [], None, true, false, replicate, length};
 ghost use Rattle.group_queue.specs.Places.{PlaceState};
-ghost use Rattle.broker_groups.specs.Naming.{AreUnsent};
 ghost use Rattle.worker_connections.specs.Cells.{FollowsIn, InCell, Turns, ended_by, occupied};
 ghost use Rattle.worker_connections.specs.declared.cell_outcome.CellOutcome.{CellOutcome as AnyOutcome};
 ghost use Rattle.shared_supply.specs.Calls.{Calls};
@@ -9,6 +8,7 @@ ghost use Rattle.shared_supply.specs.Waking.{KeepsAtMost, no_wakes};
 ghost use Rattle.shared_supply.specs.Workers.{Begins as BeginsVisit, Leaves as LeavesVisit, is_visiting};
 ghost use Rattle.worker_connections.specs.Chains.{HasRunTo};
 ghost use Rattle.worker_connections.specs.Closing.{HasClosedNone};
+ghost use Rattle.worker_connections.specs.Handles.{IsUnused};
 ghost use Rattle.worker_connections.specs.Serving.{AreCounted, AreFresh, GoesBy, IsDone, Rounds, StaysOf, Tells, live, run_of, wakes_of, with_wakes};
 ghost use Rattle.worker_connections.specs.Members.{HasTaker, TakesIn as WouldTake, one_called_if};
 ghost use Rattle.worker_bells.specs.Wishing.{IsWished};
@@ -27,7 +27,6 @@ use broker_groups::{Broker, BrokerPlace};
 use call_history::HistoryName;
 use conn_channel::{Received, Receiver};
 use conn_service::{Direction, Round};
-use shared_desk::DeskView;
 use shared_routes::KnownRoutes;
 use shared_supply::{SharedSupply, SupplyParts, Tally, Wakes};
 use std::marker::Model;
@@ -78,15 +77,13 @@ impl<'a, 'g, B: Broker, N: HistoryName, T: Transport + Drop, Q: Poller<T>, R: Wa
 /// What the connections of a worker give back.
 pub struct Returned<'a, B: Broker, N: HistoryName, T: Transport + Drop, Q> {
     /// What they had of the broker.
-    pub handle: WorkerHandle<B>,
+    pub handle: WorkerHandle<B, N>,
     /// Their end of the channel.
     pub receiver: Receiver<Arrived<T>>,
     /// How they ended.
     pub served: ServedCounts,
     /// What they know of the routes.
     pub known: KnownRoutes<'a>,
-    /// What they know of the calls of the broker's desk.
-    pub pass: DeskView<BrokerPlace<B>, N>,
     /// Where their worker waited, which closed their transports.
     pub poller: Q,
 }
@@ -123,7 +120,7 @@ impl<'a, 'g, B: Broker, N: HistoryName, T: Transport + Drop, Q: Poller<T>, R: Wa
     R,
 > {
     /// None yet, of those that this end of the channel will receive; this table is for them, these are their wishes, this supply is what they ask, and at this poller
-    /// their worker waits for them. Nothing was published through the supply's ports, and the poller closed no transport.
+    /// their worker waits for them. Nothing was published through the supply's ports, it made no call of the desk, and the poller closed no transport.
     pub fn new(
         receiver: Receiver<Arrived<T>>,
         table: ServiceTable<BrokerPlace<B>, T>,
@@ -134,10 +131,11 @@ impl<'a, 'g, B: Broker, N: HistoryName, T: Transport + Drop, Q: Poller<T>, R: Wa
         requires receiver { receiver.received ≡ [] }
         requires table { table ≡ replicate (length members) None }
         requires supply { supply.wakes ≡ no_wakes }
-        requires unsent { AreUnsent supply.ports }
+        requires unused { IsUnused supply.ports supply.desk }
         requires closed { HasClosedNone (Q.closed poller) }
         ensures fresh { AreFresh receiver supply.entry.ports result }
         ensures known { result.supply.known ≡ supply.entry.known }
+        ensures desk { result.supply.desk ≡ supply.entry.desk }
     {
         Connections {
             receiver,
@@ -389,7 +387,7 @@ impl<'a, 'g, B: Broker, N: HistoryName, T: Transport + Drop, Q: Poller<T>, R: Wa
         ensures ran { HasRunTo B.group B.Seen.Witness T.counts T.given T.accepted (run_of self.entry) }
         ensures ports { live self.entry ≡ 0 → result.handle.ports ≡ self.entry.supply.ports }
         ensures known { live self.entry ≡ 0 → result.known ≡ self.entry.supply.known }
-        ensures desk { live self.entry ≡ 0 → result.pass ≡ self.entry.supply.desk }
+        ensures desk { live self.entry ≡ 0 → result.handle.desk ≡ self.entry.supply.desk }
     {
         let Connections {
             receiver,
@@ -409,11 +407,10 @@ impl<'a, 'g, B: Broker, N: HistoryName, T: Transport + Drop, Q: Poller<T>, R: Wa
             desk,
         } = supply.into_parts();
         Returned {
-            handle: WorkerHandle { key, ports },
+            handle: WorkerHandle { key, ports, desk },
             receiver,
             served,
             known,
-            pass: desk,
             poller,
         }
     }
@@ -437,6 +434,7 @@ fn make_round<'a, 'g, B: Broker, N: HistoryName, T: Transport, R: Wait, X: Cross
     ensures len { length table.new ≡ length table.old }
     ensures count { occupied table.old ≡ occupied table.new + ended_by result }
     ensures routes { supply.new.known.table ≡ supply.old.known.table }
+    ensures parts { supply.new.desk.parts ≡ supply.old.desk.parts }
 {
     table.round(cell, supply, crossing, worker, now, buffer, direction)
 }

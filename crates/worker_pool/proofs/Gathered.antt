@@ -1,12 +1,12 @@
 -- What workers give back, all together.
 use Rattle.std.proofs.Common.{◌≡◌, ℕ, ◌<◌, List, [], ◌∷◌, ◌++◌, length, map, Option, refl, sym, subst, ◌∙◌, ap, append-nil, append_assoc, arith}
 use Rattle.std.specs.List.{AllByRecursion, AllZip}
-use mathlib.Core.List.{IsPrefix}
 use Rattle.std.proofs.lemmas.List.Sums.{sum_by-cons}
 use Rattle.transport.specs.declared.counts.Counts.{Counts}
 use Rattle.mqtt_topic.specs.Names.{Share}
 use Rattle.group_jobs.specs.Stamps.{Held}
 use Rattle.session_desk.specs.Calls.{Call}
+use Rattle.call_history.specs.Callers.{CallerState}
 use Rattle.group_queue.specs.Ports.{GroupId, PortState}
 use Rattle.broker_groups.specs.Answers.{Sights}
 use Rattle.group_queue.specs.Places.{PlaceState}
@@ -41,17 +41,10 @@ all_weaker : {A : Type 0} (P Q : A → Type 0) → ((x : A) → P x → Q x) →
 all_weaker P Q weaker [] all = tt
 all_weaker P Q weaker (x ∷ xs) all = (weaker x all.0, all_weaker P Q weaker xs all.1)
 
--- what begins a list begins each that goes on from it
-pub begins_longer : {A : Type 0} (xs ys zs : List A) → IsPrefix xs ys → IsPrefix ys zs → IsPrefix xs zs
-begins_longer {A} xs ys zs one two = (one.0 ++ two.0, sym (append_assoc xs one.0 two.0) ∙ ap (λ (l : List A). l ++ two.0) one.1 ∙ two.1)
-
 -- the first shares of some are the first of those that these are the first of
 first_of_more : (ones some all : List Share) → AreFirst ones some → AreFirst some all → AreFirst ones all
 first_of_more ones some all first more =
     (first.0 ++ more.0, more.1 ∙ ap (λ (l : List Share). l ++ more.0) first.1 ∙ append_assoc ones first.0 more.0)
-
-pub begins_itself : {A : Type 0} (xs : List A) → IsPrefix xs xs
-begins_itself xs = ([], append-nil xs)
 
 module _ {T : Type 0} where
   -- all that these ends received is counted
@@ -82,23 +75,23 @@ counts_all came served counts few = counts.all ∙ (sym (of_all counts.endings (
 
 module _ {T : Type 0} (group : ℕ → GroupId) (seen : Sights) (counts : T → Counts) (given accepted : T → Option (List ℕ)) where
   -- no worker gave anything back yet
-  pub nobody : (calls : List (Call Held PlaceState)) (routes : List Share) → HaveEnded group seen counts given accepted [] [] [] [] calls routes
-  nobody calls routes = record { runs = []; whole = tt; ports_are = refl; received_are = refl; served_are = refl; closed_are = refl; told = tt; known = tt }
+  pub nobody : (routes : List Share) → HaveEnded group seen counts given accepted [] [] [] [] [] routes
+  nobody routes = record { runs = []; whole = tt; ports_are = refl; callers_are = refl; received_are = refl; served_are = refl; closed_are = refl; one_part = tt; known = tt }
 
   -- one worker more did
-  pub ends : (ports ports' : List (List PortState)) (receivers receivers' : List (ReceiverState (ArrivedState T))) (served served' : List ServedCounts)
-      (closed closed' : List (Option (List T))) (calls calls' known : List (Call Held PlaceState)) (routes routes' : List Share) (seen_routes : KnownState) (its : List PortState) (receiver : ReceiverState (ArrivedState T)) (counted : ServedCounts)
-      (shut : Option (List T)) (connections : ConnectionsState T)
-      → HaveEnded group seen counts given accepted ports receivers served closed calls routes → ports' ≡ ports ++ its ∷ [] → receivers' ≡ receivers ++ receiver ∷ [] → served' ≡ served ++ counted ∷ []
-      → closed' ≡ closed ++ shut ∷ []
-      → HasRunTo group seen counts given accepted (run_of connections) → live connections ≡ 0 → its ≡ connections.supply.ports → receiver ≡ connections.receiver → counted ≡ connections.served
-      → shut ≡ connections.closed → known ≡ connections.supply.desk → IsPrefix calls calls' → IsPrefix known calls' → seen_routes ≡ connections.supply.known → AreFirst routes routes'
-      → AreFirst seen_routes.shares routes' → HaveEnded group seen counts given accepted ports' receivers' served' closed' calls' routes'
-  ends ports ports' receivers receivers' served served' closed closed' calls calls' known routes routes' seen_routes its receiver counted shut connections all ports_are receivers_are served_are closed_are ran none its_are
-      receiver_is counted_is shut_is known_is before knows routes_is grown learnt =
+  pub ends : (ports ports' : List (List PortState)) (callers callers' : List (CallerState (Call Held PlaceState))) (receivers receivers' : List (ReceiverState (ArrivedState T))) (served served' : List ServedCounts)
+      (closed closed' : List (Option (List T))) (routes routes' : List Share) (seen_routes : KnownState) (its : List PortState) (caller : CallerState (Call Held PlaceState))
+      (receiver : ReceiverState (ArrivedState T)) (counted : ServedCounts) (shut : Option (List T)) (connections : ConnectionsState T)
+      → HaveEnded group seen counts given accepted ports callers receivers served closed routes → ports' ≡ ports ++ its ∷ [] → callers' ≡ callers ++ caller ∷ [] → receivers' ≡ receivers ++ receiver ∷ []
+      → served' ≡ served ++ counted ∷ [] → closed' ≡ closed ++ shut ∷ []
+      → HasRunTo group seen counts given accepted (run_of connections) → live connections ≡ 0 → its ≡ connections.supply.ports → caller ≡ connections.supply.desk → receiver ≡ connections.receiver
+      → counted ≡ connections.served → shut ≡ connections.closed → connections.supply.desk.parts ≡ 1 → seen_routes ≡ connections.supply.known → AreFirst routes routes'
+      → AreFirst seen_routes.shares routes' → HaveEnded group seen counts given accepted ports' callers' receivers' served' closed' routes'
+  ends ports ports' callers callers' receivers receivers' served served' closed closed' routes routes' seen_routes its caller receiver counted shut connections all ports_are callers_are receivers_are served_are closed_are
+      ran none its_are caller_is receiver_is counted_is shut_is part routes_is grown learnt =
       let run : Run T = ran.run in
-      let Begins : List (Call Held PlaceState) → Run T → Type 0 = λ those one. IsPrefix one.last.supply.desk those in
       let Knows : List Share → Run T → Type 0 = λ those one. AreFirst one.last.supply.known.shares those in
+      let OnePart : Run T → Type 0 = λ one. one.last.supply.desk.parts ≡ 1 in
       record {
         runs = all.runs ++ run ∷ [];
         whole = all_push (IsWholeRun group seen counts given accepted) all.runs run all.whole
@@ -106,6 +99,9 @@ module _ {T : Type 0} (group : ℕ → GroupId) (seen : Sights) (counts : T → 
         ports_are = ports_are ∙ ap (λ (l : List (List PortState)). l ++ its ∷ []) all.ports_are
             ∙ ap (λ (p : List PortState). map (λ (one : Run T). one.last.supply.ports) all.runs ++ p ∷ []) (its_are ∙ sym (ap (λ (state : RunState T). state.supply.ports) ran.here))
             ∙ sym (map_push (λ (one : Run T). one.last.supply.ports) all.runs run);
+        callers_are = callers_are ∙ ap (λ (l : List (CallerState (Call Held PlaceState))). l ++ caller ∷ []) all.callers_are
+            ∙ ap (λ (c : CallerState (Call Held PlaceState)). map (λ (one : Run T). one.last.supply.desk) all.runs ++ c ∷ []) (caller_is ∙ sym (ap (λ (state : RunState T). state.supply.desk) ran.here))
+            ∙ sym (map_push (λ (one : Run T). one.last.supply.desk) all.runs run);
         received_are = ap lists_of receivers_are ∙ map_push (λ (r : ReceiverState (ArrivedState T)). r.received) receivers receiver
             ∙ ap (λ (l : List (List (ArrivedState T))). l ++ receiver.received ∷ []) all.received_are
             ∙ ap (λ (r : List (ArrivedState T)). map (λ (one : Run T). one.last.received) all.runs ++ r ∷ [])
@@ -117,20 +113,18 @@ module _ {T : Type 0} (group : ℕ → GroupId) (seen : Sights) (counts : T → 
         closed_are = closed_are ∙ ap (λ (l : List (Option (List T))). l ++ shut ∷ []) all.closed_are
             ∙ ap (λ (c : Option (List T)). map (λ (one : Run T). one.last.closed) all.runs ++ c ∷ []) (shut_is ∙ sym (ap (λ (state : RunState T). state.closed) ran.here))
             ∙ sym (map_push (λ (one : Run T). one.last.closed) all.runs run);
-        told = all_push (Begins calls') all.runs run
-            (all_weaker (Begins calls) (Begins calls') (λ one begins. begins_longer one.last.supply.desk calls calls' begins before) all.runs all.told)
-            (subst (λ (l : List (Call Held PlaceState)). IsPrefix l calls') (known_is ∙ sym (ap (λ (state : RunState T). state.supply.desk) ran.here)) knows);
+        one_part = all_push OnePart all.runs run all.one_part (ap (λ (state : RunState T). state.supply.desk.parts) ran.here ∙ part);
         known = all_push (Knows routes') all.runs run
             (all_weaker (Knows routes) (Knows routes') (λ one knew. first_of_more one.last.supply.known.shares routes routes' knew grown) all.runs all.known)
             (subst (λ (k : KnownState). AreFirst k.shares routes') (routes_is ∙ sym (ap (λ (state : RunState T). state.supply.known) ran.here)) learnt);
       }
 
   -- what was sent came to them, as nothing is left where an end mark was received
-  pub serve : (sender : SenderState (ArrivedState T)) (sent : List (ArrivedState T)) (ports : List (List PortState)) (receivers : List (ReceiverState (ArrivedState T))) (served : List ServedCounts)
-      (closed : List (Option (List T))) (calls : List (Call Held PlaceState)) (routes : List Share) → sent ≡ sender.sent
-      → HaveEnded group seen counts given accepted ports receivers served closed calls routes
-      → IsSettled sender receivers → 0 < end_marks_received_by receivers → AreServed group seen counts given accepted sent calls routes ports served closed
-  serve sender sent ports receivers served closed calls routes same all settled some =
+  pub serve : (sender : SenderState (ArrivedState T)) (sent : List (ArrivedState T)) (ports : List (List PortState)) (callers : List (CallerState (Call Held PlaceState)))
+      (receivers : List (ReceiverState (ArrivedState T))) (served : List ServedCounts) (closed : List (Option (List T))) (routes : List Share) → sent ≡ sender.sent
+      → HaveEnded group seen counts given accepted ports callers receivers served closed routes
+      → IsSettled sender receivers → 0 < end_marks_received_by receivers → AreServed group seen counts given accepted sent routes ports callers served closed
+  serve sender sent ports callers receivers served closed routes same all settled some =
       let whole : sent ≡ settled.past = same ∙ settled.sent ∙ ap (λ (l : List (ArrivedState T)). settled.past ++ l) (settled.last some) ∙ append-nil settled.past in
       let Came : List (List (ArrivedState T)) → Type 0 = λ lists. IsInterleaving settled.past lists in
       record {
@@ -138,25 +132,27 @@ module _ {T : Type 0} (group : ℕ → GroupId) (seen : Sights) (counts : T → 
         whole = all.whole;
         came_to = subst (λ (l : List (ArrivedState T)). IsInterleaving l (map (λ (one : Run T). one.last.received) all.runs)) (sym whole) (subst Came all.received_are settled.received);
         ports_are = all.ports_are;
+        callers_are = all.callers_are;
         served_are = all.served_are;
         closed_are = all.closed_are;
-        told = all.told;
+        one_part = all.one_part;
         known = all.known;
       }
 
   -- and more is known of the routes
-  pub more_known : (sent : List (ArrivedState T)) (calls : List (Call Held PlaceState)) (routes routes' : List Share) (ports : List (List PortState)) (served : List ServedCounts)
-      (closed : List (Option (List T))) → AreFirst routes routes' → AreServed group seen counts given accepted sent calls routes ports served closed
-      → AreServed group seen counts given accepted sent calls routes' ports served closed
-  more_known sent calls routes routes' ports served closed grown workers =
+  pub more_known : (sent : List (ArrivedState T)) (routes routes' : List Share) (ports : List (List PortState)) (callers : List (CallerState (Call Held PlaceState))) (served : List ServedCounts)
+      (closed : List (Option (List T))) → AreFirst routes routes' → AreServed group seen counts given accepted sent routes ports callers served closed
+      → AreServed group seen counts given accepted sent routes' ports callers served closed
+  more_known sent routes routes' ports callers served closed grown workers =
       let Knows : List Share → Run T → Type 0 = λ those one. AreFirst one.last.supply.known.shares those in
       record {
         runs = workers.runs;
         whole = workers.whole;
         came_to = workers.came_to;
         ports_are = workers.ports_are;
+        callers_are = workers.callers_are;
         served_are = workers.served_are;
         closed_are = workers.closed_are;
-        told = workers.told;
+        one_part = workers.one_part;
         known = all_weaker (Knows routes) (Knows routes') (λ one knew. first_of_more one.last.supply.known.shares routes routes' knew grown) workers.runs workers.known;
       }

@@ -1,11 +1,11 @@
 -- The run of a pool: what each of its workers did, and which connections came to which of them.
 use Rattle.std.specs.Prelude.{◌≡◌, ℕ, List, map, length, sum_by, Option}
 use Rattle.std.specs.List.{AllByRecursion, AllZip}
-use mathlib.Core.List.{IsPrefix}
 use Rattle.transport.specs.declared.counts.Counts.{Counts}
 use Rattle.mqtt_topic.specs.Names.{Share}
 use Rattle.group_jobs.specs.Stamps.{Held}
 use Rattle.session_desk.specs.Calls.{Call}
+use Rattle.call_history.specs.Callers.{CallerState}
 use Rattle.group_queue.specs.Ports.{GroupId, PortState}
 use Rattle.broker_groups.specs.Answers.{Sights}
 use Rattle.group_queue.specs.Places.{PlaceState}
@@ -34,28 +34,31 @@ abbrev pub AreAllCounted : {T : Type 0} → List (ReceiverState T) → List Serv
 AreAllCounted receivers served = AllZip (λ receiver counted. AreCounted (length receiver.received) counted) receivers served
 
 module _ {T : Type 0} (group : ℕ → GroupId) (seen : Sights) (counts : T → Counts) (given accepted : T → Option (List ℕ)) where
-  -- workers ran to their ends, and gave this back, all in one order; what each knew of the desk is a beginning of these calls, and what it knew of the routes, of these shares
-  pub record HaveEnded (ports : List (List PortState)) (receivers : List (ReceiverState (ArrivedState T))) (served : List ServedCounts) (closed : List (Option (List T)))
-      (calls : List (Call Held PlaceState)) (routes : List Share) : Type 0 where
+  -- workers ran to their ends, and gave this back, all in one order: the ports, the callers of the desk, the ends of the channel, the counts, and the transports that were
+  -- closed; what each knew of the routes is a beginning of these shares
+  pub record HaveEnded (ports : List (List PortState)) (callers : List (CallerState (Call Held PlaceState))) (receivers : List (ReceiverState (ArrivedState T))) (served : List ServedCounts)
+      (closed : List (Option (List T))) (routes : List Share) : Type 0 where
     pub runs : List (Run T)
     pub whole : AllByRecursion (IsWholeRun group seen counts given accepted) runs
     pub ports_are : ports ≡ map (λ run. run.last.supply.ports) runs
+    pub callers_are : callers ≡ map (λ run. run.last.supply.desk) runs
     pub received_are : lists_of receivers ≡ map (λ run. run.last.received) runs
     pub served_are : served ≡ map (λ run. run.last.served) runs
     pub closed_are : closed ≡ map (λ run. run.last.closed) runs
-    pub told : AllByRecursion (λ run. IsPrefix run.last.supply.desk calls) runs
+    pub one_part : AllByRecursion (λ run. run.last.supply.desk.parts ≡ 1) runs
     pub known : AllByRecursion (λ run. AreFirst run.last.supply.known.shares routes) runs
 
-  -- **The run of a pool**: each worker ran to its end, through ports through which nothing was published before. These connections came, in this order, each to one of
-  -- the workers, once (`came_to`). The ports and the counts are those that the runs ended with, and so are the transports that were closed, each as it was then, all in
-  -- one order; what each worker knew of the desk is a beginning of these calls; and what it knew of the routes is a beginning of these shares, slot by slot
-  pub record AreServed (came : List (ArrivedState T)) (calls : List (Call Held PlaceState)) (routes : List Share) (ports : List (List PortState)) (served : List ServedCounts)
+  -- **The run of a pool**: each worker ran to its end, through ports through which nothing was published before, and as a caller of the desk that had made no call. These
+  -- connections came, in this order, each to one of the workers, once (`came_to`). The ports, the callers and the counts are those that the runs ended with, and so are the
+  -- transports that were closed, each as it was then, all in one order; and what each worker knew of the routes is a beginning of these shares, slot by slot
+  pub record AreServed (came : List (ArrivedState T)) (routes : List Share) (ports : List (List PortState)) (callers : List (CallerState (Call Held PlaceState))) (served : List ServedCounts)
       (closed : List (Option (List T))) : Type 0 where
     pub runs : List (Run T)
     pub whole : AllByRecursion (IsWholeRun group seen counts given accepted) runs
     pub came_to : IsInterleaving came (map (λ run. run.last.received) runs)
     pub ports_are : ports ≡ map (λ run. run.last.supply.ports) runs
+    pub callers_are : callers ≡ map (λ run. run.last.supply.desk) runs
     pub served_are : served ≡ map (λ run. run.last.served) runs
     pub closed_are : closed ≡ map (λ run. run.last.closed) runs
-    pub told : AllByRecursion (λ run. IsPrefix run.last.supply.desk calls) runs
+    pub one_part : AllByRecursion (λ run. run.last.supply.desk.parts ≡ 1) runs
     pub known : AllByRecursion (λ run. AreFirst run.last.supply.known.shares routes) runs

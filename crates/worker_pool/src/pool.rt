@@ -1,11 +1,10 @@
 //! A pool of workers, and its run.
 ghost use Rattle.std.specs.Prelude.{◌≡◌, ◌+◌, ◌<◌, ◌≤◌, ◌^◌, List, [], All, length, map, vec_capacity, IfOk, IfErr, MatchResult};
-ghost use mathlib.Core.List.{IsPrefix};
 ghost use Rattle.conn_channel.specs.Ends.{AreOf, end_marks_received_by, new_receiver};
-ghost use Rattle.broker_groups.specs.Naming.{AreUnsent};
+ghost use Rattle.worker_connections.specs.Handles.{IsUnused};
 ghost use Rattle.worker_pool.specs.Accepting.{Gave, arrivals};
 ghost use Rattle.worker_pool.specs.Pools.{AreAllCounted, AreServed, CountsAll, HaveEnded, total_in};
-ghost use Rattle.worker_pool.specs.Workers.{HasServed, IsHired};
+ghost use Rattle.worker_pool.specs.Workers.{HasServed, IsHired, worker_ties};
 
 use crate::accepting::{Acceptor, Closer, Taken};
 use crate::provision::{Provision, provide};
@@ -13,11 +12,10 @@ use crate::running::run_all;
 use crate::setup::PoolSetup;
 use crate::watching::Watch;
 use bell::Wake;
-use broker_groups::{Broker, BrokerPlace};
+use broker_groups::Broker;
 use broker_worker::{Mailboxes, Worker, WorkerParts};
 use call_history::HistoryName;
 use conn_channel::{Receiver, Sender};
-use shared_desk::DeskView;
 use shared_routes::KnownRoutes;
 use shared_supply::SharedBroker;
 use std::alloc::Global;
@@ -29,9 +27,9 @@ use worker_connections::{Arrived, Poller, Returned, ServedCounts, WorkerHandle};
 
 /// What a pool gives back.
 #[derive(Drop)]
-pub struct Pooled<B: Broker, S, Q> {
+pub struct Pooled<B: Broker, N: HistoryName, S, Q> {
     /// What its workers had of the broker.
-    pub handles: Vec<WorkerHandle<B>>,
+    pub handles: Vec<WorkerHandle<B, N>>,
     /// How the connections of each worker ended.
     pub served: Vec<ServedCounts>,
     /// Where they came from, and how many.
@@ -41,17 +39,17 @@ pub struct Pooled<B: Broker, S, Q> {
 }
 
 /// A pool that was not begun, for lack of memory: no connection was taken. What its workers were to have comes back.
-pub struct Unbegun<B: Broker, S> {
-    pub handles: Vec<WorkerHandle<B>>,
+pub struct Unbegun<B: Broker, N: HistoryName, S> {
+    pub handles: Vec<WorkerHandle<B, N>>,
     pub source: S,
 }
 
 /// Serves the connections of a source with as many workers as there are handles, each in a thread of its own, until the source has ended or failed, the
 /// broker's gate is shut, and all connections have ended. A thread of its own takes the connections, and another one watches the input. Where the source fails, the gate
-/// is shut. Nothing was published through the ports of the handles before.
+/// is shut. The handles are unused: nothing was published through their ports, and their callers of the desk made no call.
 ///
 /// All that workers had of the broker comes back, and so do their pollers, with what they closed. Each connection that the source gave came to one worker, once, and is in
-/// its run, from its opening to its end (`served`). Then the pass knows what each worker knew of the calls of the desk, and `routes` was told of the shares that each knew.
+/// its run, from its opening to its end (`served`). Then `routes` was told of the shares that each knew.
 ///
 /// # Errors
 ///
@@ -72,30 +70,28 @@ pub fn run<
     rt: &R,
     alloc: Global,
     shared_broker: &SharedBroker<'_, B, N>,
-    handles: Vec<WorkerHandle<B>>,
+    handles: Vec<WorkerHandle<B, N>>,
     setup: PoolSetup<'_, T, Q, W, X, C>,
     source: S,
     closer: Closer<'_, B>,
     watch: &mut D,
     input: &mut I,
     routes: &mut KnownRoutes<'_>,
-    me: &mut DeskView<BrokerPlace<B>, N>,
-) -> Result<Pooled<B, S, Q>, Unbegun<B, S>>
+) -> Result<Pooled<B, N, S, Q>, Unbegun<B, N, S>>
 where
     B::Seen: Send + Sync,
     requires workers { (1 ≤ length handles.items) × (length handles.items ≤ 64) }
     requires setup { length setup.worker_io.items ≡ length handles.items }
-    requires unsent { All (λ handle. AreUnsent handle.ports) handles.items }
+    requires unused { All (λ handle. IsUnused handle.ports handle.desk) handles.items }
     requires routes { routes.old.table ≡ shared_broker.now }
     ensures handles { MatchResult result (λ pooled. length pooled.handles.items ≡ length handles.items) (λ unbegun. length unbegun.handles.items ≡ length handles.items) }
     ensures taken { IfOk result (λ pooled. (S.tally pooled.taken.source).arrivals ≡ (S.tally source).arrivals + pooled.taken.came) }
     ensures served { IfOk result (λ pooled. (came : List T) × Gave S.arrived source came pooled.taken.source × (pooled.taken.came ≡ length came)
-        × AreServed B.group B.Seen.Witness T.counts T.given T.accepted (arrivals setup.entry.max_inflight came) me.new routes.new.told (map (λ handle. handle.ports) pooled.handles.items) pooled.served.items (map Q.closed pooled.pollers.items)) }
+        × AreServed B.group B.Seen.Witness T.counts T.given T.accepted (arrivals setup.entry.max_inflight came) routes.new.told (map (λ handle. handle.ports) pooled.handles.items) (map (λ handle. handle.desk) pooled.handles.items) pooled.served.items (map Q.closed pooled.pollers.items)) }
     ensures counted { IfOk result (λ pooled. pooled.taken.came < 2 ^ 64 → pooled.taken.came ≡ total_in pooled.served.items) }
     ensures watched { IfOk result (λ _. D.has_watched watch.old watch.new input.old input.new) }
     ensures untouched { IfErr result (λ unbegun. unbegun.source ≡ source) }
     ensures routes { routes.new ≡ record routes.old { told = routes.new.told } }
-    ensures told { IsPrefix me.old me.new }
 {
     let PoolSetup {
         worker_io,
@@ -141,7 +137,6 @@ where
         served,
         pollers,
         routes,
-        me,
     ))
 }
 
@@ -161,7 +156,7 @@ fn hire<
     rt: &'a R,
     alloc: Global,
     shared_broker: &'a SharedBroker<'g, B, N>,
-    handles: Vec<WorkerHandle<B>>,
+    handles: Vec<WorkerHandle<B, N>>,
     all_worker_parts: Vec<WorkerParts<T, Q, W, C>>,
     mailboxes: &'a Mailboxes<W>,
     crossing: &'a X,
@@ -169,15 +164,15 @@ fn hire<
 ) -> Result<
     (
         Vec<Worker<'a, 'g, B, N, T, Q, W, X, C, R>>,
-        Vec<WorkerHandle<B>>,
+        Vec<WorkerHandle<B, N>>,
     ),
-    Vec<WorkerHandle<B>>,
+    Vec<WorkerHandle<B, N>>,
 >
     requires count { length handles.items ≤ 64 }
     requires all_worker_parts { length all_worker_parts.items ≡ length handles.items }
-    requires unsent { All (λ handle. AreUnsent handle.ports) handles.items }
+    requires unused { All (λ handle. IsUnused handle.ports handle.desk) handles.items }
     requires each { All (λ worker_parts. worker_parts ≡ new_receiver sender.now.channel) all_worker_parts.items }
-    ensures hired { IfOk result (λ made. (length made.0.items ≡ length handles.items) × All (IsHired (sender.now.channel, shared_broker.now)) made.0.items) }
+    ensures hired { IfOk result (λ made. (length made.0.items ≡ length handles.items) × All (IsHired (worker_ties sender.now.channel shared_broker.now)) made.0.items) }
     ensures handles { IfOk result (λ made. (made.1.items ≡ []) × (length handles.items ≤ vec_capacity made.1)) }
     ensures back { IfErr result (λ back. length back.items ≡ length handles.items) }
 {
@@ -222,7 +217,7 @@ fn release<
     X: Crossing,
     C: Clock + Drop,
     R: Wait,
->(workers: Vec<Worker<'a, 'g, B, N, T, Q, W, X, C, R>>, handles: &mut Vec<WorkerHandle<B>>)
+>(workers: Vec<Worker<'a, 'g, B, N, T, Q, W, X, C, R>>, handles: &mut Vec<WorkerHandle<B, N>>)
     requires { length handles.old.items + length workers.items ≤ vec_capacity handles.old }
     ensures { length handles.new.items ≡ length handles.old.items + length workers.entry.items }
 {
@@ -233,7 +228,6 @@ fn release<
             receiver: _,
             served: _,
             known: _,
-            pass: _,
             poller,
         } = worker.into_parts();
         drop(poller);
@@ -259,14 +253,13 @@ fn retire<
     shared_broker: &SharedBroker<'g, B, N>,
     acceptor: Acceptor<'a, B, T, S, W>,
     workers: Vec<Worker<'a, 'g, B, N, T, Q, W, X, C, R>>,
-    handles: Vec<WorkerHandle<B>>,
+    handles: Vec<WorkerHandle<B, N>>,
     receivers: Vec<Receiver<Arrived<T>>>,
     served: Vec<ServedCounts>,
     pollers: Vec<Q>,
     routes: &mut KnownRoutes<'_>,
-    me: &mut DeskView<BrokerPlace<B>, N>,
-) -> Pooled<B, S, Q>
-    requires workers { All (HasServed (acceptor.sender.channel, shared_broker.now)) workers.items }
+) -> Pooled<B, N, S, Q>
+    requires workers { All (HasServed (worker_ties acceptor.sender.channel shared_broker.now)) workers.items }
     requires routes { routes.old.table ≡ shared_broker.now }
     requires count { (1 ≤ length workers.items) × (length workers.items ≡ acceptor.sender.receivers) }
     requires handles { (handles.items ≡ []) × (length workers.items ≤ vec_capacity handles) }
@@ -276,9 +269,8 @@ fn retire<
     ensures handles { length result.handles.items ≡ length workers.entry.items }
     ensures source { result.taken.source ≡ acceptor.entry.source }
     ensures came { result.taken.came ≡ length acceptor.entry.sender.sent }
-    ensures served { AreServed B.group B.Seen.Witness T.counts T.given T.accepted acceptor.entry.sender.sent me.new routes.new.told (map (λ handle. handle.ports) result.handles.items) result.served.items (map Q.closed result.pollers.items) }
+    ensures served { AreServed B.group B.Seen.Witness T.counts T.given T.accepted acceptor.entry.sender.sent routes.new.told (map (λ handle. handle.ports) result.handles.items) (map (λ handle. handle.desk) result.handles.items) result.served.items (map Q.closed result.pollers.items) }
     ensures counted { CountsAll result.taken.came result.served.items }
-    ensures told { IsPrefix me.old me.new }
     ensures routes { routes.new ≡ record routes.old { told = routes.new.told } }
 {
     let mut handles = handles;
@@ -294,7 +286,6 @@ fn retire<
         &mut served,
         &mut pollers,
         routes,
-        me,
     );
     let (sender, taken) = acceptor.into_parts();
     sender.settle(receivers);
@@ -322,14 +313,13 @@ fn gather<
     shared_broker: &SharedBroker<'g, B, N>,
     workers: Vec<Worker<'a, 'g, B, N, T, Q, W, X, C, R>>,
     sender: &Sender<Arrived<T>>,
-    handles: &mut Vec<WorkerHandle<B>>,
+    handles: &mut Vec<WorkerHandle<B, N>>,
     receivers: &mut Vec<Receiver<Arrived<T>>>,
     served: &mut Vec<ServedCounts>,
     pollers: &mut Vec<Q>,
     routes: &mut KnownRoutes<'_>,
-    me: &mut DeskView<BrokerPlace<B>, N>,
 )
-    requires workers { All (HasServed (sender.now.channel, shared_broker.now)) workers.items }
+    requires workers { All (HasServed (worker_ties sender.now.channel shared_broker.now)) workers.items }
     requires routes { routes.old.table ≡ shared_broker.now }
     requires handles { length handles.old.items + length workers.items ≤ vec_capacity handles.old }
     requires receivers { length receivers.old.items + length workers.items ≤ vec_capacity receivers.old }
@@ -337,14 +327,13 @@ fn gather<
     requires pollers { length pollers.old.items + length workers.items ≤ vec_capacity pollers.old }
     requires of { AreOf sender.now.channel receivers.old.items }
     requires all { AreAllCounted receivers.old.items served.old.items }
-    requires ended { HaveEnded B.group B.Seen.Witness T.counts T.given T.accepted (map (λ handle. handle.ports) handles.old.items) receivers.old.items served.old.items (map Q.closed pollers.old.items) me.old routes.old.told }
+    requires ended { HaveEnded B.group B.Seen.Witness T.counts T.given T.accepted (map (λ handle. handle.ports) handles.old.items) (map (λ handle. handle.desk) handles.old.items) receivers.old.items served.old.items (map Q.closed pollers.old.items) routes.old.told }
     ensures handles { length handles.new.items ≡ length handles.old.items + length workers.entry.items }
     ensures receivers { length receivers.new.items ≡ length receivers.old.items + length workers.entry.items }
     ensures of { AreOf sender.now.channel receivers.new.items }
     ensures marks { end_marks_received_by receivers.new.items ≡ end_marks_received_by receivers.old.items + length workers.entry.items }
     ensures all { AreAllCounted receivers.new.items served.new.items }
-    ensures ended { HaveEnded B.group B.Seen.Witness T.counts T.given T.accepted (map (λ handle. handle.ports) handles.new.items) receivers.new.items served.new.items (map Q.closed pollers.new.items) me.new routes.new.told }
-    ensures told { IsPrefix me.old me.new }
+    ensures ended { HaveEnded B.group B.Seen.Witness T.counts T.given T.accepted (map (λ handle. handle.ports) handles.new.items) (map (λ handle. handle.desk) handles.new.items) receivers.new.items served.new.items (map Q.closed pollers.new.items) routes.new.told }
     ensures routes { routes.new ≡ record routes.old { told = routes.new.told } }
 {
     let mut workers = workers;
@@ -354,7 +343,6 @@ fn gather<
             receiver,
             served: counts,
             mut known,
-            pass,
             poller,
         } = worker.into_parts();
         handles.push_reserved(handle);
@@ -362,7 +350,6 @@ fn gather<
         served.push_reserved(counts);
         pollers.push_reserved(poller);
         known.publish(routes);
-        shared_broker.agree(me, pass);
     }
     workers.destroy_empty();
 }

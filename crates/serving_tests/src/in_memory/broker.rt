@@ -11,7 +11,7 @@ use conn_rules::MaxInflight;
 use gate_word::{Gate, GateSeat};
 use group_jobs::Envelope;
 use group_queue::Nobody;
-use shared_desk::{DeskView, OpenedDesk};
+use shared_desk::OpenedDesk;
 use std::alloc::{AllocError, Global};
 use std::marker::Brand;
 use std::rt::Clock;
@@ -62,13 +62,16 @@ fn count_reports(ended: Ended<'_>) -> usize {
 }
 
 /// What came of a broker that was served to its end.
-fn told_of<S: Drop>(outcome: Outcome<'_, Nobody, S, AlwaysReady>) -> Told {
+fn told_of<B: Broker<Seen = Nobody>, N: HistoryName, S: Drop>(
+    outcome: Outcome<'_, B, N, S, AlwaysReady>,
+) -> Told {
     let Outcome {
         ended,
         shares: _,
         served,
         taken,
         pollers: _,
+        caller: _,
         drained: _,
     } = outcome;
     let mut well = 0u64;
@@ -118,9 +121,8 @@ fn attend<
     workers: u8,
     source: S,
     closers: Closers<'_, B>,
-    pass: &mut DeskView<BrokerPlace<B>, N>,
 ) -> Option<Told>
-    requires { broker ≡ workers }
+    requires { broker.workers ≡ workers }
 {
     let count = usize::from(workers);
     let Ok((worker_io, alarms)) = worker_io_for(alloc, count) else {
@@ -147,7 +149,6 @@ fn attend<
         closers,
         &mut NothingToWatch,
         &mut (),
-        pass,
     );
     Some(told_of(served.ok()?))
 }
@@ -205,16 +206,15 @@ fn live_with<
     requires desk { desk ≡ N.history }
 {
     let mut seats = seats;
-    let Ok((broker, mut pass)) = OpenBroker::<B, N>::open(
-        rt, alloc, gate, &mut seats, opened, desk, workers,
-    ) else {
+    let Ok(broker) = OpenBroker::<B, N>::open(rt, alloc, gate, &mut seats, opened, desk, workers)
+    else {
         return None;
     };
     let closers = Closers {
         accepting: Closer::take(gate, &mut seats),
         ending: Closer::take(gate, &mut seats),
     };
-    attend(rt, alloc, broker, workers, source, closers, &mut pass)
+    attend(rt, alloc, broker, workers, source, closers)
 }
 
 /// Opens a broker of so many workers, and serves what comes from a source until that has ended. `None` where an allocation fails.

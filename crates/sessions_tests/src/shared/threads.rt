@@ -41,7 +41,7 @@ fn both<D: HistoryName + Send + Sync, R: Threads + Wait + Sync>(
     requires { opened ≡ D.history }
 {
     let (desk, mut one) = opened.name::<D>();
-    let mut other = desk.pass(&mut one);
+    let mut other = desk.share(&mut one);
     let counts = join(
         rt,
         || visits(rt, &desk, &mut one, 0, b"a"),

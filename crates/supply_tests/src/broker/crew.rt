@@ -33,9 +33,9 @@ pub(crate) trait Crew {
 
 /// A worker that is to work.
 #[derive(Drop)]
-struct Job<B: Broker> {
+struct Job<B: Broker, N: HistoryName> {
     number: u8,
-    handle: WorkerHandle<B>,
+    handle: WorkerHandle<B, N>,
 }
 
 /// What became of all workers.
@@ -67,7 +67,7 @@ fn work<B: Broker, N: HistoryName, C: Crew, R: Wait>(
     alloc: Global,
     shared_broker: &SharedBroker<'_, B, N>,
     crew: &C,
-    job: Job<B>,
+    job: Job<B, N>,
 ) -> OneBack<B> {
     let Job { number, handle } = job;
     match supply_of(rt, alloc, shared_broker, handle) {
@@ -87,7 +87,10 @@ fn work<B: Broker, N: HistoryName, C: Crew, R: Wait>(
 }
 
 /// The workers that are to work.
-fn jobs_of<B: Broker>(alloc: Global, handles: Vec<WorkerHandle<B>>) -> Vec<Job<B>> {
+fn jobs_of<B: Broker, N: HistoryName>(
+    alloc: Global,
+    handles: Vec<WorkerHandle<B, N>>,
+) -> Vec<Job<B, N>> {
     let mut jobs = Vec::new(alloc);
     let mut number = 0u8;
     for handle in handles {
@@ -127,7 +130,7 @@ fn work_all<
     rt: &R,
     alloc: Global,
     shared_broker: &SharedBroker<'_, B, N>,
-    handles: Vec<WorkerHandle<B>>,
+    handles: Vec<WorkerHandle<B, N>>,
     crew: &C,
 ) -> Back<B> {
     match thread::map_vec(
@@ -156,6 +159,7 @@ fn live<M: BrokerName + Send + Sync, C: Crew + Sync, R: Threads + Wait + Sync>(
     requires gate { gate.now ≡ M.gate }
     requires seats { AreSeatsOf gate.now seats.items }
     requires opened { IsOfBroker M.gate M.group workers opened }
+    requires workers { workers ≤ 63 }
 {
     match OpenedDesk::open(alloc) {
         Ok(desk) => live_with::<Witnessed<M, Nobody>, Brand, C, R>(
@@ -187,6 +191,7 @@ fn live_with<
     requires gate { gate.now ≡ B.gate }
     requires seats { AreSeatsOf gate.now seats.items }
     requires opened { IsOfBroker B.gate B.group workers opened }
+    requires workers { workers ≤ 63 }
     requires desk { desk ≡ N.history }
 {
     let Built {

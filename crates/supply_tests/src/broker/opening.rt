@@ -1,5 +1,5 @@
 //! A broker that is opened, and what is done with it.
-ghost use Rattle.std.specs.Prelude.{◌≡◌, ◌≤◌, ◌<◌, IfSome};
+ghost use Rattle.std.specs.Prelude.{◌≡◌, ◌≤◌, ◌<◌, length, IfSome};
 ghost use Rattle.gate_word.specs.Seats.{AreSeatsOf};
 ghost use Rattle.broker_groups.specs.Naming.{IsOfBroker};
 
@@ -7,7 +7,7 @@ use broker_groups::{Broker, BrokerName, BrokerPlace, Key, Named, Opened, Ports, 
 use call_history::HistoryName;
 use gate_word::{Gate, GateSeat};
 use group_queue::Nobody;
-use shared_desk::{DeskView, OpenedDesk};
+use shared_desk::{DeskView, OpenedDesk, SharedDesk};
 use shared_routes::SharedRoutes;
 use shared_supply::SharedBroker;
 use std::alloc::Global;
@@ -16,15 +16,16 @@ use std::sync::Wait;
 
 /// What a worker has of a broker.
 #[derive(Drop)]
-pub(crate) struct WorkerHandle<B: Broker> {
+pub(crate) struct WorkerHandle<B: Broker, N: HistoryName> {
     pub(crate) key: Key<B>,
     pub(crate) ports: Ports<B>,
+    pub(crate) desk: DeskView<BrokerPlace<B>, N>,
 }
 
-/// A broker that is open: its shared broker, what each worker has, a key for who shuts the gate, and a pass of its desk for who ends it.
+/// A broker that is open: its shared broker, what each worker has, a key for who shuts the gate, and a caller of its desk for who ends it.
 pub(crate) struct Built<'g, B: Broker, N: HistoryName> {
     pub(crate) shared_broker: SharedBroker<'g, B, N>,
-    pub(crate) handles: Vec<WorkerHandle<B>>,
+    pub(crate) handles: Vec<WorkerHandle<B, N>>,
     pub(crate) spare: Key<B>,
     pub(crate) pass: DeskView<BrokerPlace<B>, N>,
 }
@@ -67,21 +68,25 @@ fn take_key<B: Broker>(gate: &Gate, seats: &mut Vec<GateSeat>) -> Option<Key<B>>
     }
 }
 
-/// What each worker has: a seat and ports.
-fn take_ports<B: Broker>(
+/// What each worker has: a seat, ports and a caller of the desk.
+fn take_ports<B: Broker, N: HistoryName>(
     alloc: Global,
     gate: &Gate,
     seats: &mut Vec<GateSeat>,
+    desk: &SharedDesk<BrokerPlace<B>, N>,
+    caller: &mut DeskView<BrokerPlace<B>, N>,
     ports: Vec<Ports<B>>,
-) -> Vec<WorkerHandle<B>>
+) -> Vec<WorkerHandle<B, N>>
     requires gate { gate.now ≡ B.gate }
     requires seats { AreSeatsOf gate.now seats.old.items }
+    requires parts { length ports.items < caller.old.parts }
 {
     let mut handles = Vec::new(alloc);
     let mut left = ports;
     'handles: while let Some(ports) = left.pop() {
         if let Some(key) = take_key(gate, seats) {
-            if let Err(refused) = handles.push(WorkerHandle { key, ports }) {
+            let desk = desk.share(caller);
+            if let Err(refused) = handles.push(WorkerHandle { key, ports, desk }) {
                 drop(refused);
             }
         }
@@ -103,6 +108,7 @@ pub(crate) fn build<'g, B: Broker<Seen = Nobody>, N: HistoryName, R: Wait>(
     requires desk { desk ≡ N.history }
     requires seats { AreSeatsOf gate.now seats.items }
     requires opened { IsOfBroker B.gate B.group workers opened }
+    requires workers { workers ≤ 63 }
 {
     let Named {
         groups,
@@ -123,7 +129,7 @@ pub(crate) fn build<'g, B: Broker<Seen = Nobody>, N: HistoryName, R: Wait>(
     };
     let (desk, mut pass) = desk.name::<N>();
     desk.take_places(rt, &mut pass, places);
-    let handles = take_ports(alloc, gate, &mut seats, ports);
+    let handles = take_ports(alloc, gate, &mut seats, &desk, &mut pass, ports);
     let shared_broker = SharedBroker::new(gate, groups, desk, SharedRoutes::new(alloc));
     Some(Built {
         shared_broker,
@@ -146,6 +152,7 @@ fn live<M: BrokerName, D: Day, R: Wait>(
     requires gate { gate.now ≡ M.gate }
     requires seats { AreSeatsOf gate.now seats.items }
     requires opened { IsOfBroker M.gate M.group workers opened }
+    requires workers { workers ≤ 63 }
 {
     match OpenedDesk::open(alloc) {
         Ok(desk) => live_with::<Witnessed<M, Nobody>, Brand, D, R>(
@@ -172,6 +179,7 @@ fn live_with<B: Broker<Seen = Nobody>, N: HistoryName, D: Day, R: Wait>(
     requires gate { gate.now ≡ B.gate }
     requires seats { AreSeatsOf gate.now seats.items }
     requires opened { IsOfBroker B.gate B.group workers opened }
+    requires workers { workers ≤ 63 }
     requires desk { desk ≡ N.history }
 {
     match build::<B, N, R>(rt, alloc, gate, seats, opened, desk, workers) {

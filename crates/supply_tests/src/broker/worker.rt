@@ -30,11 +30,11 @@ pub(crate) fn supply_of<'a, 'g, B: Broker, N: HistoryName, R: Wait>(
     rt: &'a R,
     alloc: Global,
     shared_broker: &'a SharedBroker<'g, B, N>,
-    handle: WorkerHandle<B>,
+    handle: WorkerHandle<B, N>,
 ) -> Result<SharedSupply<'a, 'g, B, N, R>, Ports<B>> {
-    let WorkerHandle { key, ports } = handle;
+    let WorkerHandle { key, ports, desk } = handle;
     match shared_broker.observe_routes(alloc) {
-        Ok(known) => Ok(SharedSupply::new(rt, alloc, shared_broker, key, ports, known)),
+        Ok(known) => Ok(SharedSupply::new(rt, alloc, shared_broker, key, ports, known, desk)),
         Err(_) => Err(ports),
     }
 }
@@ -45,7 +45,7 @@ fn work<B: Broker, N: HistoryName, H: Shift, R: Wait>(
     alloc: Global,
     gate: &Gate,
     shared_broker: &SharedBroker<'_, B, N>,
-    handle: WorkerHandle<B>,
+    handle: WorkerHandle<B, N>,
     spare: Key<B>,
     shift: &mut H,
 ) -> Ports<B>

@@ -97,7 +97,7 @@ fn act<B: Broker, N: HistoryName, R: Wait>(
     alloc: Global,
     gate: &Gate,
     shared_broker: &SharedBroker<'_, B, N>,
-    handle: WorkerHandle<B>,
+    handle: WorkerHandle<B, N>,
     spare: Key<B>,
     told: &mut Told,
 ) -> (Option<Out<B>>, Ports<B>)

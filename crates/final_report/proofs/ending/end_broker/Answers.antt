@@ -6,5 +6,5 @@ use Rattle.final_report.proofs.ending.end_broker.Goals as goal
 pub returns-clause-kept : goal.returns-clause-kept
 returns-clause-kept g c =
     IfOk-weaker c.finish.result _ _
-    (λ ended e. kept g.B.Broker.group c.finish.new.me c.args.ports.items ended.answers.items ended.strangers.items c.one_fate_law.ensures c.lawful_end_law.ensures e)
+    (λ ended e. kept g.B.Broker.group c.finish.new.me.calls c.args.ports.items ended.answers.items ended.strangers.items c.one_fate_law.ensures c.lawful_end_law.ensures e)
     c.finish.ensures.ended

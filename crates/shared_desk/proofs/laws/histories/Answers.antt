@@ -8,4 +8,4 @@ pub returns-clause-made : goal.returns-clause-made
 returns-clause-made g c before after call history = was_made g.P.HoldingPlace.has_out g.P.Place.slot_of g.P.Place.number_of before after call history
 
 pub returns-clause-told : goal.returns-clause-told
-returns-clause-told g c known now call told = was_told g.P.HoldingPlace.has_out g.P.Place.slot_of g.P.Place.number_of known now call told
+returns-clause-told g c old new call told = was_told g.P.HoldingPlace.has_out g.P.Place.slot_of g.P.Place.number_of old new call told

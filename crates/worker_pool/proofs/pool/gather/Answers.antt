@@ -1,29 +1,27 @@
 -- One worker more has given back what it had.
-use Rattle.std.proofs.Common.{◌≡◌, ℕ, ◌++◌, List, [], ◌∷◌, Some, length, map, ◌∙◌, ap, subst, sym, arith}
+use Rattle.std.proofs.Common.{◌≡◌, ◌++◌, List, [], ◌∷◌, Some, length, map, ◌∙◌, ap, subst, sym, arith}
 use Rattle.std.proofs.Math.ListN.{length-append}
 use Rattle.std.proofs.lemmas.List.Elements.{All-pop, All-push, All-same}
 use Rattle.std.proofs.lemmas.List.Sums.{sum_by_push}
-use Rattle.conn_channel.specs.Ends.{ChannelId, ReceiverState, end_marks_received_by}
+use Rattle.conn_channel.specs.Ends.{ReceiverState, end_marks_received_by}
 use Rattle.shared_routes.specs.Known.{KnownState}
 use Rattle.worker_connections.specs.declared.handle.WorkerHandle.{WorkerHandle}
 use Rattle.worker_connections.specs.Arrivals.{ArrivedState}
-use Rattle.worker_connections.specs.Serving.{AreCounted}
-use Rattle.worker_pool.specs.Workers.{HasServed}
-use Rattle.worker_pool.proofs.Gathered.{begins_longer, counts_one_more, ends, map_push}
+use Rattle.worker_connections.specs.Serving.{AreCounted, Ties}
+use Rattle.worker_pool.specs.Workers.{HasServed, worker_ties}
+use Rattle.worker_pool.proofs.Gathered.{counts_one_more, ends, map_push}
 use Rattle.worker_pool.proofs.pool.gather.Goals as goal
 
 pub publish-requires : goal.publish-requires
 publish-requires g c =
-    let Ties : Type 0 = ChannelId (ArrivedState g.row.T.Denot) × List ℕ in
-    let split = All-pop (HasServed (c.args.sender.now.channel, c.args.shared_broker.now)) c.workers.workers.items c.pop.new.self.items (Some c.in-Some.worker) c.in-Some.ensures.items c.workers.invariant.workers in
+    let split = All-pop (HasServed (worker_ties c.args.sender.now.channel c.args.shared_broker.now)) c.workers.workers.items c.pop.new.self.items (Some c.in-Some.worker) c.in-Some.ensures.items c.workers.invariant.workers in
     let known = c.into_parts-handle.ensures.known split.1.1.none_live in
-    c.workers.invariant.table ∙ sym (ap (λ (k : KnownState). k.table) known ∙ ap (λ (ties : Ties). ties.1) split.1.0)
+    c.workers.invariant.table ∙ sym (ap (λ (k : KnownState). k.table) known ∙ ap (λ (its : Ties g.row.T.Denot). its.table) split.1.0)
 
 pub workers-preserved : goal.workers-preserved
 workers-preserved g c =
-    let split = All-pop (HasServed (c.args.sender.now.channel, c.args.shared_broker.now)) c.workers.workers.items c.pop.new.self.items (Some c.in-Some.worker) c.in-Some.ensures.items c.workers.invariant.workers in
+    let split = All-pop (HasServed (worker_ties c.args.sender.now.channel c.args.shared_broker.now)) c.workers.workers.items c.pop.new.self.items (Some c.in-Some.worker) c.in-Some.ensures.items c.workers.invariant.workers in
     let done = split.1 in
-    let Ties : Type 0 = ChannelId (ArrivedState g.row.T.Denot) × List ℕ in
     let left = simp length-append at (ap length c.in-Some.ensures.items) in
     let handles = simp length-append at (ap length c.push_reserved.ensures.items) in
     let receivers = simp length-append at (ap length c.push_reserved-in-Some.ensures.items) in
@@ -36,7 +34,8 @@ workers-preserved g c =
     let mark = ap (λ (r : ReceiverState (ArrivedState g.row.T.Denot)). r.end_marks_received) is in
     let marks = ap (λ (rs : List (ReceiverState (ArrivedState g.row.T.Denot))). end_marks_received_by rs) c.push_reserved-in-Some.ensures.items ∙ sum_by_push (λ (r : ReceiverState (ArrivedState g.row.T.Denot)). r.end_marks_received) c.workers.receivers.items receiver in
     let none = done.1.none_live in
-    let ports = ap (λ (l : List (WorkerHandle g.row.B.Denot g.row.B-Seen.Denot)). map (λ (handle : WorkerHandle g.row.B.Denot g.row.B-Seen.Denot). handle.ports) l) c.push_reserved.ensures.items ∙ map_push (λ (handle : WorkerHandle g.row.B.Denot g.row.B-Seen.Denot). handle.ports) c.workers.handles.items returned.handle in
+    let ports = ap (λ (l : List (WorkerHandle g.row.B.Denot g.row.N.Denot g.row.B-Seen.Denot)). map (λ (handle : WorkerHandle g.row.B.Denot g.row.N.Denot g.row.B-Seen.Denot). handle.ports) l) c.push_reserved.ensures.items ∙ map_push (λ (handle : WorkerHandle g.row.B.Denot g.row.N.Denot g.row.B-Seen.Denot). handle.ports) c.workers.handles.items returned.handle in
+    let callers = ap (λ (l : List (WorkerHandle g.row.B.Denot g.row.N.Denot g.row.B-Seen.Denot)). map (λ (handle : WorkerHandle g.row.B.Denot g.row.N.Denot g.row.B-Seen.Denot). handle.desk) l) c.push_reserved.ensures.items ∙ map_push (λ (handle : WorkerHandle g.row.B.Denot g.row.N.Denot g.row.B-Seen.Denot). handle.desk) c.workers.handles.items returned.handle in
     let shut = ap (λ (l : List g.row.Q.Denot). map g.Q.Poller.closed l) c.push_reserved-in-Some-3.ensures.items ∙ map_push g.Q.Poller.closed c.workers.pollers.items returned.poller in
     let published = c.publish.ensures.told in
     record {
@@ -51,19 +50,18 @@ workers-preserved g c =
       pollers_room = omega (arith, left, pollers, c.workers.invariant.pollers_room, c.push_reserved-in-Some-3.ensures.capacity);
       of =
           All-same Of c.push_reserved-in-Some.new.self.items (c.workers.receivers.items ++ receiver ∷ []) c.push_reserved-in-Some.ensures.items
-          (All-push Of c.workers.receivers.items receiver c.workers.invariant.of (ap (λ (r : ReceiverState (ArrivedState g.row.T.Denot)). r.channel) is ∙ ap (λ (ties : Ties). ties.0) done.0));
+          (All-push Of c.workers.receivers.items receiver c.workers.invariant.of (ap (λ (r : ReceiverState (ArrivedState g.row.T.Denot)). r.channel) is ∙ ap (λ (its : Ties g.row.T.Denot). its.channel) done.0));
       marks = omega (arith, left, marks, mark, done.1.mark, c.workers.invariant.marks);
       all =
           counts_one_more c.workers.receivers.items c.push_reserved-in-Some.new.self.items c.workers.served.items c.push_reserved-in-Some-2.new.self.items receiver returned.served
           c.workers.invariant.all c.push_reserved-in-Some.ensures.items c.push_reserved-in-Some-2.ensures.items
           (subst (λ (r : ReceiverState (ArrivedState g.row.T.Denot)). AreCounted (length r.received) returned.served) (sym is) (c.into_parts-handle.ensures.counted none));
       ended =
-          ends g.B.Broker.group (record { saw_ledger = g.B.Seen.LedgerWitness.saw_ledger; saw_main = g.B.Seen.Witness.saw_main; saw_returns = g.B.Seen.Witness.saw_returns }) g.T.Transport.counts g.T.Transport.given g.T.Transport.accepted _ _ c.workers.receivers.items c.push_reserved-in-Some.new.self.items
-          c.workers.served.items c.push_reserved-in-Some-2.new.self.items _ _ c.workers.me c.agree.new.me returned.pass c.workers.routes.told c.publish.new.other.told returned.known returned.handle.ports receiver returned.served
+          ends g.B.Broker.group (record { saw_ledger = g.B.Seen.LedgerWitness.saw_ledger; saw_main = g.B.Seen.Witness.saw_main; saw_returns = g.B.Seen.Witness.saw_returns }) g.T.Transport.counts g.T.Transport.given g.T.Transport.accepted _ _ _ _ c.workers.receivers.items c.push_reserved-in-Some.new.self.items
+          c.workers.served.items c.push_reserved-in-Some-2.new.self.items _ _ c.workers.routes.told c.publish.new.other.told returned.known returned.handle.ports returned.handle.desk receiver returned.served
           (g.Q.Poller.closed returned.poller) c.in-Some.worker.connections
-          c.workers.invariant.ended ports c.push_reserved-in-Some.ensures.items c.push_reserved-in-Some-2.ensures.items shut
-          c.into_parts-handle.ensures.ran none (c.into_parts-handle.ensures.ports none) is c.into_parts-handle.ensures.served c.into_parts-handle.ensures.closed
-          (c.into_parts-handle.ensures.desk none) c.agree.ensures.mine c.agree.ensures.others
+          c.workers.invariant.ended ports callers c.push_reserved-in-Some.ensures.items c.push_reserved-in-Some-2.ensures.items shut
+          c.into_parts-handle.ensures.ran none (c.into_parts-handle.ensures.ports none) (c.into_parts-handle.ensures.desk none) is c.into_parts-handle.ensures.served c.into_parts-handle.ensures.closed
+          (ap (λ (its : Ties g.row.T.Denot). its.parts) done.0)
           (c.into_parts-handle.ensures.known none) published.kept published.told;
-      told = begins_longer c.args.me.now c.workers.me c.agree.new.me c.workers.invariant.told c.agree.ensures.mine;
     }

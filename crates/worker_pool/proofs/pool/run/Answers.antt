@@ -5,7 +5,7 @@ use Rattle.worker_connections.specs.declared.handle.WorkerHandle.{WorkerHandle}
 use Rattle.worker_connections.specs.Arrivals.{ArrivedState}
 use Rattle.worker_pool.specs.Accepting.{AcceptorState, Gave}
 use Rattle.worker_pool.specs.Pools.{AreServed}
-use Rattle.worker_pool.specs.Workers.{HasServed}
+use Rattle.worker_pool.specs.Workers.{HasServed, worker_ties}
 use Rattle.worker_pool.proofs.Accepted.{came_count, sent_is}
 use Rattle.worker_pool.proofs.Gathered.{counts_all}
 use Rattle.worker_pool.proofs.pool.run.Goals as goal
@@ -13,8 +13,8 @@ use Rattle.worker_pool.proofs.pool.run.Goals as goal
 pub retire-requires-clause-workers : goal.retire-requires-clause-workers
 retire-requires-clause-workers g c =
     let channel = c.run_all.ensures.accepted.channel ∙ ap (λ (a : AcceptorState g.row.T.Denot g.row.S.Denot). a.sender.channel) c.new-acceptor.ensures in
-    let Of : ChannelId (ArrivedState g.row.T.Denot) → Type 0 = λ channel. All (HasServed (channel, c.args.shared_broker.now)) c.run_all.new.workers.items in
-    subst Of (sym channel) (c.run_all.ensures.run.served (c.in-Ok.field-0.sender.channel, c.args.shared_broker.now) c.in-Ok-hire.ensures.hired.1)
+    let Of : ChannelId (ArrivedState g.row.T.Denot) → Type 0 = λ channel. All (HasServed (worker_ties channel c.args.shared_broker.now)) c.run_all.new.workers.items in
+    subst Of (sym channel) (c.run_all.ensures.run.served (worker_ties c.in-Ok.field-0.sender.channel c.args.shared_broker.now) c.in-Ok-hire.ensures.hired.1)
 
 pub retire-requires-clause-count : goal.retire-requires-clause-count
 retire-requires-clause-count g c =
@@ -42,7 +42,7 @@ returns-clause-served g c =
     let sent = sent_is accepted.came _ _ _ _ none limit accepted.sent in
     let Source : g.row.S.Denot → g.row.S.Denot → Type 0 = λ old new. Gave g.S.Source.arrived old accepted.came new in
     let Served : List (ArrivedState g.row.T.Denot) → Type 0 = λ arrived.
-    AreServed g.B.Broker.group (record { saw_ledger = g.B.Seen.LedgerWitness.saw_ledger; saw_main = g.B.Seen.Witness.saw_main; saw_returns = g.B.Seen.Witness.saw_returns }) g.T.Transport.counts g.T.Transport.given g.T.Transport.accepted arrived c.retire.new.me c.retire.new.routes.told (map (λ (handle : WorkerHandle g.row.B.Denot g.row.B-Seen.Denot). handle.ports) c.retire.result.handles.items) c.retire.result.served.items
+    AreServed g.B.Broker.group (record { saw_ledger = g.B.Seen.LedgerWitness.saw_ledger; saw_main = g.B.Seen.Witness.saw_main; saw_returns = g.B.Seen.Witness.saw_returns }) g.T.Transport.counts g.T.Transport.given g.T.Transport.accepted arrived c.retire.new.routes.told (map (λ (handle : WorkerHandle g.row.B.Denot g.row.N.Denot g.row.B-Seen.Denot). handle.ports) c.retire.result.handles.items) (map (λ (handle : WorkerHandle g.row.B.Denot g.row.N.Denot g.row.B-Seen.Denot). handle.desk) c.retire.result.handles.items) c.retire.result.served.items
     (map g.Q.Poller.closed c.retire.result.pollers.items) in (
       accepted.came,
       subst (λ new. Source c.args.source new) (sym c.retire.ensures.source)

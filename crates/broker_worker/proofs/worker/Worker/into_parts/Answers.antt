@@ -24,7 +24,7 @@ returns-clause-ports g c =
 
 pub returns-clause-desk : goal.returns-clause-desk
 returns-clause-desk g c =
-    let Told : WorkerState g.row.T.Denot → Type 0 = λ state. live state.connections ≡ 0 → c.into_parts.result.pass ≡ state.connections.supply.desk in
+    let Told : WorkerState g.row.T.Denot → Type 0 = λ state. live state.connections ≡ 0 → c.into_parts.result.handle.desk ≡ state.connections.supply.desk in
     subst Told c.self.view_is c.into_parts.ensures.desk
 
 pub returns-clause-closed : goal.returns-clause-closed

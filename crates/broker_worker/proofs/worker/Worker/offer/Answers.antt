@@ -1,5 +1,5 @@
 -- The one with the fewest was offered a message, or another one; or no member has room.
-use Rattle.std.proofs.Common.{◌≡◌, subst, inl, arith}
+use Rattle.std.proofs.Common.{subst, inl, arith}
 use Rattle.broker_worker.specs.Offering.{IsOffered, Offers}
 use Rattle.broker_worker.specs.Resting.{WorkerState}
 use Rattle.broker_worker.proofs.Offered.{here, nobody_takes, offers_later, still}

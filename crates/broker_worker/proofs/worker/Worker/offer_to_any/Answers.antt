@@ -1,5 +1,5 @@
 -- One client more was asked, or one was offered a message.
-use Rattle.std.proofs.Common.{◌≡◌, false, length, below_more, ap, inl, inr, arith}
+use Rattle.std.proofs.Common.{length, below_more, ap, inl, arith}
 use Rattle.broker_worker.specs.Resting.{WorkerState}
 use Rattle.broker_worker.specs.Offering.{IsAsked, IsOffered}
 use Rattle.broker_worker.proofs.Offered.{here, more, still, wider}

@@ -1,6 +1,6 @@
 -- Others were told, and rounds were made.
 use Rattle.broker_worker.proofs.Offered.{more, nothing, offers_each, telling}
-use Rattle.worker_connections.specs.Serving.{Rounds, wakes_of}
+use Rattle.worker_connections.specs.Serving.{wakes_of}
 use Rattle.shared_supply.specs.Waking.{no_wakes}
 use Rattle.broker_worker.proofs.worker.Worker.share_out.Goals as goal
 

@@ -1,5 +1,5 @@
 -- So many as its share are kept.
-use Rattle.std.proofs.Common.{◌≡◌, subst}
+use Rattle.std.proofs.Common.{subst}
 use Rattle.shared_supply.specs.Waking.{KeepsAtMost}
 use Rattle.worker_bells.specs.Ringing.{AreRung}
 use Rattle.worker_connections.specs.Serving.{wakes_of}

@@ -1,5 +1,5 @@
 -- What was offered was offered in a sweep of this turn.
-use Rattle.std.proofs.Common.{◌≡◌, ap, ◌∙◌}
+use Rattle.std.proofs.Common.{ap, ◌∙◌}
 use Rattle.worker_connections.specs.Serving.{ConnectionsState, ties_of}
 use Rattle.broker_worker.proofs.Offered.{in_turn}
 use Rattle.broker_worker.proofs.worker.Worker.turn.Goals as goal

@@ -1,27 +1,28 @@
 -- The call leads on, and the thread is told it.
 use Rattle.std.proofs.Common.{sym, subst}
-use mathlib.Core.List.{IsPrefix}
 use Rattle.session_desk.specs.Calls.{Attach, IsAllowed}
 use Rattle.session_desk.specs.Places.{cell_at}
 use Rattle.session_desk.specs.Attaching.{asked, Attaches}
 use Rattle.shared_desk.proofs.Desks.{comes_out, made, ready}
+use Rattle.shared_desk.specs.Histories.{AddsCall}
 use Rattle.shared_desk.proofs.Histories.{lawful, noted}
 use Rattle.shared_desk.proofs.lawful.LawfulDesk.attach.Goals as goal
 
 pub invariant_of-self : goal.invariant_of-self
 invariant_of-self g c =
-    (noted g.P.HoldingPlace.has_out g.P.Place.slot_of g.P.Place.number_of c.self.inside.keeper c.note.new.keeper c.me.inside.known c.note.new.known c.self.inside.desk c.attach-answer.new.self (Attach g.request c.attach-answer.result) c.self.invariant (subst (λ r. IsAllowed (Attach r c.attach-answer.result)) (sym c.requires.1.1.0) (c.requires.1.1.1.0, c.requires.1.1.1.1)) tt (subst (λ r. Attaches c.self.inside.desk r c.attach-answer.result c.attach-answer.new.self) (sym c.requires.1.1.0) c.attach-answer.ensures)
+    (noted g.P.HoldingPlace.has_out g.P.Place.slot_of g.P.Place.number_of c.self.inside.keeper c.note.new.keeper c.me.inside.caller c.note.new.caller c.self.inside.desk c.attach-answer.new.self (Attach g.request c.attach-answer.result) c.self.invariant (subst (λ r. IsAllowed (Attach r c.attach-answer.result)) (sym c.requires.1.1.0) (c.requires.1.1.1.0, c.requires.1.1.1.1)) tt (subst (λ r. Attaches c.self.inside.desk r c.attach-answer.result c.attach-answer.new.self) (sym c.requires.1.1.0) c.attach-answer.ensures)
     (c.note.ensures.added) c.note.ensures.told c.note.ensures.before).0
 
 pub invariant_of-me : goal.invariant_of-me
 invariant_of-me g c =
-    (noted g.P.HoldingPlace.has_out g.P.Place.slot_of g.P.Place.number_of c.self.inside.keeper c.note.new.keeper c.me.inside.known c.note.new.known c.self.inside.desk c.attach-answer.new.self (Attach g.request c.attach-answer.result) c.self.invariant (subst (λ r. IsAllowed (Attach r c.attach-answer.result)) (sym c.requires.1.1.0) (c.requires.1.1.1.0, c.requires.1.1.1.1)) tt (subst (λ r. Attaches c.self.inside.desk r c.attach-answer.result c.attach-answer.new.self) (sym c.requires.1.1.0) c.attach-answer.ensures)
+    (noted g.P.HoldingPlace.has_out g.P.Place.slot_of g.P.Place.number_of c.self.inside.keeper c.note.new.keeper c.me.inside.caller c.note.new.caller c.self.inside.desk c.attach-answer.new.self (Attach g.request c.attach-answer.result) c.self.invariant (subst (λ r. IsAllowed (Attach r c.attach-answer.result)) (sym c.requires.1.1.0) (c.requires.1.1.1.0, c.requires.1.1.1.1)) tt (subst (λ r. Attaches c.self.inside.desk r c.attach-answer.result c.attach-answer.new.self) (sym c.requires.1.1.0) c.attach-answer.ensures)
     (c.note.ensures.added) c.note.ensures.told c.note.ensures.before).1.legal
 
 pub returns-clause-told : goal.returns-clause-told
 returns-clause-told g c =
-    (noted g.P.HoldingPlace.has_out g.P.Place.slot_of g.P.Place.number_of c.self.inside.keeper c.note.new.keeper c.args.me.now c.note.new.known c.self.inside.desk c.attach-answer.new.self (Attach g.request c.attach-answer.result) c.self.invariant (subst (λ r. IsAllowed (Attach r c.attach-answer.result)) (sym c.requires.1.1.0) (c.requires.1.1.1.0, c.requires.1.1.1.1)) tt (subst (λ r. Attaches c.self.inside.desk r c.attach-answer.result c.attach-answer.new.self) (sym c.requires.1.1.0) c.attach-answer.ensures)
-    (c.note.ensures.added) c.note.ensures.told (subst (λ l. IsPrefix l c.self.inside.keeper) c.me.view_is c.note.ensures.before)).1
+    subst (λ k. AddsCall g.P.HoldingPlace.has_out g.P.Place.slot_of g.P.Place.number_of k (Attach g.request c.attach-answer.result) c.note.new.caller) c.me.view_is
+    (noted g.P.HoldingPlace.has_out g.P.Place.slot_of g.P.Place.number_of c.self.inside.keeper c.note.new.keeper c.me.inside.caller c.note.new.caller c.self.inside.desk c.attach-answer.new.self (Attach g.request c.attach-answer.result) c.self.invariant (subst (λ r. IsAllowed (Attach r c.attach-answer.result)) (sym c.requires.1.1.0) (c.requires.1.1.1.0, c.requires.1.1.1.1)) tt (subst (λ r. Attaches c.self.inside.desk r c.attach-answer.result c.attach-answer.new.self) (sym c.requires.1.1.0) c.attach-answer.ensures)
+    (c.note.ensures.added) c.note.ensures.told c.note.ensures.before).1
 
 pub returns-clause-made : goal.returns-clause-made
 returns-clause-made g c = made g.P.HoldingPlace.has_out g.P.Place.slot_of g.P.Place.number_of c.self.inside.desk c.attach-answer.new.self (Attach g.request c.attach-answer.result) (lawful g.P.HoldingPlace.has_out g.P.Place.slot_of g.P.Place.number_of _ _ c.self.invariant) (subst (λ r. IsAllowed (Attach r c.attach-answer.result)) (sym c.requires.1.1.0) (c.requires.1.1.1.0, c.requires.1.1.1.1)) tt (subst (λ r. Attaches c.self.inside.desk r c.attach-answer.result c.attach-answer.new.self) (sym c.requires.1.1.0) c.attach-answer.ensures)

@@ -8,4 +8,4 @@ use Rattle.shared_supply.proofs.shared_broker.SharedBroker.empty.Goals as goal
 
 pub returns-in-Err-clause-desk : goal.returns-in-Err-clause-desk
 returns-in-Err-clause-desk g c =
-    subst (λ (books : Books Held PlaceState). IsLedTo c.finish.new.me books) (sym c.in-Err.ensures) (record { led = c.finish.ensures.all; lawful = c.finish.ensures.lawful })
+    subst (λ (books : Books Held PlaceState). IsLedTo c.finish.new.me.calls books) (sym c.in-Err.ensures) (record { led = c.finish.ensures.all; lawful = c.finish.ensures.lawful })

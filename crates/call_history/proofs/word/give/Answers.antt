@@ -1,0 +1,6 @@
+use Rattle.std.proofs.Common.{arith}
+use Rattle.call_history.proofs.Moves.{gives}
+use Rattle.call_history.proofs.word.give.Goals as goal
+
+pub split_seat-requires : goal.split_seat-requires
+split_seat-requires g c = (c.requires.word.1, omega arith, gives _ _)

@@ -1,6 +1,0 @@
-use Rattle.std.proofs.Common.{arith}
-use Rattle.call_history.proofs.Moves.{tells}
-use Rattle.call_history.proofs.word.tell.Goals as goal
-
-pub split_seat-requires : goal.split_seat-requires
-split_seat-requires g c = (c.requires.word.1, omega arith, tells _ _)
