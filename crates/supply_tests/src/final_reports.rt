@@ -67,11 +67,11 @@ fn end_by_desk<B: Broker<Seen = Nobody>, N: HistoryName, R: Wait>(
     drained: &Drained,
     shared_broker: SharedBroker<'_, B, N>,
     ports: Vec<Ports<B>>,
-    pass: &mut DeskView<BrokerPlace<B>, N>,
+    caller: &mut DeskView<BrokerPlace<B>, N>,
 ) -> Option<Vec<Counts>>
     requires { drained.now ≡ B.gate }
 {
-    match end_broker(rt, alloc, drained, shared_broker, ports, pass) {
+    match end_broker(rt, alloc, drained, shared_broker, ports, caller) {
         Ok(ended) => Some(count(alloc, ended)),
         Err(left) => {
             left.abandon();
@@ -124,7 +124,7 @@ impl Day for Closing {
             shared_broker,
             mut handles,
             spare,
-            mut pass,
+            mut caller,
         } = built;
         let mut ports = Vec::new(alloc);
         if let Some(handle) = handles.pop() {
@@ -132,7 +132,7 @@ impl Day for Closing {
         }
         match close(gate, spare) {
             Some(drained) if self.has_desk => {
-                end_by_desk(rt, alloc, &drained, shared_broker, ports, &mut pass)
+                end_by_desk(rt, alloc, &drained, shared_broker, ports, &mut caller)
             }
             Some(drained) => end_by_hand(rt, alloc, &drained, shared_broker, ports),
             None => {

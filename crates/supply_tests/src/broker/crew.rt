@@ -198,10 +198,10 @@ fn live_with<
         shared_broker,
         handles,
         spare: _,
-        mut pass,
+        mut caller,
     } = build::<B, N, R>(rt, alloc, gate, seats, opened, desk, workers)?;
     let Back { seen, ports } = work_all(rt, alloc, &shared_broker, handles, crew);
-    match end(rt, alloc, shared_broker, ports, &mut pass) {
+    match end(rt, alloc, shared_broker, ports, &mut caller) {
         Some(counts) => Some(Worked { seen, counts }),
         None => None,
     }

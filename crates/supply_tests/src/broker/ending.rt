@@ -110,9 +110,9 @@ pub(crate) fn end<B: Broker<Seen = Nobody>, N: HistoryName, R: Wait>(
     alloc: Global,
     shared_broker: SharedBroker<'_, B, N>,
     ports: Vec<Ports<B>>,
-    pass: &mut DeskView<BrokerPlace<B>, N>,
+    caller: &mut DeskView<BrokerPlace<B>, N>,
 ) -> Option<Vec<Counts>> {
-    match shared_broker.finish(rt, alloc, ports, pass) {
+    match shared_broker.finish(rt, alloc, ports, caller) {
         Ok(ended) => Some(count(alloc, ended)),
         Err(left) => {
             left.abandon();

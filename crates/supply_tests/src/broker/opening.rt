@@ -27,7 +27,7 @@ pub(crate) struct Built<'g, B: Broker, N: HistoryName> {
     pub(crate) shared_broker: SharedBroker<'g, B, N>,
     pub(crate) handles: Vec<WorkerHandle<B, N>>,
     pub(crate) spare: Key<B>,
-    pub(crate) pass: DeskView<BrokerPlace<B>, N>,
+    pub(crate) caller: DeskView<BrokerPlace<B>, N>,
 }
 
 /// What is done with a broker from its opening to its end.
@@ -127,15 +127,15 @@ pub(crate) fn build<'g, B: Broker<Seen = Nobody>, N: HistoryName, R: Wait>(
         desk.abandon();
         return None;
     };
-    let (desk, mut pass) = desk.name::<N>();
-    desk.take_places(rt, &mut pass, places);
-    let handles = take_ports(alloc, gate, &mut seats, &desk, &mut pass, ports);
+    let (desk, mut caller) = desk.name::<N>();
+    desk.take_places(rt, &mut caller, places);
+    let handles = take_ports(alloc, gate, &mut seats, &desk, &mut caller, ports);
     let shared_broker = SharedBroker::new(gate, groups, desk, SharedRoutes::new(alloc));
     Some(Built {
         shared_broker,
         handles,
         spare,
-        pass,
+        caller,
     })
 }
 

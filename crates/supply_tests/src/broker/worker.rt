@@ -87,7 +87,7 @@ impl<'h, H: Shift> Day for Alone<'h, H> {
             shared_broker,
             mut handles,
             spare,
-            mut pass,
+            mut caller,
         } = built;
         let mut ports = Vec::new(alloc);
         if let Some(handle) = handles.pop() {
@@ -96,7 +96,7 @@ impl<'h, H: Shift> Day for Alone<'h, H> {
                 work(rt, alloc, gate, &shared_broker, handle, spare, self.shift),
             );
         }
-        end(rt, alloc, shared_broker, ports, &mut pass)
+        end(rt, alloc, shared_broker, ports, &mut caller)
     }
 }
 

@@ -140,7 +140,7 @@ impl Day for Row {
             shared_broker,
             mut handles,
             spare,
-            pass: _,
+            caller: _,
         } = built;
         let Some(handle) = handles.pop() else {
             abandon(shared_broker);
