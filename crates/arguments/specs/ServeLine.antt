@@ -7,7 +7,7 @@ use Rattle.clap.specs.declared.error.kind.ErrorKind.{ErrorKind}
 use Rattle.clap.specs.declared.error.kind.ErrorKind.TheVariants.{ValueValidation}
 use Rattle.arguments.specs.CommandLine.{Spells, capacity_option, group_option, max_inflight_option, pairs_in}
 use Rattle.arguments.specs.Groups.{AddsEach}
-use Rattle.arguments.specs.declared.service.Service.{Service}
+use Rattle.arguments.specs.declared.service.ServeOptions.{ServeOptions}
 
 -- ---- the options, in clap's words
 
@@ -54,7 +54,7 @@ pub record HasNumber (id : Text) (least most : ℕ) (rows : List Row) (number : 
   pub to : number ≤ most
 
 -- what a broker begins with, by the values that the options have
-pub record IsServiceBy (rows : List Row) (service : Service) : Type 0 where
+pub record IsServiceBy (rows : List Row) (service : ServeOptions) : Type 0 where
   pub text : Text
   pub value : one_of (codes "address") rows ≡ Some text
   pub address : IsIpv4Text text service.address
@@ -65,7 +65,7 @@ pub record IsServiceBy (rows : List Row) (service : Service) : Type 0 where
   pub groups : AddsEach [] (pairs_in rows) service.setup.groups
 
 -- the words, of which the first is `serve`, ask for this: clap finds no fault in them, and reads these values of the options
-abbrev pub AskForService : List Text → Service → Type 0
+abbrev pub AskForService : List Text → ServeOptions → Type 0
 AskForService words service = (fault_of serve_line words ≡ []) × IsServiceBy (matches_of serve_line words) service
 
 -- the words ask for no service: clap finds a fault of that kind in them, where a wish for the help is a fault too; or it finds none, and no
@@ -73,4 +73,4 @@ AskForService words service = (fault_of serve_line words ≡ []) × IsServiceBy 
 abbrev pub SpellNoService : List Text → ErrorKind → Type 0
 SpellNoService words kind =
     IsAmong kind (fault_of serve_line words)
-    ⊎ ((kind ≡ ValueValidation) × (fault_of serve_line words ≡ []) × ((service : Service) → ¬ IsServiceBy (matches_of serve_line words) service))
+    ⊎ ((kind ≡ ValueValidation) × (fault_of serve_line words ≡ []) × ((service : ServeOptions) → ¬ IsServiceBy (matches_of serve_line words) service))

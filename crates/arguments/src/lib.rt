@@ -13,5 +13,5 @@ mod service;
 mod serving;
 
 pub use command::{Request, arguments};
-pub use service::Service;
+pub use service::ServeOptions;
 pub use serving::serve_arguments;

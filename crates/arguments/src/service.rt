@@ -6,7 +6,7 @@ use std::net::Ipv4Addr;
 
 /// What a broker on TCP begins with.
 #[derive(Drop)]
-pub struct Service {
+pub struct ServeOptions {
     /// The address of this machine that it listens at.
     pub address: Ipv4Addr,
     /// The port; at 0 the system chooses one.

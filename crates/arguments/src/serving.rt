@@ -3,12 +3,12 @@ ghost use Rattle.std.specs.Prelude.{◌≡◌, ◌≤◌, ◌⊎◌, ℕ, codes,
 ghost use Rattle.std.specs.String.{string_bytes};
 ghost use Rattle.clap.specs.Words.{app_of, found_of, kind_of, rows_of, rule_of};
 ghost use Rattle.arguments.specs.ServeLine.{AskForService, HasNumber, IsServiceBy, SpellNoService};
-ghost use Rattle.arguments.specs.declared.service.Service.{Service as AnyService};
+ghost use Rattle.arguments.specs.declared.service.ServeOptions.{ServeOptions as AnyService};
 ghost use Rattle.arguments.specs.ServeLine.{address_option, port_option, serve_line, workers_option};
 
 use crate::command::{capacity, group, limit_of, max_inflight};
 use crate::groups::groups_of;
-use crate::service::Service;
+use crate::service::ServeOptions;
 use clap::error::ErrorKind;
 use clap::{Arg, ArgMatches, Command, Error, value_parser};
 use local_server::Setup;
@@ -21,7 +21,7 @@ use std::net::Ipv4Addr;
 /// # Errors
 ///
 /// The text of a fault, or of the help, as clap has them; [`ErrorKind::OutOfMemory`] for lack of memory.
-pub fn serve_arguments(alloc: Global, words: &[String]) -> Result<Service, Error>
+pub fn serve_arguments(alloc: Global, words: &[String]) -> Result<ServeOptions, Error>
     ensures ok { IfOk result (AskForService (map string_bytes words.now)) }
     ensures err { IfErr result (λ error. (kind_of error ≡ ErrorKind.OutOfMemory)
         ⊎ SpellNoService (map string_bytes words.now) (kind_of error)) }
@@ -31,7 +31,7 @@ pub fn serve_arguments(alloc: Global, words: &[String]) -> Result<Service, Error
 }
 
 /// What a broker begins with, by the options.
-fn service_of(alloc: Global, options: &ArgMatches) -> Result<Service, Error>
+fn service_of(alloc: Global, options: &ArgMatches) -> Result<ServeOptions, Error>
     ensures ok { IfOk result (IsServiceBy (rows_of (found_of options.now))) }
     ensures err { IfErr result (λ error. (kind_of error ≡ ErrorKind.OutOfMemory)
         ⊎ ((kind_of error ≡ ErrorKind.ValueValidation)
@@ -47,7 +47,7 @@ fn service_of(alloc: Global, options: &ArgMatches) -> Result<Service, Error>
         return Err(wrong(alloc, "a number is out of its range")?);
     };
     match groups_of(alloc, options.get_strs("group").unwrap_or(&[]))? {
-        Ok(groups) => Ok(Service {
+        Ok(groups) => Ok(ServeOptions {
             address,
             port: port as u16,
             workers: workers as u8,

@@ -29,9 +29,9 @@ pub type Word = Table<(), View, usize, Past, Global>;
 pub type Pass = Seat<(), View>;
 
 /// Clears the bit of a worker that listens.
-pub struct Listening;
+pub struct ClearingBit;
 
-impl Play<(), View> for Listening {
+impl Play<(), View> for ClearingBit {
     ghost use Rattle.bell.specs.declared.step.Step.TheVariants.{Listened};
     ghost use Rattle.bell.specs.Rule.{all_but, TellsOfOne};
 
@@ -39,9 +39,9 @@ impl Play<(), View> for Listening {
 }
 
 /// Sets the bit of a worker that settles.
-pub struct Settling;
+pub struct SettingBit;
 
-impl Play<(), View> for Settling {
+impl Play<(), View> for SettingBit {
     ghost use Rattle.bell.specs.declared.step.Step.TheVariants.{Settled};
     ghost use Rattle.bell.specs.Rule.{bit_of, TellsOfOne};
 
@@ -49,9 +49,9 @@ impl Play<(), View> for Settling {
 }
 
 /// Counts a ring.
-pub struct Ringing;
+pub struct CountingRing;
 
-impl Play<(), View> for Ringing {
+impl Play<(), View> for CountingRing {
     ghost use Rattle.bell.specs.declared.step.Step.TheVariants.{Rang};
     ghost use Rattle.bell.specs.Rule.{Tells};
 
@@ -87,7 +87,8 @@ pub fn listen(word: &Word, pass: &mut Pass, worker: usize) -> u64
     ensures same { pass.new.table_id ≡ pass.old.table_id }
     ensures told { Tells (Listened worker) pass.old.me result pass.new.me }
 {
-    word.shared.fetch_and::<Listening>(pass, 0, !(1 << worker))
+    word.shared
+        .fetch_and::<ClearingBit>(pass, 0, !(1 << worker))
 }
 
 /// Sets the bit of a worker that settles, and answers the number that was there.
@@ -97,7 +98,7 @@ pub fn settle(word: &Word, pass: &mut Pass, worker: usize) -> u64
     ensures same { pass.new.table_id ≡ pass.old.table_id }
     ensures told { Tells (Settled worker) pass.old.me result pass.new.me }
 {
-    word.shared.fetch_or::<Settling>(pass, 0, 1 << worker)
+    word.shared.fetch_or::<SettingBit>(pass, 0, 1 << worker)
 }
 
 /// Counts a ring, and answers the number that was there.
@@ -106,7 +107,7 @@ pub fn ring(word: &Word, pass: &mut Pass) -> u64
     ensures same { pass.new.table_id ≡ pass.old.table_id }
     ensures told { Tells Rang pass.old.me result pass.new.me }
 {
-    word.shared.fetch_add::<Ringing>(pass, 0, RING)
+    word.shared.fetch_add::<CountingRing>(pass, 0, RING)
 }
 
 /// Clears the bit of a worker that is called, and answers the number that was there.

@@ -6,7 +6,7 @@ use Rattle.call_history.specs.Numbers.{numbers}
 abbrev pub all_parts : ℕ
 all_parts = 128
 
--- what a caller knows: the calls up to its own last one, in order; the numbers of its own, in order, and of those whose right to call was joined to its own; and how many parts of
+-- what a caller knows: the calls that there were when it called last, in order; the numbers of its own, and of those of the callers that were joined to it; and how many parts of
 -- the right to call it has
 pub record CallerState (E : Type 0) : Type 0 where
   pub calls : List E

@@ -1,4 +1,4 @@
--- The rule of the table: there is one history, of which all passes know beginnings, and which at most one pass knows whole, and adds to; and each call in it is a caller's own, of one caller.
+-- The rule of the table: there is one history, of which all passes know beginnings; at most one pass knows it whole, and adds to it; and each call in it is one caller's own.
 use Rattle.std.specs.Prelude.{◌≡◌, ◌≤◌, ℕ, ◌+◌, ◌-◌, nat_lt, Bool, List, [], ◌++◌, length, sum_by, true, false}
 use mathlib.Core.List.{IsPrefix}
 use mathlib.Core.Option.{some}

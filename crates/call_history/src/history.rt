@@ -21,12 +21,12 @@ pub enum HistoryError {
 
 /// An empty history, which has no name yet. Contracts see it as its table.
 #[derive(Drop)]
-pub struct Opened<E> {
+pub struct OpenedHistory<E> {
     word: Word<E>,
     pass: Pass<E>,
 }
 
-impl<E> Model for Opened<E> {
+impl<E> Model for OpenedHistory<E> {
     ghost use Rattle.std.specs.Prelude.{◌≡◌, []};
     ghost use Rattle.atomic_table.specs.Seated.{TableId};
     ghost use Rattle.call_history.specs.Rule.{IsPassOf, first};
@@ -38,15 +38,15 @@ impl<E> Model for Opened<E> {
     ghost invariant = { λ o. IsPassOf o.word.shared.table_id o.pass.table_id × (o.pass.me ≡ (first, [])) };
 }
 
-impl<E> Opened<E> {
+impl<E> OpenedHistory<E> {
     /// An empty history. Takes the memory for its word; no other call takes any.
     ///
     /// # Errors
     ///
     /// [`HistoryError::Memory`] where there is none.
-    pub fn open(alloc: Global) -> Result<Opened<E>, HistoryError> {
+    pub fn open(alloc: Global) -> Result<OpenedHistory<E>, HistoryError> {
         let (word, pass) = Word::of_words(alloc, &[0], &()).map_err(|_| HistoryError::Memory)?;
-        Ok(Opened { word, pass })
+        Ok(OpenedHistory { word, pass })
     }
 
     /// The history under a name, with its keeper, and the caller that has the whole right to call.
@@ -55,7 +55,7 @@ impl<E> Opened<E> {
         ensures keeper { result.1 ≡ [] }
         ensures caller { result.2 ≡ first_caller }
     {
-        let Opened { word, mut pass } = self;
+        let OpenedHistory { word, mut pass } = self;
         let right = word::give(&word, &mut pass);
         (
             CallHistory {

@@ -7,6 +7,6 @@ mod history;
 mod names;
 mod word;
 
-pub use history::{CallHistory, Caller, HistoryError, Keeper, Opened};
+pub use history::{CallHistory, Caller, HistoryError, Keeper, OpenedHistory};
 pub use names::{Entries, HistoryName};
 pub use word::View;

@@ -43,11 +43,11 @@ pub type Word<E> = Table<(), View<E>, (), OneHistory<E>, Global>;
 pub type Pass<E> = Seat<(), View<E>>;
 
 /// The keeper adds entries, and learns that what it was shown is a beginning of what it had.
-pub struct Adding<J> {
+pub struct AddingEntries<J> {
     of: PhantomData<J>,
 }
 
-impl<E, J: Entries<E>> Play<(), View<E>> for Adding<J> {
+impl<E, J: Entries<E>> Play<(), View<E>> for AddingEntries<J> {
     ghost use Rattle.call_history.specs.Rule.{Adds};
 
     ghost then = { λ _ before _ after. Adds J.added before after };
@@ -127,7 +127,7 @@ pub fn add<E, J: Entries<E>>(word: &Word<E>, pass: &mut Pass<E>)
     ensures shown { IsPrefix pass.old.me.0.other pass.old.me.0.calls }
     ensures once { pass.old.me.0.parts ≡ all_parts → IsEachOnce pass.old.me.0.own (length pass.old.me.0.calls) }
 {
-    word.shared.load::<Adding<J>>(pass, 0);
+    word.shared.load::<AddingEntries<J>>(pass, 0);
 }
 
 /// The right to call goes to another pass, with what this one knows.

@@ -1,7 +1,7 @@
 -- The pieces of the lines, one line after another.
 use Rattle.std.proofs.Common.{◌≡◌, ℕ, ◌+◌, List, [], ◌∷◌, ◌++◌, refl, ap, ◌∙◌, Some, None, Result, Ok, Err}
 use Rattle.hex.specs.Hex.{decode_of}
-use Rattle.local_server.specs.declared.event.Event.TheVariants.{Open}
+use Rattle.local_server.specs.declared.event.ServerEvent.TheVariants.{Open}
 use Rattle.local_server.specs.declared.event.TimedEvent.{TimedEvent}
 use Rattle.text_io.specs.Lines.{lines_of}
 use Rattle.drive.specs.Scripts.{followed_by}

@@ -5,17 +5,17 @@ use Rattle.hex.specs.declared.error.FromHexError.{FromHexError}
 use Rattle.text_io.specs.Lines.{lines_of}
 use Rattle.text_io.specs.declared.error.RunError.{RunError}
 use Rattle.text_io.specs.declared.error.RunError.TheVariants.{ReadFailed, TooManyReads, WriteFailed, Network, Memory, Unfinished, Line}
-use Rattle.local_server.specs.declared.event.Event.{Event}
-use Rattle.local_server.specs.declared.event.Event.TheVariants.{Open, Bytes, Tick, End, Close}
+use Rattle.local_server.specs.declared.event.ServerEvent.{ServerEvent}
+use Rattle.local_server.specs.declared.event.ServerEvent.TheVariants.{Open, Bytes, Tick, End, Close}
 use Rattle.local_server.specs.declared.event.TimedEvent.{TimedEvent}
 use Rattle.drive.specs.Words.{words_of, number_of, connection_of}
 
 -- `close`
-abbrev pub of_server : List ℕ → Option Event
+abbrev pub of_server : List ℕ → Option ServerEvent
 of_server word = if bytes_eq word (codes "close") then Some Close else None
 
 -- `open`, `tick` and `end`, each with the number of a connection
-abbrev pub of_connection : List ℕ → Option ℕ → Option Event
+abbrev pub of_connection : List ℕ → Option ℕ → Option ServerEvent
 of_connection word None = None
 of_connection word (Some number) =
     if bytes_eq word (codes "open") then Some (Open number)
@@ -23,19 +23,19 @@ of_connection word (Some number) =
     else if bytes_eq word (codes "end") then Some (End number) else None
 
 -- `bytes`, with the number of a connection and an even number of hex digits of either case, perhaps none
-abbrev pub of_piece : List ℕ → Option ℕ → Result (List ℕ) FromHexError → Option Event
+abbrev pub of_piece : List ℕ → Option ℕ → Result (List ℕ) FromHexError → Option ServerEvent
 of_piece word None piece = None
 of_piece word (Some number) (Err error) = None
 of_piece word (Some number) (Ok piece) = if bytes_eq word (codes "bytes") then Some (Bytes number piece) else None
 
 -- the words after the moment
-abbrev pub event_of : List (List ℕ) → Option Event
+abbrev pub event_of : List (List ℕ) → Option ServerEvent
 event_of (word ∷ []) = of_server word
 event_of (word ∷ number ∷ []) = of_connection word (connection_of number)
 event_of (word ∷ number ∷ digits ∷ []) = of_piece word (connection_of number) (decode_of digits)
 event_of _ = None
 
-abbrev pub at_moment : Option ℕ → Option Event → Option TimedEvent
+abbrev pub at_moment : Option ℕ → Option ServerEvent → Option TimedEvent
 at_moment None event = None
 at_moment (Some moment) None = None
 at_moment (Some moment) (Some event) = Some (record { moment = moment; event = event })

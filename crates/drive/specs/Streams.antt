@@ -3,13 +3,13 @@ use Rattle.std.specs.Prelude.{ℕ, ◌+◌, List, [], ◌∷◌, Option, Some, N
 use Rattle.hex.specs.Hex.{decode_of}
 use Rattle.hex.specs.declared.error.FromHexError.{FromHexError}
 use Rattle.text_io.specs.Lines.{lines_of}
-use Rattle.local_server.specs.declared.event.Event.{Event}
-use Rattle.local_server.specs.declared.event.Event.TheVariants.{Open, Bytes, End}
+use Rattle.local_server.specs.declared.event.ServerEvent.{ServerEvent}
+use Rattle.local_server.specs.declared.event.ServerEvent.TheVariants.{Open, Bytes, End}
 use Rattle.local_server.specs.declared.event.TimedEvent.{TimedEvent}
 use Rattle.drive.specs.Scripts.{followed_by}
 
 -- all happens at the moment 0
-abbrev pub at_once : Event → TimedEvent
+abbrev pub at_once : ServerEvent → TimedEvent
 at_once event = record { moment = 0; event = event }
 
 -- a piece of the stream: an even number of hex digits of either case, perhaps none

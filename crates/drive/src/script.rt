@@ -10,7 +10,7 @@ use crate::numbers::{connection, number};
 use crate::words::Words;
 use bytes::BytesMut;
 use hex::FromHexError;
-use local_server::{Event, TimedEvent};
+use local_server::{ServerEvent, TimedEvent};
 use std::alloc::Global;
 use text_io::{RunError, split_line};
 
@@ -71,7 +71,7 @@ fn timed_event(buffer: &mut BytesMut, line: &[u8]) -> Result<Option<TimedEvent>,
 }
 
 /// The event that the words after a moment spell.
-fn event(buffer: &mut BytesMut, words: &mut Words) -> Result<Option<Event>, RunError>
+fn event(buffer: &mut BytesMut, words: &mut Words) -> Result<Option<ServerEvent>, RunError>
     ensures ok { IfOk result (λ found. found ≡ event_of words.old) }
     ensures err { IfErr result (λ error. error ≡ Memory) }
 {
@@ -84,24 +84,24 @@ fn event(buffer: &mut BytesMut, words: &mut Words) -> Result<Option<Event>, RunE
 }
 
 /// `close`.
-fn of_server(word: &[u8]) -> Option<Event>
+fn of_server(word: &[u8]) -> Option<ServerEvent>
     ensures { result ≡ of_server word.now }
 {
     match word {
-        b"close" => Some(Event::Close),
+        b"close" => Some(ServerEvent::Close),
         _ => None,
     }
 }
 
 /// `open`, `tick` and `end`, each with the number of a connection.
-fn of_connection(word: &[u8], number: &[u8]) -> Option<Event>
+fn of_connection(word: &[u8], number: &[u8]) -> Option<ServerEvent>
     ensures { result ≡ of_connection word.now (connection_of number.now) }
 {
     let number = connection(number)?;
     match word {
-        b"open" => Some(Event::Open(number)),
-        b"tick" => Some(Event::Tick(number)),
-        b"end" => Some(Event::End(number)),
+        b"open" => Some(ServerEvent::Open(number)),
+        b"tick" => Some(ServerEvent::Tick(number)),
+        b"end" => Some(ServerEvent::End(number)),
         _ => None,
     }
 }
@@ -112,7 +112,7 @@ fn of_piece(
     word: &[u8],
     number: &[u8],
     digits: &[u8],
-) -> Result<Option<Event>, RunError>
+) -> Result<Option<ServerEvent>, RunError>
     ensures ok { IfOk result (λ found. found ≡ of_piece word.now (connection_of number.now) (decode_of digits.now)) }
     ensures err { IfErr result (λ error. error ≡ Memory) }
 {
@@ -120,7 +120,7 @@ fn of_piece(
         return Ok(None);
     };
     match decode(buffer, digits) {
-        Ok(piece) if word == b"bytes".as_slice() => Ok(Some(Event::Bytes(number, piece))),
+        Ok(piece) if word == b"bytes".as_slice() => Ok(Some(ServerEvent::Bytes(number, piece))),
         Ok(_) => Ok(None),
         Err(FromHexError::OutOfMemory) => Err(RunError::Memory),
         Err(_) => Ok(None),

@@ -8,7 +8,7 @@ ghost use Rattle.drive.specs.Streams.{at_once, piece_of, client_script_of};
 use crate::digits::decode;
 use bytes::BytesMut;
 use hex::FromHexError;
-use local_server::{ConnectionNumber, Event, TimedEvent};
+use local_server::{ConnectionNumber, ServerEvent, TimedEvent};
 use std::alloc::Global;
 use text_io::{RunError, split_line};
 
@@ -23,7 +23,7 @@ pub(crate) fn read_stream(alloc: Global, input: &[u8]) -> Result<Vec<TimedEvent>
 {
     let mut events = Vec::new(alloc);
     let mut buffer = BytesMut::with_capacity(alloc, input.len() / 2)?;
-    events.push(at_once(Event::Open(ConnectionNumber::FIRST)))?;
+    events.push(at_once(ServerEvent::Open(ConnectionNumber::FIRST)))?;
     let mut rest = input;
     let mut number = 0;
     while !rest.is_empty() {
@@ -35,12 +35,12 @@ pub(crate) fn read_stream(alloc: Global, input: &[u8]) -> Result<Vec<TimedEvent>
         }
         rest = others;
     }
-    events.push(at_once(Event::End(ConnectionNumber::FIRST)))?;
+    events.push(at_once(ServerEvent::End(ConnectionNumber::FIRST)))?;
     Ok(events)
 }
 
 /// The event at the moment 0.
-fn at_once(event: Event) -> TimedEvent
+fn at_once(event: ServerEvent) -> TimedEvent
     ensures { result ≡ at_once event }
 {
     TimedEvent { moment: 0, event }
@@ -52,7 +52,7 @@ fn piece(buffer: &mut BytesMut, line: &[u8]) -> Result<Option<TimedEvent>, RunEr
     ensures err { IfErr result (λ error. error ≡ Memory) }
 {
     match decode(buffer, line) {
-        Ok(piece) => Ok(Some(at_once(Event::Bytes(ConnectionNumber::FIRST, piece)))),
+        Ok(piece) => Ok(Some(at_once(ServerEvent::Bytes(ConnectionNumber::FIRST, piece)))),
         Err(FromHexError::OutOfMemory) => Err(RunError::Memory),
         Err(_) => Ok(None),
     }

@@ -18,7 +18,7 @@ use gate_word::{Drained, Turn};
 use group_jobs::Envelope;
 use group_jobs::laws::{lawful_end_law, one_fate_law};
 use group_queue::LawfulWitness;
-use shared_desk::DeskView;
+use shared_desk::DeskCaller;
 use shared_supply::{SharedBroker, StillOpen};
 use std::alloc::Global;
 use std::sync::Wait;
@@ -87,7 +87,7 @@ pub fn end_broker<'g, B: Broker, N: HistoryName, R: Wait>(
     drained: &Drained,
     shared_broker: SharedBroker<'g, B, N>,
     ports: Vec<Ports<B>>,
-    me: &mut DeskView<BrokerPlace<B>, N>,
+    me: &mut DeskCaller<BrokerPlace<B>, N>,
 ) -> Result<Ended<'g, B::Seen>, StillOpen<'g, B>>
 where
     B::Seen: LawfulWitness,

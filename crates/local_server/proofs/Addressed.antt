@@ -16,8 +16,8 @@ use Rattle.client_table.specs.Cells.{kept_as, kept, InCell, Opens, Receives, Tic
 use Rattle.local_broker.specs.Places.{GroupPlace}
 use Rattle.local_broker.specs.Broker.{Broker, is_open}
 use Rattle.local_broker.specs.Calls.{Calls}
-use Rattle.local_server.specs.declared.event.Event.{Event}
-use Rattle.local_server.specs.declared.event.Event.TheVariants as events
+use Rattle.local_server.specs.declared.event.ServerEvent.{ServerEvent}
+use Rattle.local_server.specs.declared.event.ServerEvent.TheVariants as events
 use Rattle.local_server.specs.declared.event.TimedEvent.{TimedEvent}
 use Rattle.local_server.specs.declared.setup.Setup.{Setup}
 use Rattle.local_server.specs.Servers.{Clients, ServerState, IsNewServer}
@@ -151,7 +151,7 @@ closed : (result : Result (Unit {0}) NoMemory) (old new : Broker) (clients clien
 closed result old new clients clients' now said all closes = first_ended closes.2 closes.0 new clients clients' now said result all closes.4
 
 -- an event: those that are open keep their numbers, and it is answered
-does : (max_inflight : ℕ) (event : Event) (old new : Broker) (clients clients' : Clients) (now : ℕ) (said : List StepOutput) (result : Result (Unit {0}) NoMemory)
+does : (max_inflight : ℕ) (event : ServerEvent) (old new : Broker) (clients clients' : Clients) (now : ℕ) (said : List StepOutput) (result : Result (Unit {0}) NoMemory)
     → AreNumbered clients → Does event max_inflight old clients now said result clients' new → AreNumbered clients' × Answers event said
 does max_inflight (events.Open number) old new clients clients' now said result all done =
     let cell = done.0 in
@@ -167,19 +167,19 @@ does max_inflight (events.End number) old new clients clients' now said result a
     (in_cell clients clients' number _ cell all is.0, is.1)
 does max_inflight events.Close old new clients clients' now said result all closes = (closed result old new clients clients' now said all closes, tt)
 
-silent : (event : Event) (said : List StepOutput) → said ≡ [] → Answers event said
+silent : (event : ServerEvent) (said : List StepOutput) → said ≡ [] → Answers event said
 silent (events.Open number) said none = subst (AreSentTo number) (sym none) tt
 silent (events.Bytes number piece) said none = subst (AreSentTo number) (sym none) tt
 silent (events.Tick number) said none = subst (AreSentTo number) (sym none) tt
 silent (events.End number) said none = subst (AreSentTo number) (sym none) tt
 silent events.Close said none = tt
 
-does_if : (max_inflight : ℕ) (open? : Bool) (event : Event) (old new : Broker) (clients clients' : Clients) (now : ℕ) (said : List StepOutput) (result : Result (Unit {0}) NoMemory)
+does_if : (max_inflight : ℕ) (open? : Bool) (event : ServerEvent) (old new : Broker) (clients clients' : Clients) (now : ℕ) (said : List StepOutput) (result : Result (Unit {0}) NoMemory)
     → AreNumbered clients → DoesIf open? event max_inflight old clients now said result clients' new → AreNumbered clients' × Answers event said
 does_if max_inflight true event old new clients clients' now said result all done = does max_inflight event old new clients clients' now said result all done
 does_if max_inflight false event old new clients clients' now said result all done = (subst AreNumbered (sym done.2) all, silent event said done.0)
 
-pub answered : (moment : ℕ) (event : Event) (said : List StepOutput) (result : Result (Unit {0}) NoMemory) (old new : ServerState) → AreNumbered old.clients → Happens old moment event said result new
+pub answered : (moment : ℕ) (event : ServerEvent) (said : List StepOutput) (result : Result (Unit {0}) NoMemory) (old new : ServerState) → AreNumbered old.clients → Happens old moment event said result new
     → AreNumbered new.clients × Answers event said
 answered moment event said result old new all happens = does_if _ (is_open old.broker) event old.broker new.broker old.clients new.clients new.clock said result all happens.does
 

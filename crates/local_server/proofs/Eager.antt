@@ -8,8 +8,8 @@ use Rattle.local_broker.specs.Broker.{Broker, is_open}
 use Rattle.local_broker.specs.Calls.{Calls}
 use Rattle.local_broker.specs.ReturnedFirst.{AllServeReturnedFirst}
 use Rattle.local_broker.proofs.ReturnedFirst.{begins_first, stays_first, stays_first_closed}
-use Rattle.local_server.specs.declared.event.Event.{Event}
-use Rattle.local_server.specs.declared.event.Event.TheVariants as events
+use Rattle.local_server.specs.declared.event.ServerEvent.{ServerEvent}
+use Rattle.local_server.specs.declared.event.ServerEvent.TheVariants as events
 use Rattle.local_server.specs.declared.event.TimedEvent.{TimedEvent}
 use Rattle.local_server.specs.declared.setup.Setup.{Setup}
 use Rattle.local_server.specs.Servers.{Clients, ServerState, IsNewServer}
@@ -27,7 +27,7 @@ all_end (suc number) old new clients clients' now said result ends all =
     stays_first ends.0 new (ends_for Calls slot_of ends.5 ends.7.before ends.0 new now inputs.Closing ends.3 ends.7.after ends.7.becomes)
     (all_end number old ends.0 clients ends.1 now ends.2 ends.4 ends.6 all)
 
-does : (max_inflight : ℕ) (event : Event) (old new : Broker) (clients clients' : Clients) (now : ℕ) (said : List StepOutput) (result : Result (Unit {0}) NoMemory)
+does : (max_inflight : ℕ) (event : ServerEvent) (old new : Broker) (clients clients' : Clients) (now : ℕ) (said : List StepOutput) (result : Result (Unit {0}) NoMemory)
     → Does event max_inflight old clients now said result clients' new → AllServeReturnedFirst old → AllServeReturnedFirst new
 does max_inflight (events.Open number) old new clients clients' now said result done all = unchanged old new done.1 all
 does max_inflight (events.Bytes number piece) old new clients clients' now said result done all =
@@ -39,12 +39,12 @@ does max_inflight (events.End number) old new clients clients' now said result d
 does max_inflight events.Close old new clients clients' now said result done all =
     all_end done.2 done.0 new clients clients' now said result done.4 (stays_first_closed old done.0 done.1 all)
 
-does_if : (max_inflight : ℕ) (going : Bool) (event : Event) (old new : Broker) (clients clients' : Clients) (now : ℕ) (said : List StepOutput) (result : Result (Unit {0}) NoMemory)
+does_if : (max_inflight : ℕ) (going : Bool) (event : ServerEvent) (old new : Broker) (clients clients' : Clients) (now : ℕ) (said : List StepOutput) (result : Result (Unit {0}) NoMemory)
     → DoesIf going event max_inflight old clients now said result clients' new → AllServeReturnedFirst old → AllServeReturnedFirst new
 does_if max_inflight true event old new clients clients' now said result done all = does max_inflight event old new clients clients' now said result done all
 does_if max_inflight false event old new clients clients' now said result done all = unchanged old new done.3 all
 
-happens : (moment : ℕ) (event : Event) (said : List StepOutput) (result : Result (Unit {0}) NoMemory) (old new : ServerState) → Happens old moment event said result new
+happens : (moment : ℕ) (event : ServerEvent) (said : List StepOutput) (result : Result (Unit {0}) NoMemory) (old new : ServerState) → Happens old moment event said result new
     → AllServeReturnedFirst old.broker → AllServeReturnedFirst new.broker
 happens moment event said result old new happened all =
     does_if _ (is_open old.broker) event old.broker new.broker old.clients new.clients new.clock said result happened.does all
@@ -62,7 +62,7 @@ pub eager : (setup : Setup) (events : List TimedEvent) (said : List StepOutput) 
     → AllHandReturnedFirst last.broker
 eager setup events said first last new run slot group there = (served setup events said first last new run slot group there).first
 
-pub eager_next : (setup : Setup) (events : List TimedEvent) (earlier said : List StepOutput) (moment : ℕ) (event : Event) (result : Result (Unit {0}) NoMemory) (first old new : ServerState)
+pub eager_next : (setup : Setup) (events : List TimedEvent) (earlier said : List StepOutput) (moment : ℕ) (event : ServerEvent) (result : Result (Unit {0}) NoMemory) (first old new : ServerState)
     → IsNewServer setup first → HappensAll first events earlier old → Happens old moment event said result new → AllHandReturnedFirst new.broker
 eager_next setup events earlier said moment event result first old new begins run happened slot group there =
     (happens moment event said result old new happened (served setup events earlier first old begins run) slot group there).first

@@ -13,7 +13,7 @@ use Rattle.client_table.specs.Clients.{ClientState, moment_of, StepOutput, Clien
 use Rattle.local_broker.specs.Places.{GroupPlace}
 use Rattle.local_broker.specs.Broker.{Broker, is_open}
 use Rattle.local_broker.specs.Calls.{Calls}
-use Rattle.local_server.specs.declared.event.Event.TheVariants as events
+use Rattle.local_server.specs.declared.event.ServerEvent.TheVariants as events
 use Rattle.local_server.specs.Servers.{Clients, ServerState, HasNoneBelow}
 use Rattle.local_server.specs.Happening.{slot_of, EndsFirst, DoesIf, Happens}
 

@@ -24,8 +24,8 @@ use Rattle.local_broker.specs.Histories.{Happening, HappensAll as HappensToBroke
 use Rattle.local_broker.specs.Histories.Happening.{Called, Closed}
 use Rattle.local_broker.proofs.HandedOut.{handed_all}
 use Rattle.local_broker.proofs.Happened.{running_all, running_first, law_all_along, new_desk}
-use Rattle.local_server.specs.declared.event.Event.{Event}
-use Rattle.local_server.specs.declared.event.Event.TheVariants as events
+use Rattle.local_server.specs.declared.event.ServerEvent.{ServerEvent}
+use Rattle.local_server.specs.declared.event.ServerEvent.TheVariants as events
 use Rattle.local_server.specs.declared.event.TimedEvent.{TimedEvent}
 use Rattle.local_server.specs.declared.setup.Setup.{Setup}
 use Rattle.local_server.specs.Servers.{Clients, ServerState, IsNewServer}
@@ -127,7 +127,7 @@ closed : (result : Result (Unit {0}) NoMemory) (old new : Broker) (clients clien
 closed result old new clients clients' now said closes =
     behind (Ok tt) result old closes.0 new [] said said refl (all_closed old closes.0 closes.1) (first_ended closes.2 closes.0 new clients clients' now said result closes.4)
 
-does : (max_inflight : ℕ) (event : Event) (old new : Broker) (clients clients' : Clients) (now : ℕ) (said : List StepOutput) (result : Result (Unit {0}) NoMemory)
+does : (max_inflight : ℕ) (event : ServerEvent) (old new : Broker) (clients clients' : Clients) (now : ℕ) (said : List StepOutput) (result : Result (Unit {0}) NoMemory)
     → Does event max_inflight old clients now said result clients' new → Ran result old said new
 does max_inflight (events.Open number) old new clients clients' now said result done = still result old new said done.2 done.1
 does max_inflight (events.Bytes number piece) old new clients clients' now said result done = received result old new done.before done.after now piece said done.becomes
@@ -135,15 +135,15 @@ does max_inflight (events.Tick number) old new clients clients' now said result 
 does max_inflight (events.End number) old new clients clients' now said result done = ended result old new done.before done.after now inputs.EndOfInput said done.becomes
 does max_inflight events.Close old new clients clients' now said result done = closed result old new clients clients' now said done
 
-does_if : (max_inflight : ℕ) (open? : Bool) (event : Event) (old new : Broker) (clients clients' : Clients) (now : ℕ) (said : List StepOutput) (result : Result (Unit {0}) NoMemory)
+does_if : (max_inflight : ℕ) (open? : Bool) (event : ServerEvent) (old new : Broker) (clients clients' : Clients) (now : ℕ) (said : List StepOutput) (result : Result (Unit {0}) NoMemory)
     → DoesIf open? event max_inflight old clients now said result clients' new → Ran result old said new
 does_if max_inflight true event old new clients clients' now said result done = does max_inflight event old new clients clients' now said result done
 does_if max_inflight false event old new clients clients' now said result done = still result old new said done.0 done.3
 
-ran : (moment : ℕ) (event : Event) (said : List StepOutput) (result : Result (Unit {0}) NoMemory) (old new : ServerState) → Happens old moment event said result new → Ran result old.broker said new.broker
+ran : (moment : ℕ) (event : ServerEvent) (said : List StepOutput) (result : Result (Unit {0}) NoMemory) (old new : ServerState) → Happens old moment event said result new → Ran result old.broker said new.broker
 ran moment event said result old new happens = does_if _ (is_open old.broker) event old.broker new.broker old.clients new.clients new.clock said result happens.does
 
-pub happened : (moment : ℕ) (event : Event) (said : List StepOutput) (result : Result (Unit {0}) NoMemory) (old new : ServerState) → Happens old moment event said result new → IsReachedBy old.broker new.broker
+pub happened : (moment : ℕ) (event : ServerEvent) (said : List StepOutput) (result : Result (Unit {0}) NoMemory) (old new : ServerState) → Happens old moment event said result new → IsReachedBy old.broker new.broker
 happened moment event said result old new happens = let run = ran moment event said result old new happens in (run.happenings, run.led)
 
 all_ran : (events : List TimedEvent) (said : List StepOutput) (old new : ServerState) → HappensAll old events said new → Ran (Ok tt) old.broker said new.broker
@@ -188,7 +188,7 @@ desk setup events first last new all =
     law_all_along led.0 first.broker last.broker (new_desk setup.capacity setup.groups first.broker new.broker) led.1
 
 -- after the close
-passed : (moment : ℕ) (event : Event) (said : List StepOutput) (old new : ServerState) → is_open old.broker ≡ false → Happens old moment event said (Ok tt) new
+passed : (moment : ℕ) (event : ServerEvent) (said : List StepOutput) (old new : ServerState) → is_open old.broker ≡ false → Happens old moment event said (Ok tt) new
     → (said ≡ []) × (new.broker ≡ old.broker) × (new.clients ≡ old.clients)
 passed moment event said old new shut happens =
     let done : DoesIf false event old.max_inflight old.broker old.clients new.clock said (Ok tt) new.clients new.broker =

@@ -19,7 +19,7 @@ use Rattle.local_broker.specs.Groups.{ClosesEach}
 use Rattle.local_broker.specs.Broker.{Broker, is_open}
 use Rattle.local_broker.specs.Calls.{Calls}
 use Rattle.local_broker.proofs.Closed.{either}
-use Rattle.local_server.specs.declared.event.Event.TheVariants as events
+use Rattle.local_server.specs.declared.event.ServerEvent.TheVariants as events
 use Rattle.local_server.specs.Servers.{Clients, ServerState}
 use Rattle.local_server.specs.Happening.{slot_of, EndsFirst, DoesIf, Happens}
 use Rattle.local_server.specs.LastEvents.{AddsTheClose, AllAddTheClose}

@@ -13,8 +13,8 @@ use Rattle.local_broker.specs.Calls.{Calls}
 use Rattle.local_broker.proofs.Happened.{new_desk}
 use Rattle.local_broker.proofs.OneBeginning.{one_new}
 use Rattle.local_broker.proofs.OneOpen.{AreLawful, answers, closes, same_open}
-use Rattle.local_server.specs.declared.event.Event.{Event}
-use Rattle.local_server.specs.declared.event.Event.TheVariants as events
+use Rattle.local_server.specs.declared.event.ServerEvent.{ServerEvent}
+use Rattle.local_server.specs.declared.event.ServerEvent.TheVariants as events
 use Rattle.local_server.specs.declared.event.TimedEvent.{TimedEvent}
 use Rattle.local_server.specs.declared.setup.Setup.{Setup}
 use Rattle.local_server.specs.Servers.{Clients, ServerState, IsNewServer}
@@ -60,7 +60,7 @@ closed : (a a' b b' : Broker) (clients c d : Clients) (now : ℕ) (xs ys : List 
 closed a a' b b' clients c d now xs ys alike h k =
     ended_first h.2 h.0 a' k.0 b' clients c d now xs ys (closes a b h.0 k.0 alike h.1 k.1) h.4 (subst (λ many. FirstDone many k.0 clients now ys d b') (k.3 ∙ sym h.3) k.4)
 
-done : (max_inflight : ℕ) (event : Event) (a a' b b' : Broker) (clients c d : Clients) (now : ℕ) (xs ys : List StepOutput) → AreLawful a b
+done : (max_inflight : ℕ) (event : ServerEvent) (a a' b b' : Broker) (clients c d : Clients) (now : ℕ) (xs ys : List StepOutput) → AreLawful a b
     → Does event max_inflight a clients now xs (Ok tt) c a' → Does event max_inflight b clients now ys (Ok tt) d b' → AreOne xs ys c d a' b'
 done max_inflight (events.Open number) a a' b b' clients c d now xs ys alike h k =
     let opening : Opening = record { at = now; max_inflight = max_inflight } in
@@ -77,7 +77,7 @@ done max_inflight (events.End number) a a' b b' clients c d now xs ys alike h k 
     (λ before after then does also. ended_for Calls AreLawful answers slot_of before a a' b b' now inputs.EndOfInput xs ys after then tt alike does also) h k
 done max_inflight events.Close a a' b b' clients c d now xs ys alike h k = closed a a' b b' clients c d now xs ys alike h k
 
-done_if : (max_inflight : ℕ) (open? : Bool) (event : Event) (a a' b b' : Broker) (clients c d : Clients) (now : ℕ) (xs ys : List StepOutput) → AreLawful a b
+done_if : (max_inflight : ℕ) (open? : Bool) (event : ServerEvent) (a a' b b' : Broker) (clients c d : Clients) (now : ℕ) (xs ys : List StepOutput) → AreLawful a b
     → DoesIf open? event max_inflight a clients now xs (Ok tt) c a' → DoesIf open? event max_inflight b clients now ys (Ok tt) d b' → AreOne xs ys c d a' b'
 done_if max_inflight true event a a' b b' clients c d now xs ys alike h k = done max_inflight event a a' b b' clients c d now xs ys alike h k
 done_if max_inflight false event a a' b b' clients c d now xs ys alike h k =
@@ -87,7 +87,7 @@ done_if max_inflight false event a a' b b' clients c d now xs ys alike h k =
 abbrev pub AreLawfulServers : ServerState → ServerState → Type 0
 AreLawfulServers one other = DeskLaw one.broker.desk.rows one.broker.desk.made × AreAlike one other
 
-pub happened : (one other one' other' : ServerState) (moment : ℕ) (event : Event) (xs ys : List StepOutput) → AreLawfulServers one other
+pub happened : (one other one' other' : ServerState) (moment : ℕ) (event : ServerEvent) (xs ys : List StepOutput) → AreLawfulServers one other
     → Happens one moment event xs (Ok tt) one' → Happens other moment event ys (Ok tt) other' → (xs ≡ ys) × AreLawfulServers one' other'
 happened one other one' other' moment event xs ys alike h k =
     let like = alike.1 in

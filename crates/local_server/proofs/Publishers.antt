@@ -8,8 +8,8 @@ use Rattle.local_broker.specs.Broker.{Broker, is_open}
 use Rattle.local_broker.specs.Calls.{Calls}
 use Rattle.local_broker.specs.Publishers.{AcceptsThrough, AcceptsNothing}
 use Rattle.local_broker.proofs.Publishers.{still, published, behind_close}
-use Rattle.local_server.specs.declared.event.Event.{Event}
-use Rattle.local_server.specs.declared.event.Event.TheVariants as events
+use Rattle.local_server.specs.declared.event.ServerEvent.{ServerEvent}
+use Rattle.local_server.specs.declared.event.ServerEvent.TheVariants as events
 use Rattle.local_server.specs.Servers.{Clients, ServerState}
 use Rattle.local_server.specs.Addressed.{AreNumbered}
 use Rattle.local_server.specs.Happening.{slot_of, Does, DoesIf, Happens}
@@ -17,7 +17,7 @@ use Rattle.local_server.specs.Publishers.{AcceptsFrom}
 use Rattle.local_server.proofs.Addressed.{at}
 use Rattle.local_server.proofs.Happened.{each_ended}
 
-does : (max_inflight : ℕ) (event : Event) (old new : Broker) (clients clients' : Clients) (now : ℕ) (said : List StepOutput) (result : Result (Unit {0}) NoMemory)
+does : (max_inflight : ℕ) (event : ServerEvent) (old new : Broker) (clients clients' : Clients) (now : ℕ) (said : List StepOutput) (result : Result (Unit {0}) NoMemory)
     → AreNumbered clients → Does event max_inflight old clients now said result clients' new → AcceptsFrom event old new
 does max_inflight (events.Open number) old new clients clients' now said result all done = still (AcceptsThrough number) old new (ap (λ b. b.groups) done.1)
 does max_inflight (events.Bytes number piece) old new clients clients' now said result all cell =
@@ -30,18 +30,18 @@ does max_inflight events.Close old new clients clients' now said result all clos
     let ended = each_ended closes.2 closes.0 new clients clients' now said result closes.4 in
     behind_close ended.0 old closes.0 new closes.1 ended.1
 
-nothing : (event : Event) (old new : Broker) → new ≡ old → AcceptsFrom event old new
+nothing : (event : ServerEvent) (old new : Broker) → new ≡ old → AcceptsFrom event old new
 nothing (events.Open number) old new same = still (AcceptsThrough number) old new (ap (λ b. b.groups) same)
 nothing (events.Bytes number piece) old new same = still (AcceptsThrough number) old new (ap (λ b. b.groups) same)
 nothing (events.Tick number) old new same = still (AcceptsThrough number) old new (ap (λ b. b.groups) same)
 nothing (events.End number) old new same = still (AcceptsThrough number) old new (ap (λ b. b.groups) same)
 nothing events.Close old new same = still AcceptsNothing old new (ap (λ b. b.groups) same)
 
-does_if : (max_inflight : ℕ) (open? : Bool) (event : Event) (old new : Broker) (clients clients' : Clients) (now : ℕ) (said : List StepOutput) (result : Result (Unit {0}) NoMemory)
+does_if : (max_inflight : ℕ) (open? : Bool) (event : ServerEvent) (old new : Broker) (clients clients' : Clients) (now : ℕ) (said : List StepOutput) (result : Result (Unit {0}) NoMemory)
     → AreNumbered clients → DoesIf open? event max_inflight old clients now said result clients' new → AcceptsFrom event old new
 does_if max_inflight true event old new clients clients' now said result all done = does max_inflight event old new clients clients' now said result all done
 does_if max_inflight false event old new clients clients' now said result all done = nothing event old new done.3
 
-pub accepted : (moment : ℕ) (event : Event) (said : List StepOutput) (result : Result (Unit {0}) NoMemory) (old new : ServerState) → AreNumbered old.clients → Happens old moment event said result new
+pub accepted : (moment : ℕ) (event : ServerEvent) (said : List StepOutput) (result : Result (Unit {0}) NoMemory) (old new : ServerState) → AreNumbered old.clients → Happens old moment event said result new
     → AcceptsFrom event old.broker new.broker
 accepted moment event said result old new all happens = does_if _ (is_open old.broker) event old.broker new.broker old.clients new.clients new.clock said result all happens.does

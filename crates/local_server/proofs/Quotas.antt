@@ -17,8 +17,8 @@ use Rattle.client_table.proofs.Quotas.{opens, receives, ticks_for, ends_for}
 use Rattle.local_broker.specs.Places.{GroupPlace}
 use Rattle.local_broker.specs.Broker.{Broker, is_open}
 use Rattle.local_broker.specs.Calls.{Calls}
-use Rattle.local_server.specs.declared.event.Event.{Event}
-use Rattle.local_server.specs.declared.event.Event.TheVariants as events
+use Rattle.local_server.specs.declared.event.ServerEvent.{ServerEvent}
+use Rattle.local_server.specs.declared.event.ServerEvent.TheVariants as events
 use Rattle.local_server.specs.declared.event.TimedEvent.{TimedEvent}
 use Rattle.local_server.specs.declared.setup.Setup.{Setup}
 use Rattle.local_server.specs.Servers.{Clients, ServerState, IsNewServer}
@@ -65,7 +65,7 @@ closed : (old new : Broker) (clients clients' : Clients) (now : ℕ) (said : Lis
     → AllWithinQuota clients → AllWithinQuota clients'
 closed old new clients clients' now said result closes all = first_ended closes.2 closes.0 new clients clients' now said result closes.4 all
 
-does : (max_inflight : ℕ) (event : Event) (old new : Broker) (clients clients' : Clients) (now : ℕ) (said : List StepOutput) (result : Result (Unit {0}) NoMemory)
+does : (max_inflight : ℕ) (event : ServerEvent) (old new : Broker) (clients clients' : Clients) (now : ℕ) (said : List StepOutput) (result : Result (Unit {0}) NoMemory)
     → Does event max_inflight old clients now said result clients' new → AllWithinQuota clients → AllWithinQuota clients'
 does max_inflight (events.Open number) old new clients clients' now said result done all =
     in_cell clients clients' number _ (λ before after is within. opens number _ before after is within) done.0 all
@@ -77,12 +77,12 @@ does max_inflight (events.End number) old new clients clients' now said result d
     in_cell clients clients' number _ (λ before after is within. ends_for Calls slot_of IsWithinQuota tt (steps.within Calls slot_of) result before old new now inputs.EndOfInput said after is within) done all
 does max_inflight events.Close old new clients clients' now said result done all = closed old new clients clients' now said result done all
 
-does_if : (max_inflight : ℕ) (going : Bool) (event : Event) (old new : Broker) (clients clients' : Clients) (now : ℕ) (said : List StepOutput) (result : Result (Unit {0}) NoMemory)
+does_if : (max_inflight : ℕ) (going : Bool) (event : ServerEvent) (old new : Broker) (clients clients' : Clients) (now : ℕ) (said : List StepOutput) (result : Result (Unit {0}) NoMemory)
     → DoesIf going event max_inflight old clients now said result clients' new → AllWithinQuota clients → AllWithinQuota clients'
 does_if max_inflight true event old new clients clients' now said result done all = does max_inflight event old new clients clients' now said result done all
 does_if max_inflight false event old new clients clients' now said result done all = subst AllWithinQuota (sym done.2) all
 
-pub happened : (moment : ℕ) (event : Event) (said : List StepOutput) (result : Result (Unit {0}) NoMemory) (old new : ServerState) → Happens old moment event said result new
+pub happened : (moment : ℕ) (event : ServerEvent) (said : List StepOutput) (result : Result (Unit {0}) NoMemory) (old new : ServerState) → Happens old moment event said result new
     → AllWithinQuota old.clients → AllWithinQuota new.clients
 happened moment event said result old new happens all = does_if _ (is_open old.broker) event old.broker new.broker old.clients new.clients new.clock said result happens.does all
 

@@ -30,8 +30,8 @@ use Rattle.local_broker.specs.Calls.{Closes}
 use Rattle.local_broker.specs.HandOuts.{HandOut, handed_by, handed_by_all}
 use Rattle.local_broker.specs.Histories.{Closed}
 use Rattle.local_broker.proofs.Happened.{new_desk}
-use Rattle.local_server.specs.declared.event.Event.{Event}
-use Rattle.local_server.specs.declared.event.Event.TheVariants as events
+use Rattle.local_server.specs.declared.event.ServerEvent.{ServerEvent}
+use Rattle.local_server.specs.declared.event.ServerEvent.TheVariants as events
 use Rattle.local_server.specs.declared.event.TimedEvent.{TimedEvent}
 use Rattle.local_server.specs.declared.setup.Setup.{Setup}
 use Rattle.local_server.specs.Servers.{Clients, ServerState, IsNewServer}
@@ -151,7 +151,7 @@ shut first conn_steps all_connected old closed closes keeps =
     }
 
 -- an event, where no allocation failed
-does : (max_inflight : ℕ) (event : Event) (first : Broker) (conn_steps : List ConnStep) (old new : Broker) (clients clients' : Clients) (now : ℕ) (said : List StepOutput) (result : Result (Unit {0}) NoMemory)
+does : (max_inflight : ℕ) (event : ServerEvent) (first : Broker) (conn_steps : List ConnStep) (old new : Broker) (clients clients' : Clients) (now : ℕ) (said : List StepOutput) (result : Result (Unit {0}) NoMemory)
     → IsOk result → AreNumbered clients → AreUnfaulted clients → Keeps first conn_steps (all_connected_at clients) old → Does event max_inflight old clients now said result clients' new
     → Says first conn_steps said (λ more. EventIsAnswered event clients more clients') (all_connected_at clients') new
 does max_inflight (events.Open number) first conn_steps old new clients clients' now said result ok all sound keeps done =
@@ -186,7 +186,7 @@ does max_inflight events.Close first conn_steps old new clients clients' now sai
     (λ these below number less. ends_heard number inputs.Closing (client_at clients number) _ ((below number).0 (let is = closes.3 in omega arith)))
     (first_ended closes.2 first conn_steps closes.0 new clients clients' now said result ok all (shut first conn_steps (all_connected_at clients) old closes.0 closes.1 keeps) closes.4)
 
-does_if : (max_inflight : ℕ) (open? : Bool) (event : Event) (first : Broker) (conn_steps : List ConnStep) (old new : Broker) (clients clients' : Clients) (now : ℕ) (said : List StepOutput)
+does_if : (max_inflight : ℕ) (open? : Bool) (event : ServerEvent) (first : Broker) (conn_steps : List ConnStep) (old new : Broker) (clients clients' : Clients) (now : ℕ) (said : List StepOutput)
     (result : Result (Unit {0}) NoMemory)
     → IsOk result → AreNumbered clients → AreUnfaulted clients → Keeps first conn_steps (all_connected_at clients) old → DoesIf open? event max_inflight old clients now said result clients' new
     → Says first conn_steps said (λ more. EventIsAnsweredIf open? event clients more clients') (all_connected_at clients') new

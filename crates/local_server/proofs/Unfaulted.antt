@@ -16,8 +16,8 @@ use Rattle.client_table.specs.Streams.{fed, Reads, Ticks}
 use Rattle.local_broker.specs.Places.{GroupPlace}
 use Rattle.local_broker.specs.Broker.{Broker}
 use Rattle.local_broker.specs.Calls.{Calls}
-use Rattle.local_server.specs.declared.event.Event.{Event}
-use Rattle.local_server.specs.declared.event.Event.TheVariants as events
+use Rattle.local_server.specs.declared.event.ServerEvent.{ServerEvent}
+use Rattle.local_server.specs.declared.event.ServerEvent.TheVariants as events
 use Rattle.local_server.specs.declared.setup.Setup.{Setup}
 use Rattle.local_server.specs.Servers.{Clients, ServerState, IsNewServer}
 use Rattle.local_server.specs.Happening.{slot_of, EndsFirst, Does, DoesIf}
@@ -108,7 +108,7 @@ first_ended (suc number) old new clients clients' now said result ok all ends =
     in_cell ends.1 clients' number _ cell (first_ended number old ends.0 clients ends.1 now ends.2 ends.4 (first_ok ends.4 ends.5 both) all ends.6)
     (ends_by_closing ends.5 cell.before cell.after ends.0 new now ends.3 (then_ok ends.4 ends.5 both) cell.becomes)
 
-does : (max_inflight : ℕ) (event : Event) (old new : Broker) (clients clients' : Clients) (now : ℕ) (said : List StepOutput) (result : Result (Unit {0}) NoMemory) → IsOk result
+does : (max_inflight : ℕ) (event : ServerEvent) (old new : Broker) (clients clients' : Clients) (now : ℕ) (said : List StepOutput) (result : Result (Unit {0}) NoMemory) → IsOk result
     → AreUnfaulted clients → Does event max_inflight old clients now said result clients' new → AreUnfaulted clients'
 does max_inflight (events.Open number) old new clients clients' now said result ok all done =
     let cell = done.0 in
@@ -123,7 +123,7 @@ does max_inflight (events.End number) old new clients clients' now said result o
     in_cell clients clients' number _ cell all (ends_by_end result cell.before cell.after old new now said ok cell.becomes)
 does max_inflight events.Close old new clients clients' now said result ok all closes = first_ended closes.2 closes.0 new clients clients' now said result ok all closes.4
 
-pub still_unfaulted : (max_inflight : ℕ) (open? : Bool) (event : Event) (old new : Broker) (clients clients' : Clients) (now : ℕ) (said : List StepOutput) (result : Result (Unit {0}) NoMemory) → IsOk result
+pub still_unfaulted : (max_inflight : ℕ) (open? : Bool) (event : ServerEvent) (old new : Broker) (clients clients' : Clients) (now : ℕ) (said : List StepOutput) (result : Result (Unit {0}) NoMemory) → IsOk result
     → AreUnfaulted clients → DoesIf open? event max_inflight old clients now said result clients' new → AreUnfaulted clients'
 still_unfaulted max_inflight true event old new clients clients' now said result ok all done = does max_inflight event old new clients clients' now said result ok all done
 still_unfaulted max_inflight false event old new clients clients' now said result ok all done = subst AreUnfaulted (sym done.2) all

@@ -2,8 +2,8 @@
 use Rattle.std.specs.Prelude.{◌≡◌, ℕ, List, [], ◌∷◌, Some, ⊤, slice_get}
 use Rattle.client_table.specs.Clients.{ClientState, StepOutput}
 use Rattle.local_broker.specs.Places.{GroupPlace}
-use Rattle.local_server.specs.declared.event.Event.{Event}
-use Rattle.local_server.specs.declared.event.Event.TheVariants as events
+use Rattle.local_server.specs.declared.event.ServerEvent.{ServerEvent}
+use Rattle.local_server.specs.declared.event.ServerEvent.TheVariants as events
 use Rattle.local_server.specs.Servers.{Clients}
 
 -- each connection that is open has the number under which its client stands
@@ -16,7 +16,7 @@ AreSentTo number [] = ⊤
 AreSentTo number (first ∷ others) = (first.connection ≡ number) × AreSentTo number others
 
 -- what is said in an event of a connection is said to that one; a close is told to each
-abbrev pub Answers : Event → List StepOutput → Type 0
+abbrev pub Answers : ServerEvent → List StepOutput → Type 0
 Answers (events.Open number) said = AreSentTo number said
 Answers (events.Bytes number piece) said = AreSentTo number said
 Answers (events.Tick number) said = AreSentTo number said

@@ -8,8 +8,8 @@ use Rattle.client_table.specs.Cells.{InCell, Opens, Receives, TicksFor, EndsFor}
 use Rattle.local_broker.specs.Places.{GroupPlace}
 use Rattle.local_broker.specs.Broker.{Broker, is_open}
 use Rattle.local_broker.specs.Calls.{Calls, Closes}
-use Rattle.local_server.specs.declared.event.Event.{Event}
-use Rattle.local_server.specs.declared.event.Event.TheVariants as events
+use Rattle.local_server.specs.declared.event.ServerEvent.{ServerEvent}
+use Rattle.local_server.specs.declared.event.ServerEvent.TheVariants as events
 use Rattle.local_server.specs.declared.event.TimedEvent.{TimedEvent}
 use Rattle.local_server.specs.Servers.{Clients, ServerState}
 
@@ -37,7 +37,7 @@ ClosesAll old clients now said result clients' new =
     (closed : Broker) × Closes old closed × (many : ℕ) × (many ≡ 64) × EndsFirst many closed clients now said result clients' new
 
 -- an event, at this moment, of a server that is open, where a connection is opened with this limit: what is said, and what becomes of the server; or an allocation failed
-abbrev pub Does : Event → ℕ → Broker → Clients → ℕ → List StepOutput → Result (Unit {0}) NoMemory → Clients → Broker → Type 0
+abbrev pub Does : ServerEvent → ℕ → Broker → Clients → ℕ → List StepOutput → Result (Unit {0}) NoMemory → Clients → Broker → Type 0
 Does (events.Open number) max_inflight old clients now said result clients' new =
     InCell clients number (Opens number (record { at = now; max_inflight = max_inflight })) clients' × (new ≡ old) × (said ≡ []) × (result ≡ Ok tt)
 Does (events.Bytes number piece) max_inflight old clients now said result clients' new =
@@ -49,12 +49,12 @@ Does (events.End number) max_inflight old clients now said result clients' new =
 Does events.Close max_inflight old clients now said result clients' new = ClosesAll old clients now said result clients' new
 
 -- after the close events are passed over
-abbrev pub DoesIf : Bool → Event → ℕ → Broker → Clients → ℕ → List StepOutput → Result (Unit {0}) NoMemory → Clients → Broker → Type 0
+abbrev pub DoesIf : Bool → ServerEvent → ℕ → Broker → Clients → ℕ → List StepOutput → Result (Unit {0}) NoMemory → Clients → Broker → Type 0
 DoesIf true event max_inflight old clients now said result clients' new = Does event max_inflight old clients now said result clients' new
 DoesIf false event max_inflight old clients now said result clients' new = (said ≡ []) × (result ≡ Ok tt) × (clients' ≡ clients) × (new ≡ old)
 
 -- an event at a moment
-pub record Happens (old : ServerState) (moment : ℕ) (event : Event) (said : List StepOutput) (result : Result (Unit {0}) NoMemory) (new : ServerState) : Type 0 where
+pub record Happens (old : ServerState) (moment : ℕ) (event : ServerEvent) (said : List StepOutput) (result : Result (Unit {0}) NoMemory) (new : ServerState) : Type 0 where
   -- where the clock went back, the later moment stands
   pub clock : new.clock ≡ max old.clock moment
   pub max_inflight : new.max_inflight ≡ old.max_inflight

@@ -9,8 +9,8 @@ use Rattle.client_table.specs.Clients.{ClientState, StepOutput}
 use Rattle.client_table.specs.Streams.{IsRead}
 use Rattle.local_broker.specs.Places.{GroupPlace}
 use Rattle.local_broker.specs.Broker.{is_open}
-use Rattle.local_server.specs.declared.event.Event.{Event}
-use Rattle.local_server.specs.declared.event.Event.TheVariants as events
+use Rattle.local_server.specs.declared.event.ServerEvent.{ServerEvent}
+use Rattle.local_server.specs.declared.event.ServerEvent.TheVariants as events
 use Rattle.local_server.specs.declared.event.TimedEvent.{TimedEvent}
 use Rattle.local_server.specs.Servers.{Clients, ServerState}
 use Rattle.local_server.specs.Happening.{HappensAll}
@@ -63,7 +63,7 @@ abbrev pub client_at : Clients → ℕ → Option (ClientState GroupPlace)
 client_at clients number = open_in (slice_get clients number)
 
 -- the steps of an event answer what came in it
-abbrev pub EventIsAnswered : Event → Clients → List ConnStep → Clients → Type 0
+abbrev pub EventIsAnswered : ServerEvent → Clients → List ConnStep → Clients → Type 0
 EventIsAnswered (events.Open number) old conn_steps new = conn_steps ≡ []
 EventIsAnswered (events.Bytes number piece) old conn_steps new = PieceIsAnswered (client_at old number) piece conn_steps (client_at new number)
 EventIsAnswered (events.Tick number) old conn_steps new = TickIsAnswered (client_at old number) conn_steps (client_at new number)
@@ -71,7 +71,7 @@ EventIsAnswered (events.End number) old conn_steps new = LastIsAnswered inputs.E
 EventIsAnswered events.Close old conn_steps new = (number : ℕ) → number < 64 → LastIsAnswered inputs.Closing (client_at old number) (conn_steps_of number conn_steps)
 
 -- after the close nothing comes any more
-abbrev pub EventIsAnsweredIf : Bool → Event → Clients → List ConnStep → Clients → Type 0
+abbrev pub EventIsAnsweredIf : Bool → ServerEvent → Clients → List ConnStep → Clients → Type 0
 EventIsAnsweredIf true event old conn_steps new = EventIsAnswered event old conn_steps new
 EventIsAnsweredIf false event old conn_steps new = conn_steps ≡ []
 

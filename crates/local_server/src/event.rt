@@ -4,7 +4,7 @@ use bytes::Bytes;
 
 /// What happens to a server, or to one of its connections.
 #[derive(Debug, Drop)]
-pub enum Event {
+pub enum ServerEvent {
     /// A connection is opened.
     Open(ConnectionNumber),
     /// A piece of a client's stream comes; it may be empty.
@@ -21,5 +21,5 @@ pub enum Event {
 #[derive(Debug, Drop)]
 pub struct TimedEvent {
     pub moment: u64,
-    pub event: Event,
+    pub event: ServerEvent,
 }

@@ -5,8 +5,8 @@ ghost use Rattle.session_desk.specs.Hands.{DeskLaw};
 ghost use Rattle.conn_supply.specs.declared.supply.NoMemory.{NoMemory};
 ghost use Rattle.client_table.specs.Clients.{StepOutput};
 ghost use Rattle.local_broker.specs.Broker.{is_open};
-ghost use Rattle.local_server.specs.declared.event.Event.{Event};
-ghost use Rattle.local_server.specs.declared.event.Event.TheVariants as events;
+ghost use Rattle.local_server.specs.declared.event.ServerEvent.{ServerEvent};
+ghost use Rattle.local_server.specs.declared.event.ServerEvent.TheVariants as events;
 ghost use Rattle.local_server.specs.declared.event.TimedEvent.{TimedEvent};
 ghost use Rattle.local_server.specs.declared.setup.Setup.{Setup};
 ghost use Rattle.local_server.specs.Deliveries.{HandsOutWhatIsSent};
@@ -38,7 +38,7 @@ pub fn headline_law()
 /// **An event is a list of calls** of what the connections share, and perhaps its close, whether an allocation failed or not (`one`); and so
 /// are many (`all`). So each law of `local_broker` holds after every event. The runs in which no allocation failed are among these (`without`).
 pub fn happenings_law()
-    ensures one { (moment : ℕ) (event : Event) (said : List StepOutput) (result : Result (Unit {0}) NoMemory) (old new : ServerState) →
+    ensures one { (moment : ℕ) (event : ServerEvent) (said : List StepOutput) (result : Result (Unit {0}) NoMemory) (old new : ServerState) →
         Happens old moment event said result new → IsReachedBy old.broker new.broker }
     ensures all { (events : List TimedEvent) (old new : ServerState) → GoesThrough old events new → IsReachedBy old.broker new.broker }
     ensures without { (events : List TimedEvent) (said : List StepOutput) (old new : ServerState) →
@@ -84,7 +84,7 @@ pub fn transcript_law()
 /// **What was given back is handed out first**, in every run (profile): whenever a message is first handed out in a group, none of its messages
 /// waits that was given back (`all`). It is so after whatever events, and after one more, whether an allocation failed in that or not (`one`).
 pub fn eager_law()
-    ensures one { (setup : Setup) (events : List TimedEvent) (earlier said : List StepOutput) (moment : ℕ) (event : Event) (result : Result (Unit {0}) NoMemory)
+    ensures one { (setup : Setup) (events : List TimedEvent) (earlier said : List StepOutput) (moment : ℕ) (event : ServerEvent) (result : Result (Unit {0}) NoMemory)
         (first old new : ServerState) →
         IsNewServer setup first → HappensAll first events earlier old → Happens old moment event said result new → AllHandReturnedFirst new.broker }
     ensures all { (setup : Setup) (events : List TimedEvent) (said : List StepOutput) (first last : ServerState) →
@@ -132,7 +132,7 @@ pub fn desk_law()
 /// packets that were sent on it, those that wait for their PUBACK are never more than the Receive Maximum that its terms have, which are those of
 /// its CONNECT by the step law, and never more than 256.
 pub fn quota_law()
-    ensures one { (moment : ℕ) (event : Event) (said : List StepOutput) (result : Result (Unit {0}) NoMemory) (old new : ServerState) →
+    ensures one { (moment : ℕ) (event : ServerEvent) (said : List StepOutput) (result : Result (Unit {0}) NoMemory) (old new : ServerState) →
         Happens old moment event said result new → AllWithinQuota old.clients → AllWithinQuota new.clients }
     ensures all { (setup : Setup) (events : List TimedEvent) (first last : ServerState) →
         IsNewServer setup first → GoesThrough first events last → AllWithinQuota last.clients }
@@ -141,7 +141,7 @@ pub fn quota_law()
 /// **What is said in an event of a connection is said to that one**, after whatever events, whether an allocation failed in it, or in any before it, or
 /// not.
 pub fn addressing_law()
-    ensures { (setup : Setup) (events : List TimedEvent) (said : List StepOutput) (moment : ℕ) (event : Event) (result : Result (Unit {0}) NoMemory)
+    ensures { (setup : Setup) (events : List TimedEvent) (said : List StepOutput) (moment : ℕ) (event : ServerEvent) (result : Result (Unit {0}) NoMemory)
         (first old new : ServerState) →
         IsNewServer setup first → GoesThrough first events old → Happens old moment event said result new → Answers event said }
 {}
@@ -149,7 +149,7 @@ pub fn addressing_law()
 /// **A port is its publisher's connection**: whatever a group accepts in an event of a connection, it accepts through the port of that connection's number, and
 /// in a close it accepts nothing; after whatever events, whether an allocation failed in it, or in any before it, or not.
 pub fn publisher_law()
-    ensures { (setup : Setup) (events : List TimedEvent) (said : List StepOutput) (moment : ℕ) (event : Event) (result : Result (Unit {0}) NoMemory)
+    ensures { (setup : Setup) (events : List TimedEvent) (said : List StepOutput) (moment : ℕ) (event : ServerEvent) (result : Result (Unit {0}) NoMemory)
         (first old new : ServerState) →
         IsNewServer setup first → GoesThrough first events old → Happens old moment event said result new → AcceptsFrom event old.broker new.broker }
 {}
@@ -176,7 +176,7 @@ pub fn closing_law()
 /// and says the same in both (`one`).
 pub fn one_run_law()
     ensures new { (setup : Setup) (a b : ServerState) → IsNewServer setup a → IsNewServer setup b → AreAlike a b }
-    ensures one { (moment : ℕ) (event : Event) (said said' : List StepOutput) (a b a' b' : ServerState) →
+    ensures one { (moment : ℕ) (event : ServerEvent) (said said' : List StepOutput) (a b a' b' : ServerState) →
         AreAlike a b → DeskLaw a.broker.desk.rows a.broker.desk.made →
         Happens a moment event said (Ok tt) a' → Happens b moment event said' (Ok tt) b' → (said ≡ said') × AreAlike a' b' }
     ensures all { (setup : Setup) (events : List TimedEvent) (said said' : List StepOutput) (first first' last last' : ServerState) →

@@ -19,7 +19,7 @@ mod number;
 mod server;
 mod setup;
 
-pub use event::{Event, TimedEvent};
+pub use event::{ServerEvent, TimedEvent};
 pub use number::{ConnectionNumber, OutOfRange};
 pub use server::Server;
 pub use setup::Setup;

@@ -6,7 +6,7 @@ ghost use Rattle.local_broker.specs.Reporting.{TellsLine};
 ghost use Rattle.local_server.specs.Servers.{IsNewServer};
 ghost use Rattle.local_server.specs.Happening.{ClosesAll, Does, Happens};
 
-use crate::event::Event;
+use crate::event::ServerEvent;
 use crate::setup::Setup;
 use client_table::{CLIENTS, ClientTable, StepOutput};
 use conn_engine::Opening;
@@ -71,16 +71,16 @@ impl Server {
     /// of a connection wrote goes after what was said before.
     ///
     /// What happens to a connection that is not open is passed over, and so is the opening of one that is, and all that happens
-    /// after [`Event::Close`].
+    /// after [`ServerEvent::Close`].
     ///
     /// # Errors
     ///
     /// 803 [`NoMemory`]: the connection has ended, and its session is parked or ending, with all that it holds; what was said
-    /// before stays. In [`Event::Close`] that may befall several connections; the others are told all the same.
+    /// before stays. In [`ServerEvent::Close`] that may befall several connections; the others are told all the same.
     pub fn happen(
         &mut self,
         moment: u64,
-        event: &Event,
+        event: &ServerEvent,
         said: &mut Vec<StepOutput>,
     ) -> Result<(), NoMemory>
         ensures { (more : List Output) × (said.new.items ≡ said.old.items ++ more) × Happens self.old moment event.now more result self.new }
@@ -135,7 +135,7 @@ fn serve(
     supply: &mut LocalSupply,
     clients: &mut ClientTable<LocalPlace>,
     opening: Opening,
-    event: &Event,
+    event: &ServerEvent,
     said: &mut Vec<StepOutput>,
 ) -> Result<(), NoMemory>
     requires { is_open supply.old ≡ true }
@@ -144,14 +144,20 @@ fn serve(
 {
     let now = opening.at;
     match event {
-        Event::Open(number) => {
+        ServerEvent::Open(number) => {
             clients.open(number.get(), opening);
             Ok(())
         }
-        Event::Bytes(number, piece) => clients.receive(supply, number.get(), now, piece, said),
-        Event::Tick(number) => clients.tick(supply, number.get(), now, said),
-        Event::End(number) => clients.end_of_input(supply, number.get(), now, said),
-        Event::Close => close(supply, clients, now, said),
+        ServerEvent::Bytes(number, piece) => clients.receive(
+            supply,
+            number.get(),
+            now,
+            piece,
+            said,
+        ),
+        ServerEvent::Tick(number) => clients.tick(supply, number.get(), now, said),
+        ServerEvent::End(number) => clients.end_of_input(supply, number.get(), now, said),
+        ServerEvent::Close => close(supply, clients, now, said),
     }
 }
 

@@ -3,7 +3,7 @@ use Rattle.std.specs.Prelude.{◌≡◌, ◌≢◌, ◌⊎◌, ℕ, List, codes,
 use Rattle.std.specs.Io.KnownBytes.{IsAtEnd}
 use Rattle.clap.specs.declared.error.kind.ErrorKind.{ErrorKind}
 use Rattle.clap.specs.declared.error.kind.ErrorKind.TheVariants as kinds
-use Rattle.arguments.specs.declared.service.Service.{Service}
+use Rattle.arguments.specs.declared.service.ServeOptions.{ServeOptions}
 use Rattle.arguments.specs.ServeLine.{AskForService, SpellNoService}
 use Rattle.text_io.specs.declared.error.RunError.{RunError}
 use Rattle.text_io.specs.declared.error.RunError.TheVariants.{Memory}
@@ -26,7 +26,7 @@ AskToServe (Err error) texts = ⊥
 -- A broker was served at the port, with groups of the capacity, with the workers and with the shares that these words ask for: what it wrote by how it ended is in the output, and at an error its line on the
 -- error output. It ended with none only where the input had ended.
 pub record ServeEnds (words : List (List ℕ)) (old new : Streams) (exit : Exit) : Type 0 where
-  pub service : Service
+  pub service : ServeOptions
   pub asked : AskForService words service
   pub ended : Result (Unit {0}) RunError
   pub served : IsServedAt service.port service.setup.capacity service.workers service.setup.max_inflight service.setup.groups ended old.output new.output

@@ -8,7 +8,7 @@ ghost use Rattle.program.specs.Serving.{AskToServe, EndsAsAsked, EndsAsServed, E
 
 use crate::asking::{Asked, answer};
 use crate::ending::{Exit, conclude, perform, run};
-use arguments::{Service, serve_arguments};
+use arguments::{ServeOptions, serve_arguments};
 use std::alloc::Global;
 use std::io;
 use std::io::{Read, Write};
@@ -87,7 +87,7 @@ fn serve<H: Threads + Wait + Net + Clock + Sync, R: Read + Send, W: Write, E: Wr
 }
 
 /// The service that the words ask for, of which the first is `serve`; or what is done where they ask for none.
-fn asked_service(alloc: Global, words: &[String]) -> Result<Service, Result<Asked, RunError>>
+fn asked_service(alloc: Global, words: &[String]) -> Result<ServeOptions, Result<Asked, RunError>>
     ensures { MatchResult result (AskForService (map string_bytes words.now)) (IsNoService (map string_bytes words.now)) }
 {
     match serve_arguments(alloc, words) {
@@ -110,14 +110,14 @@ fn behind_the_name(words: &[String]) -> &[String]
 fn serve_as<H: Threads + Wait + Net + Clock + Sync, R: Read + Send, W: Write>(
     rt: &H,
     alloc: Global,
-    service: Service,
+    service: ServeOptions,
     reader: &mut R,
     output: &mut W,
 ) -> Result<(), RunError>
     ensures written { IsServedAt service.port service.setup.capacity service.workers service.setup.max_inflight service.setup.groups result (W.contents output.old) (W.contents output.new) }
     ensures read { IfOk result (λ _. IsAtEnd (R.remaining reader.new)) }
 {
-    let Service {
+    let ServeOptions {
         address,
         port,
         workers,

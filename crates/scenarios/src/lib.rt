@@ -6,7 +6,7 @@ mod packets;
 mod scenario;
 mod sessions;
 
-pub use scenario::{Event, Scenario, What};
+pub use scenario::{Scenario, ScenarioEvent, What};
 pub use sessions::longest_wait;
 
 /// All scenarios but the one of [`longest_wait`], by what they show: what becomes of jobs, sessions, and single packets.

@@ -25,7 +25,7 @@ pub enum What {
 
 /// An event of a scenario: what happens to the connection of this number, at this moment in milliseconds.
 #[derive(Drop)]
-pub struct Event {
+pub struct ScenarioEvent {
     pub moment: u64,
     pub connection: u8,
     pub what: What,
@@ -33,7 +33,7 @@ pub struct Event {
 
 impl<'a> Scenario<'a> {
     /// The events that happen to connections. `None` where a line spells none, or an allocation fails.
-    pub fn events(&self, alloc: Global) -> Option<Vec<Event>> {
+    pub fn events(&self, alloc: Global) -> Option<Vec<ScenarioEvent>> {
         let mut events = Vec::new(alloc);
         for line in self.lines.lines() {
             if is_event(line) && moment_of_close(line).is_none() {
@@ -72,10 +72,10 @@ fn moment_of_close(line: &str) -> Option<u64> {
 }
 
 /// The event that a line spells.
-fn event_of(alloc: Global, line: &str) -> Option<Event> {
+fn event_of(alloc: Global, line: &str) -> Option<ScenarioEvent> {
     let mut words = line.split(' ');
     let (moment, word, connection) = (words.next()?, words.next()?, words.next()?);
-    Some(Event {
+    Some(ScenarioEvent {
         moment: moment.parse::<u64>().ok()?,
         connection: connection.parse::<u8>().ok()?,
         what: what_of(alloc, word, words.next())?,

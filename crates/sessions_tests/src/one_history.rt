@@ -7,7 +7,7 @@ ghost use Rattle.sessions_tests.specs.SessionHolders.{Stands};
 
 use crate::spot::Spot;
 use call_history::HistoryName;
-use shared_desk::{DeskView, SharedDesk};
+use shared_desk::{DeskCaller, SharedDesk};
 use std::sync::Wait;
 use std::thread::{Threads, join};
 
@@ -15,9 +15,9 @@ use std::thread::{Threads, join};
 fn withdraw_as<D: HistoryName, R: Wait>(
     rt: &R,
     desk: &SharedDesk<Spot, D>,
-    mut me: DeskView<Spot, D>,
+    mut me: DeskCaller<Spot, D>,
     connection: u16,
-) -> DeskView<Spot, D>
+) -> DeskCaller<Spot, D>
     ensures { Stands (Withdraw connection) result.calls }
 {
     desk.withdraw(rt, &mut me, connection);
@@ -28,19 +28,19 @@ fn withdraw_as<D: HistoryName, R: Wait>(
 pub fn both_withdraw<D: HistoryName + Send + Sync, R: Threads + Wait + Sync>(
     rt: &R,
     desk: &SharedDesk<Spot, D>,
-    one: DeskView<Spot, D>,
-    other: DeskView<Spot, D>,
-) -> DeskView<Spot, D>
+    one: DeskCaller<Spot, D>,
+    other: DeskCaller<Spot, D>,
+) -> DeskCaller<Spot, D>
     ensures first { Stands (Withdraw 0) result.calls }
     ensures second { Stands (Withdraw 1) result.calls }
     ensures legal { IsHistory any_out (λ _. 3) number_of_spot result.calls }
 {
     let (mut one, other) = join(
         rt,
-        move || -> DeskView<Spot, D>
+        move || -> DeskCaller<Spot, D>
             ensures { Stands (Withdraw 0) result.calls }
         { withdraw_as(rt, desk, one, 0) },
-        move || -> DeskView<Spot, D>
+        move || -> DeskCaller<Spot, D>
             ensures { Stands (Withdraw 1) result.calls }
         { withdraw_as(rt, desk, other, 1) },
     );

@@ -14,7 +14,7 @@ ghost use Rattle.call_history.specs.Numbers.{IsEachOnce};
 ghost use Rattle.shared_desk.specs.Books.{IsLawful, IsMade};
 ghost use Rattle.shared_desk.specs.Histories.{AddsCall, Leads};
 
-use crate::view::{DeskCall, DeskHistory, DeskView};
+use crate::caller::{DeskCall, DeskCaller, DeskHistory};
 use bytes::Bytes;
 use call_history::{Caller, Entries, HistoryName, Keeper};
 use conn_supply::HoldingPlace;
@@ -75,7 +75,7 @@ impl<P: HoldingPlace, D: HistoryName> LawfulDesk<P, D> {
     pub fn attach(
         &mut self,
         history: &DeskHistory<P, D>,
-        me: &mut DeskView<P, D>,
+        me: &mut DeskCaller<P, D>,
         connection: u16,
         client: &Bytes,
         clean: bool,
@@ -103,7 +103,7 @@ impl<P: HoldingPlace, D: HistoryName> LawfulDesk<P, D> {
     pub fn withdraw(
         &mut self,
         history: &DeskHistory<P, D>,
-        me: &mut DeskView<P, D>,
+        me: &mut DeskCaller<P, D>,
         connection: u16,
     )
         ensures made { IsMade P.has_out P.slot_of P.number_of (Withdraw connection) }
@@ -116,7 +116,7 @@ impl<P: HoldingPlace, D: HistoryName> LawfulDesk<P, D> {
     pub fn kicked(
         &mut self,
         history: &DeskHistory<P, D>,
-        me: &mut DeskView<P, D>,
+        me: &mut DeskCaller<P, D>,
         connection: u16,
     ) -> bool
         ensures yes { result ≡ true → (books : Books Held P) × IsLawful P.has_out books × IsKicked books connection }
@@ -136,7 +136,7 @@ impl<P: HoldingPlace, D: HistoryName> LawfulDesk<P, D> {
     pub fn park(
         &mut self,
         history: &DeskHistory<P, D>,
-        me: &mut DeskView<P, D>,
+        me: &mut DeskCaller<P, D>,
         session: Session<Envelope, P>,
         now: u64,
     ) -> Option<Session<Envelope, P>>
@@ -161,7 +161,7 @@ impl<P: HoldingPlace, D: HistoryName> LawfulDesk<P, D> {
     pub fn park_as_is(
         &mut self,
         history: &DeskHistory<P, D>,
-        me: &mut DeskView<P, D>,
+        me: &mut DeskCaller<P, D>,
         session: Session<Envelope, P>,
     ) -> Option<Session<Envelope, P>>
         ghost before: { Sessions.Session Held P }
@@ -185,7 +185,7 @@ impl<P: HoldingPlace, D: HistoryName> LawfulDesk<P, D> {
     pub fn keep(
         &mut self,
         history: &DeskHistory<P, D>,
-        me: &mut DeskView<P, D>,
+        me: &mut DeskCaller<P, D>,
         session: Session<Envelope, P>,
     ) -> Option<Session<Envelope, P>>
         ghost before: { Sessions.Session Held P }
@@ -209,7 +209,7 @@ impl<P: HoldingPlace, D: HistoryName> LawfulDesk<P, D> {
     pub fn bury(
         &mut self,
         history: &DeskHistory<P, D>,
-        me: &mut DeskView<P, D>,
+        me: &mut DeskCaller<P, D>,
         session: Session<Envelope, P>,
     ) -> Option<Session<Envelope, P>>
         ghost before: { Sessions.Session Held P }
@@ -233,7 +233,7 @@ impl<P: HoldingPlace, D: HistoryName> LawfulDesk<P, D> {
     pub fn sweep(
         &mut self,
         history: &DeskHistory<P, D>,
-        me: &mut DeskView<P, D>,
+        me: &mut DeskCaller<P, D>,
         now: u64,
     ) -> Option<Session<Envelope, P>>
         ensures out { IfSome result (IsOutAtPlace P.has_out) }
@@ -254,7 +254,7 @@ impl<P: HoldingPlace, D: HistoryName> LawfulDesk<P, D> {
     pub fn lend_place(
         &mut self,
         history: &DeskHistory<P, D>,
-        me: &mut DeskView<P, D>,
+        me: &mut DeskCaller<P, D>,
         slot: u8,
     ) -> Option<P>
         ensures own { IfSome result (IsOfSlot P.slot_of P.number_of slot) }
@@ -276,7 +276,7 @@ impl<P: HoldingPlace, D: HistoryName> LawfulDesk<P, D> {
     pub fn take_place(
         &mut self,
         history: &DeskHistory<P, D>,
-        me: &mut DeskView<P, D>,
+        me: &mut DeskCaller<P, D>,
         place: P,
     ) -> Option<P>
         ghost before: { P }
@@ -303,7 +303,7 @@ impl<P: HoldingPlace, D: HistoryName> LawfulDesk<P, D> {
     }
 
     /// The desk, and lets a caller know all calls that were made of it.
-    pub fn finish(self, history: &DeskHistory<P, D>, me: &mut DeskView<P, D>) -> Desk<Envelope, P>
+    pub fn finish(self, history: &DeskHistory<P, D>, me: &mut DeskCaller<P, D>) -> Desk<Envelope, P>
         ensures lawful { IsLawful P.has_out result }
         ensures before { IsPrefix me.old.calls me.new.calls }
         ensures same { me.new ≡ record me.old { calls = me.new.calls } }

@@ -5,10 +5,10 @@
 //! session has out at its place just what it holds, and nothing is out at a free place.
 #![tactic(auto)]
 
+mod caller;
 mod lawful;
 pub mod laws;
 mod shared;
-mod view;
 
+pub use caller::{DeskCall, DeskCaller};
 pub use shared::{OpenedDesk, SharedDesk};
-pub use view::{DeskCall, DeskView};

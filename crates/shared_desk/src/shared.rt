@@ -13,10 +13,10 @@ ghost use Rattle.call_history.specs.Numbers.{IsEachOnce};
 ghost use Rattle.shared_desk.specs.Books.{IsLawful, IsMade};
 ghost use Rattle.shared_desk.specs.Histories.{IsHistory, AddsCall, Leads, TakesEach};
 
+use crate::caller::{DeskCall, DeskCaller, DeskHistory};
 use crate::lawful::LawfulDesk;
-use crate::view::{DeskCall, DeskHistory, DeskView};
 use bytes::Bytes;
-use call_history::{HistoryName, Opened};
+use call_history::{HistoryName, OpenedHistory};
 use conn_supply::HoldingPlace;
 use group_jobs::Envelope;
 use session_desk::{Attached, CONNECTIONS, Desk, DeskError, Session};
@@ -29,7 +29,7 @@ use std::sync::{Mutex, Wait};
 /// A new desk, which has no name yet. Contracts see it as the table of its history.
 pub struct OpenedDesk<P: HoldingPlace> {
     desk: Desk<Envelope, P>,
-    opened: Opened<DeskCall<P>>,
+    opened: OpenedHistory<DeskCall<P>>,
     soonest: AtomicU64,
     marks: Vec<AtomicBool>,
 }
@@ -54,7 +54,7 @@ impl<P: HoldingPlace> OpenedDesk<P> {
     /// 703 [`DeskError::Memory`].
     pub fn open(alloc: Global) -> Result<OpenedDesk<P>, DeskError> {
         let marks = no_marks(alloc)?;
-        let opened = Opened::open(alloc).map_err(|_| DeskError::Memory)?;
+        let opened = OpenedHistory::open(alloc).map_err(|_| DeskError::Memory)?;
         let desk = Desk::new(alloc)?;
         let soonest = AtomicU64::new(desk.soonest());
         Ok(OpenedDesk {
@@ -66,7 +66,7 @@ impl<P: HoldingPlace> OpenedDesk<P> {
     }
 
     /// The desk under a name, and its one caller, which has the whole right to call.
-    pub fn name<D: HistoryName>(self) -> (SharedDesk<P, D>, DeskView<P, D>)
+    pub fn name<D: HistoryName>(self) -> (SharedDesk<P, D>, DeskCaller<P, D>)
         requires { self ≡ D.history }
         ensures { result.1 ≡ first_caller }
     {
@@ -85,7 +85,7 @@ impl<P: HoldingPlace> OpenedDesk<P> {
                 soonest,
                 marks,
             },
-            DeskView { caller },
+            DeskCaller { caller },
         )
     }
 }
@@ -133,7 +133,7 @@ impl<P: HoldingPlace, D: HistoryName> SharedDesk<P, D> {
     pub fn attach<R: Wait>(
         &self,
         rt: &R,
-        me: &mut DeskView<P, D>,
+        me: &mut DeskCaller<P, D>,
         connection: u16,
         client: &Bytes,
         clean: bool,
@@ -163,7 +163,7 @@ impl<P: HoldingPlace, D: HistoryName> SharedDesk<P, D> {
     }
 
     /// The connection waits for no session from now on.
-    pub fn withdraw<R: Wait>(&self, rt: &R, me: &mut DeskView<P, D>, connection: u16)
+    pub fn withdraw<R: Wait>(&self, rt: &R, me: &mut DeskCaller<P, D>, connection: u16)
         ensures made { IsMade P.has_out P.slot_of P.number_of (Withdraw connection) }
         ensures told { AddsCall P.has_out P.slot_of P.number_of me.old (Withdraw connection) me.new }
     {
@@ -171,8 +171,8 @@ impl<P: HoldingPlace, D: HistoryName> SharedDesk<P, D> {
     }
 
     /// Whether another connection asked for this connection's session since it was lent. The lock is taken only where one may have: else the answer is no, and
-    /// the pass knows what it knew.
-    pub fn kicked<R: Wait>(&self, rt: &R, me: &mut DeskView<P, D>, connection: u16) -> bool
+    /// the caller knows what it knew.
+    pub fn kicked<R: Wait>(&self, rt: &R, me: &mut DeskCaller<P, D>, connection: u16) -> bool
         ensures yes { result ≡ true → (books : Books Held P) × IsLawful P.has_out books × IsKicked books connection }
         ensures told { ((result ≡ false) × (me.new ≡ me.old)) ⊎ AddsCall P.has_out P.slot_of P.number_of me.old (Kicked connection result) me.new }
     {
@@ -195,7 +195,7 @@ impl<P: HoldingPlace, D: HistoryName> SharedDesk<P, D> {
     pub fn park<R: Wait>(
         &self,
         rt: &R,
-        me: &mut DeskView<P, D>,
+        me: &mut DeskCaller<P, D>,
         session: Session<Envelope, P>,
         now: u64,
     ) -> Option<Session<Envelope, P>>
@@ -214,7 +214,7 @@ impl<P: HoldingPlace, D: HistoryName> SharedDesk<P, D> {
     pub fn park_as_is<R: Wait>(
         &self,
         rt: &R,
-        me: &mut DeskView<P, D>,
+        me: &mut DeskCaller<P, D>,
         session: Session<Envelope, P>,
     ) -> Option<Session<Envelope, P>>
         requires { IsSoundSession P.has_out session }
@@ -232,7 +232,7 @@ impl<P: HoldingPlace, D: HistoryName> SharedDesk<P, D> {
     pub fn keep<R: Wait>(
         &self,
         rt: &R,
-        me: &mut DeskView<P, D>,
+        me: &mut DeskCaller<P, D>,
         session: Session<Envelope, P>,
     ) -> Option<Session<Envelope, P>>
         requires { IsOutAtPlace P.has_out session }
@@ -250,7 +250,7 @@ impl<P: HoldingPlace, D: HistoryName> SharedDesk<P, D> {
     pub fn bury<R: Wait>(
         &self,
         rt: &R,
-        me: &mut DeskView<P, D>,
+        me: &mut DeskCaller<P, D>,
         session: Session<Envelope, P>,
     ) -> Option<Session<Envelope, P>>
         requires { IsOutAtPlace P.has_out session }
@@ -265,7 +265,7 @@ impl<P: HoldingPlace, D: HistoryName> SharedDesk<P, D> {
     pub fn sweep<R: Wait>(
         &self,
         rt: &R,
-        me: &mut DeskView<P, D>,
+        me: &mut DeskCaller<P, D>,
         now: u64,
     ) -> Option<Session<Envelope, P>>
         ensures out { IfSome result (IsOutAtPlace P.has_out) }
@@ -282,7 +282,7 @@ impl<P: HoldingPlace, D: HistoryName> SharedDesk<P, D> {
     }
 
     /// Lends the least free place of the group of this slot.
-    pub fn lend_place<R: Wait>(&self, rt: &R, me: &mut DeskView<P, D>, slot: u8) -> Option<P>
+    pub fn lend_place<R: Wait>(&self, rt: &R, me: &mut DeskCaller<P, D>, slot: u8) -> Option<P>
         ensures own { IfSome result (IsOfSlot P.slot_of P.number_of slot) }
         ensures out { IfSome result (λ place. P.has_out place []) }
         ensures made { IsMade P.has_out P.slot_of P.number_of (LendPlace slot result) }
@@ -292,7 +292,7 @@ impl<P: HoldingPlace, D: HistoryName> SharedDesk<P, D> {
     }
 
     /// A place is free from now on. It is handed back where a place of the same group with the same number is free already.
-    pub fn take_place<R: Wait>(&self, rt: &R, me: &mut DeskView<P, D>, place: P) -> Option<P>
+    pub fn take_place<R: Wait>(&self, rt: &R, me: &mut DeskCaller<P, D>, place: P) -> Option<P>
         requires { P.has_out place [] }
         ensures same { IfSome result (λ back. back ≡ place) }
         ensures made { IsMade P.has_out P.slot_of P.number_of (TakePlace place result) }
@@ -302,23 +302,23 @@ impl<P: HoldingPlace, D: HistoryName> SharedDesk<P, D> {
     }
 
     /// A further caller, which has one part of the right to call, and knows the same.
-    pub fn share(&self, me: &mut DeskView<P, D>) -> DeskView<P, D>
+    pub fn share(&self, me: &mut DeskCaller<P, D>) -> DeskCaller<P, D>
         requires { 1 < me.old.parts }
         ensures kept { me.new ≡ record me.old { parts = me.old.parts - 1 } }
         ensures new { result ≡ new_caller me.old.calls }
     {
         let caller = me.caller.share(&self.history);
-        DeskView { caller }
+        DeskCaller { caller }
     }
 
     /// Two callers become one, which knows the longer of what they knew: it goes on from either, and has the calls and the right to call of both.
-    pub fn agree(&self, me: &mut DeskView<P, D>, other: DeskView<P, D>)
+    pub fn agree(&self, me: &mut DeskCaller<P, D>, other: DeskCaller<P, D>)
         ensures joined { me.new ≡ joined me.old other me.new.calls }
         ensures mine { IsPrefix me.old.calls me.new.calls }
         ensures others { IsPrefix other.calls me.new.calls }
         ensures legal { IsHistory P.has_out P.slot_of P.number_of me.new.calls }
     {
-        let DeskView { caller } = other;
+        let DeskCaller { caller } = other;
         me.caller.agree(&self.history, caller);
     }
 
@@ -337,7 +337,7 @@ impl<P: HoldingPlace, D: HistoryName> SharedDesk<P, D> {
 
     /// The desk, once no other thread has it, and lets a caller know all calls that were made of it: what the caller knew is the beginning of them. Where it has the whole right to
     /// call, each of them is its own, or of a caller that it took in (`once`).
-    pub fn finish(self, me: &mut DeskView<P, D>) -> Desk<Envelope, P>
+    pub fn finish(self, me: &mut DeskCaller<P, D>) -> Desk<Envelope, P>
         ensures lawful { IsLawful P.has_out result }
         ensures before { IsPrefix me.old.calls me.new.calls }
         ensures same { me.new ≡ record me.old { calls = me.new.calls } }
@@ -357,7 +357,7 @@ impl<P: HoldingPlace, D: HistoryName> SharedDesk<P, D> {
 impl<P: HoldingPlace + Drop, D: HistoryName> SharedDesk<P, D> {
     /// Places are free from now on, one after the other, the last one first. One of which a place of the same group with the same number is free already is
     /// let go.
-    pub fn take_places<R: Wait>(&self, rt: &R, me: &mut DeskView<P, D>, places: Vec<P>)
+    pub fn take_places<R: Wait>(&self, rt: &R, me: &mut DeskCaller<P, D>, places: Vec<P>)
         requires { All (λ place. P.has_out place []) places.items }
         ensures taken { TakesEach P.has_out P.slot_of P.number_of me.old (reverse places.items) me.new }
         ensures right { me.new.parts ≡ me.old.parts }

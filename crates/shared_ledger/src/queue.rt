@@ -54,9 +54,9 @@ impl<W: LedgerWitness> Lesson<Ledger, Share> for TakingUp<W> {
 }
 
 /// A look at the queue.
-pub struct Looking;
+pub struct LookingAtLedger;
 
-impl Lesson<Ledger, Share> for Looking {
+impl Lesson<Ledger, Share> for LookingAtLedger {
     ghost use Rattle.shared_ledger.specs.Giving.{Stands};
 
     ghost fact = { Stands };
@@ -269,5 +269,5 @@ pub fn look<W: LedgerWitness>(queue: &LedgerQueue<W>, pass: &mut LedgerPass)
     ensures same { view pass.new ≡ view pass.old }
     ensures stands { (items : List ledger_type) × Stands (view pass.old) items }
 {
-    queue.learn_as::<Looking>(pass);
+    queue.learn_as::<LookingAtLedger>(pass);
 }

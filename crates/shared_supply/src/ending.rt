@@ -12,7 +12,7 @@ use call_history::HistoryName;
 use group_jobs::Envelope;
 use group_queue::LawfulWitness;
 use session_desk::{All, Desk};
-use shared_desk::DeskView;
+use shared_desk::DeskCaller;
 use shared_routes::SharedRoutes;
 use std::alloc::Global;
 use std::sync::Wait;
@@ -75,7 +75,7 @@ impl<'g, B: Broker, N: HistoryName> SharedBroker<'g, B, N> {
     /// [`Unemptied`]: an allocation failed. All that it had comes back, with the desk as these calls led to it.
     pub fn empty(
         self,
-        me: &mut DeskView<BrokerPlace<B>, N>,
+        me: &mut DeskCaller<BrokerPlace<B>, N>,
     ) -> Result<Emptied<'g, B>, Unemptied<'g, B>>
         ensures before { IsPrefix me.old.calls me.new.calls }
         ensures same { me.new ≡ record me.old { calls = me.new.calls } }
@@ -116,7 +116,7 @@ where
         rt: &R,
         alloc: Global,
         ports: Vec<Ports<B>>,
-        me: &mut DeskView<BrokerPlace<B>, N>,
+        me: &mut DeskCaller<BrokerPlace<B>, N>,
     ) -> Result<Ended<'g, B::Seen>, StillOpen<'g, B>>
         ensures before { IsPrefix me.old.calls me.new.calls }
         ensures same { me.new ≡ record me.old { calls = me.new.calls } }

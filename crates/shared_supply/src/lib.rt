@@ -13,5 +13,5 @@ mod wakes;
 pub use ending::{Emptied, StillOpen, Unemptied};
 pub use shared_broker::SharedBroker;
 pub use supply::{SharedSupply, SupplyParts};
-pub use tallies::Tally;
+pub use tallies::GroupTally;
 pub use wakes::{AskedBack, Wakes};

@@ -6,7 +6,7 @@ ghost use Rattle.call_history.specs.Callers.{joined};
 use broker_groups::{Broker, BrokerGroups, BrokerPlace};
 use call_history::HistoryName;
 use gate_word::Gate;
-use shared_desk::{DeskView, SharedDesk};
+use shared_desk::{DeskCaller, SharedDesk};
 use shared_routes::{KnownRoutes, SharedRoutes};
 use std::alloc::{AllocError, Global};
 use std::marker::Model;
@@ -62,7 +62,11 @@ impl<'g, B: Broker, N: HistoryName> SharedBroker<'g, B, N> {
     }
 
     /// A caller of the desk takes in another: what it knows, its calls and its right to call.
-    pub fn agree(&self, me: &mut DeskView<BrokerPlace<B>, N>, other: DeskView<BrokerPlace<B>, N>)
+    pub fn agree(
+        &self,
+        me: &mut DeskCaller<BrokerPlace<B>, N>,
+        other: DeskCaller<BrokerPlace<B>, N>,
+    )
         ensures joined { me.new ≡ joined me.old other me.new.calls }
         ensures mine { IsPrefix me.old.calls me.new.calls }
         ensures others { IsPrefix other.calls me.new.calls }

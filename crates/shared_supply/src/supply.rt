@@ -7,14 +7,14 @@ ghost use Rattle.shared_supply.specs.Waking.{KeepsAtMost, no_wakes, one_called, 
 ghost use Rattle.shared_supply.specs.Workers.{Begins, Leaves, visitor_of, is_inside};
 
 use crate::shared_broker::SharedBroker;
-use crate::tallies::{Tallies, Tally};
+use crate::tallies::{GroupTally, Tallies};
 use crate::wakes::Wakes;
 use broker_groups::{Broker, BrokerPlace, Key, Ports};
 use call_history::HistoryName;
 use conn_supply::NoMemory;
 use gate_word::{Turn, Visitor};
 use group_jobs::Envelope;
-use shared_desk::DeskView;
+use shared_desk::DeskCaller;
 use shared_routes::KnownRoutes;
 use std::alloc::Global;
 use std::marker::Model;
@@ -32,7 +32,7 @@ pub struct SharedSupply<'a, 'g, B: Broker, N: HistoryName, R: Wait> {
     pub(crate) visitor: Option<Visitor>,
     pub(crate) ports: Ports<B>,
     pub(crate) known: KnownRoutes<'a>,
-    pub(crate) desk: DeskView<BrokerPlace<B>, N>,
+    pub(crate) desk: DeskCaller<BrokerPlace<B>, N>,
     pub(crate) alloc: Global,
     pub(crate) wakes: Wakes,
     // How many more messages are to be handed to its members, until it is allowed others.
@@ -50,7 +50,7 @@ pub struct SupplyParts<'a, B: Broker, N: HistoryName> {
     /// What it knows of the routes.
     pub known: KnownRoutes<'a>,
     /// What it knows of the calls of the desk, and which of them are its own.
-    pub desk: DeskView<BrokerPlace<B>, N>,
+    pub desk: DeskCaller<BrokerPlace<B>, N>,
 }
 
 impl<'a, 'g, B: Broker, N: HistoryName, R: Wait> Model for SharedSupply<'a, 'g, B, N, R> {
@@ -73,7 +73,7 @@ impl<'a, 'g, B: Broker, N: HistoryName, R: Wait> SharedSupply<'a, 'g, B, N, R> {
         key: Key<B>,
         ports: Ports<B>,
         known: KnownRoutes<'a>,
-        desk: DeskView<BrokerPlace<B>, N>,
+        desk: DeskCaller<BrokerPlace<B>, N>,
     ) -> SharedSupply<'a, 'g, B, N, R>
         requires { known.table ≡ shared_broker.now }
         ensures { result ≡ record { visitor = Outside key; ports = ports; known = known.entry; desk = desk; wakes = no_wakes; allowance = u32.MAX; missed = 0 } }
@@ -125,7 +125,7 @@ impl<'a, 'g, B: Broker, N: HistoryName, R: Wait> SharedSupply<'a, 'g, B, N, R> {
     }
 
     /// How many messages of the group of this slot it brought there and handed out.
-    pub fn tally(&self, slot: usize) -> Tally {
+    pub fn tally(&self, slot: usize) -> GroupTally {
         self.tallies.of(slot)
     }
 

@@ -2,7 +2,7 @@
 
 /// The messages of one group. Each number begins at 0 again at 2^32, so that what all workers brought, less what all handed out, is what waits in the group.
 #[derive(Clone, Copy, Debug, PartialEq, Eq)]
-pub struct Tally {
+pub struct GroupTally {
     /// How many a worker's connections published into the group or gave back to it.
     pub brought: u32,
     /// How many were handed to its members.
@@ -12,23 +12,23 @@ pub struct Tally {
 /// Those of all groups, by their slots. No contract speaks of them: they tell workers how many messages wait, about, while others bring and hand out some.
 #[derive(Drop)]
 pub(crate) struct Tallies {
-    slots: [Tally; 8],
+    slots: [GroupTally; 8],
 }
 
 impl Tallies {
     /// None was brought, and none handed out.
     pub(crate) const NONE: Tallies = Tallies {
-        slots: [Tally {
+        slots: [GroupTally {
             brought: 0,
             handed: 0,
         }; 8],
     };
 
     /// That of the group of a slot; of a slot that no group has, none.
-    pub(crate) fn of(&self, slot: usize) -> Tally {
+    pub(crate) fn of(&self, slot: usize) -> GroupTally {
         match self.slots.get(slot) {
             Some(tally) => *tally,
-            None => Tally {
+            None => GroupTally {
                 brought: 0,
                 handed: 0,
             },

@@ -5,7 +5,7 @@ use Rattle.hex.specs.declared.error.FromHexError.{FromHexError}
 use Rattle.hex.proofs.HexLemmas.{decode_of-ok}
 use Rattle.text_io.specs.Lines.{lines_of}
 use Rattle.mqtt_fields.specs.Forms.{AreBytes}
-use Rattle.local_server.specs.declared.event.Event.TheVariants.{Open, Bytes, End}
+use Rattle.local_server.specs.declared.event.ServerEvent.TheVariants.{Open, Bytes, End}
 use Rattle.local_server.specs.declared.event.TimedEvent.{TimedEvent}
 use Rattle.drive.specs.Scripts.{followed_by}
 use Rattle.drive.specs.Streams.{at_once, piece_of, pieces_from, behind_opening, client_script_of}

@@ -36,7 +36,7 @@ use Rattle.local_broker.specs.Places.{GroupPlace}
 use Rattle.local_broker.specs.Broker.{Broker, IsNewBroker, is_open}
 use Rattle.local_broker.specs.Calls.{Calls}
 use Rattle.local_server.specs.Servers.{ServerState, Clients}
-use Rattle.local_server.specs.declared.event.Event.TheVariants.{Open, Bytes, End}
+use Rattle.local_server.specs.declared.event.ServerEvent.TheVariants.{Open, Bytes, End}
 use Rattle.local_server.specs.Happening.{DoesIf, HappensAll}
 use Rattle.drive.specs.Streams.{at_once}
 use Rattle.solo_output.specs.Groups.{SoloState, Phase, opening}

@@ -12,7 +12,7 @@ use final_report::{end_broker, end_groups};
 use gate_word::{Drained, Gate};
 use group_queue::Nobody;
 use session_desk::All;
-use shared_desk::DeskView;
+use shared_desk::DeskCaller;
 use shared_supply::{SharedBroker, SupplyParts};
 use std::alloc::Global;
 use std::sync::Wait;
@@ -67,7 +67,7 @@ fn end_by_desk<B: Broker<Seen = Nobody>, N: HistoryName, R: Wait>(
     drained: &Drained,
     shared_broker: SharedBroker<'_, B, N>,
     ports: Vec<Ports<B>>,
-    caller: &mut DeskView<BrokerPlace<B>, N>,
+    caller: &mut DeskCaller<BrokerPlace<B>, N>,
 ) -> Option<Vec<Counts>>
     requires { drained.now ≡ B.gate }
 {

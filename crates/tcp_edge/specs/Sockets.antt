@@ -1,7 +1,7 @@
 -- A socket as contracts see it, and what its calls ask of the stream below.
 use Rattle.std.specs.Prelude.{◌≡◌, ◌≢◌, ◌⊎◌, ℕ}
-use Rattle.tcp_edge.specs.declared.wire.Outcome.{Outcome}
-use Rattle.tcp_edge.specs.declared.wire.Outcome.TheVariants as outcome
+use Rattle.tcp_edge.specs.declared.wire.IoOutcome.{IoOutcome}
+use Rattle.tcp_edge.specs.declared.wire.IoOutcome.TheVariants as outcome
 use Rattle.transport.specs.declared.answers.Got.{Got}
 use Rattle.transport.specs.declared.answers.Got.TheVariants as got
 use Rattle.transport.specs.declared.answers.Put.{Put}
@@ -20,24 +20,24 @@ abbrev pub new_socket : {W : Type 0} → W → SocketState W
 new_socket wire = record { wire = wire; counts = record { failures = 0; ends = 0; idles = 0 }; refused = 0 }
 
 -- a read answers what one call of the stream came to
-pub record Receives {W : Type 0} (receives : W → Outcome → W → Type 0) (old : W) (answer : Got) (new : W) : Type 0 where
-  pub came_to : Outcome
+pub record Receives {W : Type 0} (receives : W → IoOutcome → W → Type 0) (old : W) (answer : Got) (new : W) : Type 0 where
+  pub came_to : IoOutcome
   pub received : receives old came_to new
   pub answered : answer ≡ got_of came_to
 
 -- a write answers what one call of the stream came to
-pub record Sends {W : Type 0} (sends : W → Outcome → W → Type 0) (refused : ℕ) (old : W) (answer : Put) (new : W) : Type 0 where
-  pub came_to : Outcome
+pub record Sends {W : Type 0} (sends : W → IoOutcome → W → Type 0) (refused : ℕ) (old : W) (answer : Put) (new : W) : Type 0 where
+  pub came_to : IoOutcome
   pub sent : sends old came_to new
   pub answered : answer ≡ put_of came_to refused
 
 -- a read that waits answers what the first call came to, or, where that was nothing yet, what the second did
-abbrev pub ReceivesPatiently : {W : Type 0} → (W → Outcome → W → Type 0) → W → Got → W → Type 0
+abbrev pub ReceivesPatiently : {W : Type 0} → (W → IoOutcome → W → Type 0) → W → Got → W → Type 0
 ReceivesPatiently {W} receives old answer new =
     ((answer ≢ got.Idle) × Receives receives old answer new) ⊎ ((between : W) × receives old outcome.NotNow between × Receives receives between answer new)
 
 -- and so does a write that waits
-abbrev pub SendsPatiently : {W : Type 0} → (W → Outcome → W → Type 0) → ℕ → W → Put → W → Type 0
+abbrev pub SendsPatiently : {W : Type 0} → (W → IoOutcome → W → Type 0) → ℕ → W → Put → W → Type 0
 SendsPatiently {W} sends refused old answer new =
     ((answer ≢ put.Idle) × Sends sends refused old answer new) ⊎ ((between : W) × sends old outcome.NotNow between × Sends sends refused between answer new)
 

@@ -18,4 +18,4 @@ pub use reactor::{Alarm, MOST_SOURCES, Reactor, ReactorError, Ready};
 pub use socket::Socket;
 pub use source::{OpenError, TcpSource, not_accepted};
 pub use until::Until;
-pub use wire::{Outcome, Wire};
+pub use wire::{IoOutcome, Wire};

@@ -7,7 +7,7 @@ ghost use Rattle.transport.specs.Streams.{GivesWithin, TakesWithin, after_read, 
 
 use crate::reactor::ReactorError;
 use crate::socket::Socket;
-use crate::wire::{Outcome, Wire};
+use crate::wire::{IoOutcome, Wire};
 use mio::event::Source;
 use mio::{Events, Interest, Poll, Token};
 use std::alloc::Global;
@@ -116,7 +116,7 @@ impl<W: Wire> Transport for Patient<W> {
         ensures asked { ReceivesPatiently W.receives self.old.wire result self.new.wire }
     {
         let first = self.socket.ask(buffer);
-        if first == Outcome::NotNow {
+        if first == IoOutcome::NotNow {
             self.to_read.pause();
             self.socket.read(buffer)
         } else {
@@ -138,7 +138,7 @@ impl<W: Wire> Transport for Patient<W> {
         ensures asked { SendsPatiently W.sends self.old.refused self.old.wire result self.new.wire }
     {
         let first = self.socket.offer(bytes);
-        if first == Outcome::NotNow {
+        if first == IoOutcome::NotNow {
             self.to_write.pause();
             self.socket.write(bytes)
         } else {

@@ -5,7 +5,7 @@ ghost use Rattle.tcp_edge.specs.Outcomes.{CountsWithin, got_of, passed_on, put_o
 ghost use Rattle.transport.specs.Counting.{MayGoOn, after_got, after_put};
 ghost use Rattle.transport.specs.Streams.{GivesWithin, TakesWithin, after_read, after_write};
 
-use crate::wire::{Outcome, Wire};
+use crate::wire::{IoOutcome, Wire};
 use mio::event::Source;
 use mio::{Interest, Registry, Token};
 use std::io;
@@ -53,7 +53,7 @@ impl<W> Socket<W> {
 
 impl<W: Wire> Socket<W> {
     /// Asks the stream for bytes, and counts nothing yet.
-    pub(crate) fn ask(&mut self, buffer: &mut [u8]) -> Outcome
+    pub(crate) fn ask(&mut self, buffer: &mut [u8]) -> IoOutcome
         ensures within { CountsWithin result buffer.new }
         ensures came { W.came self.new.wire ≡ passed_on (W.came self.old.wire) result buffer.new }
         ensures went { W.went self.new.wire ≡ W.went self.old.wire }
@@ -66,7 +66,7 @@ impl<W: Wire> Socket<W> {
     }
 
     /// What a read gives, where the stream came to this. Counts it.
-    pub(crate) fn settle_read(&mut self, outcome: Outcome) -> Got
+    pub(crate) fn settle_read(&mut self, outcome: IoOutcome) -> Got
         requires { MayGoOn self.old.counts }
         ensures got { result ≡ got_of outcome }
         ensures counts { self.new.counts ≡ after_got result self.old.counts }
@@ -79,7 +79,7 @@ impl<W: Wire> Socket<W> {
     }
 
     /// Offers bytes to the stream, and counts nothing yet.
-    pub(crate) fn offer(&mut self, bytes: &[u8]) -> Outcome
+    pub(crate) fn offer(&mut self, bytes: &[u8]) -> IoOutcome
         ensures within { CountsWithin result bytes.now }
         ensures came { W.came self.new.wire ≡ W.came self.old.wire }
         ensures went { W.went self.new.wire ≡ passed_on (W.went self.old.wire) result bytes.now }
@@ -91,7 +91,7 @@ impl<W: Wire> Socket<W> {
     }
 
     /// What a write takes, where the stream came to this. Counts it.
-    pub(crate) fn settle_write(&mut self, outcome: Outcome) -> Put
+    pub(crate) fn settle_write(&mut self, outcome: IoOutcome) -> Put
         requires { MayGoOn self.old.counts }
         ensures put { result ≡ put_of outcome self.old.refused }
         ensures counts { self.new.counts ≡ after_put result self.old.counts }
@@ -108,27 +108,27 @@ impl<W: Wire> Socket<W> {
 }
 
 /// What a read gives.
-fn got_from(outcome: Outcome) -> Got
+fn got_from(outcome: IoOutcome) -> Got
     ensures { result ≡ got_of outcome }
 {
     match outcome {
-        Outcome::Count(0) => Got::End,
-        Outcome::Count(count) => Got::Bytes(count),
-        Outcome::NotNow => Got::Idle,
-        Outcome::Broken => Got::Failed,
+        IoOutcome::Count(0) => Got::End,
+        IoOutcome::Count(count) => Got::Bytes(count),
+        IoOutcome::NotNow => Got::Idle,
+        IoOutcome::Broken => Got::Failed,
     }
 }
 
 /// What a write takes, after so many that were idle.
-fn put_from(outcome: Outcome, refused: u64) -> Put
+fn put_from(outcome: IoOutcome, refused: u64) -> Put
     ensures { result ≡ put_of outcome refused }
 {
     match outcome {
-        Outcome::Count(0) => Put::Failed,
-        Outcome::Count(count) => Put::Wrote(count),
-        Outcome::NotNow if refused < u64::MAX => Put::Idle,
-        Outcome::NotNow => Put::Failed,
-        Outcome::Broken => Put::Failed,
+        IoOutcome::Count(0) => Put::Failed,
+        IoOutcome::Count(count) => Put::Wrote(count),
+        IoOutcome::NotNow if refused < u64::MAX => Put::Idle,
+        IoOutcome::NotNow => Put::Failed,
+        IoOutcome::Broken => Put::Failed,
     }
 }
 

@@ -1,6 +1,6 @@
 //! A stream of bytes as the system has it, and what its calls come to.
 ghost use Rattle.std.specs.Prelude.{◌≡◌, ◌<◌, List, Option, None, length, ℕ};
-ghost use Rattle.tcp_edge.specs.declared.wire.Outcome.{Outcome};
+ghost use Rattle.tcp_edge.specs.declared.wire.IoOutcome.{IoOutcome};
 ghost use Rattle.tcp_edge.specs.Outcomes.{CountsWithin, outcome_of, passed_on};
 
 use mio::net::TcpStream;
@@ -9,7 +9,7 @@ use std::io::{ErrorKind, Read, Write};
 
 /// What a call of a stream that never waits comes to.
 #[derive(Clone, Copy, Debug, PartialEq, Eq)]
-pub enum Outcome {
+pub enum IoOutcome {
     /// So many bytes came or went.
     Count(usize),
     /// None may come or go by now.
@@ -27,20 +27,20 @@ pub trait Wire {
     ghost went: { Self → Option (List ℕ) } = { λ _. None };
 
     /// Holds of a wire before and after a call that receives, and what that came to.
-    ghost receives: { Self → Outcome → Self → Type 0 };
+    ghost receives: { Self → IoOutcome → Self → Type 0 };
 
     /// Holds of a wire before and after a call that sends, and what that came to.
-    ghost sends: { Self → Outcome → Self → Type 0 };
+    ghost sends: { Self → IoOutcome → Self → Type 0 };
 
     /// Takes what came, at the front of the buffer. Of a buffer with room none is the end of the stream.
-    fn receive(&mut self, buffer: &mut [u8]) -> Outcome
+    fn receive(&mut self, buffer: &mut [u8]) -> IoOutcome
         ensures within { CountsWithin result buffer.new }
         ensures came { came self.new ≡ passed_on (came self.old) result buffer.new }
         ensures went { went self.new ≡ went self.old }
         ensures receives { receives self.old result self.new };
 
     /// Sends bytes off the front.
-    fn send(&mut self, bytes: &[u8]) -> Outcome
+    fn send(&mut self, bytes: &[u8]) -> IoOutcome
         ensures within { CountsWithin result bytes.now }
         ensures came { came self.new ≡ came self.old }
         ensures went { went self.new ≡ passed_on (went self.old) result bytes.now }
@@ -48,15 +48,15 @@ pub trait Wire {
 }
 
 /// What an answer of the system's means: an interrupted call may be made again later, as one that would wait.
-pub(crate) fn came_to(answer: io::Result<usize>) -> Outcome
+pub(crate) fn came_to(answer: io::Result<usize>) -> IoOutcome
     ensures { result ≡ outcome_of answer }
 {
     match answer {
-        Ok(count) => Outcome::Count(count),
+        Ok(count) => IoOutcome::Count(count),
         Err(e) => match e.kind() {
-            ErrorKind::WouldBlock => Outcome::NotNow,
-            ErrorKind::Interrupted => Outcome::NotNow,
-            _ => Outcome::Broken,
+            ErrorKind::WouldBlock => IoOutcome::NotNow,
+            ErrorKind::Interrupted => IoOutcome::NotNow,
+            _ => IoOutcome::Broken,
         },
     }
 }
@@ -68,11 +68,11 @@ impl Wire for TcpStream {
 
     ghost sends = { λ old _ new. new ≡ old };
 
-    fn receive(&mut self, buffer: &mut [u8]) -> Outcome {
+    fn receive(&mut self, buffer: &mut [u8]) -> IoOutcome {
         came_to(self.read(buffer))
     }
 
-    fn send(&mut self, bytes: &[u8]) -> Outcome {
+    fn send(&mut self, bytes: &[u8]) -> IoOutcome {
         came_to(self.write(bytes))
     }
 }

@@ -11,7 +11,7 @@ use Rattle.tcp_edge.specs.Sockets.{SocketState}
 use Rattle.mio.specs.declared.net.stream.TcpStream.{TcpStream}
 use Rattle.worker_connections.specs.declared.served.ServedCounts.{ServedCounts}
 use Rattle.broker_groups.specs.Answers.{all_seen}
-use Rattle.threaded_broker.specs.Callers.{DeskCaller}
+use Rattle.threaded_broker.specs.Callers.{DeskCallerState}
 use Rattle.threaded_broker.specs.Headline.{KeepsTheHeadline}
 use Rattle.threaded_broker.specs.Shares.{IsBoundIn}
 use Rattle.tcp_server.specs.Lines.{lines_of, report_of, EndsBy}
@@ -35,8 +35,8 @@ pub record AreReports (capacity workers max_inflight : ℕ) (given : List Share)
   pub shares : List Share
   pub answers : List (Result Report (Unfinished Nobody))
   pub strangers : List Held
-  pub before : DeskCaller
-  pub after : DeskCaller
+  pub before : DeskCallerState
+  pub after : DeskCallerState
   pub came : List Connection
   pub served : List ServedCounts
   pub closed : List (Option (List Connection))

@@ -7,7 +7,7 @@ ghost use Rattle.tcp_server.specs.Reporting.{AreReportsAt, HaveCapacity};
 
 use crate::listening::Awaited;
 use crate::reporting::{end_by, let_go_of_all, lines, reports_in};
-use crate::serving::Served;
+use crate::serving::ServingEnd;
 use crate::setup::SocketSetup;
 use crate::watching::Watching;
 use broker_groups::{Broker, Ended};
@@ -32,7 +32,7 @@ pub(crate) struct Reported {
     /// The lines of the reports.
     pub(crate) text: Vec<u8>,
     /// How it came to its end, where its groups gave all reports; or why they did not.
-    pub(crate) end: Result<Served, RunError>,
+    pub(crate) end: Result<ServingEnd, RunError>,
 }
 
 /// Serves the connections of a source until the input ends, and ends the broker.
@@ -59,7 +59,7 @@ pub(crate) fn attend<
     requires capacity { HaveCapacity B.group (B.group 0).capacity }
     requires setup { length setup.worker_io.items ≡ broker.workers }
     ensures reported { IfOk result (λ reported. AreReportsAt reported.end (B.group 0).capacity broker.entry.workers setup.entry.max_inflight groups.now reported.text.items) }
-    ensures read { IfOk result (λ reported. reported.end ≡ Ok Served.Ended → IsAtEnd (I.remaining input.new)) }
+    ensures read { IfOk result (λ reported. reported.end ≡ Ok ServingEnd.Ended → IsAtEnd (I.remaining input.new)) }
     ensures cause { IfErr result (λ error. error ≡ Memory) }
 {
     let ends = AtomicBool::new(false);
@@ -94,7 +94,7 @@ fn tell<B: Broker<Seen = Nobody>, N: HistoryName, S: Drop, Q: Drop>(
 ) -> Result<Reported, RunError>
     ensures lines { IfOk result (λ reported. reported.text.items ≡ lines_of outcome.entry.shares.items (map report_of outcome.entry.ended.answers.items)) }
     ensures ends { IfOk result (λ reported. EndsBy reported.end (map report_of outcome.entry.ended.answers.items)) }
-    ensures read { IfOk result (λ reported. reported.end ≡ Ok Served.Ended → is_read ≡ true) }
+    ensures read { IfOk result (λ reported. reported.end ≡ Ok ServingEnd.Ended → is_read ≡ true) }
     ensures cause { IfErr result (λ error. error ≡ Memory) }
 {
     let Outcome {
@@ -125,17 +125,17 @@ fn tell<B: Broker<Seen = Nobody>, N: HistoryName, S: Drop, Q: Drop>(
 }
 
 /// How a broker came to its end; no thread for one of its workers is lack of memory.
-fn end_of(source: SourceEnd, is_read: bool) -> Result<Served, RunError>
-    ensures ended { IfOk result (λ served. served ≡ Served.Ended → is_read ≡ true) }
+fn end_of(source: SourceEnd, is_read: bool) -> Result<ServingEnd, RunError>
+    ensures ended { IfOk result (λ served. served ≡ ServingEnd.Ended → is_read ≡ true) }
     ensures cause { IfErr result (λ error. error ≡ Memory) }
 {
     match source {
         SourceEnd::Untouched => Err(RunError::Memory),
-        SourceEnd::Failed => Ok(Served::NotAccepted),
+        SourceEnd::Failed => Ok(ServingEnd::NotAccepted),
         SourceEnd::Ended => Ok(if is_read {
-            Served::Ended
+            ServingEnd::Ended
         } else {
-            Served::InputFailed
+            ServingEnd::InputFailed
         }),
     }
 }

@@ -34,7 +34,7 @@ use worker_pool::Closer;
 
 /// How a broker that was served came to its end.
 #[derive(Clone, Copy, Debug, PartialEq, Eq)]
-pub enum Served {
+pub enum ServingEnd {
     /// Its input ended.
     Ended,
     /// Its input failed, which counts as its end.
@@ -143,14 +143,14 @@ pub fn serve_with<R: Threads + Wait + Net + SystemClock + Sync, I: Read + Send, 
 }
 
 /// What is answered of a broker that came to its end so.
-fn answer_of(end: Result<Served, RunError>) -> Result<(), RunError>
+fn answer_of(end: Result<ServingEnd, RunError>) -> Result<(), RunError>
     ensures ends { (reports : List (Result Report FinishError)) → EndsBy end reports → EndsBy result reports }
-    ensures read { IfOk result (λ _. end ≡ Ok Served.Ended) }
+    ensures read { IfOk result (λ _. end ≡ Ok ServingEnd.Ended) }
 {
     match end {
-        Ok(Served::Ended) => Ok(()),
-        Ok(Served::InputFailed) => Err(RunError::ReadFailed),
-        Ok(Served::NotAccepted) => Err(RunError::Network),
+        Ok(ServingEnd::Ended) => Ok(()),
+        Ok(ServingEnd::InputFailed) => Err(RunError::ReadFailed),
+        Ok(ServingEnd::NotAccepted) => Err(RunError::Network),
         Err(error) => Err(error),
     }
 }
@@ -182,7 +182,7 @@ fn live<
     requires capacity { HaveCapacity M.group (M.group 0).capacity }
     ensures reported { IfOk result (λ reported. AreReportsAt reported.end (M.group 0).capacity workers max_inflight groups.now reported.text.items) }
     ensures written { IfOk result (λ reported. Appends (O.contents output.old) (O.contents output.new) line.now) }
-    ensures read { IfOk result (λ reported. reported.end ≡ Ok Served.Ended → IsAtEnd (I.remaining input.new)) }
+    ensures read { IfOk result (λ reported. reported.end ≡ Ok ServingEnd.Ended → IsAtEnd (I.remaining input.new)) }
     ensures failed { IfErr result (λ error. EndsUnreported line.now error (O.contents output.old) (O.contents output.new)) }
 {
     match OpenedDesk::open(alloc) {
@@ -238,7 +238,7 @@ fn live_with<
     requires capacity { HaveCapacity B.group (B.group 0).capacity }
     ensures reported { IfOk result (λ reported. AreReportsAt reported.end (B.group 0).capacity workers max_inflight groups.now reported.text.items) }
     ensures written { IfOk result (λ reported. Appends (O.contents output.old) (O.contents output.new) line.now) }
-    ensures read { IfOk result (λ reported. reported.end ≡ Ok Served.Ended → IsAtEnd (I.remaining input.new)) }
+    ensures read { IfOk result (λ reported. reported.end ≡ Ok ServingEnd.Ended → IsAtEnd (I.remaining input.new)) }
     ensures failed { IfErr result (λ error. EndsUnreported line.now error (O.contents output.old) (O.contents output.new)) }
 {
     let mut seats = seats;

@@ -25,7 +25,7 @@ use Rattle.worker_connections.proofs.Sessions.{all_sessions}
 use Rattle.worker_pool.specs.Accepting.{arrivals}
 use Rattle.worker_pool.specs.Pools.{AreServed}
 use Rattle.group_queue.specs.Places.{PlaceState}
-use Rattle.threaded_broker.specs.Callers.{DeskCaller, HasPutIn, HasTakenIn}
+use Rattle.threaded_broker.specs.Callers.{DeskCallerState, HasPutIn, HasTakenIn}
 use Rattle.threaded_broker.specs.Headline.{RunsUntilClosed}
 use Rattle.threaded_broker.proofs.Callers.{taken_longer}
 
@@ -67,18 +67,18 @@ module _ {T : Type 0} (group : ℕ → GroupId) (seen : Sights) (counts : T → 
 
   -- the parts of so many workers
   parts_of_all : (runs : List (Run T)) → AllByRecursion (λ (run : Run T). run.last.supply.desk.parts ≡ 1) runs
-      → sum_by (λ (caller : DeskCaller). caller.parts) (map (λ (run : Run T). run.last.supply.desk) runs) ≡ length runs
+      → sum_by (λ (caller : DeskCallerState). caller.parts) (map (λ (run : Run T). run.last.supply.desk) runs) ≡ length runs
   parts_of_all [] one = refl
   parts_of_all (run ∷ runs) one =
-      omega (arith, one.0, parts_of_all runs one.1, sum_by-cons (λ (caller : DeskCaller). caller.parts) run.last.supply.desk (map (λ (one : Run T). one.last.supply.desk) runs))
+      omega (arith, one.0, parts_of_all runs one.1, sum_by-cons (λ (caller : DeskCallerState). caller.parts) run.last.supply.desk (map (λ (one : Run T). one.last.supply.desk) runs))
 
   -- a broker that was served kept to it
-  pub within : (limit workers : ℕ) (came : List T) (before after : DeskCaller) (routes shares : List Share) (ports : List (List PortState)) (callers : List DeskCaller) (served : List ServedCounts)
+  pub within : (limit workers : ℕ) (came : List T) (before after : DeskCallerState) (routes shares : List Share) (ports : List (List PortState)) (callers : List DeskCallerState) (served : List ServedCounts)
       (closed : List (Option (List T))) → shares ≡ take most_routes routes → AreServed group seen counts given accepted (arrivals limit came) routes ports callers served closed
       → (places : List PlaceState) × HasPutIn before places → HasTakenIn before callers after → length callers ≡ workers → before.parts + workers ≡ all_parts
       → RunsUntilClosed group seen counts given accepted limit came before after shares ports served closed
   within limit workers came before after routes shares ports callers served closed shares_are ran opened taken_in count right =
-      let parts = ap (sum_by (λ (caller : DeskCaller). caller.parts)) ran.callers_are ∙ parts_of_all ran.runs ran.one_part in
+      let parts = ap (sum_by (λ (caller : DeskCallerState). caller.parts)) ran.callers_are ∙ parts_of_all ran.runs ran.one_part in
       let many = sym (ap length ran.callers_are ∙ length-map ran.runs (λ (run : Run T). run.last.supply.desk)) in
       record {
         routes = routes;
@@ -95,7 +95,7 @@ module _ {T : Type 0} (group : ℕ → GroupId) (seen : Sights) (counts : T → 
       }
 
   -- more calls are known of the desk
-  pub known_longer : (limit : ℕ) (came : List T) (before mid after : DeskCaller) (shares : List Share) (ports : List (List PortState)) (served : List ServedCounts) (closed : List (Option (List T)))
+  pub known_longer : (limit : ℕ) (came : List T) (before mid after : DeskCallerState) (shares : List Share) (ports : List (List PortState)) (served : List ServedCounts) (closed : List (Option (List T)))
       → IsPrefix mid.calls after.calls → after ≡ record mid { calls = after.calls } → RunsUntilClosed group seen counts given accepted limit came before mid shares ports served closed
       → RunsUntilClosed group seen counts given accepted limit came before after shares ports served closed
   known_longer limit came before mid after shares ports served closed longer same run = record {
@@ -105,7 +105,7 @@ module _ {T : Type 0} (group : ℕ → GroupId) (seen : Sights) (counts : T → 
     opened = run.opened;
     workers = run.workers;
     taken_in = taken_longer before mid after run.callers run.taken_in longer same;
-    whole_right = ap (λ (caller : DeskCaller). caller.parts) same ∙ run.whole_right;
+    whole_right = ap (λ (caller : DeskCallerState). caller.parts) same ∙ run.whole_right;
     within_receive_maximum = run.within_receive_maximum;
     published = run.published;
     sessions = run.sessions;

@@ -18,7 +18,7 @@ use Rattle.worker_connections.specs.Sessions.{KeepsSessions}
 use Rattle.worker_pool.specs.Accepting.{arrivals}
 use Rattle.worker_pool.specs.Pools.{AreServed}
 use Rattle.group_queue.specs.Places.{PlaceState}
-use Rattle.threaded_broker.specs.Callers.{DeskCaller, HasPutIn, HasTakenIn}
+use Rattle.threaded_broker.specs.Callers.{DeskCallerState, HasPutIn, HasTakenIn}
 use Rattle.final_report.specs.Brokers.{KeptItsPromisesBehind}
 
 module _ {T : Type 0} (group : ℕ → GroupId) (seen : Sights) (counts : T → Counts) (given accepted : T → Option (List ℕ)) where
@@ -27,11 +27,11 @@ module _ {T : Type 0} (group : ℕ → GroupId) (seen : Sights) (counts : T → 
   -- unacknowledged PUBLISH packets than its Receive Maximum, and than this limit (4.9); all that the ports accepted came of the PUBLISH packets that these connections
   -- stepped, each offered to the groups that match and answered as these took it (3.3.4); and at each deed what is handed out is what is sent, and what is settled is what a
   -- PUBACK came for (4.4). The groups that match are those of these shares, slot by slot, as far as each worker knew them
-  pub record RunsUntilClosed (max_inflight : ℕ) (came : List T) (before after : DeskCaller) (shares : List Share) (ports : List (List PortState)) (served : List ServedCounts)
+  pub record RunsUntilClosed (max_inflight : ℕ) (came : List T) (before after : DeskCallerState) (shares : List Share) (ports : List (List PortState)) (served : List ServedCounts)
       (closed : List (Option (List T))) : Type 0 where
     pub routes : List Share
     pub shares_are : shares ≡ take most_routes routes
-    pub callers : List DeskCaller
+    pub callers : List DeskCallerState
     pub opened : (places : List PlaceState) × HasPutIn before places
     pub workers : AreServed group seen counts given accepted (arrivals max_inflight came) routes ports callers served closed
     pub taken_in : HasTakenIn before callers after
@@ -48,7 +48,7 @@ module _ {T : Type 0} (group : ℕ → GroupId) (seen : Sights) (counts : T → 
   -- connection had more unacknowledged PUBLISH packets than its Receive Maximum. Each of those calls put a place into the new desk, or was made in the run of one
   -- worker, once (`opened`, `taken_in` and `each_call_once`): so no session and no place came out of the desk but by a deed. The report of a slot is that of the share that is told at its place: to its group
   -- each worker offered what matches that share, from when it knew it. That nothing is handed out after close is said by the token of the drained gate
-  pub record KeepsTheHeadline {W : Type 0} (workers max_inflight : ℕ) (came : List T) (before after : DeskCaller) (shares : List Share) (answers : List (Result Report (Unfinished W)))
+  pub record KeepsTheHeadline {W : Type 0} (workers max_inflight : ℕ) (came : List T) (before after : DeskCallerState) (shares : List Share) (answers : List (Result Report (Unfinished W)))
       (strangers : List Held) (served : List ServedCounts) (closed : List (Option (List T))) : Type 0 where
     pub ports : List (List PortState)
     pub every_worker : length ports ≡ workers

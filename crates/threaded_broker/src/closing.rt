@@ -5,7 +5,7 @@ ghost use Rattle.threaded_broker.specs.Callers.{HasTakenIn};
 use broker_groups::{Broker, BrokerPlace, Ports};
 use call_history::HistoryName;
 use gate_word::Drained;
-use shared_desk::DeskView;
+use shared_desk::DeskCaller;
 use shared_supply::SharedBroker;
 use std::sync::Wait;
 use std::thread;
@@ -29,7 +29,7 @@ pub(crate) fn close<B: Broker, R: Wait>(rt: &R, closer: &mut Closer<'_, B>) -> D
 /// The ports of all workers, in the order of their handles, and this caller of the desk takes in theirs. There is room for the ports.
 pub(crate) fn take_in<B: Broker, N: HistoryName>(
     shared_broker: &SharedBroker<'_, B, N>,
-    caller: &mut DeskView<BrokerPlace<B>, N>,
+    caller: &mut DeskCaller<BrokerPlace<B>, N>,
     handles: Vec<WorkerHandle<B, N>>,
     room: Vec<Ports<B>>,
 ) -> Vec<Ports<B>>

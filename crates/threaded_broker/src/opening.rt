@@ -13,7 +13,7 @@ use call_history::HistoryName;
 use conn_supply::NoMemory;
 use gate_word::{Gate, GateSeat};
 use group_queue::Nobody;
-use shared_desk::{DeskView, OpenedDesk, SharedDesk};
+use shared_desk::{DeskCaller, OpenedDesk, SharedDesk};
 use shared_routes::SharedRoutes;
 use shared_supply::{SharedBroker, StillOpen};
 use std::alloc::Global;
@@ -30,7 +30,7 @@ pub struct OpenBroker<'g, B: Broker, N: HistoryName> {
     handles: Vec<WorkerHandle<B, N>>,
     // Room for the ports of all workers.
     room: Vec<Ports<B>>,
-    caller: DeskView<BrokerPlace<B>, N>,
+    caller: DeskCaller<BrokerPlace<B>, N>,
 }
 
 impl<'g, B: Broker, N: HistoryName> Model for OpenBroker<'g, B, N> {
@@ -113,7 +113,7 @@ pub(crate) struct BrokerParts<'g, B: Broker, N: HistoryName> {
     pub(crate) shared_broker: SharedBroker<'g, B, N>,
     pub(crate) handles: Vec<WorkerHandle<B, N>>,
     pub(crate) room: Vec<Ports<B>>,
-    pub(crate) caller: DeskView<BrokerPlace<B>, N>,
+    pub(crate) caller: DeskCaller<BrokerPlace<B>, N>,
 }
 
 impl<'g, B: Broker, N: HistoryName> OpenBroker<'g, B, N> {
@@ -188,7 +188,7 @@ fn take_ports<B: Broker, N: HistoryName>(
     gate: &Gate,
     seats: &mut Vec<GateSeat>,
     desk: &SharedDesk<BrokerPlace<B>, N>,
-    caller: &mut DeskView<BrokerPlace<B>, N>,
+    caller: &mut DeskCaller<BrokerPlace<B>, N>,
     ports: Vec<Ports<B>>,
     handles: Vec<WorkerHandle<B, N>>,
 ) -> Vec<WorkerHandle<B, N>>
@@ -217,7 +217,7 @@ fn handle_of<B: Broker, N: HistoryName>(
     gate: &Gate,
     seat: GateSeat,
     ports: Ports<B>,
-    desk: DeskView<BrokerPlace<B>, N>,
+    desk: DeskCaller<BrokerPlace<B>, N>,
 ) -> WorkerHandle<B, N>
     requires gate { gate.now ≡ B.gate }
     requires seat { seat.gate ≡ gate.now }

@@ -23,7 +23,7 @@ use final_report::end_broker;
 use gate_word::Drained;
 use group_queue::LawfulWitness;
 use mqtt_topic::Share;
-use shared_desk::DeskView;
+use shared_desk::DeskCaller;
 use shared_supply::SharedBroker;
 use std::alloc::Global;
 use std::rt::Clock as SystemClock;
@@ -55,7 +55,7 @@ pub struct Outcome<'g, B: Broker, N: HistoryName, S, Q> {
     /// Where the workers waited, which closed all connections.
     pub pollers: Vec<Q>,
     /// The first caller of the desk, which took in those of its workers, and has the whole right to call it.
-    pub caller: DeskView<BrokerPlace<B>, N>,
+    pub caller: DeskCaller<BrokerPlace<B>, N>,
     /// Nobody is inside the broker's gate, nor ever will be.
     pub drained: Drained,
 }
@@ -74,7 +74,7 @@ pub struct Closed<'g, B: Broker, N: HistoryName, S, Q> {
     /// Where the workers waited, which closed all connections.
     pub pollers: Vec<Q>,
     /// The first caller of the desk, which took in those of its workers, and has the whole right to call it.
-    pub caller: DeskView<BrokerPlace<B>, N>,
+    pub caller: DeskCaller<BrokerPlace<B>, N>,
     /// Nobody is inside the broker's gate, nor ever will be.
     pub drained: Drained,
 }
@@ -337,7 +337,7 @@ fn end<'g, B: Broker, N: HistoryName, R: Wait>(
     drained: &Drained,
     shared_broker: SharedBroker<'g, B, N>,
     ports: Vec<Ports<B>>,
-    caller: &mut DeskView<BrokerPlace<B>, N>,
+    caller: &mut DeskCaller<BrokerPlace<B>, N>,
 ) -> Result<Ended<'g, B::Seen>, NoMemory>
 where
     B::Seen: LawfulWitness,

@@ -28,7 +28,7 @@ use call_history::HistoryName;
 use conn_channel::{Received, Receiver};
 use conn_service::{Direction, Round};
 use shared_routes::KnownRoutes;
-use shared_supply::{SharedSupply, SupplyParts, Tally, Wakes};
+use shared_supply::{GroupTally, SharedSupply, SupplyParts, Wakes};
 use std::marker::Model;
 use std::sync::Wait;
 use transport::{Crossing, Transport};
@@ -232,7 +232,7 @@ impl<'a, 'g, B: Broker, N: HistoryName, T: Transport + Drop, Q: Poller<T>, R: Wa
     }
 
     /// How many messages of the group of a slot they brought there and handed out.
-    pub fn tally(&self, slot: usize) -> Tally {
+    pub fn tally(&self, slot: usize) -> GroupTally {
         self.supply.tally(slot)
     }
 

@@ -12,7 +12,7 @@ use local_broker::{LocalPlace, LocalSupply};
 use local_server::Setup;
 use mqtt_packet::Text;
 use mqtt_topic::{Routes, Share};
-use scenarios::{Event, Scenario, What, all_scenarios};
+use scenarios::{Scenario, ScenarioEvent, What, all_scenarios};
 use std::alloc::Global;
 use std::marker::Model;
 use std::process::Abort;
@@ -68,7 +68,7 @@ impl<P: HoldingPlace, T: Transport> Line<P, T> {
 }
 
 /// A transport that gives what happens to a connection from here on, an event with each read.
-fn script_of(alloc: Global, connection: u8, events: &[Event]) -> Option<Scripted>
+fn script_of(alloc: Global, connection: u8, events: &[ScenarioEvent]) -> Option<Scripted>
     ensures { IfSome result (λ scripted. scripted.counts ≡ no_counts) }
 {
     let mut input = Vec::new(alloc);
@@ -98,7 +98,7 @@ struct Lane {
 
 impl Lane {
     /// A connection is opened, where none is.
-    fn open(&mut self, rt: &impl Abort, alloc: Global, now: u64, events: &[Event]) {
+    fn open(&mut self, rt: &impl Abort, alloc: Global, now: u64, events: &[ScenarioEvent]) {
         if self.line.is_none() {
             let script = script_of(alloc, self.number, events).expect(rt, "memory");
             let line = Line::open(rt, alloc, u16::from(self.number), now, script);
@@ -127,7 +127,7 @@ impl Lane {
 }
 
 /// A lane for each connection of these events.
-fn lanes_of(rt: &impl Abort, alloc: Global, events: &[Event]) -> Vec<Lane> {
+fn lanes_of(rt: &impl Abort, alloc: Global, events: &[ScenarioEvent]) -> Vec<Lane> {
     let mut lanes: Vec<Lane> = Vec::new(alloc);
     for event in events {
         if !lanes.iter().any(|lane| lane.number == event.connection) {
@@ -150,7 +150,7 @@ fn act(
     alloc: Global,
     supply: &mut LocalSupply,
     lanes: &mut [Lane],
-    events: &[Event],
+    events: &[ScenarioEvent],
 ) {
     let mut now = 0;
     for (place, event) in events.iter().enumerate() {

@@ -9,7 +9,7 @@ use bytes::Bytes;
 use call_history::HistoryName;
 use group_jobs::Envelope;
 use session_desk::{Attached, DeskError, Session};
-use shared_desk::{DeskView, OpenedDesk, SharedDesk};
+use shared_desk::{DeskCaller, OpenedDesk, SharedDesk};
 use std::marker::Brand;
 use std::sync::Wait;
 use std::test::Fail;
@@ -27,7 +27,7 @@ fn release(session: Option<Session<Envelope, Spot>>) {
 }
 
 /// Lets go of a desk with all that it has.
-pub(crate) fn end<D: HistoryName>(desk: SharedDesk<Spot, D>, mut me: DeskView<Spot, D>) {
+pub(crate) fn end<D: HistoryName>(desk: SharedDesk<Spot, D>, mut me: DeskCaller<Spot, D>) {
     desk.finish(&mut me).abandon_with(&discard);
 }
 
@@ -52,7 +52,7 @@ fn lent(attached: Result<Attached<Envelope, Spot>, DeskError>) -> Option<Session
 pub(crate) fn comes_and_goes<D: HistoryName, R: Wait>(
     rt: &R,
     desk: &SharedDesk<Spot, D>,
-    me: &mut DeskView<Spot, D>,
+    me: &mut DeskCaller<Spot, D>,
     connection: u16,
     client: &Bytes,
 ) -> bool
@@ -72,7 +72,7 @@ pub(crate) fn comes_and_goes<D: HistoryName, R: Wait>(
 fn takeover<D: HistoryName, R: Wait>(
     rt: &R,
     desk: &SharedDesk<Spot, D>,
-    me: &mut DeskView<Spot, D>,
+    me: &mut DeskCaller<Spot, D>,
 ) -> (bool, bool, bool) {
     let client = Bytes::from_static(b"a");
     let session = lent(desk.attach(rt, me, 0, &client, false, 0));
@@ -127,7 +127,7 @@ fn a_client_comes_again(rt: HostRuntime) -> Result<(), Fail> {
 fn places<D: HistoryName, R: Wait>(
     rt: &R,
     desk: &SharedDesk<Spot, D>,
-    me: &mut DeskView<Spot, D>,
+    me: &mut DeskCaller<Spot, D>,
 ) -> [Option<Spot>; 4] {
     let _none = desk.take_place(rt, me, Spot::Second);
     let _none = desk.take_place(rt, me, Spot::First);

@@ -7,7 +7,7 @@ use crate::shared::calls::{comes_and_goes, end};
 use crate::spot::Spot;
 use bytes::Bytes;
 use call_history::HistoryName;
-use shared_desk::{DeskView, OpenedDesk, SharedDesk};
+use shared_desk::{DeskCaller, OpenedDesk, SharedDesk};
 use std::marker::Brand;
 use std::sync::Wait;
 use std::test::Fail;
@@ -17,7 +17,7 @@ use std::thread::{Threads, join};
 fn visits<D: HistoryName, R: Wait>(
     rt: &R,
     desk: &SharedDesk<Spot, D>,
-    me: &mut DeskView<Spot, D>,
+    me: &mut DeskCaller<Spot, D>,
     connection: u16,
     client: &'static [u8; 1],
 ) -> u32 {
@@ -68,6 +68,6 @@ fn two_clients_at_once(rt: HostRuntime) -> Result<(), Fail> {
 fn what_threads_may_do_with_it() {
     is_shared_by_threads::<SharedDesk<Spot, Brand>>();
     crosses_threads::<SharedDesk<Spot, Brand>>();
-    crosses_threads::<DeskView<Spot, Brand>>();
+    crosses_threads::<DeskCaller<Spot, Brand>>();
     crosses_threads::<OpenedDesk<Spot>>();
 }

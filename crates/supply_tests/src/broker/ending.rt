@@ -5,7 +5,7 @@ use call_history::HistoryName;
 use group_jobs::{Envelope, Report};
 use group_queue::{Nobody, Unfinished};
 use session_desk::{All, Desk};
-use shared_desk::DeskView;
+use shared_desk::DeskCaller;
 use shared_supply::SharedBroker;
 use std::alloc::Global;
 use std::sync::Wait;
@@ -110,7 +110,7 @@ pub(crate) fn end<B: Broker<Seen = Nobody>, N: HistoryName, R: Wait>(
     alloc: Global,
     shared_broker: SharedBroker<'_, B, N>,
     ports: Vec<Ports<B>>,
-    caller: &mut DeskView<BrokerPlace<B>, N>,
+    caller: &mut DeskCaller<BrokerPlace<B>, N>,
 ) -> Option<Vec<Counts>> {
     match shared_broker.finish(rt, alloc, ports, caller) {
         Ok(ended) => Some(count(alloc, ended)),

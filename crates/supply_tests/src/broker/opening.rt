@@ -7,7 +7,7 @@ use broker_groups::{Broker, BrokerName, BrokerPlace, Key, Named, Opened, Ports, 
 use call_history::HistoryName;
 use gate_word::{Gate, GateSeat};
 use group_queue::Nobody;
-use shared_desk::{DeskView, OpenedDesk, SharedDesk};
+use shared_desk::{DeskCaller, OpenedDesk, SharedDesk};
 use shared_routes::SharedRoutes;
 use shared_supply::SharedBroker;
 use std::alloc::Global;
@@ -19,7 +19,7 @@ use std::sync::Wait;
 pub(crate) struct WorkerHandle<B: Broker, N: HistoryName> {
     pub(crate) key: Key<B>,
     pub(crate) ports: Ports<B>,
-    pub(crate) desk: DeskView<BrokerPlace<B>, N>,
+    pub(crate) desk: DeskCaller<BrokerPlace<B>, N>,
 }
 
 /// A broker that is open: its shared broker, what each worker has, a key for who shuts the gate, and a caller of its desk for who ends it.
@@ -27,7 +27,7 @@ pub(crate) struct Built<'g, B: Broker, N: HistoryName> {
     pub(crate) shared_broker: SharedBroker<'g, B, N>,
     pub(crate) handles: Vec<WorkerHandle<B, N>>,
     pub(crate) spare: Key<B>,
-    pub(crate) caller: DeskView<BrokerPlace<B>, N>,
+    pub(crate) caller: DeskCaller<BrokerPlace<B>, N>,
 }
 
 /// What is done with a broker from its opening to its end.
@@ -74,7 +74,7 @@ fn take_ports<B: Broker, N: HistoryName>(
     gate: &Gate,
     seats: &mut Vec<GateSeat>,
     desk: &SharedDesk<BrokerPlace<B>, N>,
-    caller: &mut DeskView<BrokerPlace<B>, N>,
+    caller: &mut DeskCaller<BrokerPlace<B>, N>,
     ports: Vec<Ports<B>>,
 ) -> Vec<WorkerHandle<B, N>>
     requires gate { gate.now ≡ B.gate }

@@ -15,7 +15,7 @@ use drive::drive_lines;
 use gate_word::Gate;
 use local_server::Setup;
 use mqtt_topic::Routes;
-use scenarios::{Event, Scenario, What, all_scenarios, longest_wait};
+use scenarios::{Scenario, ScenarioEvent, What, all_scenarios, longest_wait};
 use std::alloc::Global;
 use std::process::Abort;
 use std::sync::Wait;
@@ -27,7 +27,7 @@ fn serve<P: HoldingPlace, S: Supply<P>>(
     clients: &mut ClientTable<P>,
     said: &mut Vec<StepOutput>,
     now: u64,
-    event: &Event,
+    event: &ScenarioEvent,
 ) -> Result<(), NoMemory>
     requires { S.visiting supply.old ≡ true }
 {
@@ -52,7 +52,7 @@ fn visit<P: HoldingPlace, S: Supply<P>>(
     clients: &mut ClientTable<P>,
     said: &mut Vec<StepOutput>,
     now: u64,
-    event: &Event,
+    event: &ScenarioEvent,
 ) -> Result<(), NoMemory> {
     if !supply.begin() {
         return Ok(());
@@ -88,7 +88,7 @@ impl<'t> Stage<'t> {
         alloc: Global,
         supply: &mut S,
         clients: &mut ClientTable<P>,
-        event: &Event,
+        event: &ScenarioEvent,
     ) -> Option<()> {
         self.now = self.now.max(event.moment);
         self.said.clear();

@@ -4,7 +4,7 @@ use Rattle.std.proofs.lemmas.List.Elements.{All-pop, All-push, All-same}
 use Rattle.broker_groups.specs.Naming.{AreUnsent}
 use Rattle.worker_connections.specs.Handles.{IsUnused}
 use Rattle.worker_connections.specs.declared.handle.WorkerHandle.{WorkerHandle}
-use Rattle.threaded_broker.specs.Callers.{DeskCaller}
+use Rattle.threaded_broker.specs.Callers.{DeskCallerState}
 use Rattle.threaded_broker.proofs.opening.take_ports.Goals as goal
 
 pub handles-preserved : goal.handles-preserved
@@ -15,8 +15,8 @@ handles-preserved g c =
     let desk = c.handle_of.ensures.desk ∙ c.share.ensures.new in
     let unused : Unused handle = record {
       none_sent = subst AreUnsent (sym c.handle_of.ensures.ports) split.1;
-      none_called = ap (λ (caller : DeskCaller). caller.own) desk;
-      one_part = ap (λ (caller : DeskCaller). caller.parts) desk;
+      none_called = ap (λ (caller : DeskCallerState). caller.own) desk;
+      one_part = ap (λ (caller : DeskCallerState). caller.parts) desk;
     } in
     record {
       seats = search rules;

@@ -1,6 +1,6 @@
 -- The headline: the run until the broker was closed, and what the groups' ends promise.
 use Rattle.std.proofs.Common.{length, map, ap, subst, sym}
-use Rattle.threaded_broker.specs.Callers.{DeskCaller}
+use Rattle.threaded_broker.specs.Callers.{DeskCallerState}
 use Rattle.call_history.specs.Numbers.{IsEachOnce}
 use Rattle.threaded_broker.proofs.Runs.{known_longer}
 use Rattle.threaded_broker.proofs.serving.serve.Goals as goal
@@ -18,7 +18,7 @@ returns-clause-headline g c =
         every_worker = c.in_ok-closed.ensures.ports;
         run = known_longer g.B.Broker.group (record { saw_ledger = g.B.Seen.LedgerWitness.saw_ledger; saw_main = g.B.Seen.Witness.saw_main; saw_returns = g.B.Seen.Witness.saw_returns }) g.T.Transport.counts g.T.Transport.given g.T.Transport.accepted c.args.setup.max_inflight ran.0 c.args.broker.caller closed.caller c.end.new.caller closed.shares.items closed.ports.items closed.served.items
             (map g.Q.Poller.closed closed.pollers.items) c.end.ensures.before c.end.ensures.same run;
-        each_call_once = subst (λ own. IsEachOnce own (length c.end.new.caller.calls)) (sym (ap (λ (caller : DeskCaller). caller.own) c.end.ensures.same)) (c.end.ensures.once run.whole_right);
+        each_call_once = subst (λ own. IsEachOnce own (length c.end.new.caller.calls)) (sym (ap (λ (caller : DeskCallerState). caller.own) c.end.ensures.same)) (c.end.ensures.once run.whole_right);
         promises = c.in_ok-ended.ensures.kept;
       },
     )

@@ -5,7 +5,7 @@ use Rattle.group_queue.specs.Ports.{PortState}
 use Rattle.worker_connections.specs.declared.handle.WorkerHandle.{WorkerHandle}
 use Rattle.worker_pool.specs.Accepting.{arrivals}
 use Rattle.worker_pool.specs.Pools.{AreServed}
-use Rattle.threaded_broker.specs.Callers.{DeskCaller, HasTakenIn}
+use Rattle.threaded_broker.specs.Callers.{DeskCallerState, HasTakenIn}
 use Rattle.threaded_broker.proofs.Runs.{within}
 use Rattle.threaded_broker.proofs.serving.serve_until_closed.Goals as goal
 
@@ -24,7 +24,7 @@ returns-in-Ok-clause-run g c =
           (map g.Q.Poller.closed c.in-Ok.field-0.pooled.pollers.items)
           ran.2 (subst Served (sym c.take_in-ports.ensures.ports) ran.5)
           c.into_parts-shared_broker.ensures.opened
-          (subst (λ (before : DeskCaller). HasTakenIn before callers c.take_in-ports.new.caller) c.into_parts-shared_broker.ensures.caller c.take_in-ports.ensures.taken_in)
+          (subst (λ (before : DeskCallerState). HasTakenIn before callers c.take_in-ports.new.caller) c.into_parts-shared_broker.ensures.caller c.take_in-ports.ensures.taken_in)
           (length-map handles (λ (handle : WorkerHandle g.row.B.Denot g.row.N.Denot g.row.B-Seen.Denot). handle.desk) ∙ c.in-Ok.ensures.handles ∙ c.into_parts-shared_broker.ensures.handles)
           c.into_parts-shared_broker.ensures.right,
     )

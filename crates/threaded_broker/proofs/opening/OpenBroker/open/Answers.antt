@@ -4,17 +4,17 @@ use Rattle.group_queue.specs.Places.{PlaceState}
 use Rattle.broker_groups.specs.Outs.{HasOut}
 use Rattle.call_history.specs.Callers.{all_parts, first_caller}
 use Rattle.shared_desk.specs.Histories.{TakesEach}
-use Rattle.threaded_broker.specs.Callers.{DeskCaller}
+use Rattle.threaded_broker.specs.Callers.{DeskCallerState}
 use Rattle.threaded_broker.proofs.opening.OpenBroker.open.Goals as goal
 
 pub invariant_of-result : goal.invariant_of-result
 invariant_of-result g c =
-    let Puts : DeskCaller → DeskCaller → Type 0 = λ old new.
+    let Puts : DeskCallerState → DeskCallerState → Type 0 = λ old new.
     TakesEach HasOut (λ (place : PlaceState). place.group) (λ (place : PlaceState). place.number) old (reverse c.in-Ok.field-0.places.items) new in
-    let parts = c.take_places.ensures.right ∙ ap (λ (caller : DeskCaller). caller.parts) c.name-desk.ensures in
+    let parts = c.take_places.ensures.right ∙ ap (λ (caller : DeskCallerState). caller.parts) c.name-desk.ensures in
     let whole : c.take_places.new.me ≡ record c.take_places.new.me { parts = all_parts } = λ i. record c.take_places.new.me { parts = parts i } in
     let same : c.take_places.new.me ≡ record c.take_ports-handles.new.caller { parts = all_parts } =
-    whole ∙ sym (ap (λ (caller : DeskCaller). record caller { parts = all_parts }) c.take_ports-handles.ensures.caller) in (
+    whole ∙ sym (ap (λ (caller : DeskCallerState). record caller { parts = all_parts }) c.take_ports-handles.ensures.caller) in (
       search rules,
       search rules,
       c.take_ports-handles.ensures.unused,

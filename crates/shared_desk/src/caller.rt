@@ -27,11 +27,11 @@ pub(crate) type DeskHistory<P, D> = CallHistory<DeskCall<P>, D>;
 ///
 /// Contracts see it as these calls, with the numbers of its own, and its parts of the right to call.
 #[derive(Drop)]
-pub struct DeskView<P: HoldingPlace, D: HistoryName> {
+pub struct DeskCaller<P: HoldingPlace, D: HistoryName> {
     pub(crate) caller: Caller<DeskCall<P>, D>,
 }
 
-impl<P: HoldingPlace, D: HistoryName> Model for DeskView<P, D> {
+impl<P: HoldingPlace, D: HistoryName> Model for DeskCaller<P, D> {
     ghost use Rattle.group_jobs.specs.Stamps.{Held};
     ghost use Rattle.session_desk.specs.Calls.{Call};
     ghost use Rattle.call_history.specs.Callers.{CallerState};
@@ -44,7 +44,7 @@ impl<P: HoldingPlace, D: HistoryName> Model for DeskView<P, D> {
     ghost invariant = { λ d. IsHistory P.has_out P.slot_of P.number_of d.caller.calls };
 }
 
-impl<P: HoldingPlace, D: HistoryName> DeskView<P, D> {
+impl<P: HoldingPlace, D: HistoryName> DeskCaller<P, D> {
     /// What it knows is a history of a desk.
     pub fn is_history(&self)
         ensures { IsHistory P.has_out P.slot_of P.number_of self.now.calls }
