@@ -73,7 +73,8 @@ first_within : (these those : List (Mark Held)) → AllByRecursion IsWithin (the
 first_within [] those all = (tt, all)
 first_within (mark ∷ these) those all = let rest = first_within these those all.1 in ((all.0, rest.0), rest.1)
 
-abbrev IsUp : Contents Held → Type 0
+-- a connection has the window, and its session is not ending
+abbrev pub IsUp : Contents Held → Type 0
 IsUp w = IsSome w.quota × (w.retired ≡ false)
 
 stays_up_once : (call : Call Held) (old mid : Contents Held) → IsUp old → AllByRecursion IsWithin (marks_of call) → IsAllowed old call → Makes old call mid → IsUp mid
@@ -88,7 +89,8 @@ stays_up_once (Ack identifier code None) old mid up within may made = subst IsUp
 stays_up_once (TakeFirst answer) old mid up within may made = absurd (false≢true (sym (ap is_some may) ∙ up.0))
 stays_up_once (Restore identifier item) old mid up within may made = absurd (false≢true (sym up.1 ∙ may.retired))
 
-stays_up : (calls : List (Call Held)) (old new : Contents Held) → IsUp old → AllByRecursion IsWithin (transcript_of calls) → MakesAll old calls new → IsUp new
+-- after such marks it still has
+pub stays_up : (calls : List (Call Held)) (old new : Contents Held) → IsUp old → AllByRecursion IsWithin (transcript_of calls) → MakesAll old calls new → IsUp new
 stays_up [] old new up within made = subst IsUp (sym made) up
 stays_up (call ∷ calls) old new up within made =
     let parts = first_within (marks_of call) (transcript_of calls) within in

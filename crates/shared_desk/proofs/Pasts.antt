@@ -1,12 +1,15 @@
 -- What a history says of its beginnings.
-use Rattle.std.proofs.Common.{◌≡◌, ℕ, ◌<◌, List, [], ◌∷◌, ◌++◌, Some, true, false, refl, sym, ap, ◌∙◌, subst, arith, ⊎_elim, append_assoc}
+use Rattle.std.proofs.Common.{◌≡◌, ℕ, ◌<◌, List, [], ◌∷◌, ◌++◌, Some, Result, IfOk, true, false, tt, refl, sym, ap, ◌∙◌, subst, arith, ⊎_elim, append_assoc}
 use Rattle.std.proofs.lemmas.List.{length-replicate}
 use mathlib.Core.List.{IsPrefix}
 use Rattle.group_jobs.specs.Stamps.{Held}
+use Rattle.session_desk.specs.declared.attached.Attached.{Attached}
+use Rattle.session_desk.specs.declared.error.DeskError.{DeskError}
 use Rattle.session_desk.specs.declared.session.Session.{Session}
 use Rattle.session_desk.specs.AskedBack.{IsAskedBack}
+use Rattle.session_desk.specs.Attaching.{Request}
 use Rattle.session_desk.specs.Books.{new_books}
-use Rattle.session_desk.specs.Calls.{Call, Kicked}
+use Rattle.session_desk.specs.Calls.{Call, Attach, Kicked}
 use Rattle.session_desk.specs.Everywhere.{AllGoIn}
 use Rattle.session_desk.specs.Places.{cell_at}
 use Rattle.session_desk.specs.Stored.{TakesOut, last_in}
@@ -14,10 +17,11 @@ use Rattle.session_desk.proofs.LastIn.{very_session}
 use Rattle.session_desk.proofs.Marked.{marked_all, none_marked}
 use Rattle.session_desk.proofs.OneHand.{law_all, law_new}
 use Rattle.conn_supply.specs.Holding.{IsOutAtPlace}
+use Rattle.conn_supply.specs.Ready.{IsReady}
 use Rattle.call_history.specs.Callers.{CallerState}
 use Rattle.shared_desk.specs.Books.{IsMade}
 use Rattle.shared_desk.specs.Histories.{IsHistory, AddsCall}
-use Rattle.shared_desk.proofs.Desks.{made}
+use Rattle.shared_desk.proofs.Desks.{comes_out, made, ready}
 use Rattle.shared_desk.proofs.Histories.{lawful}
 use Rattle.shared_desk.proofs.Parts.{parts}
 
@@ -50,6 +54,14 @@ module _ {P : Type 0} (HasOut : P → List Held → Type 0) (slot_of number_of :
         was_made (old.calls ++ told.since) [] call (subst (IsHistory HasOut slot_of number_of) calls_are told.legal),
         (told.since ++ call ∷ [], sym (append_assoc old.calls told.since (call ∷ [])) ∙ sym calls_are),
       )
+
+  -- a session that is handed to whoever attaches is not ending, and has out at its place what it holds
+  pub was_ready : (old new : CallerState (Call Held P)) (request : Request) (answer : Result (Attached Held P) DeskError)
+      → AddsCall HasOut slot_of number_of old (Attach request answer) new → IfOk answer (IsReady HasOut)
+  was_ready old new request answer told =
+      let was = (was_told old new (Attach request answer) told).0 in
+      ready HasOut request.client was.old was.new request answer was.before.law was.makes
+      (comes_out HasOut cell was.old was.new (Attach request answer) was.before tt was.makes)
 
   pub very : (before after : List (Call Held P)) (next : Call Held P) (session : Session Held P) → IsHistory HasOut slot_of number_of (before ++ next ∷ after)
       → TakesOut next session → last_in session.identity.number before ≡ Some session

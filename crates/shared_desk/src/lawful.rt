@@ -11,7 +11,7 @@ ghost use Rattle.conn_supply.specs.Holding.{IsOutAtPlace};
 ghost use Rattle.conn_supply.specs.Ready.{IsReady, IsSoundSession};
 ghost use Rattle.call_history.specs.Callers.{all_parts, calling};
 ghost use Rattle.call_history.specs.Numbers.{IsEachOnce};
-ghost use Rattle.shared_desk.specs.Books.{IsLawful, IsMade};
+ghost use Rattle.shared_desk.specs.Books.{IsLawful};
 ghost use Rattle.shared_desk.specs.Histories.{AddsCall, Leads};
 
 use crate::caller::{DeskCall, DeskCaller, DeskHistory};
@@ -86,7 +86,6 @@ impl<P: HoldingPlace, D: HistoryName> LawfulDesk<P, D> {
         requires known { connection < 1024 }
         requires short { length client.now ≤ 128 }
         ensures ready { IfOk result (IsReady P.has_out) }
-        ensures made { IsMade P.has_out P.slot_of P.number_of (Attach request result) }
         ensures told { AddsCall P.has_out P.slot_of P.number_of me.old (Attach request result) me.new }
     {
         let answer = self.desk.attach(connection, client, clean, now);
@@ -106,7 +105,6 @@ impl<P: HoldingPlace, D: HistoryName> LawfulDesk<P, D> {
         me: &mut DeskCaller<P, D>,
         connection: u16,
     )
-        ensures made { IsMade P.has_out P.slot_of P.number_of (Withdraw connection) }
         ensures told { AddsCall P.has_out P.slot_of P.number_of me.old (Withdraw connection) me.new }
     {
         self.desk.withdraw(connection);
@@ -144,7 +142,6 @@ impl<P: HoldingPlace, D: HistoryName> LawfulDesk<P, D> {
         requires before { before ≡ session }
         requires sound { IsSoundSession P.has_out session }
         ensures same { IfSome result (λ back. back ≡ session) }
-        ensures made { IsMade P.has_out P.slot_of P.number_of (Park session now result) }
         ensures told { AddsCall P.has_out P.slot_of P.number_of me.old (Park session now result) me.new }
     {
         let back = self.desk.park(session, now);
@@ -168,7 +165,6 @@ impl<P: HoldingPlace, D: HistoryName> LawfulDesk<P, D> {
         requires before { before ≡ session }
         requires sound { IsSoundSession P.has_out session }
         ensures same { IfSome result (λ back. back ≡ session) }
-        ensures made { IsMade P.has_out P.slot_of P.number_of (ParkAsIs session result) }
         ensures told { AddsCall P.has_out P.slot_of P.number_of me.old (ParkAsIs session result) me.new }
     {
         let back = self.desk.park_as_is(session);
@@ -192,7 +188,6 @@ impl<P: HoldingPlace, D: HistoryName> LawfulDesk<P, D> {
         requires before { before ≡ session }
         requires out { IsOutAtPlace P.has_out session }
         ensures same { IfSome result (λ back. back ≡ session) }
-        ensures made { IsMade P.has_out P.slot_of P.number_of (Keep session result) }
         ensures told { AddsCall P.has_out P.slot_of P.number_of me.old (Keep session result) me.new }
     {
         let back = self.desk.keep(session);
@@ -216,7 +211,6 @@ impl<P: HoldingPlace, D: HistoryName> LawfulDesk<P, D> {
         requires before { before ≡ session }
         requires out { IsOutAtPlace P.has_out session }
         ensures same { IfSome result (λ back. back ≡ session) }
-        ensures made { IsMade P.has_out P.slot_of P.number_of (Bury session result) }
         ensures told { AddsCall P.has_out P.slot_of P.number_of me.old (Bury session result) me.new }
     {
         let back = self.desk.bury(session);
@@ -237,7 +231,6 @@ impl<P: HoldingPlace, D: HistoryName> LawfulDesk<P, D> {
         now: u64,
     ) -> Option<Session<Envelope, P>>
         ensures out { IfSome result (IsOutAtPlace P.has_out) }
-        ensures made { IsMade P.has_out P.slot_of P.number_of (Sweep now result) }
         ensures told { AddsCall P.has_out P.slot_of P.number_of me.old (Sweep now result) me.new }
     {
         let session = self.desk.sweep(now);
@@ -259,7 +252,6 @@ impl<P: HoldingPlace, D: HistoryName> LawfulDesk<P, D> {
     ) -> Option<P>
         ensures own { IfSome result (IsOfSlot P.slot_of P.number_of slot) }
         ensures out { IfSome result (λ place. P.has_out place []) }
-        ensures made { IsMade P.has_out P.slot_of P.number_of (LendPlace slot result) }
         ensures told { AddsCall P.has_out P.slot_of P.number_of me.old (LendPlace slot result) me.new }
     {
         let place = self.desk.lend_place(slot);
@@ -283,7 +275,6 @@ impl<P: HoldingPlace, D: HistoryName> LawfulDesk<P, D> {
         requires before { before ≡ place }
         requires out { P.has_out place [] }
         ensures same { IfSome result (λ back. back ≡ place) }
-        ensures made { IsMade P.has_out P.slot_of P.number_of (TakePlace place result) }
         ensures told { AddsCall P.has_out P.slot_of P.number_of me.old (TakePlace place result) me.new }
     {
         let back = self.desk.take_place(place);

@@ -1,14 +1,18 @@
 //! Laws of a history: what holds of all calls that a thread knows of, whoever made them. Each is the contract of a function that does nothing, over the definitions
 //! that the contracts of [`SharedDesk`](crate::SharedDesk) cite.
-ghost use Rattle.std.specs.Prelude.{◌≡◌, ℕ, ◌+◌, ◌<◌, ◌≤◌, true, List, [], ◌∷◌, ◌++◌, Some};
+ghost use Rattle.std.specs.Prelude.{◌≡◌, ℕ, ◌+◌, ◌<◌, ◌≤◌, true, List, [], ◌∷◌, ◌++◌, Some, Result, IfOk};
 ghost use mathlib.Core.List.{IsPrefix};
 ghost use Rattle.group_jobs.specs.Stamps.{Held};
 ghost use Rattle.session_desk.specs.AskedBack.{IsAskedBack};
-ghost use Rattle.session_desk.specs.Calls.{Call, Kicked, LendPlace};
+ghost use Rattle.session_desk.specs.Attaching.{Request};
+ghost use Rattle.session_desk.specs.Calls.{Call, Attach, Kicked, LendPlace};
 ghost use Rattle.session_desk.specs.Hands.{handed_in, handed_out, total};
 ghost use Rattle.session_desk.specs.Places.{cell_at};
 ghost use Rattle.session_desk.specs.Stored.{TakesOut, last_in};
+ghost use Rattle.session_desk.specs.declared.attached.Attached.{Attached};
+ghost use Rattle.session_desk.specs.declared.error.DeskError.{DeskError};
 ghost use Rattle.session_desk.specs.declared.session.Session.{Session};
+ghost use Rattle.conn_supply.specs.Ready.{IsReady};
 ghost use Rattle.call_history.specs.Callers.{CallerState};
 ghost use Rattle.shared_desk.specs.Books.{IsMade};
 ghost use Rattle.shared_desk.specs.FreePlaces.{last_freed};
@@ -17,13 +21,16 @@ ghost use Rattle.shared_desk.specs.Holders.{IsHolder};
 
 use conn_supply::HoldingPlace;
 
-/// **A beginning of a history is one**, and each call in it was made of a lawful desk, which was lawful after it.
+/// **A beginning of a history is one**, and each call in it was made of a lawful desk, which was lawful after it (`made`, `told`). So no session that is handed to a
+/// connection is ending, and what it holds is out at its place (`ready`).
 pub fn histories<P: HoldingPlace>()
     ensures begins { (calls more : List (Call Held P)) → IsHistory P.has_out P.slot_of P.number_of (calls ++ more) → IsHistory P.has_out P.slot_of P.number_of calls }
     ensures made { (before after : List (Call Held P)) (call : Call Held P) →
         IsHistory P.has_out P.slot_of P.number_of (before ++ call ∷ after) → IsMade P.has_out P.slot_of P.number_of call }
     ensures told { (old new : CallerState (Call Held P)) (call : Call Held P) →
         AddsCall P.has_out P.slot_of P.number_of old call new → IsMade P.has_out P.slot_of P.number_of call × IsPrefix old.calls new.calls }
+    ensures ready { (old new : CallerState (Call Held P)) (request : Request) (answer : Result (Attached Held P) DeskError) →
+        AddsCall P.has_out P.slot_of P.number_of old (Attach request answer) new → IfOk answer (IsReady P.has_out) }
 {}
 
 /// **A session is in one pair of hands**, whichever threads call. It was handed out as often as it was handed in, or once more (`hands`). Between a call that

@@ -10,7 +10,7 @@ ghost use Rattle.conn_supply.specs.Holding.{IsOutAtPlace};
 ghost use Rattle.conn_supply.specs.Ready.{IsReady, IsSoundSession};
 ghost use Rattle.call_history.specs.Callers.{all_parts, first_caller, joined, new_caller};
 ghost use Rattle.call_history.specs.Numbers.{IsEachOnce};
-ghost use Rattle.shared_desk.specs.Books.{IsLawful, IsMade};
+ghost use Rattle.shared_desk.specs.Books.{IsLawful};
 ghost use Rattle.shared_desk.specs.Histories.{IsHistory, AddsCall, Leads, TakesEach};
 
 use crate::caller::{DeskCall, DeskCaller, DeskHistory};
@@ -112,8 +112,8 @@ fn discard(envelope: Envelope) {
 ///
 /// A call takes the lock for its own length, and waits for another thread's call. There is one history of calls, in the order of the lock; each call that
 /// takes the lock is the last one of what its thread knows of it from then on (`AddsCall`), and all that other threads know are beginnings of the same history. What
-/// the books are behind the lock then, nobody else knows; a clause says what the call made of books that were lawful before it and are after it
-/// (`IsMade`). What comes out has out at its place what it holds, by what lies behind the lock.
+/// the books are behind the lock then, nobody else knows; that they were lawful before the call, and are after it, follows from what the thread is told (`laws::histories`).
+/// What comes out has out at its place what it holds, by what lies behind the lock.
 pub struct SharedDesk<P: HoldingPlace, D: HistoryName> {
     desk: Mutex<LawfulDesk<P, D>>,
     // Its calls.
@@ -142,7 +142,6 @@ impl<P: HoldingPlace, D: HistoryName> SharedDesk<P, D> {
         requires known { connection < 1024 }
         requires short { length client.now ≤ 128 }
         ensures ready { IfOk result (IsReady P.has_out) }
-        ensures made { IsMade P.has_out P.slot_of P.number_of (Attach (asked connection client.now clean now) result) }
         ensures told { AddsCall P.has_out P.slot_of P.number_of me.old (Attach (asked connection client.now clean now) result) me.new }
     {
         let mut desk = self.desk.lock(rt);
@@ -164,7 +163,6 @@ impl<P: HoldingPlace, D: HistoryName> SharedDesk<P, D> {
 
     /// The connection waits for no session from now on.
     pub fn withdraw<R: Wait>(&self, rt: &R, me: &mut DeskCaller<P, D>, connection: u16)
-        ensures made { IsMade P.has_out P.slot_of P.number_of (Withdraw connection) }
         ensures told { AddsCall P.has_out P.slot_of P.number_of me.old (Withdraw connection) me.new }
     {
         self.desk.lock(rt).withdraw(&self.history, me, connection);
@@ -201,7 +199,6 @@ impl<P: HoldingPlace, D: HistoryName> SharedDesk<P, D> {
     ) -> Option<Session<Envelope, P>>
         requires { IsSoundSession P.has_out session }
         ensures same { IfSome result (λ back. back ≡ session) }
-        ensures made { IsMade P.has_out P.slot_of P.number_of (Park session now result) }
         ensures told { AddsCall P.has_out P.slot_of P.number_of me.old (Park session now result) me.new }
     {
         let mut desk = self.desk.lock(rt);
@@ -219,7 +216,6 @@ impl<P: HoldingPlace, D: HistoryName> SharedDesk<P, D> {
     ) -> Option<Session<Envelope, P>>
         requires { IsSoundSession P.has_out session }
         ensures same { IfSome result (λ back. back ≡ session) }
-        ensures made { IsMade P.has_out P.slot_of P.number_of (ParkAsIs session result) }
         ensures told { AddsCall P.has_out P.slot_of P.number_of me.old (ParkAsIs session result) me.new }
     {
         let mut desk = self.desk.lock(rt);
@@ -237,7 +233,6 @@ impl<P: HoldingPlace, D: HistoryName> SharedDesk<P, D> {
     ) -> Option<Session<Envelope, P>>
         requires { IsOutAtPlace P.has_out session }
         ensures same { IfSome result (λ back. back ≡ session) }
-        ensures made { IsMade P.has_out P.slot_of P.number_of (Keep session result) }
         ensures told { AddsCall P.has_out P.slot_of P.number_of me.old (Keep session result) me.new }
     {
         let mut desk = self.desk.lock(rt);
@@ -255,7 +250,6 @@ impl<P: HoldingPlace, D: HistoryName> SharedDesk<P, D> {
     ) -> Option<Session<Envelope, P>>
         requires { IsOutAtPlace P.has_out session }
         ensures same { IfSome result (λ back. back ≡ session) }
-        ensures made { IsMade P.has_out P.slot_of P.number_of (Bury session result) }
         ensures told { AddsCall P.has_out P.slot_of P.number_of me.old (Bury session result) me.new }
     {
         self.desk.lock(rt).bury(&self.history, me, session)
@@ -269,7 +263,6 @@ impl<P: HoldingPlace, D: HistoryName> SharedDesk<P, D> {
         now: u64,
     ) -> Option<Session<Envelope, P>>
         ensures out { IfSome result (IsOutAtPlace P.has_out) }
-        ensures made { IfSome result (λ session. IsMade P.has_out P.slot_of P.number_of (Sweep now (Some session))) }
         ensures told { ((result ≡ None) × (me.new ≡ me.old)) ⊎ AddsCall P.has_out P.slot_of P.number_of me.old (Sweep now result) me.new }
     {
         if now < self.soonest.load(SeqCst) {
@@ -285,7 +278,6 @@ impl<P: HoldingPlace, D: HistoryName> SharedDesk<P, D> {
     pub fn lend_place<R: Wait>(&self, rt: &R, me: &mut DeskCaller<P, D>, slot: u8) -> Option<P>
         ensures own { IfSome result (IsOfSlot P.slot_of P.number_of slot) }
         ensures out { IfSome result (λ place. P.has_out place []) }
-        ensures made { IsMade P.has_out P.slot_of P.number_of (LendPlace slot result) }
         ensures told { AddsCall P.has_out P.slot_of P.number_of me.old (LendPlace slot result) me.new }
     {
         self.desk.lock(rt).lend_place(&self.history, me, slot)
@@ -295,7 +287,6 @@ impl<P: HoldingPlace, D: HistoryName> SharedDesk<P, D> {
     pub fn take_place<R: Wait>(&self, rt: &R, me: &mut DeskCaller<P, D>, place: P) -> Option<P>
         requires { P.has_out place [] }
         ensures same { IfSome result (λ back. back ≡ place) }
-        ensures made { IsMade P.has_out P.slot_of P.number_of (TakePlace place result) }
         ensures told { AddsCall P.has_out P.slot_of P.number_of me.old (TakePlace place result) me.new }
     {
         self.desk.lock(rt).take_place(&self.history, me, place)

@@ -1,4 +1,4 @@
-use Rattle.shared_desk.proofs.Pasts.{begins, was_made, was_told}
+use Rattle.shared_desk.proofs.Pasts.{begins, was_made, was_ready, was_told}
 use Rattle.shared_desk.proofs.laws.histories.Goals as goal
 
 pub returns-clause-begins : goal.returns-clause-begins
@@ -9,3 +9,6 @@ returns-clause-made g c before after call history = was_made g.P.HoldingPlace.ha
 
 pub returns-clause-told : goal.returns-clause-told
 returns-clause-told g c old new call told = was_told g.P.HoldingPlace.has_out g.P.Place.slot_of g.P.Place.number_of old new call told
+
+pub returns-clause-ready : goal.returns-clause-ready
+returns-clause-ready g c old new request answer told = was_ready g.P.HoldingPlace.has_out g.P.Place.slot_of g.P.Place.number_of old new request answer told

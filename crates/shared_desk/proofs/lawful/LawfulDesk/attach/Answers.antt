@@ -3,7 +3,7 @@ use Rattle.std.proofs.Common.{sym, subst}
 use Rattle.session_desk.specs.Calls.{Attach, IsAllowed}
 use Rattle.session_desk.specs.Places.{cell_at}
 use Rattle.session_desk.specs.Attaching.{asked, Attaches}
-use Rattle.shared_desk.proofs.Desks.{comes_out, made, ready}
+use Rattle.shared_desk.proofs.Desks.{comes_out, ready}
 use Rattle.shared_desk.specs.Histories.{AddsCall}
 use Rattle.shared_desk.proofs.Histories.{lawful, noted}
 use Rattle.shared_desk.proofs.lawful.LawfulDesk.attach.Goals as goal
@@ -23,9 +23,6 @@ returns-clause-told g c =
     subst (λ k. AddsCall g.P.HoldingPlace.has_out g.P.Place.slot_of g.P.Place.number_of k (Attach g.request c.attach-answer.result) c.note.new.caller) c.me.view_is
     (noted g.P.HoldingPlace.has_out g.P.Place.slot_of g.P.Place.number_of c.self.inside.keeper c.note.new.keeper c.me.inside.caller c.note.new.caller c.self.inside.desk c.attach-answer.new.self (Attach g.request c.attach-answer.result) c.self.invariant (subst (λ r. IsAllowed (Attach r c.attach-answer.result)) (sym c.requires.1.1.0) (c.requires.1.1.1.0, c.requires.1.1.1.1)) tt (subst (λ r. Attaches c.self.inside.desk r c.attach-answer.result c.attach-answer.new.self) (sym c.requires.1.1.0) c.attach-answer.ensures)
     (c.note.ensures.added) c.note.ensures.told c.note.ensures.before).1
-
-pub returns-clause-made : goal.returns-clause-made
-returns-clause-made g c = made g.P.HoldingPlace.has_out g.P.Place.slot_of g.P.Place.number_of c.self.inside.desk c.attach-answer.new.self (Attach g.request c.attach-answer.result) (lawful g.P.HoldingPlace.has_out g.P.Place.slot_of g.P.Place.number_of _ _ c.self.invariant) (subst (λ r. IsAllowed (Attach r c.attach-answer.result)) (sym c.requires.1.1.0) (c.requires.1.1.1.0, c.requires.1.1.1.1)) tt (subst (λ r. Attaches c.self.inside.desk r c.attach-answer.result c.attach-answer.new.self) (sym c.requires.1.1.0) c.attach-answer.ensures)
 
 pub returns-clause-ready : goal.returns-clause-ready
 returns-clause-ready g c =

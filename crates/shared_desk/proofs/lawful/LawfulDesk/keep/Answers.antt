@@ -2,7 +2,6 @@
 use Rattle.std.proofs.Common.{◌∷◌, ◌++◌, [], ap, ◌∙◌, subst}
 use Rattle.session_desk.specs.Calls.{Keep}
 use Rattle.call_history.specs.Callers.{calling}
-use Rattle.shared_desk.proofs.Desks.{made}
 use Rattle.shared_desk.specs.Histories.{AddsCall}
 use Rattle.shared_desk.proofs.Histories.{lawful, noted}
 use Rattle.shared_desk.proofs.lawful.LawfulDesk.keep.Goals as goal
@@ -22,6 +21,3 @@ returns-clause-told g c =
     subst (λ k. AddsCall g.P.HoldingPlace.has_out g.P.Place.slot_of g.P.Place.number_of k (Keep c.args.session c.keep-back.result) c.note.new.caller) c.me.view_is
     (noted g.P.HoldingPlace.has_out g.P.Place.slot_of g.P.Place.number_of c.self.inside.keeper c.note.new.keeper c.me.inside.caller c.note.new.caller c.self.inside.desk c.keep-back.new.self (Keep c.args.session c.keep-back.result) c.self.invariant tt c.requires.1.1.1 c.keep-back.ensures
     (c.note.ensures.added ∙ ap (λ b. c.self.inside.keeper ++ Keep b c.keep-back.result ∷ []) c.requires.1.1.0) (c.note.ensures.told ∙ ap (λ b. calling c.me.inside.caller c.self.inside.keeper (Keep b c.keep-back.result ∷ [])) c.requires.1.1.0) c.note.ensures.before).1
-
-pub returns-clause-made : goal.returns-clause-made
-returns-clause-made g c = made g.P.HoldingPlace.has_out g.P.Place.slot_of g.P.Place.number_of c.self.inside.desk c.keep-back.new.self (Keep c.args.session c.keep-back.result) (lawful g.P.HoldingPlace.has_out g.P.Place.slot_of g.P.Place.number_of _ _ c.self.invariant) tt c.requires.1.1.1 c.keep-back.ensures

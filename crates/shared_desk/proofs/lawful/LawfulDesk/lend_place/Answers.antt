@@ -2,7 +2,7 @@
 use Rattle.std.proofs.Common.{subst}
 use Rattle.session_desk.specs.Calls.{LendPlace}
 use Rattle.session_desk.specs.Places.{cell_at}
-use Rattle.shared_desk.proofs.Desks.{comes_out, made}
+use Rattle.shared_desk.proofs.Desks.{comes_out}
 use Rattle.shared_desk.specs.Histories.{AddsCall}
 use Rattle.shared_desk.proofs.Histories.{lawful, noted}
 use Rattle.shared_desk.proofs.lawful.LawfulDesk.lend_place.Goals as goal
@@ -22,9 +22,6 @@ returns-clause-told g c =
     subst (λ k. AddsCall g.P.HoldingPlace.has_out g.P.Place.slot_of g.P.Place.number_of k (LendPlace c.args.slot c.lend_place-place.result) c.note.new.caller) c.me.view_is
     (noted g.P.HoldingPlace.has_out g.P.Place.slot_of g.P.Place.number_of c.self.inside.keeper c.note.new.keeper c.me.inside.caller c.note.new.caller c.self.inside.desk c.lend_place-place.new.self (LendPlace c.args.slot c.lend_place-place.result) c.self.invariant tt tt c.lend_place-place.ensures.least
     (c.note.ensures.added) c.note.ensures.told c.note.ensures.before).1
-
-pub returns-clause-made : goal.returns-clause-made
-returns-clause-made g c = made g.P.HoldingPlace.has_out g.P.Place.slot_of g.P.Place.number_of c.self.inside.desk c.lend_place-place.new.self (LendPlace c.args.slot c.lend_place-place.result) (lawful g.P.HoldingPlace.has_out g.P.Place.slot_of g.P.Place.number_of _ _ c.self.invariant) tt tt c.lend_place-place.ensures.least
 
 pub returns-clause-out : goal.returns-clause-out
 returns-clause-out g c = comes_out g.P.HoldingPlace.has_out (λ place. cell_at (g.P.Place.slot_of place) (g.P.Place.number_of place)) c.self.inside.desk c.lend_place-place.new.self (LendPlace c.args.slot c.lend_place-place.result) (lawful g.P.HoldingPlace.has_out g.P.Place.slot_of g.P.Place.number_of _ _ c.self.invariant) tt c.lend_place-place.ensures.least

@@ -1,7 +1,6 @@
 -- The call leads on, and the thread is told it.
 use Rattle.std.proofs.Common.{subst}
 use Rattle.session_desk.specs.Calls.{Withdraw}
-use Rattle.shared_desk.proofs.Desks.{made}
 use Rattle.shared_desk.specs.Histories.{AddsCall}
 use Rattle.shared_desk.proofs.Histories.{lawful, noted}
 use Rattle.shared_desk.proofs.lawful.LawfulDesk.withdraw.Goals as goal
@@ -21,6 +20,3 @@ returns-clause-told g c =
     subst (λ k. AddsCall g.P.HoldingPlace.has_out g.P.Place.slot_of g.P.Place.number_of k (Withdraw c.args.connection) c.note.new.caller) c.me.view_is
     (noted g.P.HoldingPlace.has_out g.P.Place.slot_of g.P.Place.number_of c.self.inside.keeper c.note.new.keeper c.me.inside.caller c.note.new.caller c.self.inside.desk c.withdraw.new.self (Withdraw c.args.connection) c.self.invariant tt tt c.withdraw.ensures
     (c.note.ensures.added) c.note.ensures.told c.note.ensures.before).1
-
-pub returns-clause-made : goal.returns-clause-made
-returns-clause-made g c = made g.P.HoldingPlace.has_out g.P.Place.slot_of g.P.Place.number_of c.self.inside.desk c.withdraw.new.self (Withdraw c.args.connection) (lawful g.P.HoldingPlace.has_out g.P.Place.slot_of g.P.Place.number_of _ _ c.self.invariant) tt tt c.withdraw.ensures
