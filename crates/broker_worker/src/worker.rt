@@ -1,5 +1,5 @@
 //! A worker: what it has, and its turns.
-ghost use Rattle.std.specs.Prelude.{◌≡◌, [], None, true, length, replicate, IfErr, IfOk};
+ghost use Rattle.std.specs.Prelude.{◌≡◌, ◌*◌, [], None, true, length, replicate, IfErr, IfOk};
 ghost use Rattle.worker_connections.specs.Handles.{IsUnused};
 ghost use Rattle.worker_connections.specs.Chains.{HasRunTo};
 ghost use Rattle.worker_connections.specs.Serving.{AreCounted, AreFresh, IsDone, Rounds, StaysOf, live, run_of, wakes_of};
@@ -79,7 +79,7 @@ impl<
     C: Clock + Drop,
     R: Wait,
 > Worker<'a, 'g, B, N, T, Q, W, X, C, R> {
-    /// A worker that has no connection yet. It receives through the channel of its parts, publishes through the ports of its handle, through which nothing was published,
+    /// A worker that has no connection yet; those of the worker `n` will have the numbers of its share from `n` shares on. It receives through the channel of its parts, publishes through the ports of its handle, through which nothing was published,
     /// and calls the desk as the caller of its handle, which made no call.
     ///
     /// # Errors
@@ -94,9 +94,10 @@ impl<
         mailboxes: &'a Mailboxes<W>,
         crossing: &'a X,
     ) -> Result<Worker<'a, 'g, B, N, T, Q, W, X, C, R>, WorkerHandle<B, N>>
-        requires received { worker_parts.received ≡ [] }
+        requires received { worker_parts.receiver.received ≡ [] }
         requires unused { IsUnused handle.ports handle.desk }
-        ensures fresh { IfOk result (λ worker. AreFresh worker_parts handle.ports worker.connections) }
+        ensures fresh { IfOk result (λ worker. AreFresh worker_parts.receiver handle.ports worker.connections) }
+        ensures numbers { IfOk result (λ worker. (worker.connections.first ≡ worker_parts.number * worker_parts.share) × (length worker.connections.cells ≡ worker_parts.share)) }
         ensures routes { IfOk result (λ worker. worker.connections.supply.known.table ≡ shared_broker.now) }
         ensures desk { IfOk result (λ worker. worker.connections.supply.desk ≡ handle.desk) }
         ensures back { IfErr result (λ back. back ≡ handle) }
@@ -105,7 +106,8 @@ impl<
             drop(worker_parts);
             return Err(handle);
         };
-        let Ok(table) = table_of::<B, T>(alloc, worker_parts.number, worker_parts.share) else {
+        let Ok((first, table)) = table_of::<B, T>(alloc, worker_parts.number, worker_parts.share)
+        else {
             drop(worker_parts);
             drop(known);
             return Err(handle);
@@ -122,7 +124,7 @@ impl<
         let WorkerHandle { key, ports, desk } = handle;
         let supply = SharedSupply::new(rt, alloc, shared_broker, key, ports, known, desk);
         let (poller, clock) = worker_io.into_parts();
-        let connections = Connections::new(receiver, table, supply, members, poller);
+        let connections = Connections::new(first, receiver, table, supply, members, poller);
         Ok(Worker::of(
             number,
             connections,
@@ -317,17 +319,19 @@ fn note_came<W: Wake>(due: &mut Marks, mailboxes: &Mailboxes<W>, number: usize, 
     }
 }
 
-/// The cells of a worker's connections, all free.
+/// The number of the connection in the first cell of a worker, and its cells, all free.
 fn table_of<B: Broker, T: Transport>(
     alloc: Global,
     number: usize,
     share: u16,
-) -> Result<ServiceTable<BrokerPlace<B>, T>, NoMemory>
-    ensures { IfOk result (λ table. table ≡ replicate share None) }
+) -> Result<(u16, ServiceTable<BrokerPlace<B>, T>), NoMemory>
+    ensures first { IfOk result (λ made. made.0 ≡ number * share) }
+    ensures free { IfOk result (λ made. made.1 ≡ replicate share None) }
 {
     let first = number.saturating_mul(usize::from(share));
     if first >= usize::from(MOST_CONNECTIONS) {
         return Err(NoMemory);
     }
-    ServiceTable::new(alloc, first as u16, share)
+    let table = ServiceTable::new(alloc, share)?;
+    Ok((first as u16, table))
 }

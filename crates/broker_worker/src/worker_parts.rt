@@ -1,6 +1,7 @@
 //! What each worker has for itself, made before any worker is.
-ghost use Rattle.std.specs.Prelude.{◌≡◌, ◌≤◌, ◌++◌, [], ◌∷◌, All, length, IfOk, OnOk};
-ghost use Rattle.conn_channel.specs.Ends.{AreReceivers, new_receiver};
+ghost use Rattle.std.specs.Prelude.{◌≡◌, ◌≤◌, ◌++◌, ℕ, [], ◌∷◌, length, IfOk, OnOk};
+ghost use Rattle.conn_channel.specs.Ends.{AreReceivers};
+ghost use Rattle.broker_worker.specs.Parts.{ArePartsOf};
 ghost use Rattle.worker_connections.specs.Closing.{HasClosedNone};
 
 use crate::marks::Marks;
@@ -58,7 +59,7 @@ impl<T: Transport, Q: Poller<T>, C> WorkerIo<T, Q, C> {
     }
 }
 
-/// What the worker of a number has for itself. Contracts see it as its end of the channel.
+/// What the worker of a number has for itself. Contracts see it as a `PartsState`: its number, how many connections it has at most, and its end of the channel.
 #[derive(Drop)]
 pub struct WorkerParts<T: Transport + Drop, Q: Poller<T>, W, C> {
     pub(crate) number: usize,
@@ -72,17 +73,16 @@ pub struct WorkerParts<T: Transport + Drop, Q: Poller<T>, W, C> {
 
 impl<T: Transport + Drop, Q: Poller<T>, W, C> Model for WorkerParts<T, Q, W, C> {
     ghost use Rattle.std.specs.Prelude.{◌≡◌, length};
-    ghost use Rattle.conn_channel.specs.Ends.{ReceiverState};
-    ghost use Rattle.worker_connections.specs.Arrivals.{ArrivedState};
+    ghost use Rattle.broker_worker.specs.Parts.{PartsState};
 
-    ghost Value = { ReceiverState (ArrivedState T) };
+    ghost Value = { PartsState T };
 
-    ghost view = { λ k. k.receiver };
+    ghost view = { λ k. record { number = k.number; share = k.share; receiver = k.receiver } };
 
     ghost invariant = { λ k. length k.members ≡ k.share };
 }
 
-/// The parts of each worker that has a mailbox, in the order of pollers and clocks. They receive from the channel of this sender.
+/// The parts of each worker that has a mailbox, the last worker's first, with the pollers and clocks in the order of numbers. They receive from the channel of this sender.
 ///
 /// # Errors
 ///
@@ -96,7 +96,7 @@ pub fn all_worker_parts<T: Transport + Drop, Q: Poller<T> + Drop, W: Wake + Drop
 ) -> Result<Vec<WorkerParts<T, Q, W, C>>, NoMemory>
     requires receivers { AreReceivers sender.now.channel (length worker_io.items) receivers.items }
     ensures count { IfOk result (λ all_worker_parts. length all_worker_parts.items ≡ length worker_io.items) }
-    ensures each { IfOk result (λ all_worker_parts. All (λ worker_parts. worker_parts ≡ new_receiver sender.now.channel) all_worker_parts.items) }
+    ensures each { IfOk result (λ all_worker_parts. (share : ℕ) × ArePartsOf (length worker_io.items) share sender.now.channel all_worker_parts.items) }
 {
     let mut worker_io = worker_io;
     let mut receivers = receivers;
@@ -126,7 +126,7 @@ fn add_all_worker_parts<T: Transport + Drop, Q: Poller<T> + Drop, W: Drop, C: Dr
     requires receivers { AreReceivers sender.now.channel (length worker_io.old.items) receivers.old.items }
     requires all_own_bells { length all_own_bells.old.items ≡ length worker_io.old.items }
     ensures count { OnOk result (length all_worker_parts.new.items ≡ length worker_io.old.items) }
-    ensures each { OnOk result (All (λ worker_parts. worker_parts ≡ new_receiver sender.now.channel) all_worker_parts.new.items) }
+    ensures each { OnOk result ((share : ℕ) × ArePartsOf (length worker_io.old.items) share sender.now.channel all_worker_parts.new.items) }
 {
     let share = share_of(worker_io.len());
     'all_worker_parts: while let Some(own) = worker_io.pop() {
@@ -156,7 +156,7 @@ fn add_worker_parts<T: Transport + Drop, Q: Poller<T> + Drop, W: Drop, C: Drop>(
     receiver: Receiver<Arrived<T>>,
     own_bells: WorkerBells<W>,
 ) -> Result<(), NoMemory>
-    ensures { OnOk result (all_worker_parts.new.items ≡ all_worker_parts.old.items ++ receiver ∷ []) }
+    ensures { OnOk result (all_worker_parts.new.items ≡ all_worker_parts.old.items ++ record { number = number; share = share; receiver = receiver } ∷ []) }
 {
     let Ok((due, members)) = blank(alloc, usize::from(share)) else {
         drop(worker_io);

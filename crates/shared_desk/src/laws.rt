@@ -15,7 +15,7 @@ ghost use Rattle.session_desk.specs.declared.session.Session.{Session};
 ghost use Rattle.conn_supply.specs.Ready.{IsReady};
 ghost use Rattle.call_history.specs.Callers.{CallerState};
 ghost use Rattle.shared_desk.specs.Books.{IsMade};
-ghost use Rattle.shared_desk.specs.FreePlaces.{last_freed};
+ghost use Rattle.shared_desk.specs.FreePlaces.{last_change};
 ghost use Rattle.shared_desk.specs.Histories.{IsHistory, AddsCall};
 ghost use Rattle.shared_desk.specs.Holders.{IsHolder};
 
@@ -58,12 +58,17 @@ pub fn very_session<P: HoldingPlace>()
         last_in session.identity.number before ≡ Some session }
 {}
 
-/// **What is lent is the very place that became free last at its cell**, whichever threads call: a place that is lent is, in all its parts, the one that was put last
-/// into the cell of its slot and number, where it was taken in or its session was buried.
+/// **What is lent is the very place that was put into its cell last**, whichever threads call, and that nobody was lent since: a place that is lent is, in all its parts, the one
+/// that was taken in, or whose session was buried, and what was done last with the cell of its slot and number is that it was put there (`very`). So between two loans of a place, it
+/// was put back (`between`).
 pub fn very_place<P: HoldingPlace>()
-    ensures { (before after : List (Call Held P)) (slot : ℕ) (place : P) →
+    ensures very { (before after : List (Call Held P)) (slot : ℕ) (place : P) →
         IsHistory P.has_out P.slot_of P.number_of (before ++ LendPlace slot (Some place) ∷ after) →
-        last_freed (λ other. cell_at (P.slot_of other) (P.number_of other)) (cell_at (P.slot_of place) (P.number_of place)) before ≡ Some place }
+        last_change (λ other. cell_at (P.slot_of other) (P.number_of other)) (cell_at (P.slot_of place) (P.number_of place)) before ≡ Some (Some place) }
+    ensures between { (before within after : List (Call Held P)) (slot its_slot : ℕ) (one other : P) →
+        IsHistory P.has_out P.slot_of P.number_of (before ++ LendPlace slot (Some one) ∷ (within ++ LendPlace its_slot (Some other) ∷ after)) →
+        cell_at (P.slot_of one) (P.number_of one) ≡ cell_at (P.slot_of other) (P.number_of other) →
+        last_change (λ place. cell_at (P.slot_of place) (P.number_of place)) (cell_at (P.slot_of other) (P.number_of other)) within ≡ Some (Some other) }
 {}
 
 /// **Who is kicked was asked**, whichever threads call: one of the calls before answered Replace with this connection as the holder, and none after that lent a

@@ -1,8 +1,12 @@
 -- What is written of the groups of a broker by their answers, and how these decide its end.
-use Rattle.std.specs.Prelude.{List, [], All, Any, Contains, IsOk, Result, Ok, Err, ⊤, zip, flat_map, ℕ}
+use Rattle.std.specs.Prelude.{◌≡◌, ◌⊎◌, Bool, true, false, List, [], All, Any, Contains, IsOk, Result, Ok, Err, ⊤, zip, flat_map, ℕ}
 use Rattle.mqtt_topic.specs.Names.{Share}
 use Rattle.text_io.specs.declared.error.RunError.{RunError}
 use Rattle.text_io.specs.declared.error.RunError.TheVariants.{ReadFailed, TooManyReads, WriteFailed, Network, Memory, Unfinished as NotKnown, Line}
+use Rattle.worker_pool.specs.declared.accepting.SourceEnd.{SourceEnd}
+use Rattle.worker_pool.specs.declared.accepting.SourceEnd.TheVariants as sources
+use Rattle.tcp_server.specs.declared.serving.ServingEnd.{ServingEnd}
+use Rattle.tcp_server.specs.declared.serving.ServingEnd.TheVariants as endings
 use Rattle.group_jobs.specs.Reports.{report_line}
 use Rattle.group_jobs.specs.declared.report.Report.{Report}
 use Rattle.group_queue.specs.declared.error.FinishError.{FinishError}
@@ -42,3 +46,10 @@ EndsBy (Err Network) reports = All IsOk reports
 EndsBy (Err Memory) reports = Contains reports (Err refusals.Memory) × All (λ report. ¬ IsRefused report) reports
 EndsBy (Err NotKnown) reports = Any IsRefused reports
 EndsBy (Err (Line number)) reports = ⊥
+
+-- how a broker ends whose groups gave all reports, by how its source ended and whether its input was read to its end; or why they did not
+abbrev pub EndsFor : SourceEnd → Bool → Result ServingEnd RunError → Type 0
+EndsFor source is_read (Ok endings.Ended) = (source ≡ sources.Ended) × (is_read ≡ true)
+EndsFor source is_read (Ok endings.InputFailed) = (source ≡ sources.Ended) × (is_read ≡ false)
+EndsFor source is_read (Ok endings.NotAccepted) = source ≡ sources.Failed
+EndsFor source is_read (Err error) = (error ≡ Memory) ⊎ (error ≡ NotKnown)

@@ -6,10 +6,12 @@
 mod attending;
 mod elapsed;
 mod listening;
+mod outcome;
 mod reporting;
 mod serving;
 mod setup;
 mod socket_poller;
 mod watching;
 
-pub use serving::{serve_at, serve_with};
+pub use outcome::{Reported, report_outcome};
+pub use serving::{ServingEnd, serve_at, serve_with};

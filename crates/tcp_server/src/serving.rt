@@ -9,8 +9,9 @@ ghost use Rattle.tcp_server.specs.Serving.{EndsUnreported, IsServed, IsServedAt,
 ghost use Rattle.gate_word.specs.Seats.{AreSeatsOf};
 ghost use Rattle.broker_groups.specs.Naming.{IsOfBroker};
 
-use crate::attending::{Reported, attend};
+use crate::attending::attend;
 use crate::listening::Awaited;
+use crate::outcome::Reported;
 use crate::setup::socket_setup;
 use broker_groups::{Broker, BrokerName, BrokerPlace, Opened, Witnessed};
 use call_history::HistoryName;

@@ -17,9 +17,11 @@ use Rattle.conn_channel.specs.Interleavings.{IsInterleaving}
 use Rattle.worker_connections.specs.declared.served.ServedCounts.{ServedCounts}
 use Rattle.worker_connections.specs.Arrivals.{ArrivedState}
 use Rattle.worker_connections.specs.Chains.{IsWholeRun, KeepsReceiveMaximum, Run}
+use Rattle.worker_connections.specs.Numbers.{KeepsNumbers}
 use Rattle.worker_connections.specs.Publishing.{IsPublishedBy}
 use Rattle.worker_connections.specs.Sessions.{KeepsSessions}
 use Rattle.worker_connections.proofs.Publishing.{all_published}
+use Rattle.worker_connections.proofs.Numbers.{keeps_numbers}
 use Rattle.worker_connections.proofs.Quotas.{within_quota}
 use Rattle.worker_connections.proofs.Sessions.{all_sessions}
 use Rattle.worker_pool.specs.Accepting.{arrivals}
@@ -57,13 +59,17 @@ module _ {T : Type 0} (group : ℕ → GroupId) (seen : Sights) (counts : T → 
   each_run limit [] whole few = tt
   each_run limit (run ∷ runs) whole few = (within_quota group seen counts given accepted limit run whole.0.is few.0, each_run limit runs whole.1 few.1)
 
-  each_published : (runs : List (Run T)) → AllByRecursion (IsWholeRun group seen counts given accepted) runs → AllByRecursion (IsPublishedBy group seen) runs
-  each_published [] whole = tt
-  each_published (run ∷ runs) whole = (all_published group seen counts given accepted run whole.0.is, each_published runs whole.1)
+  each_published : (runs : List (Run T)) → AllByRecursion (IsPublishedBy group seen counts given accepted) runs
+  each_published [] = tt
+  each_published (run ∷ runs) = (all_published group seen counts given accepted run, each_published runs)
 
-  each_session : (runs : List (Run T)) → AllByRecursion (KeepsSessions group seen counts given accepted) runs
-  each_session [] = tt
-  each_session (run ∷ runs) = (all_sessions group seen counts given accepted run, each_session runs)
+  each_numbered : (runs : List (Run T)) → AllByRecursion (IsWholeRun group seen counts given accepted) runs → AllByRecursion (KeepsNumbers group seen counts given accepted) runs
+  each_numbered [] whole = tt
+  each_numbered (run ∷ runs) whole = (keeps_numbers group seen counts given accepted run whole.0.is, each_numbered runs whole.1)
+
+  each_session : (runs : List (Run T)) → AllByRecursion (IsWholeRun group seen counts given accepted) runs → AllByRecursion (KeepsSessions group seen counts given accepted) runs
+  each_session [] whole = tt
+  each_session (run ∷ runs) whole = (all_sessions group seen counts given accepted run whole.0.is, each_session runs whole.1)
 
   -- the parts of so many workers
   parts_of_all : (runs : List (Run T)) → AllByRecursion (λ (run : Run T). run.last.supply.desk.parts ≡ 1) runs
@@ -90,8 +96,9 @@ module _ {T : Type 0} (group : ℕ → GroupId) (seen : Sights) (counts : T → 
         whole_right = omega (arith, taken_in.parts, parts, many, count, right);
         within_receive_maximum = each_run limit ran.runs ran.whole
             (of_each (λ (arrived : ArrivedState T). arrived.max_inflight ≤ limit) (arrivals limit came) (map (λ (run : Run T). run.last.received) ran.runs) ran.came_to (limited limit came));
-        published = each_published ran.runs ran.whole;
-        sessions = each_session ran.runs;
+        published = each_published ran.runs;
+        numbers = each_numbered ran.runs ran.whole;
+        sessions = each_session ran.runs ran.whole;
       }
 
   -- more calls are known of the desk
@@ -108,5 +115,6 @@ module _ {T : Type 0} (group : ℕ → GroupId) (seen : Sights) (counts : T → 
     whole_right = ap (λ (caller : DeskCallerState). caller.parts) same ∙ run.whole_right;
     within_receive_maximum = run.within_receive_maximum;
     published = run.published;
+    numbers = run.numbers;
     sessions = run.sessions;
   }

@@ -13,6 +13,7 @@ use Rattle.group_queue.specs.Ports.{GroupId, PortState}
 use Rattle.broker_groups.specs.Answers.{Sights}
 use Rattle.worker_connections.specs.declared.served.ServedCounts.{ServedCounts}
 use Rattle.worker_connections.specs.Chains.{KeepsReceiveMaximum}
+use Rattle.worker_connections.specs.Numbers.{KeepsNumbers}
 use Rattle.worker_connections.specs.Publishing.{IsPublishedBy}
 use Rattle.worker_connections.specs.Sessions.{KeepsSessions}
 use Rattle.worker_pool.specs.Accepting.{arrivals}
@@ -25,7 +26,7 @@ module _ {T : Type 0} (group : ℕ → GroupId) (seen : Sights) (counts : T → 
   -- the run of a broker until it was closed: these connections came to its workers, these ports and counts the workers gave back, and these transports they closed, each as it
   -- was then. The first caller of its desk, which had put places into it and did nothing else (`opened`), took in the workers' callers, and has the whole right to call then. At no moment of the run did a connection have more
   -- unacknowledged PUBLISH packets than its Receive Maximum, and than this limit (4.9); all that the ports accepted came of the PUBLISH packets that these connections
-  -- stepped, each offered to the groups that match and answered as these took it (3.3.4); and at each deed what is handed out is what is sent, and what is settled is what a
+  -- stepped, each offered to the groups that match and answered as these took it (3.3.4); each asked the desk under the number of its cell; and at each act what is handed out is what is sent, and what is settled is what a
   -- PUBACK came for (4.4). The groups that match are those of these shares, slot by slot, as far as each worker knew them
   pub record RunsUntilClosed (max_inflight : ℕ) (came : List T) (before after : DeskCallerState) (shares : List Share) (ports : List (List PortState)) (served : List ServedCounts)
       (closed : List (Option (List T))) : Type 0 where
@@ -37,7 +38,8 @@ module _ {T : Type 0} (group : ℕ → GroupId) (seen : Sights) (counts : T → 
     pub taken_in : HasTakenIn before callers after
     pub whole_right : after.parts ≡ all_parts
     pub within_receive_maximum : AllByRecursion (KeepsReceiveMaximum group seen counts given accepted max_inflight) workers.runs
-    pub published : AllByRecursion (IsPublishedBy group seen) workers.runs
+    pub published : AllByRecursion (IsPublishedBy group seen counts given accepted) workers.runs
+    pub numbers : AllByRecursion (KeepsNumbers group seen counts given accepted) workers.runs
     pub sessions : AllByRecursion (KeepsSessions group seen counts given accepted) workers.runs
 
   -- **The headline**, of the one run of a broker: these connections came, in this order, and each is in the run of one worker, from its opening to its end, at which it was

@@ -31,13 +31,13 @@ module _ {T : Type 0} where
       record { endings = how ∷ old.endings; counted = counts_it ∙ ap (counted how) old.counted; all = omega (arith, old.all, fewer) }
 
   -- one more was received, and is open or counted
-  pub came_one : (counts : T → Counts) (given accepted : T → Option (List ℕ)) (now : ℕ) (arrived : ArrivedState T) (received received' : ℕ) (cells cells' : Table T)
+  pub came_one : (counts : T → Counts) (given accepted : T → Option (List ℕ)) (first now : ℕ) (arrived : ArrivedState T) (received received' : ℕ) (cells cells' : Table T)
       (served served' : ServedCounts) (closed closed' : Option (List T)) → received' ≡ received + 1 → IsAccounted received cells served
-      → TakesIn counts given accepted now arrived cells served closed cells' served' closed'
+      → TakesIn counts given accepted first now arrived cells served closed cells' served' closed'
       → IsAccounted received' cells' served'
-  came_one counts given accepted now arrived received received' cells cells' served served' closed closed' more old (inl opened) =
+  came_one counts given accepted first now arrived received received' cells cells' served served' closed closed' more old (inl opened) =
       record { endings = old.endings; counted = opened.2 ∙ old.counted; all = omega (arith, more, old.all, opened.1.3) }
-  came_one counts given accepted now arrived received received' cells cells' served served' closed closed' more old (inr refused) =
+  came_one counts given accepted first now arrived received received' cells cells' served served' closed closed' more old (inr refused) =
       record { endings = Memory ∷ old.endings; counted = refused.1 ∙ ap (counted Memory) old.counted; all = omega (arith, more, old.all, ap occupied refused.0.0) }
 
   -- where no connection is open, all that were received have ended

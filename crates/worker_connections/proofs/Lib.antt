@@ -11,3 +11,5 @@ pub mod Publishing
 pub mod Sessions
 pub mod Occupied
 pub mod Turning
+pub mod Going
+pub mod Numbers

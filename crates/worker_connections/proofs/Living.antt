@@ -1,5 +1,5 @@
 -- A connection lives on by its rounds, whatever others do to the supply between them; and so do the connections of a worker's run.
-use Rattle.std.proofs.Common.{◌≡◌, ℕ, Bool, List, [], ◌∷◌, ◌++◌, Option, Some, None, All, refl, sym, ap, subst, ◌∙◌, append-nil, append_assoc}
+use Rattle.std.proofs.Common.{◌≡◌, ◌+◌, ℕ, Bool, List, [], ◌∷◌, ◌++◌, Option, Some, None, All, refl, sym, ap, subst, ◌∙◌, append-nil, append_assoc}
 use Rattle.std.specs.List.{AllByRecursion}
 use Rattle.std.proofs.lemmas.List.Elements.{All-set}
 use Rattle.transport.specs.declared.counts.Counts.{Counts}
@@ -75,11 +75,11 @@ module _ {S P T : Type 0} (call : S → SupplyCall P → S → Type 0) (begins e
   }
 
   -- one that is opened lives, over any supply
-  pub opens : (opening : Opening) (transport : T) (before after : Option (ServiceState P T)) (supply : S) → counts transport ≡ no_counts → Opens opening transport before after
+  pub opens : (number : ℕ) (opening : Opening) (transport : T) (before after : Option (ServiceState P T)) (supply : S) → counts transport ≡ no_counts → Opens number opening transport before after
       → IfLived call begins ends visiting slot_of counts given accepted after
-  opens opening transport before None supply fresh opened_so = tt
-  opens opening transport before (Some service) supply fresh opened_so = record {
-    number = service.client.conn.number;
+  opens number opening transport before None supply fresh opened_so = tt
+  opens number opening transport before (Some service) supply fresh opened_so = record {
+    number = number;
     opening = opening;
     transport = transport;
     fresh = fresh;
@@ -106,7 +106,7 @@ module _ {T : Type 0} (group : ℕ → GroupId) (seen : Sights) (counts : T → 
       let made = does.2 in
       subst AllLived (sym made.is)
       (All-set Lived old.cells cell made.after
-      (opens (Calls group seen) Begins Leaves is_visiting (λ (p : PlaceState). p.group) counts given accepted (opening_at now arrived) does.0 made.before made.after old.supply
+      (opens (Calls group seen) Begins Leaves is_visiting (λ (p : PlaceState). p.group) counts given accepted (old.first + cell) (opening_at now arrived) does.0 made.before made.after old.supply
       (does.1.counts_are ∙ fresh.0) made.becomes) all)
   lives (Closed arrived) old new fresh does all = subst (λ (s : RunState T). AllLived s.cells) (sym does.2) all
   lives (Allowed most) old new fresh does all = subst (λ (s : RunState T). AllLived s.cells) (sym does) all

@@ -1,6 +1,6 @@
 -- What comes into the ports of a worker, call by call, step by step, and over its run.
-use Rattle.std.proofs.Common.{◌≡◌, ◌≢◌, ◌⊎◌, ℕ, if◌then◌else◌, Bool, true, false, List, [], ◌∷◌, ◌++◌, length, Option, Some, None, Result, Err, is_some, refl, sym, ap, subst, ◌∙◌, inl, inr, ⊎_elim, append-nil}
-use Rattle.std.specs.List.{cons_option, flat_map}
+use Rattle.std.proofs.Common.{◌≡◌, ◌≢◌, ◌⊎◌, ℕ, ◌<◌, ◌≤◌, if◌then◌else◌, Bool, true, false, List, [], ◌∷◌, ◌++◌, length, Option, Some, None, Result, Err, is_some, refl, sym, ap, subst, ◌∙◌, inl, inr, ⊎_elim, append-nil, arith}
+use Rattle.std.specs.List.{cons_option}
 use Rattle.std.specs.Option.{option_to_list}
 use Rattle.mqtt_packet.specs.declared.packet.Delivery.{Delivery}
 use Rattle.mqtt_packet.specs.declared.packet.Delivery.TheVariants.{AtMostOnce, AtLeastOnce, ExactlyOnce}
@@ -47,8 +47,9 @@ use Rattle.conn_service.specs.Services.{ServiceState}
 use Rattle.conn_service.specs.Visits.{Stand, Outside, Inside, Behind, Parting, Parted, Treads, Walks}
 use Rattle.shared_supply.specs.Calls.{Calls, missing}
 use Rattle.shared_supply.specs.Workers.{Worker, Begins, Leaves, is_visiting}
-use Rattle.worker_connections.specs.Chains.{Deed, Opened, Closed, Allowed, MadeRound, Passed, Called, Notified, NotifiedAll, IsRun, Makes, MakesAll, Run, RunState}
-use Rattle.worker_connections.specs.Publishing.{IsPromised, IsCutShort, IsPublished, IsPublishedBy, Publishes, PublishesAll, PublishesAt, PublishesSome, PublisherState, PutsInto, PutsSome, acts_in, publisher_of, slots_matched}
+use Rattle.worker_connections.specs.Chains.{Deed, Opened, Closed, Allowed, MadeRound, Passed, Called, Notified, NotifiedAll, Makes, Run, RunState}
+use Rattle.worker_connections.specs.EachAct.{EachAct, EachActOf}
+use Rattle.worker_connections.specs.Publishing.{IsPromised, IsCutShort, IsPublished, IsPublishedBy, Publishes, PublishesAt, PublishesIn, PublishesSome, PublisherState, PutsInto, PutsSome, publisher_of, slots_matched}
 
 -- nothing is found in front of a list, and nothing in it
 none_found : {X : Type 0} (found : Option X) (rest : List X) → cons_option found rest ≡ [] → (found ≡ None) × (rest ≡ [])
@@ -59,15 +60,15 @@ abbrev slot_of : PlaceState → ℕ
 slot_of place = place.group
 
 -- a PUBLISH that is refused before any group is asked is refused with 83
-refused_at : (expires : Bool) (identifier other code : ℕ) → (if expires then answers.Refuse identifier 0x83 else answers.Offer identifier) ≡ answers.Refuse other code → code ≢ 0
-refused_at true identifier other code is = λ none. cc (is, none)
+refused_at : (expires : Bool) (identifier other code : ℕ) → (if expires then answers.Refuse identifier 0x83 else answers.Offer identifier) ≡ answers.Refuse other code → 0x80 ≤ code
+refused_at true identifier other code is = let same : 0x83 ≡ code = cc is in omega (arith, same)
 refused_at false identifier other code is = absurd (cc is)
 
-refused_by : (closing : Option ℕ) (identifier other code : ℕ) (publish : Publish) → identified_answer closing identifier publish ≡ answers.Refuse other code → code ≢ 0
+refused_by : (closing : Option ℕ) (identifier other code : ℕ) (publish : Publish) → identified_answer closing identifier publish ≡ answers.Refuse other code → 0x80 ≤ code
 refused_by (Some closing) identifier other code publish is = absurd (cc is)
 refused_by None identifier other code publish is = refused_at (is_some publish.properties.message_expiry_interval) identifier other code is
 
-refused_with : (delivery : Delivery) (other code : ℕ) (publish : Publish) → delivery_answer delivery publish ≡ answers.Refuse other code → code ≢ 0
+refused_with : (delivery : Delivery) (other code : ℕ) (publish : Publish) → delivery_answer delivery publish ≡ answers.Refuse other code → 0x80 ≤ code
 refused_with (AtLeastOnce identifier) other code publish is = refused_by (closing_code publish) identifier other code publish is
 refused_with AtMostOnce other code publish is = absurd (cc is)
 refused_with (ExactlyOnce identifier) other code publish is = absurd (cc is)
@@ -142,7 +143,7 @@ module _ (group : ℕ → GroupId) (seen : Sights) where
   -- a packet that promises nothing
   abbrev IsNoPromise : Option Packet → ConnPhase PlaceState → Type 0
   IsNoPromise None between = between ≡ Ended
-  IsNoPromise (Some packet) between = (identifier : ℕ) → packet ≢ puback identifier 0
+  IsNoPromise (Some packet) between = (identifier code : ℕ) → code < 0x80 → packet ≢ puback identifier code
 
   -- whether a connection was taken over is asked of the desk alone
   asked_of_desk : (number : ℕ) (answer : Bool) (old new : Worker) → Calls group seen old (Kicked number answer) new → publisher_of new ≡ publisher_of old
@@ -157,7 +158,7 @@ module _ (group : ℕ → GroupId) (seen : Sights) where
       ⊎ ((new.ports ≡ old.ports) × IsNoPromise reply.packet between)
 
   -- no promise, by the packet of the reply
-  silent : (reply : Reply) (packet : Packet) (between : ConnPhase PlaceState) → reply.packet ≡ Some packet → ((identifier : ℕ) → packet ≢ puback identifier 0) → IsNoPromise reply.packet between
+  silent : (reply : Reply) (packet : Packet) (between : ConnPhase PlaceState) → reply.packet ≡ Some packet → ((identifier code : ℕ) → code < 0x80 → packet ≢ puback identifier code) → IsNoPromise reply.packet between
   silent reply packet between is never = subst (λ (it : Option Packet). IsNoPromise it between) (sym is) never
 
   over : (reply : Reply) (between : ConnPhase PlaceState) → reply.packet ≡ None → between ≡ Ended → IsNoPromise reply.packet between
@@ -168,7 +169,7 @@ module _ (group : ℕ → GroupId) (seen : Sights) where
   first_answered first.Close old new number max_inflight now publish between reply is =
       inr (ap (λ (w : Worker). w.ports) is.1, over reply between (ap (λ (r : Reply). r.packet) is.0.told) is.0.over)
   first_answered (first.Refuse refusal) old new number max_inflight now publish between reply is =
-      inr (ap (λ (w : Worker). w.ports) is.1, silent reply _ between (ap (λ (r : Reply). r.packet) is.0.told) (λ identifier same. cc same))
+      inr (ap (λ (w : Worker). w.ports) is.1, silent reply _ between (ap (λ (r : Reply). r.packet) is.0.told) (λ identifier code few same. cc same))
   first_answered first.Attach old new number max_inflight now publish between reply is = let never = is.1 in absurd (cc never)
 
   concluded : (next : Then) (old new : Worker) (connected : ConnectedClient PlaceState) (now : ℕ) (phase : ConnPhase PlaceState) → Concludes (Calls group seen) slot_of old connected now next phase new
@@ -180,11 +181,11 @@ module _ (group : ℕ → GroupId) (seen : Sights) where
   published : (answer : PublishAnswer) (old mid new : Worker) (number : ℕ) (publish : Publish) (between : ConnPhase PlaceState) (reply : Reply) → publish_answer publish ≡ answer
       → AnswersPublish (Calls group seen) old number publish answer reply mid → new.ports ≡ mid.ports → RepliesTo publish (publisher_of old) between reply (publisher_of new)
   published (answers.Close code) old mid new number publish between reply answered is kept =
-      inr (kept ∙ ap (λ (w : Worker). w.ports) is.1, silent reply _ between (ap (λ (r : Reply). r.packet) is.0) (λ identifier same. cc same))
+      inr (kept ∙ ap (λ (w : Worker). w.ports) is.1, silent reply _ between (ap (λ (r : Reply). r.packet) is.0) (λ identifier code few same. cc same))
   published (answers.Refuse other code) old mid new number publish between reply answered is kept =
       inr (
         kept ∙ ap (λ (w : Worker). w.ports) is.1,
-        silent reply (puback other code) between (ap (λ (r : Reply). r.packet) is.0) (λ identifier same. refused_with publish.delivery other code publish answered (ap code_of same)),
+        silent reply (puback other code) between (ap (λ (r : Reply). r.packet) is.0) (λ identifier promised few same. let told : code ≡ promised = ap code_of same in absurd (omega (arith, few, refused_with publish.delivery other code publish answered, told))),
       )
   published (answers.Offer identifier) old mid new number publish between reply answered is kept =
       let Puts : List ℕ → List PortState → List PortState → Type 0 = λ slots ports ports'. PutsInto group seen ports (message_of publish) slots is.taken ports' in
@@ -199,7 +200,7 @@ module _ (group : ℕ → GroupId) (seen : Sights) where
       → AnswersUnlessKicked (Calls group seen) slot_of was_kicked old connected now (AnswersPacket (Calls group seen) slot_of old number connected now (packets.Publish publish)) between reply new
       → RepliesTo publish (publisher_of old) between reply (publisher_of new)
   packet_answered true old new number now connected publish between reply is =
-      inr (plain old new (parted (Calls group seen) old new connected.session now is.1.0), silent reply _ between (ap (λ (r : Reply). r.packet) is.0) (λ identifier same. cc same))
+      inr (plain old new (parted (Calls group seen) old new connected.session now is.1.0), silent reply _ between (ap (λ (r : Reply). r.packet) is.0) (λ identifier code few same. cc same))
   packet_answered false old new number now connected publish between reply is =
       published (publish_answer publish) old is.1 new number publish between reply refl is.2.0 (concluded reply.next is.1 new is.0 now between is.3)
 
@@ -219,11 +220,11 @@ module _ (group : ℕ → GroupId) (seen : Sights) where
       → Hands (Calls group seen) slot_of old between sent phase new → these ≡ option_to_list packet ++ sent → ¬ IsPromised these
   unpromised None between phase old new these sent never hands is promised =
       let none = (subst (λ (s : ConnPhase PlaceState). Hands (Calls group seen) slot_of old s sent phase new) never hands).0 in
-      let some = sym promised.2 ∙ is ∙ none in
+      let some = sym promised.4 ∙ is ∙ none in
       cc some
   unpromised (Some packet) between phase old new these sent never hands is promised =
-      let same = sym is ∙ promised.2 in
-      never promised.0 (cc same)
+      let same = sym is ∙ promised.4 in
+      never promised.0 promised.1 promised.3 (cc same)
 
   -- a step of a PUBLISH
   of_publish : (old new : Worker) (number now : ℕ) (phase phase' : ConnPhase PlaceState) (publish : Publish) (these : List Packet) (next : Then)
@@ -407,10 +408,6 @@ module _ (group : ℕ → GroupId) (seen : Sights) where
   no_others now Parting to treads = treads
   no_others now Parted to treads = treads
 
-  both : (these those : List Act) (old mid new : PublisherState) → PublishesAll group seen these old mid → PublishesAll group seen those mid new → PublishesAll group seen (these ++ those) old new
-  both [] those old mid new first later = subst (λ (from : PublisherState). PublishesAll group seen those from new) first later
-  both (act ∷ these) those old mid new first later = (first.0, first.1, both these those first.0 mid new first.2 later)
-
   module _ {T : Type 0} (counts : T → Counts) (given accepted : T → Option (List ℕ)) where
     acted : (act : Act) (old new : ServiceState PlaceState T) (supply supply' : Worker) (now : ℕ) (from to : Stand)
         → Does (Calls group seen) Begins Leaves is_visiting slot_of counts given accepted act old supply new supply' → Treads now from act to → Publishes group seen act (publisher_of supply) (publisher_of supply')
@@ -435,30 +432,43 @@ module _ (group : ℕ → GroupId) (seen : Sights) where
     acted Others old new supply supply' now from to does treads = absurd (no_others now from to treads)
 
     walked : (acts : List Act) (old new : ServiceState PlaceState T) (supply supply' : Worker) (now : ℕ) (from to : Stand)
-        → DoesAll (Calls group seen) Begins Leaves is_visiting slot_of counts given accepted acts old supply new supply' → Walks now from acts to → PublishesAll group seen acts (publisher_of supply) (publisher_of supply')
-    walked [] old new supply supply' now from to does walks = ap publisher_of does.1
-    walked (act ∷ acts) old new supply supply' now from to does walks =
-        (publisher_of does.1, acted act old does.0 supply does.1 now from walks.0 does.2 walks.1, walked acts does.0 new does.1 supply' now walks.0 to does.3 walks.2)
+        → DoesAll (Calls group seen) Begins Leaves is_visiting slot_of counts given accepted acts old supply new supply' → Walks now from acts to
+        → EachAct group seen counts given accepted (PublishesIn group seen) acts old supply new supply'
+    walked [] old new supply supply' now from to does walks = does
+    walked (act ∷ acts) old new supply supply' now from to does walks = (
+      does.0,
+      does.1,
+      does.2,
+      acted act old does.0 supply does.1 now from walks.0 does.2 walks.1,
+      walked acts does.0 new does.1 supply' now walks.0 to does.3 walks.2,
+    )
 
-    done : (deed : Deed T) (old new : RunState T) → Makes group seen counts given accepted deed old new → PublishesAll group seen (acts_in deed) (publisher_of old.supply) (publisher_of new.supply)
-    done (Opened arrived cell now) old new does = ap (λ (s : RunState T). publisher_of s.supply) does.3
-    done (Closed arrived) old new does = ap (λ (s : RunState T). publisher_of s.supply) does.2
-    done (Allowed most) old new does = ap (λ (s : RunState T). publisher_of s.supply) does
+    done : (deed : Deed T) (old new : RunState T) → Makes group seen counts given accepted deed old new → EachActOf group seen counts given accepted (PublishesIn group seen) deed old new
+    done (Opened arrived cell now) old new does = tt
+    done (Closed arrived) old new does = tt
+    done (Allowed most) old new does = tt
     done (MadeRound cell now acts how) old new does =
-        let goes = does.0.becomes in
-        subst (λ (those : List Act). PublishesAll group seen those (publisher_of old.supply) (publisher_of new.supply)) (sym goes.acts_are)
-        (walked goes.round.led.acts goes.service goes.behind old.supply new.supply now Outside Behind goes.round.led.does goes.round.led.walks)
-    done (Passed cell) old new does = ap (λ (s : RunState T). publisher_of s.supply) does.1
-    done (Called slot) old new does = ap (λ (s : RunState T). publisher_of s.supply) does
-    done (Notified most others) old new does = ap (λ (s : RunState T). publisher_of s.supply) does.1
-    done NotifiedAll old new does = ap (λ (s : RunState T). publisher_of s.supply) does
-
-    done_all : (deeds : List (Deed T)) (old new : RunState T) → MakesAll group seen counts given accepted deeds old new
-        → PublishesAll group seen (flat_map acts_in deeds) (publisher_of old.supply) (publisher_of new.supply)
-    done_all [] old new does = ap (λ (s : RunState T). publisher_of s.supply) does
-    done_all (deed ∷ deeds) old new does =
-        both (acts_in deed) (flat_map acts_in deeds) (publisher_of old.supply) (publisher_of does.0.supply) (publisher_of new.supply) (done deed old does.0 does.1) (done_all deeds does.0 new does.2)
+        let made = does.0 in
+        let goes = made.becomes in
+        record {
+          before = made.before;
+          after = made.after;
+          has = made.has;
+          becomes = (
+            goes.service,
+            goes.behind,
+            goes.here,
+            subst (λ (those : List Act). EachAct group seen counts given accepted (PublishesIn group seen) those goes.service old.supply goes.behind new.supply) (sym goes.acts_are)
+                (walked goes.round.led.acts goes.service goes.behind old.supply new.supply now Outside Behind goes.round.led.does goes.round.led.walks),
+            goes.leaves,
+          );
+          is = made.is;
+        }
+    done (Passed cell) old new does = tt
+    done (Called slot) old new does = tt
+    done (Notified most others) old new does = tt
+    done NotifiedAll old new does = tt
 
     -- all that came into the ports was published by the acts of the run
-    pub all_published : (run : Run T) → IsRun group seen counts given accepted run → IsPublishedBy group seen run
-    all_published run is = record { published = done_all run.deeds run.first run.last is.made }
+    pub all_published : (run : Run T) → IsPublishedBy group seen counts given accepted run
+    all_published run = record { published = (λ these those deed old new split made does. done deed old new does) }

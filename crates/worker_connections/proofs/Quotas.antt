@@ -1,5 +1,5 @@
 -- At each state of a worker's run, each of its connections is within its Receive Maximum (4.9), and so is whatever it does from there.
-use Rattle.std.proofs.Common.{◌≡◌, ◌≤◌, ℕ, List, [], ◌∷◌, ◌++◌, Option, Some, None, All, refl, sym, subst, ap, ◌∙◌, append_assoc}
+use Rattle.std.proofs.Common.{◌≡◌, ◌+◌, ◌≤◌, ℕ, List, [], ◌∷◌, ◌++◌, Option, Some, None, All, refl, sym, subst, ap, ◌∙◌, append_assoc}
 use Rattle.std.specs.Bool.{⊤}
 use Rattle.std.specs.List.{AllByRecursion}
 use Rattle.std.proofs.lemmas.List.Elements.{All-set, All-replicate}
@@ -37,10 +37,10 @@ IfWithin limit (Some service) = Within limit service.client.conn.phase
 abbrev IsLimited : {T : Type 0} → ℕ → ArrivedState T → Type 0
 IsLimited limit arrived = arrived.max_inflight ≤ limit
 
-opened_within : {T : Type 0} (limit : ℕ) (opening : Opening) (watched : T) (before after : Option (ServiceState PlaceState T)) → opening.max_inflight ≤ limit
-    → Opens opening watched before after → IfWithin limit after
-opened_within limit opening watched before None few opens = tt
-opened_within {T = T} limit opening watched before (Some service) few opens =
+opened_within : {T : Type 0} (limit number : ℕ) (opening : Opening) (watched : T) (before after : Option (ServiceState PlaceState T)) → opening.max_inflight ≤ limit
+    → Opens number opening watched before after → IfWithin limit after
+opened_within limit number opening watched before None few opens = tt
+opened_within {T = T} limit number opening watched before (Some service) few opens =
     subst (λ (s : ServiceState PlaceState T). Within limit s.client.conn.phase) (sym opens.1) (tt, few)
 
 left_within : {T : Type 0} (limit : ℕ) (how : Option Served) (behind : ServiceState PlaceState T) (after : Option (ServiceState PlaceState T)) → LeavesCell how behind after
@@ -66,7 +66,7 @@ module _ {T : Type 0} (group : ℕ → GroupId) (seen : Sights) (counts : T → 
   keeps limit (Opened arrived cell now) old new few does all =
       let made = does.2 in
       subst (λ (cells : List (Option (ServiceState PlaceState T))). All (IfWithin limit) cells) (sym made.is)
-      (All-set (IfWithin limit) old.cells cell made.after (opened_within limit (opening_at now arrived) does.0 made.before made.after few.0 made.becomes) all)
+      (All-set (IfWithin limit) old.cells cell made.after (opened_within limit (old.first + cell) (opening_at now arrived) does.0 made.before made.after few.0 made.becomes) all)
   keeps limit (Closed arrived) old new few does all = subst (λ (s : RunState T). All (IfWithin limit) s.cells) (sym does.2) all
   keeps limit (Allowed most) old new few does all = subst (λ (s : RunState T). All (IfWithin limit) s.cells) (sym does) all
   keeps limit (MadeRound cell now acts how) old new few does all =

@@ -1,5 +1,5 @@
 -- Of the connections of a worker it stays known since when each of them went on.
-use Rattle.std.proofs.Common.{◌≡◌, ◌≢◌, ◌<◌, ◌≤◌, ◌+◌, ℕ, Bool, List, length, Option, Some, None, replicate, All, get_or, refl, sym, subst, inl, inr, ⊎_elim, arith}
+use Rattle.std.proofs.Common.{◌≡◌, ◌≢◌, ◌<◌, ◌≤◌, ◌+◌, ℕ, Bool, List, length, Option, Some, None, replicate, All, get_or, refl, sym, ap, ◌∙◌, subst, inl, inr, ⊎_elim, arith}
 use Rattle.std.proofs.Math.Nat.{le-max_left, le_trans}
 use Rattle.std.specs.List.{slice_get, slice_set}
 use Rattle.std.proofs.lemmas.Option.{slice_get_within}
@@ -9,7 +9,7 @@ use Rattle.std.proofs.lemmas.List.{get_or-set_same, get_or-set_other, get_or_def
 use Rattle.transport.specs.declared.counts.Counts.{Counts}
 use Rattle.conn_supply.specs.SupplyCalls.{SupplyCall}
 use Rattle.conn_engine.specs.declared.phase.Opening.{Opening}
-use Rattle.conn_service.specs.Services.{ServiceState}
+use Rattle.conn_service.specs.Services.{ServiceState, opened}
 use Rattle.worker_connections.specs.Cells.{InCell, Opens, Tells, Turns}
 use Rattle.worker_connections.specs.declared.cell_outcome.CellOutcome.{CellOutcome}
 use Rattle.worker_connections.specs.declared.cell_outcome.CellOutcome.TheVariants.{Vacant, Goes, Ended}
@@ -30,9 +30,11 @@ module _ {P T : Type 0} where
   earlier since before (Some service) le fresh = (fresh.0, omega (arith, le, fresh.1), fresh.2)
 
   -- one that is opened goes on
-  pub opens : (now : ℕ) (opening : Opening) (transport : T) (before after : Option (ServiceState P T)) → opening.at ≡ now → Opens opening transport before after → IfFreshSince now after
-  opens now opening transport before None at opened_so = tt
-  opens now opening transport before (Some service) at opened_so = (now, omega arith, inl (transport, opening, at, opened_so.1))
+  pub opens : (now number : ℕ) (opening : Opening) (transport : T) (before after : Option (ServiceState P T)) → opening.at ≡ now → Opens number opening transport before after → IfFreshSince now after
+  opens now number opening transport before None at opened_so = tt
+  opens now number opening transport before (Some service) at opened_so =
+      let same : service.client.conn.number ≡ number = ap (λ (s : ServiceState P T). s.client.conn.number) opened_so.1 in
+      (now, omega arith, inl (transport, opening, at, opened_so.1 ∙ ap (λ n. opened n opening transport) (sym same)))
 
   -- all cells are free
   pub free : (count : ℕ) (cells : List (Option (ServiceState P T))) (sweeps : Sweeps) → cells ≡ replicate count None → sweeps.swept ≡ 0 → sweeps.begun ≡ 0 → sweeps.gone ≡ 0 → AreSwept sweeps cells
@@ -92,10 +94,10 @@ module _ {P T : Type 0} where
       (subst (IfFreshSince since) (sym (get_or-set_same cells cell after None (slice_get_within cells cell before has))) fresh)
 
   -- after one that was opened
-  opened_one : (cells cells' : List (Option (ServiceState P T))) (cell : ℕ) (opening : Opening) (transport : T) (sweeps : Sweeps) → opening.at ≡ sweeps.latest → AreSwept sweeps cells
-      → InCell cells cell (Opens opening transport) cells' → AreSwept sweeps cells'
-  opened_one cells cells' cell opening transport sweeps at are made =
-      touched cells cells' cell made.before made.after sweeps are made.has made.is (opens sweeps.latest opening transport made.before made.after at made.becomes)
+  opened_one : (cells cells' : List (Option (ServiceState P T))) (cell number : ℕ) (opening : Opening) (transport : T) (sweeps : Sweeps) → opening.at ≡ sweeps.latest → AreSwept sweeps cells
+      → InCell cells cell (Opens number opening transport) cells' → AreSwept sweeps cells'
+  opened_one cells cells' cell number opening transport sweeps at are made =
+      touched cells cells' cell made.before made.after sweeps are made.has made.is (opens sweeps.latest number opening transport made.before made.after at made.becomes)
 
   -- that it went on is noted
   pub noted : (cells : List (Option (ServiceState P T))) (cell : ℕ) (old new : Sweeps) → AreSwept old cells → IfFreshSince old.latest (get_or cells cell None)
@@ -149,8 +151,8 @@ module _ {S P T : Type 0} (call : S → SupplyCall P → S → Type 0) (begins e
 
 -- after one that came
 pub came_one : {T : Type 0} (counts : T → Counts) (given accepted : T → Option (List ℕ)) (arrived : ArrivedState T) (cells cells' : List (Option (ServiceState PlaceState T)))
-    (served served' : ServedCounts) (closed closed' : Option (List T)) (sweeps : Sweeps) → AreSwept sweeps cells
-    → TakesIn counts given accepted sweeps.latest arrived cells served closed cells' served' closed' → AreSwept sweeps cells'
-came_one counts given accepted arrived cells cells' served served' closed closed' sweeps are (inl opened) =
-    opened_one cells cells' opened.0 (opening_at sweeps.latest arrived) opened.1.0 sweeps refl are opened.1.2
-came_one counts given accepted arrived cells cells' served served' closed closed' sweeps are (inr refused) = subst (λ those. AreSwept sweeps those) (sym refused.0.0) are
+    (served served' : ServedCounts) (closed closed' : Option (List T)) (first : ℕ) (sweeps : Sweeps) → AreSwept sweeps cells
+    → TakesIn counts given accepted first sweeps.latest arrived cells served closed cells' served' closed' → AreSwept sweeps cells'
+came_one counts given accepted arrived cells cells' served served' closed closed' first sweeps are (inl opened) =
+    opened_one cells cells' opened.0 (first + opened.0) (opening_at sweeps.latest arrived) opened.1.0 sweeps refl are opened.1.2
+came_one counts given accepted arrived cells cells' served served' closed closed' first sweeps are (inr refused) = subst (λ those. AreSwept sweeps those) (sym refused.0.0) are

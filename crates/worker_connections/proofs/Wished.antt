@@ -1,5 +1,5 @@
 -- Each client that would be handed a job stands among the wishes.
-use Rattle.std.proofs.Common.{◌≡◌, ◌≢◌, ℕ, List, length, slice_get, get_or, replicate, Option, Some, None, sym, subst, ap, ◌∙◌, refl, inl, inr, ⊎_elim, arith}
+use Rattle.std.proofs.Common.{◌≡◌, ◌≢◌, ◌+◌, ℕ, List, length, slice_get, get_or, replicate, Option, Some, None, sym, subst, ap, ◌∙◌, refl, inl, inr, ⊎_elim, arith}
 use Rattle.std.specs.List.{slice_set}
 use Rattle.std.proofs.Math.ListN.{length-set}
 use Rattle.std.proofs.lemmas.Bool.{cases_eq}
@@ -66,34 +66,34 @@ module _ {T : Type 0} where
   opened_takes service number opening transport place is takes =
       subst (λ (s : ServiceState PlaceState T). TakesAt s.client.conn.phase place) is takes
 
-  opened_one : (opening : Opening) (transport : T) (before after : Option (ServiceState PlaceState T)) (service : ServiceState PlaceState T) (place : PlaceState) → Opens opening transport before after
+  opened_one : (number : ℕ) (opening : Opening) (transport : T) (before after : Option (ServiceState PlaceState T)) (service : ServiceState PlaceState T) (place : PlaceState) → Opens number opening transport before after
       → after ≡ Some service → TakesAt service.client.conn.phase place → ⊥
-  opened_one opening transport before None service place opened_so is takes = absurd opened_so.1
-  opened_one opening transport before (Some other) service place opened_so is takes =
-      opened_takes service other.client.conn.number opening transport place (sym (some_is other service is) ∙ opened_so.1) takes
+  opened_one number opening transport before None service place opened_so is takes = absurd opened_so.1
+  opened_one number opening transport before (Some other) service place opened_so is takes =
+      opened_takes service number opening transport place (sym (some_is other service is) ∙ opened_so.1) takes
 
   -- one that is opened would not be handed a job
-  wished_opened : (cells cells' : List (Option (ServiceState PlaceState T))) (interests : List Interest) (cell : ℕ) (opening : Opening) (transport : T) → AreWished cells interests
-      → InCell cells cell (Opens opening transport) cells' → AreWished cells' interests
-  wished_opened cells cells' interests cell opening transport are made k service place has takes =
+  wished_opened : (cells cells' : List (Option (ServiceState PlaceState T))) (interests : List Interest) (cell number : ℕ) (opening : Opening) (transport : T) → AreWished cells interests
+      → InCell cells cell (Opens number opening transport) cells' → AreWished cells' interests
+  wished_opened cells cells' interests cell number opening transport are made k service place has takes =
       let has' = subst (λ (cs : List (Option (ServiceState PlaceState T))). slice_get cs k ≡ Some (Some service)) made.is has in
       ⊎_elim
       (λ (is : k ≡ cell).
       let here = subst (λ n. slice_get (slice_set cells cell made.after) n ≡ Some (Some service)) is has' in
       let after = some_is made.after (Some service) (sym (put_there cells cell made.after (slice_get_within cells cell made.before made.has)) ∙ here) in
-      absurd (opened_one opening transport made.before made.after service place made.becomes after takes))
+      absurd (opened_one number opening transport made.before made.after service place made.becomes after takes))
       (λ (other : k ≢ cell). are k service place (sym (others_stay cells cell k made.after other) ∙ has') takes)
       (cases_eq k cell)
 
   -- nor would one that came
   pub wished_came : (counts : T → Counts) (given accepted : T → Option (List ℕ)) (arrived : ArrivedState T) (cells cells' : List (Option (ServiceState PlaceState T)))
-      (served served' : ServedCounts) (closed closed' : Option (List T)) (interests : List Interest) (now : ℕ) → length interests ≡ length cells
-      → AreWished cells interests → TakesInOne counts given accepted now arrived cells served closed cells' served' closed' → (length interests ≡ length cells') × AreWished cells' interests
-  wished_came counts given accepted arrived cells cells' served served' closed closed' interests now long are (inl opened) = (
+      (served served' : ServedCounts) (closed closed' : Option (List T)) (interests : List Interest) (first now : ℕ) → length interests ≡ length cells
+      → AreWished cells interests → TakesInOne counts given accepted first now arrived cells served closed cells' served' closed' → (length interests ≡ length cells') × AreWished cells' interests
+  wished_came counts given accepted arrived cells cells' served served' closed closed' interests first now long are (inl opened) = (
     omega (arith, long, ap length opened.1.2.is, length-set cells opened.0 opened.1.2.after),
-    wished_opened cells cells' interests opened.0 (opening_at now arrived) opened.1.0 are opened.1.2,
+    wished_opened cells cells' interests opened.0 (first + opened.0) (opening_at now arrived) opened.1.0 are opened.1.2,
   )
-  wished_came counts given accepted arrived cells cells' served served' closed closed' interests now long are (inr refused) =
+  wished_came counts given accepted arrived cells cells' served served' closed closed' interests first now long are (inr refused) =
       subst (λ those. (length interests ≡ length those) × AreWished those interests) (sym refused.0.0) (long, are)
 
   -- after a round the wish of the connection in its cell is noted

@@ -1,4 +1,4 @@
--- The connections of a worker, each in the cell of its number: what happens to one of them.
+-- The connections of a worker, each in a cell: what happens to one of them.
 use Rattle.std.specs.Prelude.{◌≡◌, ℕ, Bool, cond, List, Option, Some, None, is_some, slice_get, slice_set, count_by, MatchOption}
 use Rattle.transport.specs.declared.counts.Counts.{Counts}
 use Rattle.conn_supply.specs.SupplyCalls.{SupplyCall}
@@ -35,14 +35,14 @@ ended_by Vacant = 0
 ended_by (Goes round) = 0
 ended_by (Ended served transport) = 1
 
--- a connection of some number was opened so
-abbrev pub IsOpened : {P T : Type 0} → Opening → T → Option (ServiceState P T) → Type 0
-IsOpened opening transport None = ⊥
-IsOpened opening transport (Some service) = service ≡ opened service.client.conn.number opening transport
+-- the connection of this number was opened so
+abbrev pub IsOpened : {P T : Type 0} → ℕ → Opening → T → Option (ServiceState P T) → Type 0
+IsOpened number opening transport None = ⊥
+IsOpened number opening transport (Some service) = service ≡ opened number opening transport
 
--- a connection is opened in a free cell
-abbrev pub Opens : {P T : Type 0} → Opening → T → Option (ServiceState P T) → Option (ServiceState P T) → Type 0
-Opens opening transport before after = (before ≡ None) × IsOpened opening transport after
+-- it is opened in a free cell
+abbrev pub Opens : {P T : Type 0} → ℕ → Opening → T → Option (ServiceState P T) → Option (ServiceState P T) → Type 0
+Opens number opening transport before after = (before ≡ None) × IsOpened number opening transport after
 
 -- none is: the transport comes back
 abbrev pub Refuses : {P T : Type 0} → T → Option (ServiceState P T) → Option (ServiceState P T) → T → Type 0

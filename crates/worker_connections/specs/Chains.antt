@@ -1,5 +1,5 @@
 -- The run of a worker: what it did, one deed after the other, each at the state that the one before it left, from ports through which nothing was published.
-use Rattle.std.specs.Prelude.{◌≡◌, ℕ, List, [], ◌∷◌, ◌++◌, Option, Some, None, replicate, slice_get}
+use Rattle.std.specs.Prelude.{◌≡◌, ℕ, ◌+◌, List, [], ◌∷◌, ◌++◌, Option, Some, None, replicate, slice_get}
 use Rattle.std.specs.List.{flat_map}
 use Rattle.transport.specs.declared.counts.Counts.{Counts}
 use Rattle.group_queue.specs.Ports.{GroupId}
@@ -41,9 +41,10 @@ pub data Deed (T : Type 0) : Type 0 where
   -- it told others all that they wait for
   NotifiedAll : Deed T
 
--- what a worker has: what it asks, its connections, those that came, in order, how connections ended, and which transports it closed, each as it was then, in order;
--- `None` where its poller does not tell that
+-- what a worker has: the number of the connection in its first cell, from which on those in the others have theirs; what it asks, its connections, those that came, in order, how
+-- connections ended, and which transports it closed, each as it was then, in order; `None` where its poller does not tell that
 pub record RunState (T : Type 0) : Type 0 where
+  pub first : ℕ
   pub supply : Worker
   pub cells : List (Option (ServiceState PlaceState T))
   pub received : List (ArrivedState T)
@@ -92,7 +93,7 @@ module _ {T : Type 0} (group : ℕ → GroupId) (seen : Sights) (counts : T → 
   -- what a deed makes of the worker
   abbrev pub Makes : Deed T → RunState T → RunState T → Type 0
   Makes (Opened arrived cell now) old new =
-      (watched : T) × IsWatched counts given accepted arrived.transport watched × InCell old.cells cell (Opens (opening_at now arrived) watched) new.cells
+      (watched : T) × IsWatched counts given accepted arrived.transport watched × InCell old.cells cell (Opens (old.first + cell) (opening_at now arrived) watched) new.cells
       × (new ≡ record old { cells = new.cells; received = old.received ++ arrived ∷ [] })
   Makes (Closed arrived) old new =
       (watched : T) × IsWatched counts given accepted arrived.transport watched

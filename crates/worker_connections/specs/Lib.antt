@@ -10,3 +10,5 @@ pub mod Sweeping
 pub mod Publishing
 pub mod Sessions
 pub mod Cells
+pub mod EachAct
+pub mod Numbers

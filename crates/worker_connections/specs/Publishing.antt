@@ -1,7 +1,7 @@
 -- How messages come into the ports of a worker: by the PUBLISH packets that its connections step, each through the ports of the groups whose filters match its topic, and by
 -- nothing else; and what their PUBACKs say of them (3.3.4, 3.4.2.1 and 4.7).
-use Rattle.std.specs.Prelude.{◌≡◌, ◌⊎◌, ℕ, ◌+◌, List, [], ◌∷◌, ◌++◌, length, Result}
-use Rattle.std.specs.List.{flat_map}
+use Rattle.std.specs.Prelude.{◌≡◌, ◌⊎◌, ℕ, ◌+◌, ◌<◌, List, [], ◌∷◌, ◌++◌, length, Option, Result}
+use Rattle.transport.specs.declared.counts.Counts.{Counts}
 use Rattle.mqtt_packet.specs.declared.packet.Packet.{Packet}
 use Rattle.mqtt_packet.specs.declared.packet.Packet.TheVariants as packets
 use Rattle.mqtt_packet.specs.declared.packet.Publish.{Publish}
@@ -9,6 +9,7 @@ use Rattle.mqtt_topic.specs.Routes.{places_of, routed}
 use Rattle.group_jobs.specs.declared.message.Message.{Message}
 use Rattle.group_jobs.specs.declared.stamp.Stamp.{Stamp}
 use Rattle.group_queue.specs.Ports.{GroupId, PortState}
+use Rattle.group_queue.specs.Places.{PlaceState}
 use Rattle.broker_groups.specs.Answers.{Sights}
 use Rattle.broker_groups.specs.Offering.{OffersTo}
 use Rattle.conn_rules.specs.declared.publishing.PublishAnswer.TheVariants.{Offer}
@@ -19,9 +20,11 @@ use Rattle.conn_supply.specs.Publishing.{Took}
 use Rattle.conn_engine.specs.declared.input.Input.{Input}
 use Rattle.conn_engine.specs.declared.input.Input.TheVariants as inputs
 use Rattle.conn_service.specs.Acts.{Act, Steps, Loses, Fails}
+use Rattle.conn_service.specs.Services.{ServiceState}
 use Rattle.shared_routes.specs.Known.{KnownState}
 use Rattle.shared_supply.specs.Workers.{Worker}
-use Rattle.worker_connections.specs.Chains.{Deed, MadeRound, Run}
+use Rattle.worker_connections.specs.Chains.{Deed, Makes, MakesAll, Run, RunState}
+use Rattle.worker_connections.specs.EachAct.{EachActOf}
 
 -- what a worker publishes through, and what it knows of the routes
 pub record PublisherState : Type 0 where
@@ -35,14 +38,9 @@ publisher_of worker = record { ports = worker.ports; known = worker.known }
 abbrev pub slots_matched : PublisherState → Publish → List ℕ
 slots_matched publisher publish = places_of 0 (routed publish.topic publisher.known.shares)
 
--- these packets begin with a PUBACK of success
+-- these packets begin with a PUBACK of success: its Reason Code is below 80 (2.4)
 abbrev pub IsPromised : List Packet → Type 0
-IsPromised sent = (identifier : ℕ) × (others : List Packet) × (sent ≡ puback identifier 0 ∷ others)
-
--- the rounds of a worker, act by act
-abbrev pub acts_in : {T : Type 0} → Deed T → List Act
-acts_in (MadeRound cell now acts how) = acts
-acts_in _ = []
+IsPromised sent = (identifier code : ℕ) × (others : List Packet) × (code < 0x80) × (sent ≡ puback identifier code ∷ others)
 
 module _ (group : ℕ → GroupId) (seen : Sights) where
   -- a message is offered through the ports of these slots, in their order, and so many of their groups take it
@@ -92,11 +90,14 @@ module _ (group : ℕ → GroupId) (seen : Sights) where
   Publishes (Fails now input) old new = PublishesSome input old new
   Publishes _ old new = new.ports ≡ old.ports
 
-  -- what these acts did, one after the other
-  abbrev pub PublishesAll : List Act → PublisherState → PublisherState → Type 0
-  PublishesAll [] old new = new ≡ old
-  PublishesAll (act ∷ acts) old new = (mid : PublisherState) × Publishes act old mid × PublishesAll acts mid new
+  -- the same of the ports of the worker that makes the act, and of what that knows of the routes then
+  abbrev pub PublishesIn : {T : Type 0} → Act → ServiceState PlaceState T → Worker → ServiceState PlaceState T → Worker → Type 0
+  PublishesIn act old supply new supply' = Publishes act (publisher_of supply) (publisher_of supply')
 
-  -- **What was accepted was published**: all that the ports of a worker accepted came into them by the acts of its run, one after the other
-  pub record IsPublishedBy {T : Type 0} (run : Run T) : Type 0 where
-    pub published : PublishesAll (flat_map acts_in run.deeds) (publisher_of run.first.supply) (publisher_of run.last.supply)
+module _ {T : Type 0} (group : ℕ → GroupId) (seen : Sights) (counts : T → Counts) (given accepted : T → Option (List ℕ)) where
+  -- **What was accepted was published**: at each deed of the run, all that the ports of a worker accepted came into them by the acts of a round, one after the other; any other
+  -- deed leaves the ports as they are (`Makes`)
+  pub record IsPublishedBy (run : Run T) : Type 0 where
+    pub published : (these those : List (Deed T)) (deed : Deed T) (old new : RunState T) → run.deeds ≡ these ++ (deed ∷ those)
+        → MakesAll group seen counts given accepted these run.first old → Makes group seen counts given accepted deed old new
+        → EachActOf group seen counts given accepted (PublishesIn group seen) deed old new

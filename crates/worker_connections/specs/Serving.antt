@@ -17,8 +17,8 @@ use Rattle.shared_supply.specs.Calls.{Calls}
 use Rattle.shared_supply.specs.Waking.{no_wakes}
 use Rattle.shared_supply.specs.Workers.{Worker, Begins, Leaves, is_visiting}
 use Rattle.shared_supply.specs.declared.wakes.Wakes.{Wakes}
-use Rattle.worker_connections.specs.declared.connections.RoundOutcome.{RoundOutcome}
-use Rattle.worker_connections.specs.declared.connections.RoundOutcome.TheVariants as outcome
+use Rattle.worker_connections.specs.declared.cell_outcome.RoundOutcome.{RoundOutcome}
+use Rattle.worker_connections.specs.declared.cell_outcome.RoundOutcome.TheVariants as outcome
 use Rattle.worker_connections.specs.declared.served.ServedCounts.{ServedCounts}
 use Rattle.worker_connections.specs.declared.sweeps.Sweeps.{Sweeps}
 use Rattle.worker_connections.specs.Arrivals.{ArrivedState, IsWatched, opening_at}
@@ -27,9 +27,10 @@ use Rattle.worker_connections.specs.Closing.{and_closed}
 use Rattle.worker_connections.specs.Counting.{counted, counts_of, none_served}
 use Rattle.worker_connections.specs.Sweeping.{KeepsMoment}
 
--- the end of the channel, the cells with the connections that are open, the counts of those that have ended, when those that are open went on, what they ask
--- of the broker, and the transports that were closed, each as it was then, where that is known
+-- the number of the connection in the first cell, from which on those in the others have theirs; the end of the channel, the cells with the connections that are open, the counts of
+-- those that have ended, when those that are open went on, what they ask of the broker, and the transports that were closed, each as it was then, where that is known
 pub record ConnectionsState (T : Type 0) : Type 0 where
+  pub first : ℕ
   pub receiver : ReceiverState (ArrivedState T)
   pub cells : List (Option (ServiceState PlaceState T))
   pub served : ServedCounts
@@ -53,6 +54,7 @@ with_wakes connections wakes = record connections { supply = record connections.
 abbrev pub run_of : {T : Type 0} → ConnectionsState T → RunState T
 run_of connections =
     record {
+      first = connections.first;
       supply = connections.supply;
       cells = connections.cells;
       received = connections.receiver.received;
@@ -68,14 +70,24 @@ pub record AreFresh {T : Type 0} (receiver : ReceiverState (ArrivedState T)) (po
   pub none_ended : connections.served ≡ none_served
   pub none_waits : wakes_of connections ≡ no_wakes
 
--- what they belong to: the channel that they come through, the table of the routes, and how many parts they have of the right to call the desk
+-- what stays as it is: the numbers of the connections in the cells, from the first one on; the channel that they come through, the table of the routes, and how many parts they have
+-- of the right to call the desk
 pub record Ties (T : Type 0) : Type 0 where
+  pub first : ℕ
+  pub cells : ℕ
   pub channel : ChannelId (ArrivedState T)
   pub table : List ℕ
   pub parts : ℕ
 
 abbrev pub ties_of : {T : Type 0} → ConnectionsState T → Ties T
-ties_of connections = record { channel = connections.receiver.channel; table = connections.supply.known.table; parts = connections.supply.desk.parts }
+ties_of connections =
+    record {
+      first = connections.first;
+      cells = length connections.cells;
+      channel = connections.receiver.channel;
+      table = connections.supply.known.table;
+      parts = connections.supply.desk.parts;
+    }
 
 -- they belong to the same
 abbrev pub StaysOf : {T : Type 0} → ConnectionsState T → ConnectionsState T → Type 0
@@ -92,20 +104,20 @@ pub record IsDone {T : Type 0} (connections : ConnectionsState T) : Type 0 where
   pub mark : connections.receiver.end_marks_received ≡ 1
   pub none_live : live connections ≡ 0
 
--- a connection that came is opened in a cell at this moment, over its transport as it is watched; or in none, and its transport is closed as it came
-abbrev pub Admits : {T : Type 0} → (T → Counts) → (T → Option (List ℕ)) → (T → Option (List ℕ)) → (now : ℕ) → ArrivedState T → List (Option (ServiceState PlaceState T)) → Option (List T)
+-- a connection that came is opened in a cell at this moment, with the number of that cell, over its transport as it is watched; or in none, and its transport is closed as it came
+abbrev pub Admits : {T : Type 0} → (T → Counts) → (T → Option (List ℕ)) → (T → Option (List ℕ)) → (first now : ℕ) → ArrivedState T → List (Option (ServiceState PlaceState T)) → Option (List T)
     → Option ℕ → List (Option (ServiceState PlaceState T)) → Option (List T) → Type 0
-Admits {T} counts given accepted now arrived old closed None new closed' =
+Admits {T} counts given accepted first now arrived old closed None new closed' =
     (new ≡ old) × ((watched : T) × IsWatched counts given accepted arrived.transport watched × (closed' ≡ and_closed watched closed))
-Admits {T} counts given accepted now arrived old closed (Some cell) new closed' =
-    (watched : T) × IsWatched counts given accepted arrived.transport watched × InCell old cell (Opens (opening_at now arrived) watched) new × (occupied new ≡ occupied old + 1) × (closed' ≡ closed)
+Admits {T} counts given accepted first now arrived old closed (Some cell) new closed' =
+    (watched : T) × IsWatched counts given accepted arrived.transport watched × InCell old cell (Opens (first + cell) (opening_at now arrived) watched) new × (occupied new ≡ occupied old + 1) × (closed' ≡ closed)
 
 -- it is open then, or has ended and is counted as one for which an allocation failed
-abbrev pub TakesIn : {T : Type 0} → (T → Counts) → (T → Option (List ℕ)) → (T → Option (List ℕ)) → (now : ℕ) → ArrivedState T → List (Option (ServiceState PlaceState T)) → ServedCounts
+abbrev pub TakesIn : {T : Type 0} → (T → Counts) → (T → Option (List ℕ)) → (T → Option (List ℕ)) → (first now : ℕ) → ArrivedState T → List (Option (ServiceState PlaceState T)) → ServedCounts
     → Option (List T) → List (Option (ServiceState PlaceState T)) → ServedCounts → Option (List T) → Type 0
-TakesIn counts given accepted now arrived old served closed new served' closed' =
-    ((cell : ℕ) × Admits counts given accepted now arrived old closed (Some cell) new closed' × (served' ≡ served))
-    ⊎ (Admits counts given accepted now arrived old closed None new closed' × (served' ≡ counted Memory served))
+TakesIn counts given accepted first now arrived old served closed new served' closed' =
+    ((cell : ℕ) × Admits counts given accepted first now arrived old closed (Some cell) new closed' × (served' ≡ served))
+    ⊎ (Admits counts given accepted first now arrived old closed None new closed' × (served' ≡ counted Memory served))
 
 -- what a connection waits for after a round; none where there is none, or it has ended
 abbrev pub round_of : {T : Type 0} → CellOutcome T → Option Round

@@ -1,11 +1,11 @@
 //! A connection that came is opened in a cell, and one that has ended is closed.
-ghost use Rattle.std.specs.Prelude.{◌≡◌};
+ghost use Rattle.std.specs.Prelude.{◌≡◌, length};
 ghost use Rattle.worker_connections.specs.Closing.{closed_after};
 ghost use Rattle.worker_connections.specs.Serving.{Admits, TakesIn, Tells};
 
+use crate::admission::Admission;
 use crate::arrived::Arrived;
-use crate::cell_outcome::CellOutcome;
-use crate::connections::{Admission, RoundOutcome};
+use crate::cell_outcome::{CellOutcome, RoundOutcome};
 use crate::poller::Poller;
 use crate::served::ServedCounts;
 use crate::table::ServiceTable;
@@ -14,17 +14,19 @@ use conn_engine::Opening;
 use conn_service::Served;
 use transport::Transport;
 
-/// Opens a connection that came, at this moment; where it can't, it closes it and counts it as ended.
+/// Opens a connection that came, at this moment, with the number of its cell; where it can't, it closes it and counts it as ended.
 pub(crate) fn take_in<B: Broker, T: Transport, Q: Poller<T>>(
     table: &mut ServiceTable<BrokerPlace<B>, T>,
     served: &mut ServedCounts,
     poller: &mut Q,
     arrived: Arrived<T>,
+    first: u16,
     now: u64,
 ) -> Admission
-    ensures { TakesIn T.counts T.given T.accepted now arrived table.old served.old (Q.closed poller.old) table.new served.new (Q.closed poller.new) }
+    ensures taken { TakesIn T.counts T.given T.accepted first now arrived table.old served.old (Q.closed poller.old) table.new served.new (Q.closed poller.new) }
+    ensures len { length table.new ≡ length table.old }
 {
-    match admit(table, poller, arrived, now) {
+    match admit(table, poller, arrived, first, now) {
         Some(cell) => Admission::Opened(cell),
         None => {
             served.count(Served::Memory);
@@ -33,21 +35,24 @@ pub(crate) fn take_in<B: Broker, T: Transport, Q: Poller<T>>(
     }
 }
 
-/// Opens a connection in the cell of the number under which the poller watches it. That cell; `None` where it was closed.
+/// Opens a connection in the cell of the number under which the poller watches it; the connection in the first cell has the number `first`. That cell; `None` where it
+/// was closed.
 fn admit<B: Broker, T: Transport, Q: Poller<T>>(
     table: &mut ServiceTable<BrokerPlace<B>, T>,
     poller: &mut Q,
     arrived: Arrived<T>,
+    first: u16,
     now: u64,
 ) -> Option<usize>
-    ensures { Admits T.counts T.given T.accepted now arrived table.old (Q.closed poller.old) result table.new (Q.closed poller.new) }
+    ensures admits { Admits T.counts T.given T.accepted first now arrived table.old (Q.closed poller.old) result table.new (Q.closed poller.new) }
+    ensures len { length table.new ≡ length table.old }
 {
     let (mut transport, max_inflight) = arrived.into_parts();
-    let number = poller.register(&mut transport);
-    let cell = match number {
+    let watched = poller.register(&mut transport);
+    let cell = match watched {
         Some(cell) if cell < table.len() => cell,
         _ => {
-            poller.close(number, transport);
+            poller.close(watched, transport);
             return None;
         }
     };
@@ -55,10 +60,11 @@ fn admit<B: Broker, T: Transport, Q: Poller<T>>(
         at: now,
         max_inflight,
     };
-    match table.open(cell, opening, transport) {
+    let number = usize::from(first).saturating_add(cell);
+    match table.open(cell, number, opening, transport) {
         Ok(()) => Some(cell),
         Err(transport) => {
-            poller.close(number, transport);
+            poller.close(watched, transport);
             None
         }
     }

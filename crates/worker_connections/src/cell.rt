@@ -1,5 +1,5 @@
 //! A cell, in which a connection may be.
-ghost use Rattle.std.specs.Prelude.{◌≡◌, ◌+◌, ◌<◌, None, Some, length, MatchResult};
+ghost use Rattle.std.specs.Prelude.{◌≡◌, ◌+◌, ◌<◌, None, Some, length, IfOk, MatchResult};
 ghost use Rattle.transport.specs.Counting.{no_counts};
 ghost use Rattle.worker_connections.specs.Cells.{FollowsIn, Opens, Refuses, Turns, ended_by, taken};
 
@@ -56,7 +56,7 @@ fn taken<P: HoldingPlace, T: Transport>(service: Service<P, T>) -> Seat<P, T>
     Seat { service }
 }
 
-/// A connection is opened in a free cell, with this opening.
+/// The connection of this number is opened in a free cell, with this opening.
 pub(crate) fn open<P: HoldingPlace, T: Transport>(
     cell: &mut Option<Seat<P, T>>,
     alloc: Global,
@@ -65,7 +65,8 @@ pub(crate) fn open<P: HoldingPlace, T: Transport>(
     transport: T,
 ) -> Result<(), T>
     requires new { T.counts transport ≡ no_counts }
-    ensures { MatchResult result (λ _. Opens opening transport cell.old cell.new) (Refuses transport cell.old cell.new) }
+    ensures opened { MatchResult result (λ _. Opens number opening transport cell.old cell.new) (Refuses transport cell.old cell.new) }
+    ensures known { IfOk result (λ _. number < 1024) }
 {
     if cell.is_some() || number >= MOST_CONNECTIONS {
         return Err(transport);

@@ -1,7 +1,7 @@
 //! What a round made of a cell.
 use conn_service::{Round, Served};
 
-/// What a round made of a cell.
+/// What a round made of a cell, with the transport of a connection that ended.
 pub enum CellOutcome<T> {
     /// There is no connection in it.
     Vacant,
@@ -9,4 +9,14 @@ pub enum CellOutcome<T> {
     Goes(Round),
     /// Its connection has ended so, and this is its transport; the cell is free.
     Ended(Served, T),
+}
+
+/// What is told of that, once the transport is closed.
+pub enum RoundOutcome {
+    /// There is no connection in it.
+    Nowhere,
+    /// Its connection goes on, and waits for this.
+    On(Round),
+    /// Its connection has ended, and the cell is free.
+    ToItsEnd,
 }

@@ -14,20 +14,21 @@ ghost use Rattle.worker_connections.specs.Members.{HasTaker, TakesIn as WouldTak
 ghost use Rattle.worker_bells.specs.Wishing.{IsWished};
 ghost use Rattle.worker_connections.specs.Sweeping.{AreTicked, Begins, HasGone, IsInTime, Notes, WaitsInTime, looked};
 
+use crate::admission::Admission;
 use crate::admitting::{settle, take_in};
 use crate::arrived::Arrived;
-use crate::cell_outcome::CellOutcome;
+use crate::cell_outcome::{CellOutcome, RoundOutcome};
 use crate::handle::WorkerHandle;
 use crate::noting::{note_held, note_interest};
 use crate::poller::Poller;
+use crate::returned::Returned;
 use crate::served::ServedCounts;
 use crate::sweeps::Sweeps;
 use crate::table::ServiceTable;
 use broker_groups::{Broker, BrokerPlace};
 use call_history::HistoryName;
 use conn_channel::{Received, Receiver};
-use conn_service::{Direction, Round};
-use shared_routes::KnownRoutes;
+use conn_service::Direction;
 use shared_supply::{GroupTally, SharedSupply, SupplyParts, Wakes};
 use std::marker::Model;
 use std::sync::Wait;
@@ -48,6 +49,8 @@ pub struct Connections<
     Q: Poller<T>,
     R: Wait,
 > {
+    // The number of the connection in the first cell, from which on those in the others have theirs.
+    first: u16,
     receiver: Receiver<Arrived<T>>,
     table: ServiceTable<BrokerPlace<B>, T>,
     supply: SharedSupply<'a, 'g, B, N, R>,
@@ -67,47 +70,11 @@ impl<'a, 'g, B: Broker, N: HistoryName, T: Transport + Drop, Q: Poller<T>, R: Wa
 
     ghost Value = { ConnectionsState T };
 
-    ghost view = { λ c. record { receiver = c.receiver; cells = c.table; served = c.served; sweeps = c.sweeps; supply = c.supply; closed = Q.closed c.poller } };
+    ghost view = { λ c. record { first = c.first; receiver = c.receiver; cells = c.table; served = c.served; sweeps = c.sweeps; supply = c.supply; closed = Q.closed c.poller } };
 
     ghost invariant = { λ c. IsAccounted (length c.receiver.received) c.table c.served × AreSwept c.sweeps c.table
         × (length c.members ≡ length c.table) × AreWished c.table c.members
-        × HasRunTo B.group (record { saw_ledger = B.Seen.saw_ledger; saw_main = B.Seen.saw_main; saw_returns = B.Seen.saw_returns }) T.counts T.given T.accepted (record { supply = c.supply; cells = c.table; received = c.receiver.received; served = c.served; closed = Q.closed c.poller }) };
-}
-
-/// What the connections of a worker give back.
-pub struct Returned<'a, B: Broker, N: HistoryName, T: Transport + Drop, Q> {
-    /// What they had of the broker.
-    pub handle: WorkerHandle<B, N>,
-    /// Their end of the channel.
-    pub receiver: Receiver<Arrived<T>>,
-    /// How they ended.
-    pub served: ServedCounts,
-    /// What they know of the routes.
-    pub known: KnownRoutes<'a>,
-    /// Where their worker waited, which closed their transports.
-    pub poller: Q,
-}
-
-/// What came through the channel.
-pub enum Admission {
-    /// A connection, which is open in this cell.
-    Opened(usize),
-    /// A connection that was not opened, and has ended.
-    Refused,
-    /// The end mark.
-    EndMark,
-    /// Nothing.
-    Nothing,
-}
-
-/// What a round made of a cell.
-pub enum RoundOutcome {
-    /// There is no connection in it.
-    Nowhere,
-    /// Its connection goes on, and waits for this.
-    On(Round),
-    /// Its connection has ended, and the cell is free.
-    ToItsEnd,
+        × HasRunTo B.group (record { saw_ledger = B.Seen.saw_ledger; saw_main = B.Seen.saw_main; saw_returns = B.Seen.saw_returns }) T.counts T.given T.accepted (record { first = c.first; supply = c.supply; cells = c.table; received = c.receiver.received; served = c.served; closed = Q.closed c.poller }) };
 }
 
 impl<'a, 'g, B: Broker, N: HistoryName, T: Transport + Drop, Q: Poller<T>, R: Wait> Connections<
@@ -119,9 +86,10 @@ impl<'a, 'g, B: Broker, N: HistoryName, T: Transport + Drop, Q: Poller<T>, R: Wa
     Q,
     R,
 > {
-    /// None yet, of those that this end of the channel will receive; this table is for them, these are their wishes, this supply is what they ask, and at this poller
-    /// their worker waits for them. Nothing was published through the supply's ports, it made no call of the desk, and the poller closed no transport.
+    /// None yet, of those that this end of the channel will receive; this table is for them, with these numbers from the first cell's on, these are their wishes, this supply is what
+    /// they ask, and at this poller their worker waits for them. Nothing was published through the supply's ports, it made no call of the desk, and the poller closed no transport.
     pub fn new(
+        first: u16,
         receiver: Receiver<Arrived<T>>,
         table: ServiceTable<BrokerPlace<B>, T>,
         supply: SharedSupply<'a, 'g, B, N, R>,
@@ -134,10 +102,12 @@ impl<'a, 'g, B: Broker, N: HistoryName, T: Transport + Drop, Q: Poller<T>, R: Wa
         requires unused { IsUnused supply.ports supply.desk }
         requires closed { HasClosedNone (Q.closed poller) }
         ensures fresh { AreFresh receiver supply.entry.ports result }
+        ensures numbers { (result.first ≡ first) × (length result.cells ≡ length members) }
         ensures known { result.supply.known ≡ supply.entry.known }
         ensures desk { result.supply.desk ≡ supply.entry.desk }
     {
         Connections {
+            first,
             receiver,
             table,
             supply,
@@ -306,6 +276,7 @@ impl<'a, 'g, B: Broker, N: HistoryName, T: Transport + Drop, Q: Poller<T>, R: Wa
                     &mut self.served,
                     &mut self.poller,
                     arrived,
+                    self.first,
                     now,
                 )
             }
@@ -390,6 +361,7 @@ impl<'a, 'g, B: Broker, N: HistoryName, T: Transport + Drop, Q: Poller<T>, R: Wa
         ensures desk { live self.entry ≡ 0 → result.handle.desk ≡ self.entry.supply.desk }
     {
         let Connections {
+            first: _,
             receiver,
             table,
             mut supply,

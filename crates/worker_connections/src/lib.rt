@@ -5,6 +5,7 @@
 //! a worker has of the broker it asks by its supply, and gives back as a [`WorkerHandle`].
 #![tactic(auto)]
 
+mod admission;
 mod admitting;
 mod arrived;
 mod cell;
@@ -13,15 +14,18 @@ mod connections;
 mod handle;
 mod noting;
 mod poller;
+mod returned;
 mod served;
 mod sweeps;
 mod table;
 
+pub use admission::Admission;
 pub use arrived::Arrived;
-pub use cell_outcome::CellOutcome;
-pub use connections::{Admission, Connections, Returned, RoundOutcome};
+pub use cell_outcome::{CellOutcome, RoundOutcome};
+pub use connections::Connections;
 pub use handle::WorkerHandle;
 pub use poller::Poller;
+pub use returned::Returned;
 pub use served::ServedCounts;
 pub use sweeps::Sweeps;
 pub use table::ServiceTable;

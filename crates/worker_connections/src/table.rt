@@ -1,4 +1,4 @@
-//! The connections of a worker, by the cells of their numbers.
+//! The connections of a worker, by their cells.
 ghost use Rattle.std.specs.Prelude.{◌≡◌, ◌+◌, ◌<◌, ◌≤◌, ◌↔◌, None, true, length, replicate, slice_index_or, All, IfOk, IsTrue, MatchResult};
 ghost use Rattle.transport.specs.Counting.{no_counts};
 ghost use Rattle.worker_connections.specs.Cells.{FollowsIn, InCell, Opens, Refuses, TakesFrom, Turns, Waits, ended_by, held_in, occupied, taken};
@@ -13,11 +13,10 @@ use std::alloc::{AllocError, Global};
 use std::marker::Model;
 use transport::{Crossing, Transport};
 
-/// The connections of a worker, each in a cell: the connection in the cell `n` has the number `first + n`. `P` is a place in a group.
+/// The connections of a worker, each in a cell. `P` is a place in a group.
 ///
 /// Contracts see it as its cells.
 pub struct ServiceTable<P: HoldingPlace, T: Transport> {
-    first: u16,
     cells: Vec<Option<Seat<P, T>>>,
     alloc: Global,
 }
@@ -32,21 +31,17 @@ impl<P: HoldingPlace, T: Transport> Model for ServiceTable<P, T> {
 }
 
 impl<P: HoldingPlace, T: Transport> ServiceTable<P, T> {
-    /// A table with so many free cells, whose connections have the numbers from this one on. Takes the memory for the cells.
+    /// A table with so many free cells. Takes the memory for them.
     ///
     /// # Errors
     ///
     /// [`NoMemory`].
-    pub fn new(alloc: Global, first: u16, count: u16) -> Result<ServiceTable<P, T>, NoMemory>
+    pub fn new(alloc: Global, count: u16) -> Result<ServiceTable<P, T>, NoMemory>
         ensures free { IfOk result (λ table. table ≡ replicate count None) }
         ensures count { IfOk result (λ table. occupied table ≡ 0) }
     {
         let cells = free_cells(alloc, usize::from(count))?;
-        Ok(ServiceTable {
-            first,
-            cells,
-            alloc,
-        })
+        Ok(ServiceTable { cells, alloc })
     }
 
     /// How many cells there are.
@@ -56,19 +51,25 @@ impl<P: HoldingPlace, T: Transport> ServiceTable<P, T> {
         self.cells.len()
     }
 
-    /// Opens a connection in a cell, with this opening, over a transport of which nothing was asked yet.
+    /// Opens the connection of this number in a cell, with this opening, over a transport of which nothing was asked yet.
     ///
     /// # Errors
     ///
-    /// The transport, where the cell has a connection, its number is not below 1,024, or an allocation fails. Nothing has changed then.
-    pub fn open(&mut self, cell: usize, opening: Opening, transport: T) -> Result<(), T>
+    /// The transport, where the cell has a connection, the number is not below 1,024, or an allocation fails. Nothing has changed then.
+    pub fn open(
+        &mut self,
+        cell: usize,
+        number: usize,
+        opening: Opening,
+        transport: T,
+    ) -> Result<(), T>
         requires cell { cell < length self.old }
         requires new { T.counts transport ≡ no_counts }
-        ensures cell { InCell self.old cell (λ before after. MatchResult result (λ _. Opens opening transport before after) (Refuses transport before after)) self.new }
+        ensures cell { InCell self.old cell (λ before after. MatchResult result (λ _. Opens number opening transport before after) (Refuses transport before after)) self.new }
         ensures len { length self.new ≡ length self.old }
+        ensures known { IfOk result (λ _. number < 1024) }
         ensures count { MatchResult result (λ _. occupied self.new ≡ occupied self.old + 1) (λ _. self.new ≡ self.old) }
     {
-        let number = usize::from(self.first).saturating_add(cell);
         let alloc = self.alloc;
         cell::open(&mut self.cells[cell], alloc, number, opening, transport)
     }
@@ -152,11 +153,7 @@ impl<P: HoldingPlace, T: Transport> ServiceTable<P, T> {
         T: Drop,
         ensures free { occupied self ≡ 0 → supply.new ≡ supply.old }
     {
-        let ServiceTable {
-            first: _,
-            cells,
-            alloc: _,
-        } = self;
+        let ServiceTable { cells, alloc: _ } = self;
         abandon_each(cells, supply, now);
     }
 }

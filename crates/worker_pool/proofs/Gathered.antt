@@ -1,6 +1,7 @@
 -- What workers give back, all together.
-use Rattle.std.proofs.Common.{◌≡◌, ℕ, ◌<◌, List, [], ◌∷◌, ◌++◌, length, map, Option, refl, sym, subst, ◌∙◌, ap, append-nil, append_assoc, arith}
+use Rattle.std.proofs.Common.{◌≡◌, ℕ, suc, ◌+◌, ◌*◌, ◌<◌, ◌≤◌, List, [], ◌∷◌, ◌++◌, length, map, Option, refl, sym, subst, ◌∙◌, ap, append-nil, append_assoc, inr, arith}
 use Rattle.std.specs.List.{AllByRecursion, AllZip}
+use Rattle.std.proofs.Math.Nat.{suc-mul}
 use Rattle.std.proofs.lemmas.List.Sums.{sum_by-cons}
 use Rattle.transport.specs.declared.counts.Counts.{Counts}
 use Rattle.mqtt_topic.specs.Names.{Share}
@@ -19,7 +20,7 @@ use Rattle.worker_connections.specs.declared.served.ServedCounts.{ServedCounts}
 use Rattle.worker_connections.specs.Arrivals.{ArrivedState}
 use Rattle.worker_connections.specs.Chains.{HasRunTo, IsWholeRun, Run, RunState}
 use Rattle.worker_connections.specs.Serving.{AreCounted, ConnectionsState, live, run_of}
-use Rattle.worker_pool.specs.Pools.{AreAllCounted, AreServed, CountsAll, HaveEnded, total_in}
+use Rattle.worker_pool.specs.Pools.{AreAllCounted, AreApart, AreServed, CountsAll, HaveEnded, IsApart, numbers_of, total_in}
 use Rattle.worker_pool.proofs.Counted.{of_all}
 
 -- two lists that go along, one element longer
@@ -40,6 +41,15 @@ all_push P (a ∷ xs) x all one = (all.0, all_push P xs x all.1 one)
 all_weaker : {A : Type 0} (P Q : A → Type 0) → ((x : A) → P x → Q x) → (xs : List A) → AllByRecursion P xs → AllByRecursion Q xs
 all_weaker P Q weaker [] all = tt
 all_weaker P Q weaker (x ∷ xs) all = (weaker x all.0, all_weaker P Q weaker xs all.1)
+
+pub one_more : (n share : ℕ) → (n + 1) * share ≡ n * share + share
+one_more n share = let e : n + 1 ≡ suc n = omega arith in ap (λ k. k * share) e ∙ suc-mul n share
+
+-- one run more, whose numbers stand in no other
+apart_push : {T : Type 0} (runs : List (Run T)) (run : Run T) → AreApart runs → AllByRecursion (λ (other : Run T). IsApart (numbers_of other) (numbers_of run)) runs → AreApart (runs ++ run ∷ [])
+apart_push [] run apart all = (tt, tt)
+apart_push {T = T} (one ∷ runs) run apart all =
+    (all_push (λ (other : Run T). IsApart (numbers_of one) (numbers_of other)) runs run apart.0 all.0, apart_push runs run apart.1 all.1)
 
 -- the first shares of some are the first of those that these are the first of
 first_of_more : (ones some all : List Share) → AreFirst ones some → AreFirst some all → AreFirst ones all
@@ -75,25 +85,32 @@ counts_all came served counts few = counts.all ∙ (sym (of_all counts.endings (
 
 module _ {T : Type 0} (group : ℕ → GroupId) (seen : Sights) (counts : T → Counts) (given accepted : T → Option (List ℕ)) where
   -- no worker gave anything back yet
-  pub nobody : (routes : List Share) → HaveEnded group seen counts given accepted [] [] [] [] [] routes
-  nobody routes = record { runs = []; whole = tt; ports_are = refl; callers_are = refl; received_are = refl; served_are = refl; closed_are = refl; one_part = tt; known = tt }
+  pub nobody : (least : ℕ) (routes : List Share) → HaveEnded group seen counts given accepted least [] [] [] [] [] routes
+  nobody least routes = record { runs = []; whole = tt; apart = tt; least_is = tt; ports_are = refl; callers_are = refl; received_are = refl; served_are = refl; closed_are = refl; one_part = tt; known = tt }
 
   -- one worker more did
-  pub ends : (ports ports' : List (List PortState)) (callers callers' : List (CallerState (Call Held PlaceState))) (receivers receivers' : List (ReceiverState (ArrivedState T))) (served served' : List ServedCounts)
+  pub ends : (least : ℕ) (ports ports' : List (List PortState)) (callers callers' : List (CallerState (Call Held PlaceState))) (receivers receivers' : List (ReceiverState (ArrivedState T))) (served served' : List ServedCounts)
       (closed closed' : List (Option (List T))) (routes routes' : List Share) (seen_routes : KnownState) (its : List PortState) (caller : CallerState (Call Held PlaceState))
       (receiver : ReceiverState (ArrivedState T)) (counted : ServedCounts) (shut : Option (List T)) (connections : ConnectionsState T)
-      → HaveEnded group seen counts given accepted ports callers receivers served closed routes → ports' ≡ ports ++ its ∷ [] → callers' ≡ callers ++ caller ∷ [] → receivers' ≡ receivers ++ receiver ∷ []
+      → HaveEnded group seen counts given accepted least ports callers receivers served closed routes → ports' ≡ ports ++ its ∷ [] → callers' ≡ callers ++ caller ∷ [] → receivers' ≡ receivers ++ receiver ∷ []
       → served' ≡ served ++ counted ∷ [] → closed' ≡ closed ++ shut ∷ []
       → HasRunTo group seen counts given accepted (run_of connections) → live connections ≡ 0 → its ≡ connections.supply.ports → caller ≡ connections.supply.desk → receiver ≡ connections.receiver
       → counted ≡ connections.served → shut ≡ connections.closed → connections.supply.desk.parts ≡ 1 → seen_routes ≡ connections.supply.known → AreFirst routes routes'
-      → AreFirst seen_routes.shares routes' → HaveEnded group seen counts given accepted ports' callers' receivers' served' closed' routes'
-  ends ports ports' callers callers' receivers receivers' served served' closed closed' routes routes' seen_routes its caller receiver counted shut connections all ports_are callers_are receivers_are served_are closed_are
-      ran none its_are caller_is receiver_is counted_is shut_is part routes_is grown learnt =
+      → AreFirst seen_routes.shares routes' → connections.first + length connections.cells ≤ least → HaveEnded group seen counts given accepted connections.first ports' callers' receivers' served' closed' routes'
+  ends least ports ports' callers callers' receivers receivers' served served' closed closed' routes routes' seen_routes its caller receiver counted shut connections all ports_are callers_are receivers_are served_are closed_are
+      ran none its_are caller_is receiver_is counted_is shut_is part routes_is grown learnt below =
       let run : Run T = ran.run in
+      let first_is : run.last.first ≡ connections.first = ap (λ (state : RunState T). state.first) ran.here in
+      let cells_are : length run.last.cells ≡ length connections.cells = ap (λ (state : RunState T). length state.cells) ran.here in
       let Knows : List Share → Run T → Type 0 = λ those one. AreFirst one.last.supply.known.shares those in
       let OnePart : Run T → Type 0 = λ one. one.last.supply.desk.parts ≡ 1 in
       record {
         runs = all.runs ++ run ∷ [];
+        apart = apart_push all.runs run all.apart
+            (all_weaker (λ (other : Run T). least ≤ other.last.first) (λ (other : Run T). IsApart (numbers_of other) (numbers_of run)) (λ other above. inr (omega (arith, above, below, first_is, cells_are))) all.runs all.least_is);
+        least_is = all_push (λ (other : Run T). connections.first ≤ other.last.first) all.runs run
+            (all_weaker (λ (other : Run T). least ≤ other.last.first) (λ (other : Run T). connections.first ≤ other.last.first) (λ other above. omega (arith, above, below)) all.runs all.least_is)
+            (omega (arith, first_is));
         whole = all_push (IsWholeRun group seen counts given accepted) all.runs run all.whole
             (record { is = ran.is; none_live = ap (λ (state : RunState T). occupied state.cells) ran.here ∙ none });
         ports_are = ports_are ∙ ap (λ (l : List (List PortState)). l ++ its ∷ []) all.ports_are
@@ -120,16 +137,17 @@ module _ {T : Type 0} (group : ℕ → GroupId) (seen : Sights) (counts : T → 
       }
 
   -- what was sent came to them, as nothing is left where an end mark was received
-  pub serve : (sender : SenderState (ArrivedState T)) (sent : List (ArrivedState T)) (ports : List (List PortState)) (callers : List (CallerState (Call Held PlaceState)))
+  pub serve : (least : ℕ) (sender : SenderState (ArrivedState T)) (sent : List (ArrivedState T)) (ports : List (List PortState)) (callers : List (CallerState (Call Held PlaceState)))
       (receivers : List (ReceiverState (ArrivedState T))) (served : List ServedCounts) (closed : List (Option (List T))) (routes : List Share) → sent ≡ sender.sent
-      → HaveEnded group seen counts given accepted ports callers receivers served closed routes
+      → HaveEnded group seen counts given accepted least ports callers receivers served closed routes
       → IsSettled sender receivers → 0 < end_marks_received_by receivers → AreServed group seen counts given accepted sent routes ports callers served closed
-  serve sender sent ports callers receivers served closed routes same all settled some =
+  serve least sender sent ports callers receivers served closed routes same all settled some =
       let whole : sent ≡ settled.past = same ∙ settled.sent ∙ ap (λ (l : List (ArrivedState T)). settled.past ++ l) (settled.last some) ∙ append-nil settled.past in
       let Came : List (List (ArrivedState T)) → Type 0 = λ lists. IsInterleaving settled.past lists in
       record {
         runs = all.runs;
         whole = all.whole;
+        apart = all.apart;
         came_to = subst (λ (l : List (ArrivedState T)). IsInterleaving l (map (λ (one : Run T). one.last.received) all.runs)) (sym whole) (subst Came all.received_are settled.received);
         ports_are = all.ports_are;
         callers_are = all.callers_are;
@@ -148,6 +166,7 @@ module _ {T : Type 0} (group : ℕ → GroupId) (seen : Sights) (counts : T → 
       record {
         runs = workers.runs;
         whole = workers.whole;
+        apart = workers.apart;
         came_to = workers.came_to;
         ports_are = workers.ports_are;
         callers_are = workers.callers_are;

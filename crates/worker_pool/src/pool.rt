@@ -1,10 +1,11 @@
 //! A pool of workers, and its run.
-ghost use Rattle.std.specs.Prelude.{◌≡◌, ◌+◌, ◌<◌, ◌≤◌, ◌^◌, List, [], All, length, map, vec_capacity, IfOk, IfErr, MatchResult};
-ghost use Rattle.conn_channel.specs.Ends.{AreOf, end_marks_received_by, new_receiver};
+ghost use Rattle.std.specs.Prelude.{◌≡◌, ◌+◌, ◌*◌, ◌<◌, ◌≤◌, ◌^◌, ℕ, List, [], All, length, map, vec_capacity, IfOk, IfErr, MatchResult};
+ghost use Rattle.broker_worker.specs.Parts.{ArePartsOf};
+ghost use Rattle.conn_channel.specs.Ends.{AreOf, end_marks_received_by};
 ghost use Rattle.worker_connections.specs.Handles.{IsUnused};
 ghost use Rattle.worker_pool.specs.Accepting.{Gave, arrivals};
 ghost use Rattle.worker_pool.specs.Pools.{AreAllCounted, AreServed, CountsAll, HaveEnded, total_in};
-ghost use Rattle.worker_pool.specs.Workers.{HasServed, IsHired, worker_ties};
+ghost use Rattle.worker_pool.specs.Workers.{AreNumbered, HasServed, IsHired};
 
 use crate::accepting::{Acceptor, Closer, Taken};
 use crate::provision::{Provision, provide};
@@ -140,7 +141,7 @@ where
     ))
 }
 
-/// Hires a worker for each handle, with its parts, who receives from the channel of this sender. Where an allocation fails for one of them, all handles come back.
+/// Hires a worker for each handle, with its parts, who receives from the channel of this sender, in the order of their numbers. Where an allocation fails for one of them, all handles come back.
 fn hire<
     'a,
     'g,
@@ -171,8 +172,9 @@ fn hire<
     requires count { length handles.items ≤ 64 }
     requires all_worker_parts { length all_worker_parts.items ≡ length handles.items }
     requires unused { All (λ handle. IsUnused handle.ports handle.desk) handles.items }
-    requires each { All (λ worker_parts. worker_parts ≡ new_receiver sender.now.channel) all_worker_parts.items }
-    ensures hired { IfOk result (λ made. (length made.0.items ≡ length handles.items) × All (IsHired (worker_ties sender.now.channel shared_broker.now)) made.0.items) }
+    requires each { (share : ℕ) × ArePartsOf (length handles.items) share sender.now.channel all_worker_parts.items }
+    ensures hired { IfOk result (λ made. (length made.0.items ≡ length handles.items) × All (IsHired sender.now.channel shared_broker.now) made.0.items) }
+    ensures numbered { IfOk result (λ made. (share : ℕ) × AreNumbered share made.0.items) }
     ensures handles { IfOk result (λ made. (made.1.items ≡ []) × (length handles.items ≤ vec_capacity made.1)) }
     ensures back { IfErr result (λ back. length back.items ≡ length handles.items) }
 {
@@ -259,7 +261,8 @@ fn retire<
     pollers: Vec<Q>,
     routes: &mut KnownRoutes<'_>,
 ) -> Pooled<B, N, S, Q>
-    requires workers { All (HasServed (worker_ties acceptor.sender.channel shared_broker.now)) workers.items }
+    requires workers { All (HasServed acceptor.sender.channel shared_broker.now) workers.items }
+    requires numbered { (share : ℕ) × AreNumbered share workers.items }
     requires routes { routes.old.table ≡ shared_broker.now }
     requires count { (1 ≤ length workers.items) × (length workers.items ≡ acceptor.sender.receivers) }
     requires handles { (handles.items ≡ []) × (length workers.items ≤ vec_capacity handles) }
@@ -297,7 +300,7 @@ fn retire<
     }
 }
 
-/// Gathers what workers give back that have ended, who received from the channel of this sender.
+/// Gathers what workers give back that have ended, who received from the channel of this sender, the last one's first.
 fn gather<
     'a,
     'g,
@@ -319,7 +322,7 @@ fn gather<
     pollers: &mut Vec<Q>,
     routes: &mut KnownRoutes<'_>,
 )
-    requires workers { All (HasServed (worker_ties sender.now.channel shared_broker.now)) workers.items }
+    requires workers { All (HasServed sender.now.channel shared_broker.now) workers.items }
     requires routes { routes.old.table ≡ shared_broker.now }
     requires handles { length handles.old.items + length workers.items ≤ vec_capacity handles.old }
     requires receivers { length receivers.old.items + length workers.items ≤ vec_capacity receivers.old }
@@ -327,13 +330,13 @@ fn gather<
     requires pollers { length pollers.old.items + length workers.items ≤ vec_capacity pollers.old }
     requires of { AreOf sender.now.channel receivers.old.items }
     requires all { AreAllCounted receivers.old.items served.old.items }
-    requires ended { HaveEnded B.group B.Seen.Witness T.counts T.given T.accepted (map (λ handle. handle.ports) handles.old.items) (map (λ handle. handle.desk) handles.old.items) receivers.old.items served.old.items (map Q.closed pollers.old.items) routes.old.told }
+    requires ended { (share : ℕ) × AreNumbered share workers.items × HaveEnded B.group B.Seen.Witness T.counts T.given T.accepted (length workers.items * share) (map (λ handle. handle.ports) handles.old.items) (map (λ handle. handle.desk) handles.old.items) receivers.old.items served.old.items (map Q.closed pollers.old.items) routes.old.told }
     ensures handles { length handles.new.items ≡ length handles.old.items + length workers.entry.items }
     ensures receivers { length receivers.new.items ≡ length receivers.old.items + length workers.entry.items }
     ensures of { AreOf sender.now.channel receivers.new.items }
     ensures marks { end_marks_received_by receivers.new.items ≡ end_marks_received_by receivers.old.items + length workers.entry.items }
     ensures all { AreAllCounted receivers.new.items served.new.items }
-    ensures ended { HaveEnded B.group B.Seen.Witness T.counts T.given T.accepted (map (λ handle. handle.ports) handles.new.items) (map (λ handle. handle.desk) handles.new.items) receivers.new.items served.new.items (map Q.closed pollers.new.items) routes.new.told }
+    ensures ended { HaveEnded B.group B.Seen.Witness T.counts T.given T.accepted 0 (map (λ handle. handle.ports) handles.new.items) (map (λ handle. handle.desk) handles.new.items) receivers.new.items served.new.items (map Q.closed pollers.new.items) routes.new.told }
     ensures routes { routes.new ≡ record routes.old { told = routes.new.told } }
 {
     let mut workers = workers;

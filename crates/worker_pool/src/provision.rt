@@ -1,6 +1,6 @@
 //! What a pool has before its first worker begins.
-ghost use Rattle.std.specs.Prelude.{◌≡◌, ◌≤◌, All, [], length, vec_capacity, IfOk};
-ghost use Rattle.conn_channel.specs.Ends.{new_receiver};
+ghost use Rattle.std.specs.Prelude.{◌≡◌, ◌≤◌, ℕ, [], length, vec_capacity, IfOk};
+ghost use Rattle.broker_worker.specs.Parts.{ArePartsOf};
 
 use bell::Wake;
 use broker_worker::{Mailboxes, WorkerIo, WorkerParts, all_worker_parts};
@@ -30,7 +30,7 @@ pub(crate) fn provide<T: Transport + Drop, Q: Poller<T> + Drop, W: Wake + Drop, 
     requires { length worker_io.items ≤ 64 }
     ensures sender { IfOk result (λ made. (made.sender.receivers ≡ length worker_io.items) × (made.sender.sent ≡ []) × (made.sender.end_marks_sent ≡ 0)) }
     ensures count { IfOk result (λ made. length made.all_worker_parts.items ≡ length worker_io.items) }
-    ensures all_worker_parts { IfOk result (λ made. All (λ worker_parts. worker_parts ≡ new_receiver made.sender.channel) made.all_worker_parts.items) }
+    ensures all_worker_parts { IfOk result (λ made. (share : ℕ) × ArePartsOf (length worker_io.items) share made.sender.channel made.all_worker_parts.items) }
     ensures receivers { IfOk result (λ made. (made.receivers.items ≡ []) × (length worker_io.items ≤ vec_capacity made.receivers)) }
     ensures served { IfOk result (λ made. (made.served.items ≡ []) × (length worker_io.items ≤ vec_capacity made.served)) }
     ensures pollers { IfOk result (λ made. (made.pollers.items ≡ []) × (length worker_io.items ≤ vec_capacity made.pollers)) }

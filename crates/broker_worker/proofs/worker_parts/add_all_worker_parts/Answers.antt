@@ -1,9 +1,11 @@
 -- The parts of one worker more, and one worker less to come.
-use Rattle.std.proofs.Common.{◌≡◌, ◌++◌, [], ◌∷◌, Some, length, ap, arith}
+use Rattle.std.proofs.Common.{◌≡◌, List, Some, length, ap, refl, sym, subst, arith}
 use Rattle.std.proofs.Math.ListN.{length-append}
-use Rattle.std.proofs.lemmas.List.Elements.{All-pop, All-push, All-same}
+use Rattle.std.proofs.lemmas.List.Elements.{All-pop}
 use Rattle.conn_channel.specs.Ends.{ReceiverState, new_receiver}
 use Rattle.worker_connections.specs.Arrivals.{ArrivedState}
+use Rattle.broker_worker.specs.Parts.{ArePartsOf, IsPartsAt, PartsState}
+use Rattle.broker_worker.proofs.Places.{pushed_at}
 use Rattle.broker_worker.proofs.worker_parts.add_all_worker_parts.Goals as goal
 
 pub all_worker_parts-preserved : goal.all_worker_parts-preserved
@@ -22,6 +24,7 @@ all_worker_parts-preserved g c =
       all_own_bells = omega (arith, worker_io_left, all_own_bells_left, c.all_worker_parts.invariant.all_own_bells);
       count = omega (arith, worker_io_left, pushed, c.all_worker_parts.invariant.count);
       each =
-          All-same IsNew c.add_worker_parts.new.all_worker_parts.items (c.all_worker_parts.all_worker_parts.items ++ c.in-Some-Some.receiver ∷ []) c.in_ok-add_worker_parts.ensures
-          (All-push IsNew c.all_worker_parts.all_worker_parts.items c.in-Some-Some.receiver c.all_worker_parts.invariant.each left.1);
+          subst (λ (all : List (PartsState g.row.T.Denot)). ArePartsOf (length c.args.worker_io.now.items) c.share_of-share.result c.args.sender.now.channel all) (sym c.in_ok-add_worker_parts.ensures)
+          (pushed_at (IsPartsAt (length c.args.worker_io.now.items) c.share_of-share.result c.args.sender.now.channel) 0 c.all_worker_parts.all_worker_parts.items _ c.all_worker_parts.invariant.each
+          (omega (arith, worker_io_left, c.all_worker_parts.invariant.count), refl, left.1));
     }

@@ -1,6 +1,7 @@
 -- The parts so far, and what is left for the others.
-use Rattle.std.proofs.Common.{◌≡◌, ◌+◌, All, length, vec_len}
-use Rattle.conn_channel.specs.Ends.{AreReceivers, new_receiver}
+use Rattle.std.proofs.Common.{◌≡◌, ◌+◌, length, vec_len}
+use Rattle.conn_channel.specs.Ends.{AreReceivers}
+use Rattle.broker_worker.specs.Parts.{ArePartsOf}
 use Rattle.broker_worker.proofs.worker_parts.add_all_worker_parts.Given as goal
 
 abbrev pub invariant-all_worker_parts : goal.invariant-all_worker_parts
@@ -8,7 +9,7 @@ invariant-all_worker_parts g l = record {
   receivers : AreReceivers l.fn.sender.channel (length l.worker_io.items) l.receivers.items;
   all_own_bells : length l.all_own_bells.items ≡ length l.worker_io.items;
   count : length l.all_worker_parts.items + length l.worker_io.items ≡ length l.fn.worker_io.items;
-  each : All (λ worker_parts. worker_parts ≡ new_receiver l.fn.sender.channel) l.all_worker_parts.items;
+  each : ArePartsOf (length l.fn.worker_io.items) l.share l.fn.sender.channel l.all_worker_parts.items;
 }
 
 abbrev pub decreases-all_worker_parts : goal.decreases-all_worker_parts

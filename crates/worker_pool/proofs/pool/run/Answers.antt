@@ -5,7 +5,7 @@ use Rattle.worker_connections.specs.declared.handle.WorkerHandle.{WorkerHandle}
 use Rattle.worker_connections.specs.Arrivals.{ArrivedState}
 use Rattle.worker_pool.specs.Accepting.{AcceptorState, Gave}
 use Rattle.worker_pool.specs.Pools.{AreServed}
-use Rattle.worker_pool.specs.Workers.{HasServed, worker_ties}
+use Rattle.worker_pool.specs.Workers.{HasServed}
 use Rattle.worker_pool.proofs.Accepted.{came_count, sent_is}
 use Rattle.worker_pool.proofs.Gathered.{counts_all}
 use Rattle.worker_pool.proofs.pool.run.Goals as goal
@@ -13,8 +13,12 @@ use Rattle.worker_pool.proofs.pool.run.Goals as goal
 pub retire-requires-clause-workers : goal.retire-requires-clause-workers
 retire-requires-clause-workers g c =
     let channel = c.run_all.ensures.accepted.channel ∙ ap (λ (a : AcceptorState g.row.T.Denot g.row.S.Denot). a.sender.channel) c.new-acceptor.ensures in
-    let Of : ChannelId (ArrivedState g.row.T.Denot) → Type 0 = λ channel. All (HasServed (worker_ties channel c.args.shared_broker.now)) c.run_all.new.workers.items in
-    subst Of (sym channel) (c.run_all.ensures.run.served (worker_ties c.in-Ok.field-0.sender.channel c.args.shared_broker.now) c.in-Ok-hire.ensures.hired.1)
+    let Of : ChannelId (ArrivedState g.row.T.Denot) → Type 0 = λ channel. All (HasServed channel c.args.shared_broker.now) c.run_all.new.workers.items in
+    subst Of (sym channel) (c.run_all.ensures.run.served c.in-Ok.field-0.sender.channel c.args.shared_broker.now c.in-Ok-hire.ensures.hired.1)
+
+pub retire-requires-clause-numbered : goal.retire-requires-clause-numbered
+retire-requires-clause-numbered g c =
+    (c.in-Ok-hire.ensures.numbered.0, c.run_all.ensures.run.numbered c.in-Ok-hire.ensures.numbered.0 c.in-Ok-hire.ensures.numbered.1)
 
 pub retire-requires-clause-count : goal.retire-requires-clause-count
 retire-requires-clause-count g c =

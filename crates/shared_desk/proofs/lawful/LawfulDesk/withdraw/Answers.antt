@@ -15,8 +15,10 @@ invariant_of-me g c =
     (noted g.P.HoldingPlace.has_out g.P.Place.slot_of g.P.Place.number_of c.self.inside.keeper c.note.new.keeper c.me.inside.caller c.note.new.caller c.self.inside.desk c.withdraw.new.self (Withdraw c.args.connection) c.self.invariant tt tt c.withdraw.ensures
     (c.note.ensures.added) c.note.ensures.told c.note.ensures.before).1.legal
 
-pub returns-clause-told : goal.returns-clause-told
-returns-clause-told g c =
-    subst (λ k. AddsCall g.P.HoldingPlace.has_out g.P.Place.slot_of g.P.Place.number_of k (Withdraw c.args.connection) c.note.new.caller) c.me.view_is
-    (noted g.P.HoldingPlace.has_out g.P.Place.slot_of g.P.Place.number_of c.self.inside.keeper c.note.new.keeper c.me.inside.caller c.note.new.caller c.self.inside.desk c.withdraw.new.self (Withdraw c.args.connection) c.self.invariant tt tt c.withdraw.ensures
-    (c.note.ensures.added) c.note.ensures.told c.note.ensures.before).1
+pub returns : goal.returns
+returns g c = record {
+  told =
+      subst (λ k. AddsCall g.P.HoldingPlace.has_out g.P.Place.slot_of g.P.Place.number_of k (Withdraw c.args.connection) c.note.new.caller) c.me.view_is
+      (noted g.P.HoldingPlace.has_out g.P.Place.slot_of g.P.Place.number_of c.self.inside.keeper c.note.new.keeper c.me.inside.caller c.note.new.caller c.self.inside.desk c.withdraw.new.self (Withdraw c.args.connection) c.self.invariant tt tt c.withdraw.ensures
+      (c.note.ensures.added) c.note.ensures.told c.note.ensures.before).1;
+}

@@ -8,6 +8,6 @@ invariant_of-self g c = (
   c.self.invariant.1,
   c.self.invariant.2,
   c.self.invariant.3,
-  waits_on g.B.Broker.group (record { saw_ledger = g.B.Seen.LedgerWitness.saw_ledger; saw_main = g.B.Seen.Witness.saw_main; saw_returns = g.B.Seen.Witness.saw_returns }) g.T.Transport.counts g.T.Transport.given g.T.Transport.accepted c.self.inside.supply c.self.inside.table c.self.inside.receiver.received c.self.inside.served
+  waits_on g.B.Broker.group (record { saw_ledger = g.B.Seen.LedgerWitness.saw_ledger; saw_main = g.B.Seen.Witness.saw_main; saw_returns = g.B.Seen.Witness.saw_returns }) g.T.Transport.counts g.T.Transport.given g.T.Transport.accepted c.self.inside.first c.self.inside.supply c.self.inside.table c.self.inside.receiver.received c.self.inside.served
       (g.Q.Poller.closed c.self.inside.poller) (g.Q.Poller.closed c.wait.new.self) c.wait.ensures c.self.invariant.4,
 )
