@@ -1,5 +1,6 @@
 pub mod Rows
 pub mod OpenedGroups
+pub mod NewPlaces
 pub mod Outs
 pub mod Dealing
 pub mod Sorted

@@ -2,7 +2,7 @@
 ghost use Rattle.std.specs.Prelude.{◌≡◌, ℕ, ◌+◌, ◌++◌, length, sum_by, All, IfOk};
 ghost use Rattle.group_queue.specs.Ports.{PortState};
 ghost use Rattle.broker_groups.specs.Brokers.{IsBrokerPlace, IsBrokerPort};
-ghost use Rattle.broker_groups.specs.Naming.{in_a_row, worth_of_all, worth_of_rows, AreRows, AreUnsent, HasNoneOut, IsHand, IsOfBroker};
+ghost use Rattle.broker_groups.specs.Naming.{in_a_row, worth_of_all, worth_of_rows, AreNewPlacesOf, AreRows, AreUnsent, HasNoneOut, IsHand, IsOfBroker};
 
 use crate::broker::Broker;
 use crate::groups::BrokerGroups;
@@ -42,6 +42,7 @@ impl<'a, W: Witness> Opened<'a, W> {
         ensures unsent { IfOk result (λ named. All AreUnsent named.ports.items) }
         ensures places { IfOk result (λ named. named.places.items ≡ in_a_row self.entry.places.items) }
         ensures fresh { IfOk result (λ named. All HasNoneOut named.places.items) }
+        ensures new { IfOk result (λ named. AreNewPlacesOf B.group named.places.items) }
     {
         let Opened {
             groups,

@@ -2,6 +2,7 @@
 use Rattle.std.proofs.Common.{subst, arith}
 use Rattle.broker_groups.specs.Openings.{AreOpened}
 use Rattle.broker_groups.proofs.OpenedGroups.{one_opened, fresh_of, groups_of, ports_of, places_of}
+use Rattle.broker_groups.proofs.NewPlaces.{new_of}
 use Rattle.broker_groups.proofs.Unsent.{opened_unsent}
 use Rattle.broker_groups.proofs.opening.Opened.open.Goals as goal
 
@@ -36,4 +37,5 @@ returns-clause-named g c =
       unsent = opened_unsent gate c.args.capacity c.args.workers groups ports places opened;
       places = places_of gate c.args.capacity c.args.workers groups ports places opened;
       fresh = fresh_of gate c.args.capacity c.args.workers groups ports places opened;
+      new = new_of gate c.args.capacity c.args.workers groups ports places opened;
     }
