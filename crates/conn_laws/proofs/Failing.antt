@@ -1,5 +1,5 @@
 -- A step that wants memory is a list of calls.
-use Rattle.std.proofs.Common.{◌≡◌, ℕ, List, [], ◌∷◌, ◌++◌, map, Result, refl, sym, ap, ◌∙◌, append-nil, inl, inr, ⊎_elim, is_some}
+use Rattle.std.proofs.Common.{◌≡◌, ℕ, List, [], ◌∷◌, ◌++◌, map, Result, refl, sym, ap, subst, ◌∙◌, append-nil, inl, inr, ⊎_elim, is_some}
 use Rattle.mqtt_packet.specs.declared.packet.Packet.{Packet}
 use Rattle.mqtt_packet.specs.declared.packet.Packet.TheVariants as packets
 use Rattle.mqtt_packet.specs.declared.packet.Publish.{Publish}
@@ -16,15 +16,18 @@ use Rattle.conn_engine.specs.declared.phase.ConnectedClient.{ConnectedClient}
 use Rattle.conn_engine.specs.declared.phase.ConnPhase.{ConnPhase}
 use Rattle.conn_engine.specs.declared.phase.ConnPhase.TheVariants.{Unconnected, Waiting, Connected, Ended}
 use Rattle.conn_engine.specs.Answering.{FailsToAnswer}
+use Rattle.conn_laws.specs.Places.{places_of, KeepsPlaces}
 use Rattle.conn_laws.specs.Calls.{offer_of, match_of, settlement_of, offered, matched, settled, MakesAll, OffersToEach, OffersNone, SettlesOne, SettlesNone, OffersToSome, FailedCalls}
 use Rattle.conn_supply.specs.Publishing.{OffersFirst, OffersSome, IsCutShort}
 use Rattle.conn_engine.specs.Step.{hearing, after_hand_out, GivesUp, ShutsDown, CutsOff, FailsToReact, HandsLess, FailsToHand, FailsToStep}
-use Rattle.conn_laws.proofs.Calling.{Plain, HandsSomething, still, one, behind, after, joins, parted, swept, failed_to_attach, failed_again, handed_some, some_answered}
+use Rattle.conn_laws.proofs.KeptPlaces.{kept_by_none, kept_by_one, kept_by_both, kept_beside}
+use Rattle.conn_laws.proofs.Calling.{Plain, HandsSomething, beside, still, one, behind, after, joins, parted, swept, failed_to_attach, failed_again, handed_some, some_answered}
 use Rattle.conn_laws.proofs.Stepping.{Walked, none_behind, none_before, further, reacted}
 
 module _ {S P : Type 0} (call : S → SupplyCall P → S → Type 0) where
-  plain : (given : List Message) (old new : S) (number : ℕ) (phase : ConnPhase P) (input : Input) → Plain call given old new → FailedCalls call old number phase input new
-  plain given old new number phase input calls = record { supply_calls = calls.supply_calls; made = calls.made; offers = inr calls.offers; settles = inr calls.settles }
+  plain : (given : List Message) (old new : S) (number : ℕ) (phase : ConnPhase P) (input : Input) → Plain call given (places_of phase) [] old new → FailedCalls call old number phase input new
+  plain given old new number phase input calls =
+      record { supply_calls = calls.supply_calls; made = calls.made; offers = inr calls.offers; settles = inr calls.settles; places = calls.places }
 
   some_of : (number : ℕ) (input : Input) (supply_calls : List (SupplyCall P)) → OffersToEach number input supply_calls → OffersToSome number input supply_calls
   some_of number input supply_calls each =
@@ -38,7 +41,7 @@ module _ {S P : Type 0} (call : S → SupplyCall P → S → Type 0) where
       }
 
   -- what holds of the calls of a step
-  stepped : (given : List Message) (old new : S) (number : ℕ) (phase : ConnPhase P) (input : Input) (next : Then) → Walked call given old number phase input next new → FailedCalls call old number phase input new
+  stepped : (given : List Message) (old new : S) (number : ℕ) (phase : ConnPhase P) (input : Input) (next : Then) → Walked call given old number phase input next [] new → FailedCalls call old number phase input new
   stepped given old new number phase input next calls =
       record {
         supply_calls = calls.supply_calls;
@@ -49,6 +52,7 @@ module _ {S P : Type 0} (call : S → SupplyCall P → S → Type 0) where
             (λ (none : OffersNone phase input calls.supply_calls next). inr none.offers)
             calls.offers;
         settles = ⊎_elim (λ (only : SettlesOne phase input calls.supply_calls). inl only) (λ (none : SettlesNone phase input calls.supply_calls next). inr none.settles) calls.settles;
+        places = calls.places;
       }
 
   -- a message is offered to some of these groups, from the first on
@@ -61,38 +65,43 @@ module _ {S P : Type 0} (call : S → SupplyCall P → S → Type 0) where
     match : matched supply_calls ≡ []
     offers : offered supply_calls ≡ map (λ slot. (slot, number, message)) these
     settles : settled supply_calls ≡ []
+    places : KeepsPlaces [] supply_calls []
 
   none_of : (slots : List ℕ) (old new : S) (number : ℕ) (message : Message) → new ≡ old → OffersPart old number message slots new
   none_of slots old new number message same =
-      record { these = []; others = slots; parts = refl; supply_calls = []; made = same; match = refl; offers = refl; settles = refl }
+      record { these = []; others = slots; parts = refl; supply_calls = []; made = same; match = refl; offers = refl; settles = refl; places = kept_by_none [] }
 
   -- that has no memory for it
   last_of : (slot : ℕ) (slots : List ℕ) (old new : S) (number : ℕ) (message : Message) (answer : Result Stamp OfferRefusal) → call old (Offer slot number message answer) new
       → OffersPart old number message (slot ∷ slots) new
   last_of slot slots old new number message answer offers =
+      let only : SupplyCall P = Offer slot number message answer in
       record {
         these = slot ∷ [];
         others = slots;
         parts = refl;
-        supply_calls = Offer slot number message answer ∷ [];
+        supply_calls = only ∷ [];
         made = (new, offers, refl);
         match = refl;
         offers = refl;
         settles = refl;
+        places = kept_by_one only;
       }
 
   one_and : (slot : ℕ) (slots : List ℕ) (old mid new : S) (number : ℕ) (message : Message) (answer : Result Stamp OfferRefusal) → call old (Offer slot number message answer) mid
       → OffersPart mid number message slots new → OffersPart old number message (slot ∷ slots) new
   one_and slot slots old mid new number message answer offers rest =
+      let first : SupplyCall P = Offer slot number message answer in
       record {
         these = slot ∷ rest.these;
         others = rest.others;
         parts = ap (λ l. slot ∷ l) rest.parts;
-        supply_calls = Offer slot number message answer ∷ rest.supply_calls;
+        supply_calls = first ∷ rest.supply_calls;
         made = (mid, offers, rest.made);
         match = rest.match;
         offers = ap (λ l. (slot, number, message) ∷ l) rest.offers;
         settles = rest.settles;
+        places = kept_by_both [] [] [] (first ∷ []) rest.supply_calls (kept_by_one first) rest.places;
       }
 
   first_of : (slots : List ℕ) (old new : S) (number : ℕ) (message : Message) → OffersFirst call old number message slots new → OffersPart old number message slots new
@@ -106,12 +115,15 @@ module _ {S P : Type 0} (call : S → SupplyCall P → S → Type 0) where
   part_of slots old new number message (inr offers) = first_of slots old new number message offers
 
   -- a PUBLISH that was cut short, with calls by which nothing is offered before and after it
-  cut_short : (old before after new : S) (number : ℕ) (phase : ConnPhase P) (publish : Publish) → Plain call [] old before → IsCutShort call before number publish after → Plain call [] after new
+  cut_short : (old before after new : S) (number : ℕ) (phase : ConnPhase P) (publish : Publish) → Plain call [] (places_of phase) (places_of phase) old before
+      → IsCutShort call before number publish after → Plain call [] (places_of phase) [] after new
       → FailedCalls call old number phase (inputs.Packet (packets.Publish publish)) new
   cut_short old before after new number phase publish first cut last =
       let part = part_of cut.slots cut.mid after number (message_of publish) cut.offered in
-      let these = Match publish.topic cut.slots ∷ part.supply_calls in
+      let match : SupplyCall P = Match publish.topic cut.slots in
+      let these = match ∷ part.supply_calls in
       let made = joins call these last.supply_calls before after new (cut.mid, cut.matched, part.made) last.made in
+      let places = kept_beside (places_of phase) [] [] these (kept_by_both [] [] [] (match ∷ []) part.supply_calls (kept_by_one match) part.places) in
       record {
         supply_calls = first.supply_calls ++ (these ++ last.supply_calls);
         made = joins call first.supply_calls (these ++ last.supply_calls) old before new first.made made;
@@ -126,39 +138,50 @@ module _ {S P : Type 0} (call : S → SupplyCall P → S → Type 0) where
           offers = none_before offer_of first.supply_calls (these ++ last.supply_calls) _ first.offers (none_behind offer_of these last.supply_calls _ part.offers last.offers);
         });
         settles = inr (none_before settlement_of first.supply_calls (these ++ last.supply_calls) _ first.settles (none_behind settlement_of these last.supply_calls _ part.settles last.settles));
+        places =
+            kept_by_both (places_of phase) (places_of phase) [] first.supply_calls (these ++ last.supply_calls) first.places
+            (kept_by_both (places_of phase) (places_of phase) [] these last.supply_calls places last.places);
       }
 
   module _ (slot_of : P → ℕ) where
-    given_up : (phase : ConnPhase P) (old new : S) (number now : ℕ) → GivesUp call slot_of old number phase now new → Plain call [] old new
-    given_up (Unconnected opened) old new number now gives = still call old new gives
+    given_up : (phase : ConnPhase P) (old new : S) (number now : ℕ) → GivesUp call slot_of old number phase now new → Plain call [] (places_of phase) [] old new
+    given_up (Unconnected opened) old new number now gives = still call old new refl gives
     given_up (Waiting request ticks) old new number now gives = one call old new _ gives refl refl refl refl
     given_up (Connected connected) old new number now gives = parted call old new connected.session now gives
-    given_up Ended old new number now gives = still call old new gives
+    given_up Ended old new number now gives = still call old new refl gives
 
-    shut_down : (phase : ConnPhase P) (old new : S) (number : ℕ) → ShutsDown call slot_of old number phase new → Plain call [] old new
-    shut_down (Unconnected opened) old new number shuts = still call old new shuts
+    shut_down : (phase : ConnPhase P) (old new : S) (number : ℕ) → ShutsDown call slot_of old number phase new → Plain call [] (places_of phase) [] old new
+    shut_down (Unconnected opened) old new number shuts = still call old new refl shuts
     shut_down (Waiting request ticks) old new number shuts = one call old new _ shuts refl refl refl refl
     shut_down (Connected connected) old new number shuts = one call old new _ shuts refl refl refl refl
-    shut_down Ended old new number shuts = still call old new shuts
+    shut_down Ended old new number shuts = still call old new refl shuts
 
-    cut_off : (input : Input) (phase : ConnPhase P) (old new : S) (number now : ℕ) → CutsOff call slot_of old number phase now input new → Plain call [] old new
+    cut_off : (input : Input) (phase : ConnPhase P) (old new : S) (number now : ℕ) → CutsOff call slot_of old number phase now input new → Plain call [] (places_of phase) [] old new
     cut_off (inputs.Packet packet) phase old new number now cuts = given_up phase old new number now cuts
     cut_off (inputs.Fault fault) phase old new number now cuts = given_up phase old new number now cuts
     cut_off inputs.Tick phase old new number now cuts = given_up phase old new number now cuts
     cut_off inputs.EndOfInput phase old new number now cuts = given_up phase old new number now cuts
     cut_off inputs.Closing phase old new number now cuts = shut_down phase old new number cuts
 
+    -- the calls after an answer, of a connection that this is
+    later : (connected' connected : ConnectedClient P) (old new : S) → connected' ≡ connected → Plain call [] (places_of (Connected connected')) [] old new
+        → Plain call [] (places_of (Connected connected)) [] old new
+    later connected' connected old new is calls = subst (λ (connected : ConnectedClient P). Plain call [] (places_of (Connected connected)) [] old new) is calls
+
     -- an allocation failed for the answer to a packet
-    failed_to_answer : (packet : Packet) (old before after new : S) (number now : ℕ) (connected connected' : ConnectedClient P) → Plain call [] old before
-        → FailsToAnswer call slot_of before number (hearing connected now) packet connected' after → Plain call [] after new → FailedCalls call old number (Connected connected) (inputs.Packet packet) new
-    failed_to_answer (packets.Publish publish) old before after new number now connected connected' first fails last = cut_short old before after new number (Connected connected) publish first fails.0 last
+    failed_to_answer : (packet : Packet) (old before after new : S) (number now : ℕ) (connected connected' : ConnectedClient P)
+        → Plain call [] (places_of (Connected connected)) (places_of (Connected connected)) old before → FailsToAnswer call slot_of before number (hearing connected now) packet connected' after
+        → Plain call [] (places_of (Connected connected')) [] after new → FailedCalls call old number (Connected connected) (inputs.Packet packet) new
+    failed_to_answer (packets.Publish publish) old before after new number now connected connected' first fails last =
+        cut_short old before after new number (Connected connected) publish first fails.0 (later connected' _ after new fails.1 last)
     failed_to_answer (packets.Subscribe subscribe) old before after new number now connected connected' first fails last =
         plain [] old new number (Connected connected) _ (
         behind call old before new first (
         behind call before after new
-        (some_answered call slot_of before after subscribe.subscriptions (is_some subscribe.properties.subscription_identifier) connected.terms connected.session.membership fails.0 fails.1) last))
+        (some_answered call slot_of before after subscribe.subscriptions (is_some subscribe.properties.subscription_identifier) connected.terms connected.session.membership fails.0 fails.1)
+        (later connected' _ after new fails.2 last)))
     failed_to_answer (packets.Unsubscribe unsubscribe) old before after new number now connected connected' first fails last =
-        plain [] old new number (Connected connected) _ (behind call old before new first (behind call before after new (still call before after fails.1) last))
+        plain [] old new number (Connected connected) _ (behind call old before new first (behind call before after new (still call before after refl fails.1) (later connected' _ after new fails.0 last)))
     failed_to_answer (packets.Connect connect) old before after new number now connected connected' first fails last = absurd fails
     failed_to_answer (packets.Connack connack) old before after new number now connected connected' first fails last = absurd fails
     failed_to_answer (packets.Puback puback) old before after new number now connected connected' first fails last = absurd fails
@@ -187,7 +210,7 @@ module _ {S P : Type 0} (call : S → SupplyCall P → S → Type 0) where
     failed_to_react (Waiting request ticks) inputs.Closing old new number now fails = absurd fails
     failed_to_react (Connected connected) (inputs.Packet packet) old new number now fails =
         let answer = fails.2 in
-        failed_to_answer packet old fails.0 answer.1 new number now connected answer.0 (one call old fails.0 _ fails.1 refl refl refl refl) answer.2
+        failed_to_answer packet old fails.0 answer.1 new number now connected answer.0 (beside call (places_of (Connected connected)) (one call old fails.0 _ fails.1 refl refl refl refl)) answer.2
         (parted call answer.1 new answer.0.session now answer.3)
     failed_to_react (Connected connected) (inputs.Fault fault) old new number now fails = absurd fails
     failed_to_react (Connected connected) inputs.Tick old new number now fails = absurd fails
@@ -200,7 +223,7 @@ module _ {S P : Type 0} (call : S → SupplyCall P → S → Type 0) where
     failed_to_react Ended inputs.Closing old new number now fails = absurd fails
 
     -- an allocation failed for what is handed out
-    handed_less : (between : ConnPhase P) (old new : S) (now : ℕ) → HandsLess call slot_of old between now new → HandsSomething call old new
+    handed_less : (between : ConnPhase P) (old new : S) (now : ℕ) → HandsLess call slot_of old between now new → HandsSomething call (places_of between) [] old new
     handed_less (Unconnected opened) old new now hands = absurd hands
     handed_less (Waiting request ticks) old new now hands = absurd hands
     handed_less (Connected connected) old new now hands =

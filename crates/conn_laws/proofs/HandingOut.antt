@@ -9,6 +9,7 @@ use Rattle.member_window.specs.Contents.{Contents, after_resend}
 use Rattle.member_window.specs.Calls.{Call, Put, NextResend}
 use Rattle.member_window.specs.Runs.{transcript_of}
 use Rattle.member_window.specs.Runs as windows
+use Rattle.session_desk.specs.Everything.{place_in}
 use Rattle.session_desk.specs.declared.session.Membership.{Membership}
 use Rattle.session_desk.specs.declared.session.Membership.TheVariants.{NotMember, Member, Leaving}
 use Rattle.conn_rules.specs.Packets.{job}
@@ -18,7 +19,7 @@ use Rattle.conn_supply.specs.HandOuts.{SendsAgain, AsksFor, SendsNone, SendsFres
 use Rattle.conn_laws.specs.Calls.{messages_of, fresh_message, fresh_messages}
 use Rattle.conn_laws.specs.Marks.{publishes_in, publishes_of, fresh_of, acknowledged_of, IsWithin}
 use Rattle.conn_laws.specs.Transcripts.{HasOneAs, KeepsNumbers}
-use Rattle.conn_laws.proofs.Aside.{Aside, still, hand, one, after, behind}
+use Rattle.conn_laws.proofs.Aside.{Aside, becomes, beside, still, hand, one, after, behind}
 
 -- calls of a window whose marks are these PUBLISH packets; these items go out for the first time
 pub record Sends (old : Contents Held) (sent : List Packet) (fresh : List Held) (new : Contents Held) : Type 0 where
@@ -61,7 +62,7 @@ module _ {S P : Type 0} (call : S → SupplyCall P → S → Type 0) where
   -- a place was asked for a message, and was what it is
   pub record Asked (old : S) (place : P) (found : Option Held) (place' : P) (new : S) : Type 0 where
     pub from : P
-    pub calls : Aside call (given_in from found) old new
+    pub calls : Aside call (given_in from found) (place ∷ []) (place' ∷ []) old new
     pub stays : (of : P → ℕ) → KeepsNumbers call of → (of from ≡ of place) × (of place' ≡ of place)
 
   asked_later : (found : Option Held) (old mid new : S) (place between place' : P) → call old (TakeBack place between (Ok None)) mid → call mid (Take between place' (Ok found)) new
@@ -83,48 +84,49 @@ module _ {S P : Type 0} (call : S → SupplyCall P → S → Type 0) where
   asked_for found old new place place' (inl back) =
       record {
         from = place;
-        calls = subst (λ f. Aside call (given_in place f) old new) (sym back.1) (hand call (Some (place, back.0)) old new _ back.2 tt refl refl refl refl);
+        calls = subst (λ f. Aside call (given_in place f) (place ∷ []) (place' ∷ []) old new) (sym back.1) (hand call (Some (place, back.0)) old new _ back.2 tt refl refl refl refl);
         stays = λ of keeps. (refl, keeps old new _ back.2);
       }
   asked_for found old new place place' (inr queued) = asked_later found old queued.1 new place queued.0 place' queued.2 queued.3
 
-  -- the calls of a hand-out, to a session with this window, which has this membership then and that window
-  pub record Handed (old : S) (window : Contents Held) (sent : List Packet) (membership' : Membership P) (window' : Contents Held) (new : S) : Type 0 where
+  -- the calls of a hand-out, to a session with these places and this window, which has this membership then and that window
+  pub record Handed (old : S) (places : List P) (window : Contents Held) (sent : List Packet) (membership' : Membership P) (window' : Contents Held) (new : S) : Type 0 where
     pub given : List (P × Held)
-    pub calls : Aside call given old new
+    pub calls : Aside call given places (place_in membership') old new
     pub sends : Sends window sent (map (λ (h : P × Held). h.1) given) window'
     pub own : (of : P → ℕ) → KeepsNumbers call of → AllByRecursion (λ (h : P × Held). HasOneAs of membership' h.0) given
     pub messages : fresh_messages sent ≡ messages_of given
 
-  hands_none : (old new : S) (window : Contents Held) (sent : List Packet) (membership' : Membership P) (window' : Contents Held) → sent ≡ [] → window' ≡ window → Aside call [] old new
-      → Handed old window sent membership' window' new
-  hands_none old new window sent membership' window' none same calls =
-      subst (λ packets. Handed old window packets membership' window' new) (sym none)
+  hands_none : {places : List P} (old new : S) (window : Contents Held) (sent : List Packet) (membership' : Membership P) (window' : Contents Held) → sent ≡ [] → window' ≡ window → Aside call [] places (place_in membership') old new
+      → Handed old places window sent membership' window' new
+  hands_none {places} old new window sent membership' window' none same calls =
+      subst (λ packets. Handed old places window packets membership' window' new) (sym none)
       (record { given = []; calls = calls; sends = sends_none window window' same; own = λ of keeps. tt; messages = refl })
 
   -- with the place, which keeps its numbers
   abbrev HandsAt : S → P → Contents Held → List Packet → P → Membership P → Contents Held → S → Type 0
-  HandsAt old place window sent place' membership' window' new = Handed old window sent membership' window' new × ((of : P → ℕ) → KeepsNumbers call of → of place' ≡ of place)
+  HandsAt old place window sent place' membership' window' new = Handed old (place ∷ []) window sent membership' window' new × ((of : P → ℕ) → KeepsNumbers call of → of place' ≡ of place)
 
-  sent_none : (old new : S) (place place' : P) (window window' : Contents Held) (membership' : Membership P) → SendsNone call old place window place' window' new
+  sent_none : (old new : S) (place place' : P) (window window' : Contents Held) (membership' : Membership P) → membership' ≡ Member place' → SendsNone call old place window place' window' new
       → HandsAt old place window [] place' membership' window' new
-  sent_none old new place place' window window' membership' (same, inl full) =
-      (hands_none old new window [] membership' window' refl same (still call old new full.2), λ of keeps. ap of full.1)
-  sent_none old new place place' window window' membership' (same, inr (inl none)) =
+  sent_none old new place place' window window' membership' is (same, inl full) =
+      (hands_none old new window [] membership' window' refl same (still call old new (ap place_in is ∙ ap (λ p. p ∷ []) full.1) full.2), λ of keeps. ap of full.1)
+  sent_none old new place place' window window' membership' is (same, inr (inl none)) =
       let asked = asked_for None old new place place' none.2 in
-      let calls = behind call old old new (one call old old _ none.1 tt refl refl refl refl) asked.calls in
-      (hands_none old new window [] membership' window' refl same calls, λ of keeps. (asked.stays of keeps).1)
-  sent_none old new place place' window window' membership' (same, inr (inr stop)) =
-      let calls = behind call old old new (one call old old _ stop.3 tt refl refl refl refl) (still call old new stop.2) in
+      let calls = behind call old old new (beside call (place ∷ []) (one call old old _ none.1 tt refl refl refl refl)) asked.calls in
+      (hands_none old new window [] membership' window' refl same (becomes call (ap place_in is) calls), λ of keeps. (asked.stays of keeps).1)
+  sent_none old new place place' window window' membership' is (same, inr (inr stop)) =
+      let places = ap place_in is ∙ ap (λ p. p ∷ []) stop.1 in
+      let calls = behind call old old new (beside call (place ∷ []) (one call old old _ stop.3 tt refl refl refl refl)) (still call old new places stop.2) in
       (hands_none old new window [] membership' window' refl same calls, λ of keeps. ap of stop.1)
 
   sent_fresh : (packets : List Packet) (old new : S) (place place' : P) (window window' : Contents Held) (membership' : Membership P) → membership' ≡ Member place'
       → SendsFresh call old place window packets place' window' new → HandsAt old place window packets place' membership' window' new
-  sent_fresh [] old new place place' window window' membership' is sends = sent_none old new place place' window window' membership' sends
+  sent_fresh [] old new place place' window window' membership' is sends = sent_none old new place place' window window' membership' is sends
   sent_fresh (packet ∷ packets) old new place place' window window' membership' is sends =
       let first = sends.3 in
       let asked = asked_for (Some first.envelope) old sends.2 place sends.0 first.asked in
-      let one_call = after call [] ((asked.from, first.envelope) ∷ []) old old sends.2 (one call old old _ first.allowed tt refl refl refl refl) asked.calls in
+      let one_call = after call [] ((asked.from, first.envelope) ∷ []) old old sends.2 (beside call (place ∷ []) (one call old old _ first.allowed tt refl refl refl refl)) asked.calls in
       let others = sent_fresh packets sends.2 new sends.0 place' sends.1 window' membership' is sends.4 in
       let rest = others.0 in (
         record {
@@ -144,22 +146,22 @@ module _ {S P : Type 0} (call : S → SupplyCall P → S → Type 0) where
         λ of keeps. others.1 of keeps ∙ (asked.stays of keeps).1,
       )
 
-  left_with : (old new : S) (place : P) (window : Contents Held) (membership : Membership P) → LeavesWith call old place window membership new → Aside call [] old new
-  left_with old new place window membership (inl gone) = one call old new _ gone.2 tt refl refl refl refl
-  left_with old new place window membership (inr stays) = still call old new stays.2
+  left_with : (old new : S) (place : P) (window : Contents Held) (membership : Membership P) → LeavesWith call old place window membership new → Aside call [] (place ∷ []) (place_in membership) old new
+  left_with old new place window membership (inl gone) = becomes call (ap place_in gone.1) (one call old new _ gone.2 tt refl refl refl refl)
+  left_with old new place window membership (inr stays) = still call old new (ap place_in stays.1) stays.2
 
   handed_fresh : (membership : Membership P) (old new : S) (window : Contents Held) (packets : List Packet) (membership' : Membership P) (window' : Contents Held)
-      → HandsFresh call old membership window packets membership' window' new → Handed old window packets membership' window' new
-  handed_fresh NotMember old new window packets membership' window' hands = hands_none old new window packets membership' window' hands.0 hands.2 (still call old new hands.3)
+      → HandsFresh call old membership window packets membership' window' new → Handed old (place_in membership) window packets membership' window' new
+  handed_fresh NotMember old new window packets membership' window' hands = hands_none old new window packets membership' window' hands.0 hands.2 (still call old new (ap place_in hands.1) hands.3)
   handed_fresh (Member place) old new window packets membership' window' hands = (sent_fresh packets old new place hands.0 window window' membership' hands.1 hands.2).0
   handed_fresh (Leaving place) old new window packets membership' window' hands =
       hands_none old new window packets membership' window' hands.0 hands.1 (left_with old new place window membership' hands.2)
 
   pub handed_out : (old new : S) (membership : Membership P) (window : Contents Held) (packets : List Packet) (membership' : Membership P) (window' : Contents Held)
-      → HandsOut call old membership window packets membership' window' new → Handed old window packets membership' window' new
+      → HandsOut call old membership window packets membership' window' new → Handed old (place_in membership) window packets membership' window' new
   handed_out old new membership window packets membership' window' hands =
       let fresh = handed_fresh membership old new hands.between hands.fresh membership' window' hands.sent_fresh in
-      subst (λ sent. Handed old window sent membership' window' new) (sym hands.both)
+      subst (λ sent. Handed old (place_in membership) window sent membership' window' new) (sym hands.both)
       (record {
         given = fresh.given;
         calls = fresh.calls;

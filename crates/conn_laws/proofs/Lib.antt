@@ -3,6 +3,7 @@ pub mod Quotas
 pub mod Limits
 pub mod Eager
 pub mod Replying
+pub mod KeptPlaces
 pub mod Aside
 pub mod HandingOut
 pub mod Calling

@@ -104,7 +104,7 @@ module _ {S P : Type 0} (call : S → SupplyCall P → S → Type 0) where
   handed_fresh (Leaving place) old new window packets membership' window' hands = left_with old new place window membership' hands.2
 
   -- calls that hand nothing out
-  pub plain : (old new : S) → Plain call [] old new → CallsReturnedFirst call old new
+  pub plain : {before after : List P} (old new : S) → Plain call [] before after old new → CallsReturnedFirst call old new
   plain old new calls = record { supply_calls = calls.supply_calls; made = calls.made; order = all_hand_none None calls.supply_calls (no_message (handed calls.supply_calls) calls.hands) }
 
   module _ (slot_of : P → ℕ) where

@@ -2,6 +2,7 @@
 use Rattle.std.proofs.Common.{◌≡◌, ℕ, ◌-◌, Bool, true, false, List, [], ◌∷◌, ◌++◌, map, filter_map, Option, Some, None, ◌⊎◌, refl, sym, ap, subst, ◌∙◌, append-nil, inl, inr}
 use Rattle.std.proofs.lemmas.List.{map-append}
 use Rattle.std.proofs.lemmas.List.Elements.{filter_map-append}
+use Rattle.mqtt_packet.specs.declared.packet.ConnectRefusal.{ConnectRefusal}
 use Rattle.mqtt_packet.specs.declared.packet.Packet.{Packet}
 use Rattle.mqtt_packet.specs.declared.packet.Packet.TheVariants as packets
 use Rattle.mqtt_packet.specs.declared.packet.Publish.{Publish}
@@ -12,6 +13,7 @@ use Rattle.group_jobs.specs.Stamps.{Held}
 use Rattle.member_window.specs.Contents.{Contents, held_of}
 use Rattle.member_window.specs.Calls.{Acks}
 use Rattle.member_window.proofs.Lists.{contains_identifier}
+use Rattle.session_desk.specs.Everything.{place_in}
 use Rattle.session_desk.specs.declared.session.Membership.{Membership}
 use Rattle.session_desk.specs.declared.session.Membership.TheVariants.{NotMember, Member, Leaving}
 use Rattle.conn_rules.specs.declared.connecting.FirstAnswer.{FirstAnswer}
@@ -19,8 +21,8 @@ use Rattle.conn_rules.specs.declared.connecting.FirstAnswer.TheVariants as first
 use Rattle.conn_rules.specs.declared.publishing.PublishAnswer.{PublishAnswer}
 use Rattle.conn_rules.specs.declared.publishing.PublishAnswer.TheVariants as answers
 use Rattle.conn_rules.specs.Acknowledging.{fate_of}
-use Rattle.conn_rules.specs.Connecting.{first_answer}
-use Rattle.conn_rules.specs.Ending.{is_overdue}
+use Rattle.conn_rules.specs.Connecting.{first_answer, is_given_expiry}
+use Rattle.conn_rules.specs.Ending.{fault_refusal, is_late, is_overdue}
 use Rattle.conn_rules.specs.Publishing.{publish_answer, message_of}
 use Rattle.conn_rules.specs.Subscribing.{subscribe_refusal, unsubscribe_refusal}
 use Rattle.conn_supply.specs.declared.reply.Then.{Then}
@@ -32,15 +34,18 @@ use Rattle.conn_supply.specs.Acknowledging.{Settles, AcknowledgesFor}
 use Rattle.conn_engine.specs.declared.input.Input.{Input}
 use Rattle.conn_engine.specs.declared.input.Input.TheVariants as inputs
 use Rattle.conn_engine.specs.declared.phase.ConnectedClient.{ConnectedClient}
+use Rattle.conn_engine.specs.declared.phase.Opening.{Opening}
 use Rattle.conn_engine.specs.declared.phase.ConnPhase.{ConnPhase}
 use Rattle.conn_engine.specs.declared.phase.ConnPhase.TheVariants.{Unconnected, Waiting, Connected, Ended}
-use Rattle.conn_engine.specs.Answering.{Answers}
+use Rattle.conn_engine.specs.Answering.{DisconnectsIf, Disconnects, Answers}
 use Rattle.conn_engine.specs.Connecting.{has_place}
+use Rattle.conn_laws.specs.Places.{places_of, KeepsPlaces}
 use Rattle.conn_laws.specs.Calls.{offer_of, match_of, settlement_of, hand_out_of, offered, matched, settled, handed, messages_of, fresh_messages, IsToBeOffered, Brings, Confirms, OffersToEach, OffersNone, SettlesOne, SettlesNone, MakesAll, StepCalls}
 use Rattle.conn_supply.specs.Publishing.{Offers, AnswersPublish}
-use Rattle.conn_engine.specs.Step.{hearing, AnswersFirst, Concludes, AnswersPacket, AnswersTick, IsHeard, IsKicked, AnswersUnlessKicked, Reacts, Hands, Steps}
+use Rattle.conn_engine.specs.Step.{hearing, IsRefusedIf, WaitsForConnect, AnswersFirst, Concludes, AnswersPacket, AnswersTick, IsHeard, IsKicked, AnswersUnlessKicked, Reacts, Hands, Steps}
 use Rattle.conn_laws.proofs.Replying.{replied_and_sent}
-use Rattle.conn_laws.proofs.Calling.{Plain, still, one, behind, joins, parted, swept, attached, tried_again, handed_out, subscribed_as, unsubscribed_as}
+use Rattle.conn_laws.proofs.KeptPlaces.{kept_by_none, kept_by_one, kept_by_both, kept_beside}
+use Rattle.conn_laws.proofs.Calling.{Plain, becomes, beside, still, one, behind, joins, parted, swept, attached, tried_again, handed_out, subscribed_as, unsubscribed_as}
 
 -- nothing more is found after or before
 pub none_behind : {P X : Type 0} (find : SupplyCall P → Option X) (supply_calls others : List (SupplyCall P)) (xs : List X) → filter_map find supply_calls ≡ xs → filter_map find others ≡ [] → filter_map find (supply_calls ++ others) ≡ xs
@@ -56,18 +61,24 @@ hands_both {P} supply_calls others given more these those =
     ap messages_of (filter_map-append hand_out_of supply_calls others) ∙ map-append (λ (h : P × Held). h.1.message) (handed supply_calls) (handed others) ∙ (λ i. these i ++ those i)
 
 module _ {S P : Type 0} (call : S → SupplyCall P → S → Type 0) where
-  -- the calls of a step, by which these messages are handed out
-  pub record Walked (given : List Message) (old : S) (number : ℕ) (phase : ConnPhase P) (input : Input) (next : Then) (new : S) : Type 0 where
+  -- the calls of a step, by which these messages are handed out, and after which the connection has these places
+  pub record Walked (given : List Message) (old : S) (number : ℕ) (phase : ConnPhase P) (input : Input) (next : Then) (after : List P) (new : S) : Type 0 where
     pub supply_calls : List (SupplyCall P)
     pub made : MakesAll call old supply_calls new
     pub offers : OffersToEach number input supply_calls ⊎ OffersNone phase input supply_calls next
     pub settles : SettlesOne phase input supply_calls ⊎ SettlesNone phase input supply_calls next
     pub hands : messages_of (handed supply_calls) ≡ given
+    pub places : KeepsPlaces (places_of phase) supply_calls after
+
+  -- the places after it, said otherwise
+  comes_to : {given : List Message} {old new : S} {number : ℕ} {phase : ConnPhase P} {input : Input} {next : Then} {after after' : List P} → after' ≡ after
+      → Walked given old number phase input next after new → Walked given old number phase input next after' new
+  comes_to {given} {old} {new} {number} {phase} {input} {next} same calls = subst (λ places. Walked given old number phase input next places new) (sym same) calls
 
   -- a step that brings and acknowledges nothing
-  plain : (old new : S) (number : ℕ) (phase : ConnPhase P) (input : Input) (next : Then) → Plain call [] old new
+  plain : {after : List P} (old new : S) (number : ℕ) (phase : ConnPhase P) (input : Input) (next : Then) → Plain call [] (places_of phase) after old new
       → ((publish : Publish) → Brings phase input publish → next ≡ Kicked) → ((envelope : Held) (fate : Fate) → Confirms phase input envelope fate → next ≡ Kicked)
-      → Walked [] old number phase input next new
+      → Walked [] old number phase input next after new
   plain old new number phase input next calls none_brought none_acknowledged =
       record {
         supply_calls = calls.supply_calls;
@@ -75,12 +86,13 @@ module _ {S P : Type 0} (call : S → SupplyCall P → S → Type 0) where
         offers = inr (record { match = calls.match; offers = calls.offers; unless = none_brought });
         settles = inr (record { settles = calls.settles; unless = none_acknowledged });
         hands = calls.hands;
+        places = calls.places;
       }
 
   -- a step of an input by which nothing could be brought or acknowledged
-  idle : (old new : S) (number : ℕ) (phase : ConnPhase P) (input : Input) (next : Then) → Plain call [] old new
+  idle : {after : List P} (old new : S) (number : ℕ) (phase : ConnPhase P) (input : Input) (next : Then) → Plain call [] (places_of phase) after old new
       → ((publish : Publish) → Brings phase input publish → ⊥) × ((envelope : Held) (fate : Fate) → Confirms phase input envelope fate → ⊥)
-      → Walked [] old number phase input next new
+      → Walked [] old number phase input next after new
   idle old new number phase input next calls never =
       plain old new number phase input next calls (λ publish brings. absurd (never.0 publish brings)) (λ envelope fate confirms. absurd (never.1 envelope fate confirms))
 
@@ -106,9 +118,9 @@ module _ {S P : Type 0} (call : S → SupplyCall P → S → Type 0) where
   settles_alike phase input next supply_calls all same (inr none) = inr (record { settles = same ∙ none.settles; unless = none.unless })
 
   -- calls after those of a step, or before them, by which nothing is offered or settled
-  pub further : (more : List Message) (old mid new : S) (number : ℕ) (phase : ConnPhase P) (input : Input) (next : Then)
-      → Walked [] old number phase input next mid → Plain call more mid new → Walked more old number phase input next new
-  further more old mid new number phase input next calls others =
+  pub further : {between after : List P} (more : List Message) (old mid new : S) (number : ℕ) (phase : ConnPhase P) (input : Input) (next : Then)
+      → Walked [] old number phase input next between mid → Plain call more between after mid new → Walked more old number phase input next after new
+  further {between} {after} more old mid new number phase input next calls others =
       let all = calls.supply_calls ++ others.supply_calls in
       record {
         supply_calls = all;
@@ -118,11 +130,12 @@ module _ {S P : Type 0} (call : S → SupplyCall P → S → Type 0) where
             (none_behind offer_of calls.supply_calls others.supply_calls _ refl others.offers) calls.offers;
         settles = settles_alike phase input next calls.supply_calls all (none_behind settlement_of calls.supply_calls others.supply_calls _ refl others.settles) calls.settles;
         hands = hands_both calls.supply_calls others.supply_calls [] more calls.hands others.hands;
+        places = kept_by_both (places_of phase) between after calls.supply_calls others.supply_calls calls.places others.places;
       }
 
-  earlier : (old mid new : S) (number : ℕ) (phase : ConnPhase P) (input : Input) (next : Then) → Plain call [] old mid → Walked [] mid number phase input next new
-      → Walked [] old number phase input next new
-  earlier old mid new number phase input next others calls =
+  earlier : {after : List P} (old mid new : S) (number : ℕ) (phase : ConnPhase P) (input : Input) (next : Then) → Plain call [] (places_of phase) (places_of phase) old mid
+      → Walked [] mid number phase input next after new → Walked [] old number phase input next after new
+  earlier {after} old mid new number phase input next others calls =
       let all = others.supply_calls ++ calls.supply_calls in
       record {
         supply_calls = all;
@@ -132,6 +145,7 @@ module _ {S P : Type 0} (call : S → SupplyCall P → S → Type 0) where
             (none_before offer_of others.supply_calls calls.supply_calls _ others.offers refl) calls.offers;
         settles = settles_alike phase input next calls.supply_calls all (none_before settlement_of others.supply_calls calls.supply_calls _ others.settles refl) calls.settles;
         hands = hands_both others.supply_calls calls.supply_calls [] [] others.hands calls.hands;
+        places = kept_by_both (places_of phase) (places_of phase) after others.supply_calls calls.supply_calls others.places calls.places;
       }
 
   -- a message is offered once to each of these groups
@@ -142,30 +156,34 @@ module _ {S P : Type 0} (call : S → SupplyCall P → S → Type 0) where
     offers : offered supply_calls ≡ map (λ slot. (slot, number, message)) slots
     settles : settled supply_calls ≡ []
     hands : messages_of (handed supply_calls) ≡ []
+    places : KeepsPlaces [] supply_calls []
 
   offers_to : (slots : List ℕ) (old new : S) (number : ℕ) (message : Message) (taken : ℕ) → Offers call old number message slots taken new → OffersTo old number message slots new
-  offers_to [] old new number message taken offers = record { supply_calls = []; made = offers.1; match = refl; offers = refl; settles = refl; hands = refl }
+  offers_to [] old new number message taken offers = record { supply_calls = []; made = offers.1; match = refl; offers = refl; settles = refl; hands = refl; places = kept_by_none [] }
   offers_to (slot ∷ slots) old new number message taken offers =
       let rest = offers_to slots offers.1 new number message offers.3 offers.6 in
+      let first : SupplyCall P = Offer slot number message offers.0 in
       record {
-        supply_calls = Offer slot number message offers.0 ∷ rest.supply_calls;
+        supply_calls = first ∷ rest.supply_calls;
         made = (offers.1, offers.4, rest.made);
         match = rest.match;
         offers = ap (λ others. (slot, number, message) ∷ others) rest.offers;
         settles = rest.settles;
         hands = rest.hands;
+        places = kept_by_both [] [] [] (first ∷ []) rest.supply_calls (kept_by_one first) rest.places;
       }
 
   published : (answer : PublishAnswer) (old new : S) (number : ℕ) (connected : ConnectedClient P) (publish : Publish) (reply : Reply) → publish_answer publish ≡ answer
-      → AnswersPublish call old number publish answer reply new → Walked [] old number (Connected connected) (inputs.Packet (packets.Publish publish)) reply.next new
+      → AnswersPublish call old number publish answer reply new → Walked [] old number (Connected connected) (inputs.Packet (packets.Publish publish)) reply.next (places_of (Connected connected)) new
   published (answers.Close code) old new number connected publish reply is answers =
-      plain old new number (Connected connected) _ reply.next (still call old new answers.1) (λ brought brings. absurd (subst IsToBeOffered is brings.1)) (λ envelope fate confirms. absurd confirms)
+      plain old new number (Connected connected) _ reply.next (still call old new refl answers.1) (λ brought brings. absurd (subst IsToBeOffered is brings.1)) (λ envelope fate confirms. absurd confirms)
   published (answers.Refuse identifier code) old new number connected publish reply is answers =
-      plain old new number (Connected connected) _ reply.next (still call old new answers.1) (λ brought brings. absurd (subst IsToBeOffered is brings.1)) (λ envelope fate confirms. absurd confirms)
+      plain old new number (Connected connected) _ reply.next (still call old new refl answers.1) (λ brought brings. absurd (subst IsToBeOffered is brings.1)) (λ envelope fate confirms. absurd confirms)
   published (answers.Offer identifier) old new number connected publish reply is offers =
       let to = offers_to offers.slots offers.mid new number (message_of publish) offers.taken offers.offered in
+      let first : SupplyCall P = Match publish.topic offers.slots in
       record {
-        supply_calls = Match publish.topic offers.slots ∷ to.supply_calls;
+        supply_calls = first ∷ to.supply_calls;
         made = (offers.mid, offers.matched, to.made);
         offers = inl (record {
           publish = publish;
@@ -177,133 +195,175 @@ module _ {S P : Type 0} (call : S → SupplyCall P → S → Type 0) where
         });
         settles = inr (record { settles = to.settles; unless = λ envelope fate confirms. absurd confirms });
         hands = to.hands;
+        places = kept_beside (places_of (Connected connected)) [] [] (first ∷ to.supply_calls) (kept_by_both [] [] [] (first ∷ []) to.supply_calls (kept_by_one first) to.places);
       }
 
   -- a PUBACK for what the session holds, and any other
   settled_as : (found : Option Held) (old new : S) (number : ℕ) (connected : ConnectedClient P) (puback : Puback) (place place' : P) (window' : Contents Held) (next : Then)
-      → has_place connected.session.membership ≡ true → Acks connected.session.window puback.packet_identifier found window' → Settles call old place puback.reason_code found place' new
-      → Walked [] old number (Connected connected) (inputs.Packet (packets.Puback puback)) next new
-  settled_as (Some envelope) old new number connected puback place place' window' next has acked settled =
+      → has_place connected.session.membership ≡ true → place_in connected.session.membership ≡ place ∷ [] → Acks connected.session.window puback.packet_identifier found window'
+      → Settles call old place puback.reason_code found place' new → Walked [] old number (Connected connected) (inputs.Packet (packets.Puback puback)) next (place' ∷ []) new
+  settled_as (Some envelope) old new number connected puback place place' window' next has places acked settled =
+      let only : SupplyCall P = Settle place place' envelope (fate_of puback.reason_code) in
       record {
-        supply_calls = Settle place place' envelope (fate_of puback.reason_code) ∷ [];
+        supply_calls = only ∷ [];
         made = (new, settled, refl);
         offers = inr (record { match = refl; offers = refl; unless = λ publish brings. absurd brings });
         settles = inl (record { envelope = envelope; fate = fate_of puback.reason_code; confirmed = (has, acked.0, refl); settles = refl });
         hands = refl;
+        places = subst (λ before. KeepsPlaces before (only ∷ []) (place' ∷ [])) (sym places) (kept_by_one only);
       }
-  settled_as None old new number connected puback place place' window' next has acked settled =
-      plain old new number (Connected connected) _ next (still call old new settled.1) (λ publish brings. absurd brings)
+  settled_as None old new number connected puback place place' window' next has places acked settled =
+      plain old new number (Connected connected) _ next (still call old new (ap (λ p. p ∷ []) settled.0 ∙ sym places) settled.1) (λ publish brings. absurd brings)
       (λ envelope fate confirms. absurd (acked.0 (contains_identifier (held_of connected.session.window) puback.packet_identifier envelope confirms.1)))
 
   acknowledged_as : (membership : Membership P) (old new : S) (number : ℕ) (connected : ConnectedClient P) (puback : Puback) (membership' : Membership P) (window' : Contents Held) (next : Then)
       → connected.session.membership ≡ membership → AcknowledgesFor call old membership connected.session.window puback.packet_identifier puback.reason_code membership' window' new
-      → Walked [] old number (Connected connected) (inputs.Packet (packets.Puback puback)) next new
+      → Walked [] old number (Connected connected) (inputs.Packet (packets.Puback puback)) next (place_in membership') new
   acknowledged_as NotMember old new number connected puback membership' window' next is does =
-      plain old new number (Connected connected) _ next (still call old new does.2) (λ publish brings. absurd brings)
+      plain old new number (Connected connected) _ next (still call old new (ap place_in does.0 ∙ sym (ap place_in is)) does.2) (λ publish brings. absurd brings)
       (λ envelope fate confirms. let no : true ≡ false = sym confirms.0 ∙ ap has_place is in cc)
   acknowledged_as (Member place) old new number connected puback membership' window' next is does =
-      settled_as does.1.found old new number connected puback place does.0 window' next (ap has_place is) does.1.acked does.1.settled
+      comes_to (ap place_in does.2) (settled_as does.1.found old new number connected puback place does.0 window' next (ap has_place is) (ap place_in is) does.1.acked does.1.settled)
   acknowledged_as (Leaving place) old new number connected puback membership' window' next is does =
-      settled_as does.1.found old new number connected puback place does.0 window' next (ap has_place is) does.1.acked does.1.settled
+      comes_to (ap place_in does.2) (settled_as does.1.found old new number connected puback place does.0 window' next (ap has_place is) (ap place_in is) does.1.acked does.1.settled)
+
+  -- a connection that stays what it was has the places that it had
+  alike : (after was : ConnectedClient P) → after ≡ was → places_of (Connected after) ≡ places_of (Connected was)
+  alike after was same = ap (λ (connected : ConnectedClient P). places_of (Connected connected)) same
+
+  disconnected_if : (given : Bool) (connected after : ConnectedClient P) (seconds : ℕ) (reply : Reply) → DisconnectsIf given connected seconds after reply → places_of (Connected after) ≡ places_of (Connected connected)
+  disconnected_if true connected after seconds reply does = alike after _ does.0
+  disconnected_if false connected after seconds reply does = alike after _ does.0
+
+  disconnected : (seconds : Option ℕ) (connected after : ConnectedClient P) (reply : Reply) → Disconnects connected seconds after reply → places_of (Connected after) ≡ places_of (Connected connected)
+  disconnected None connected after reply does = alike after _ does.0
+  disconnected (Some seconds) connected after reply does = disconnected_if (is_given_expiry seconds connected.terms) connected after seconds reply does
+
+  -- who is refused, or still to send a CONNECT, has none
+  refused_if : (refusal : Option ConnectRefusal) (phase : ConnPhase P) (reply : Reply) → IsRefusedIf refusal phase reply → places_of phase ≡ []
+  refused_if (Some refusal) phase reply refused = ap places_of refused.over
+  refused_if None phase reply closed = ap places_of closed.over
+
+  waits_for_connect : (late : Bool) (opened : Opening) (phase : ConnPhase P) (reply : Reply) → WaitsForConnect late opened phase reply → places_of phase ≡ []
+  waits_for_connect true opened phase reply closed = ap places_of closed.over
+  waits_for_connect false opened phase reply waits = ap places_of waits.0
 
   module _ (slot_of : P → ℕ) where
     -- the answer to a packet
     answered : (packet : Packet) (old new : S) (number now : ℕ) (connected after : ConnectedClient P) (reply : Reply) → Answers call slot_of old number (hearing connected now) packet after reply new
-        → Walked [] old number (Connected connected) (inputs.Packet packet) reply.next new
-    answered (packets.Publish publish) old new number now connected after reply answers = published (publish_answer publish) old new number connected publish reply refl answers.0
+        → Walked [] old number (Connected connected) (inputs.Packet packet) reply.next (places_of (Connected after)) new
+    answered (packets.Publish publish) old new number now connected after reply answers =
+        comes_to (alike after _ answers.1) (published (publish_answer publish) old new number connected publish reply refl answers.0)
     answered (packets.Puback puback) old new number now connected after reply answers =
-        acknowledged_as connected.session.membership old new number connected puback _ _ reply.next refl answers.1.settles
+        comes_to (alike after _ answers.2) (acknowledged_as connected.session.membership old new number connected puback _ _ reply.next refl answers.1.settles)
     answered (packets.Subscribe subscribe) old new number now connected after reply answers =
-        idle old new number (Connected connected) _ reply.next (subscribed_as call slot_of (subscribe_refusal subscribe) old new connected.terms connected.session.membership subscribe reply answers.0 answers.1)
+        idle old new number (Connected connected) _ reply.next
+        (becomes call (alike after _ answers.2)
+        (subscribed_as call slot_of (subscribe_refusal subscribe) old new connected.terms connected.session.membership subscribe reply answers.0 answers.1))
         (λ p b. b, λ e f c. c)
     answered (packets.Unsubscribe unsubscribe) old new number now connected after reply answers =
-        idle old new number (Connected connected) _ reply.next (unsubscribed_as call slot_of (unsubscribe_refusal unsubscribe) old new connected.session.membership unsubscribe reply answers.0 answers.1)
+        idle old new number (Connected connected) _ reply.next
+        (becomes call (alike after _ answers.2) (unsubscribed_as call slot_of (unsubscribe_refusal unsubscribe) old new connected.session.membership unsubscribe reply answers.0 answers.1))
         (λ p b. b, λ e f c. c)
-    answered packets.Pingreq old new number now connected after reply answers = idle old new number (Connected connected) _ reply.next (still call old new answers.2) (λ p b. b, λ e f c. c)
-    answered (packets.Disconnect disconnect) old new number now connected after reply answers = idle old new number (Connected connected) _ reply.next (still call old new answers.1) (λ p b. b, λ e f c. c)
-    answered (packets.Connect connect) old new number now connected after reply answers = idle old new number (Connected connected) _ reply.next (still call old new answers.2) (λ p b. b, λ e f c. c)
-    answered (packets.Connack connack) old new number now connected after reply answers = idle old new number (Connected connected) _ reply.next (still call old new answers.2) (λ p b. b, λ e f c. c)
-    answered (packets.Suback suback) old new number now connected after reply answers = idle old new number (Connected connected) _ reply.next (still call old new answers.2) (λ p b. b, λ e f c. c)
-    answered (packets.Unsuback unsuback) old new number now connected after reply answers = idle old new number (Connected connected) _ reply.next (still call old new answers.2) (λ p b. b, λ e f c. c)
-    answered packets.Pingresp old new number now connected after reply answers = idle old new number (Connected connected) _ reply.next (still call old new answers.2) (λ p b. b, λ e f c. c)
-    answered (packets.Foreign kind) old new number now connected after reply answers = idle old new number (Connected connected) _ reply.next (still call old new answers.2) (λ p b. b, λ e f c. c)
-    answered (packets.OtherVersion version) old new number now connected after reply answers = idle old new number (Connected connected) _ reply.next (still call old new answers.2) (λ p b. b, λ e f c. c)
-    answered packets.WithWill old new number now connected after reply answers = idle old new number (Connected connected) _ reply.next (still call old new answers.2) (λ p b. b, λ e f c. c)
+    answered packets.Pingreq old new number now connected after reply answers = idle old new number (Connected connected) _ reply.next (still call old new (alike after _ answers.0) answers.2) (λ p b. b, λ e f c. c)
+    answered (packets.Disconnect disconnect) old new number now connected after reply answers =
+        idle old new number (Connected connected) _ reply.next
+        (still call old new (disconnected disconnect.properties.session_expiry_interval (hearing connected now) after reply answers.0) answers.1) (λ p b. b, λ e f c. c)
+    answered (packets.Connect connect) old new number now connected after reply answers = idle old new number (Connected connected) _ reply.next (still call old new (alike after _ answers.0) answers.2) (λ p b. b, λ e f c. c)
+    answered (packets.Connack connack) old new number now connected after reply answers = idle old new number (Connected connected) _ reply.next (still call old new (alike after _ answers.0) answers.2) (λ p b. b, λ e f c. c)
+    answered (packets.Suback suback) old new number now connected after reply answers = idle old new number (Connected connected) _ reply.next (still call old new (alike after _ answers.0) answers.2) (λ p b. b, λ e f c. c)
+    answered (packets.Unsuback unsuback) old new number now connected after reply answers = idle old new number (Connected connected) _ reply.next (still call old new (alike after _ answers.0) answers.2) (λ p b. b, λ e f c. c)
+    answered packets.Pingresp old new number now connected after reply answers = idle old new number (Connected connected) _ reply.next (still call old new (alike after _ answers.0) answers.2) (λ p b. b, λ e f c. c)
+    answered (packets.Foreign kind) old new number now connected after reply answers = idle old new number (Connected connected) _ reply.next (still call old new (alike after _ answers.0) answers.2) (λ p b. b, λ e f c. c)
+    answered (packets.OtherVersion version) old new number now connected after reply answers = idle old new number (Connected connected) _ reply.next (still call old new (alike after _ answers.0) answers.2) (λ p b. b, λ e f c. c)
+    answered packets.WithWill old new number now connected after reply answers = idle old new number (Connected connected) _ reply.next (still call old new (alike after _ answers.0) answers.2) (λ p b. b, λ e f c. c)
 
     -- a taken over connection brings nothing
     kicked : (old new : S) (number : ℕ) (connected : ConnectedClient P) (now : ℕ) (input : Input) (phase : ConnPhase P) (reply : Reply) → IsKicked call slot_of old connected now phase reply new
-        → Walked [] old number (Connected connected) input reply.next new
+        → Walked [] old number (Connected connected) input reply.next (places_of phase) new
     kicked old new number connected now input phase reply is =
         let told : reply.next ≡ Kicked = ap (λ r. r.next) is.0 in
-        plain old new number (Connected connected) input reply.next (parted call old new connected.session now is.1.0) (λ publish brings. told) (λ envelope fate confirms. told)
+        plain old new number (Connected connected) input reply.next (becomes call (ap places_of is.1.1) (parted call old new connected.session now is.1.0)) (λ publish brings. told) (λ envelope fate confirms. told)
 
-    concluded : (next : Then) (old new : S) (connected : ConnectedClient P) (now : ℕ) (phase : ConnPhase P) → Concludes call slot_of old connected now next phase new → Plain call [] old new
-    concluded Go old new connected now phase concludes = still call old new concludes.1
-    concluded Close old new connected now phase concludes = parted call old new connected.session now concludes.0
-    concluded Kicked old new connected now phase concludes = parted call old new connected.session now concludes.0
+    concluded : (next : Then) (old new : S) (connected : ConnectedClient P) (now : ℕ) (phase : ConnPhase P) → Concludes call slot_of old connected now next phase new
+        → Plain call [] (places_of (Connected connected)) (places_of phase) old new
+    concluded Go old new connected now phase concludes = still call old new (ap places_of concludes.0) concludes.1
+    concluded Close old new connected now phase concludes = becomes call (ap places_of concludes.1) (parted call old new connected.session now concludes.0)
+    concluded Kicked old new connected now phase concludes = becomes call (ap places_of concludes.1) (parted call old new connected.session now concludes.0)
 
     packet_answered : (was_kicked : Bool) (old new : S) (number now : ℕ) (connected : ConnectedClient P) (packet : Packet) (phase : ConnPhase P) (reply : Reply)
         → AnswersUnlessKicked call slot_of was_kicked old connected now (AnswersPacket call slot_of old number connected now packet) phase reply new
-        → Walked [] old number (Connected connected) (inputs.Packet packet) reply.next new
+        → Walked [] old number (Connected connected) (inputs.Packet packet) reply.next (places_of phase) new
     packet_answered true old new number now connected packet phase reply is = kicked old new number connected now _ phase reply is
     packet_answered false old new number now connected packet phase reply answers =
         further [] old answers.1 new number (Connected connected) _ reply.next (answered packet old answers.1 number now connected answers.0 reply answers.2)
         (concluded reply.next answers.1 new answers.0 now phase answers.3)
 
-    heard : (overdue : Bool) (old new : S) (connected : ConnectedClient P) (now : ℕ) (phase : ConnPhase P) (reply : Reply) → IsHeard call slot_of overdue old connected now phase reply new → Plain call [] old new
-    heard true old new connected now phase reply is = parted call old new connected.session now is.1.0
-    heard false old new connected now phase reply is = still call old new is.2
+    heard : (overdue : Bool) (old new : S) (connected : ConnectedClient P) (now : ℕ) (phase : ConnPhase P) (reply : Reply) → IsHeard call slot_of overdue old connected now phase reply new
+        → Plain call [] (places_of (Connected connected)) (places_of phase) old new
+    heard true old new connected now phase reply is = becomes call (ap places_of is.1.1) (parted call old new connected.session now is.1.0)
+    heard false old new connected now phase reply is = still call old new (ap places_of is.1) is.2
 
     tick_answered : (was_kicked : Bool) (old new : S) (connected : ConnectedClient P) (now : ℕ) (phase : ConnPhase P) (reply : Reply)
-        → AnswersUnlessKicked call slot_of was_kicked old connected now (AnswersTick call slot_of old connected now) phase reply new → Plain call [] old new
-    tick_answered true old new connected now phase reply is = parted call old new connected.session now is.1.0
+        → AnswersUnlessKicked call slot_of was_kicked old connected now (AnswersTick call slot_of old connected now) phase reply new
+        → Plain call [] (places_of (Connected connected)) (places_of phase) old new
+    tick_answered true old new connected now phase reply is = becomes call (ap places_of is.1.1) (parted call old new connected.session now is.1.0)
     tick_answered false old new connected now phase reply answers =
-        behind call old answers.0 new (swept call 256 old answers.0 now answers.1) (heard (is_overdue connected.terms.keep_alive (now - connected.heard)) answers.0 new connected now phase reply answers.2)
+        behind call old answers.0 new (beside call (places_of (Connected connected)) (swept call 256 old answers.0 now answers.1))
+        (heard (is_overdue connected.terms.keep_alive (now - connected.heard)) answers.0 new connected now phase reply answers.2)
 
     first_answered : (answer : FirstAnswer) (old new : S) (number max_inflight now : ℕ) (packet : Packet) (phase : ConnPhase P) (reply : Reply)
-        → AnswersFirst call slot_of answer old number max_inflight now packet phase reply new → Plain call [] old new
-    first_answered first.Close old new number max_inflight now packet phase reply answers = still call old new answers.1
-    first_answered (first.Refuse refusal) old new number max_inflight now packet phase reply answers = still call old new answers.1
+        → AnswersFirst call slot_of answer old number max_inflight now packet phase reply new → Plain call [] [] (places_of phase) old new
+    first_answered first.Close old new number max_inflight now packet phase reply answers = still call old new (ap places_of answers.0.over) answers.1
+    first_answered (first.Refuse refusal) old new number max_inflight now packet phase reply answers = still call old new (ap places_of answers.0.over) answers.1
     first_answered first.Attach old new number max_inflight now packet phase reply answers = attached call old new number now _ 0 phase reply answers.2
 
     -- an input of a connection
     pub reacted : (phase : ConnPhase P) (input : Input) (old new : S) (number now : ℕ) (between : ConnPhase P) (reply : Reply)
-        → Reacts call slot_of old number phase now input between reply new → Walked [] old number phase input reply.next new
+        → Reacts call slot_of old number phase now input between reply new → Walked [] old number phase input reply.next (places_of between) new
     reacted (Unconnected opened) (inputs.Packet packet) old new number now between reply is = idle old new number _ _ reply.next (first_answered (first_answer packet) old new number opened.max_inflight now packet between reply is) (λ p b. b, λ e f c. c)
-    reacted (Unconnected opened) (inputs.Fault fault) old new number now between reply is = idle old new number _ _ reply.next (still call old new is.1) (λ p b. b, λ e f c. c)
-    reacted (Unconnected opened) inputs.Tick old new number now between reply is = idle old new number _ _ reply.next (swept call 256 old new now is.0) (λ p b. b, λ e f c. c)
-    reacted (Unconnected opened) inputs.EndOfInput old new number now between reply is = idle old new number _ _ reply.next (still call old new is.1) (λ p b. b, λ e f c. c)
-    reacted (Unconnected opened) inputs.Closing old new number now between reply is = idle old new number _ _ reply.next (still call old new is.1) (λ p b. b, λ e f c. c)
+    reacted (Unconnected opened) (inputs.Fault fault) old new number now between reply is =
+        idle old new number _ _ reply.next (still call old new (refused_if (fault_refusal fault) between reply is.0) is.1) (λ p b. b, λ e f c. c)
+    reacted (Unconnected opened) inputs.Tick old new number now between reply is =
+        idle old new number _ _ reply.next (becomes call (waits_for_connect (is_late (now - opened.at)) opened between reply is.1) (swept call 256 old new now is.0)) (λ p b. b, λ e f c. c)
+    reacted (Unconnected opened) inputs.EndOfInput old new number now between reply is = idle old new number _ _ reply.next (still call old new (ap places_of is.0.over) is.1) (λ p b. b, λ e f c. c)
+    reacted (Unconnected opened) inputs.Closing old new number now between reply is = idle old new number _ _ reply.next (still call old new (ap places_of is.0.over) is.1) (λ p b. b, λ e f c. c)
     reacted (Waiting request ticks) (inputs.Packet packet) old new number now between reply is = absurd is
     reacted (Waiting request ticks) (inputs.Fault fault) old new number now between reply is = absurd is
     reacted (Waiting request ticks) inputs.Tick old new number now between reply is =
         idle old new number _ _ reply.next (behind call old is.0 new (swept call 256 old is.0 now is.1) (tried_again call is.0 new number now request ticks between reply is.2)) (λ p b. b, λ e f c. c)
-    reacted (Waiting request ticks) inputs.EndOfInput old new number now between reply is = idle old new number _ _ reply.next (one call old new _ is.0 refl refl refl refl) (λ p b. b, λ e f c. c)
-    reacted (Waiting request ticks) inputs.Closing old new number now between reply is = idle old new number _ _ reply.next (one call old new _ is.0 refl refl refl refl) (λ p b. b, λ e f c. c)
+    reacted (Waiting request ticks) inputs.EndOfInput old new number now between reply is = idle old new number _ _ reply.next (becomes call (ap places_of is.1.over) (one call old new _ is.0 refl refl refl refl)) (λ p b. b, λ e f c. c)
+    reacted (Waiting request ticks) inputs.Closing old new number now between reply is = idle old new number _ _ reply.next (becomes call (ap places_of is.1.over) (one call old new _ is.0 refl refl refl refl)) (λ p b. b, λ e f c. c)
     reacted (Connected connected) (inputs.Packet packet) old new number now between reply is =
-        earlier old is.1 new number (Connected connected) (inputs.Packet packet) reply.next (one call old is.1 _ is.2 refl refl refl refl) (packet_answered is.0 is.1 new number now connected packet between reply is.3)
-    reacted (Connected connected) (inputs.Fault fault) old new number now between reply is = idle old new number _ _ reply.next (parted call old new connected.session now is.1.0) (λ p b. b, λ e f c. c)
+        earlier old is.1 new number (Connected connected) (inputs.Packet packet) reply.next (beside call (places_of (Connected connected)) (one call old is.1 _ is.2 refl refl refl refl))
+        (packet_answered is.0 is.1 new number now connected packet between reply is.3)
+    reacted (Connected connected) (inputs.Fault fault) old new number now between reply is = idle old new number _ _ reply.next (becomes call (ap places_of is.1.1) (parted call old new connected.session now is.1.0)) (λ p b. b, λ e f c. c)
     reacted (Connected connected) inputs.Tick old new number now between reply is =
-        idle old new number _ _ reply.next (behind call old is.1 new (one call old is.1 _ is.2 refl refl refl refl) (tick_answered is.0 is.1 new connected now between reply is.3)) (λ p b. b, λ e f c. c)
-    reacted (Connected connected) inputs.EndOfInput old new number now between reply is = idle old new number _ _ reply.next (parted call old new connected.session now is.1.0) (λ p b. b, λ e f c. c)
-    reacted (Connected connected) inputs.Closing old new number now between reply is = idle old new number _ _ reply.next (one call old new _ is.1 refl refl refl refl) (λ p b. b, λ e f c. c)
-    reacted Ended input old new number now between reply is = idle old new number _ _ reply.next (still call old new is.1) (λ p b. b, λ e f c. c)
+        idle old new number _ _ reply.next
+        (behind call old is.1 new (beside call (places_of (Connected connected)) (one call old is.1 _ is.2 refl refl refl refl)) (tick_answered is.0 is.1 new connected now between reply is.3))
+        (λ p b. b, λ e f c. c)
+    reacted (Connected connected) inputs.EndOfInput old new number now between reply is = idle old new number _ _ reply.next (becomes call (ap places_of is.1.1) (parted call old new connected.session now is.1.0)) (λ p b. b, λ e f c. c)
+    reacted (Connected connected) inputs.Closing old new number now between reply is = idle old new number _ _ reply.next (becomes call (ap places_of is.2) (one call old new _ is.1 refl refl refl refl)) (λ p b. b, λ e f c. c)
+    reacted Ended input old new number now between reply is = idle old new number _ _ reply.next (still call old new (ap places_of is.0.over) is.1) (λ p b. b, λ e f c. c)
 
     -- what is handed out after it
     pub handed_behind : (between : ConnPhase P) (old new : S) (sent : List Packet) (phase : ConnPhase P) → Hands call slot_of old between sent phase new
-        → Plain call (fresh_messages sent) old new
-    handed_behind (Unconnected opened) old new sent phase hands = subst (λ given. Plain call given old new) (sym (ap fresh_messages hands.0)) (still call old new hands.2)
-    handed_behind (Waiting request ticks) old new sent phase hands = subst (λ given. Plain call given old new) (sym (ap fresh_messages hands.0)) (still call old new hands.2)
+        → Plain call (fresh_messages sent) (places_of between) (places_of phase) old new
+    handed_behind (Unconnected opened) old new sent phase hands =
+        subst (λ given. Plain call given [] (places_of phase) old new) (sym (ap fresh_messages hands.0)) (still call old new (ap places_of hands.1) hands.2)
+    handed_behind (Waiting request ticks) old new sent phase hands =
+        subst (λ given. Plain call given [] (places_of phase) old new) (sym (ap fresh_messages hands.0)) (still call old new (ap places_of hands.1) hands.2)
     handed_behind (Connected connected) old new sent phase hands =
-        handed_out call old new connected.session.membership connected.session.window sent hands.0 hands.1 hands.2
-    handed_behind Ended old new sent phase hands = subst (λ given. Plain call given old new) (sym (ap fresh_messages hands.0)) (still call old new hands.2)
+        becomes call (ap places_of hands.3) (handed_out call old new connected.session.membership connected.session.window sent hands.0 hands.1 hands.2)
+    handed_behind Ended old new sent phase hands =
+        subst (λ given. Plain call given [] (places_of phase) old new) (sym (ap fresh_messages hands.0)) (still call old new (ap places_of hands.1) hands.2)
 
     pub stepped : (old new : S) (number now : ℕ) (phase phase' : ConnPhase P) (input : Input) (packets : List Packet) (next : Then)
-        → Steps call slot_of old number phase now input packets next phase' new → StepCalls call old number phase input packets next new
+        → Steps call slot_of old number phase now input packets next phase' new → StepCalls call old number phase input packets next phase' new
     stepped old new number now phase phase' input packets next steps =
         let before = reacted phase input old steps.mid number now steps.between steps.reply steps.reacts in
         let behind = handed_behind steps.between steps.mid new steps.sent phase' steps.hands in
-        let calls = subst (λ n. Walked (fresh_messages steps.sent) old number phase input n new) (sym steps.followed)
+        let calls = subst (λ n. Walked (fresh_messages steps.sent) old number phase input n (places_of phase') new) (sym steps.followed)
         (further (fresh_messages steps.sent) old steps.mid new number phase input steps.reply.next before behind) in
         record {
           supply_calls = calls.supply_calls;
@@ -314,4 +374,5 @@ module _ {S P : Type 0} (call : S → SupplyCall P → S → Type 0) where
               ap fresh_messages steps.written
               ∙ replied_and_sent call slot_of phase input old steps.mid number now steps.between steps.reply steps.sent steps.reacts
               ∙ sym calls.hands;
+          places = calls.places;
         }

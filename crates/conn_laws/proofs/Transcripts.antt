@@ -117,8 +117,8 @@ module _ {S P : Type 0} (call : S → SupplyCall P → S → Type 0) where
       (subst (λ s. Transcribes call old number phase input [] next between s) (sym same) (hands_none old mid number phase input next between turned)))
 
   -- this is handed out
-  hands : (old mid new : S) (number : ℕ) (phase : ConnPhase P) (input : Input) (sent : List Packet) (next : Then) (connected : ConnectedClient P) (membership : Membership P)
-      (window : Contents Held) → SessionStepped call old number phase input next (Connected connected) mid → Handed call mid connected.session.window sent membership window new
+  hands : {places : List P} (old mid new : S) (number : ℕ) (phase : ConnPhase P) (input : Input) (sent : List Packet) (next : Then) (connected : ConnectedClient P) (membership : Membership P)
+      (window : Contents Held) → SessionStepped call old number phase input next (Connected connected) mid → Handed call mid places connected.session.window sent membership window new
       → Transcribes call old number phase input sent next (Connected (after_hand_out connected membership window)) new
   hands old mid new number phase input sent next connected membership window turned out =
       let more : List (Mark Held) = transcript_of out.sends.calls in

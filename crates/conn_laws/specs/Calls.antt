@@ -20,6 +20,7 @@ use Rattle.conn_engine.specs.declared.input.Input.TheVariants as inputs
 use Rattle.conn_engine.specs.declared.phase.ConnPhase.{ConnPhase}
 use Rattle.conn_engine.specs.declared.phase.ConnPhase.TheVariants.{Connected}
 use Rattle.conn_engine.specs.Connecting.{has_place}
+use Rattle.conn_laws.specs.Places.{places_of, KeepsPlaces}
 
 -- what a call offers: to the group of which slot, from which connection, and which message
 abbrev pub offer_of : {P : Type 0} → SupplyCall P → Option (ℕ × ℕ × Message)
@@ -140,17 +141,20 @@ module _ {S P : Type 0} (call : S → SupplyCall P → S → Type 0) where
   CallsLead old new = (supply_calls : List (SupplyCall P)) × MakesAll old supply_calls new
 
   -- the calls of a step, and what they offer, settle and hand out
-  pub record StepCalls (old : S) (number : ℕ) (phase : ConnPhase P) (input : Input) (sent : List Packet) (next : Then) (new : S) : Type 0 where
+  pub record StepCalls (old : S) (number : ℕ) (phase : ConnPhase P) (input : Input) (sent : List Packet) (next : Then) (phase' : ConnPhase P) (new : S) : Type 0 where
     pub supply_calls : List (SupplyCall P)
     pub made : MakesAll old supply_calls new
     pub offers : OffersToEach number input supply_calls ⊎ OffersNone phase input supply_calls next
     pub settles : SettlesOne phase input supply_calls ⊎ SettlesNone phase input supply_calls next
     -- what is handed out goes out at once, each message in a PUBLISH of its own, in their order; and no other goes out for the first time
     pub hands : fresh_messages sent ≡ messages_of (handed supply_calls)
+    -- the connection has the places that it had, but for what these calls brought, took and changed
+    pub places : KeepsPlaces (places_of phase) supply_calls (places_of phase')
 
-  -- the calls of a step in which an allocation failed
+  -- the calls of a step in which an allocation failed: after it the connection has no place any more
   pub record FailedCalls (old : S) (number : ℕ) (phase : ConnPhase P) (input : Input) (new : S) : Type 0 where
     pub supply_calls : List (SupplyCall P)
     pub made : MakesAll old supply_calls new
     pub offers : OffersToSome number input supply_calls ⊎ (offered supply_calls ≡ [])
     pub settles : SettlesOne phase input supply_calls ⊎ (settled supply_calls ≡ [])
+    pub places : KeepsPlaces (places_of phase) supply_calls []

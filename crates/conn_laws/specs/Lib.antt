@@ -1,4 +1,5 @@
 pub mod Asking
+pub mod Places
 pub mod Calls
 pub mod Behind
 pub mod Quotas

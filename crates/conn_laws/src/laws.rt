@@ -60,11 +60,12 @@ pub fn quota_law<P: HoldingPlace, S: Supply<P>>()
 ///   an allocation fails, to some of them, from the first on;
 /// - a message is settled only by a PUBACK under its identifier, once, as its Reason Code says;
 /// - what is handed to a place goes out at once, each message in a PUBLISH of its own with DUP 0, in their order, and no other packet
-///   brings a message for the first time; where an allocation fails nothing goes out, and the session has what was handed.
+///   brings a message for the first time; where an allocation fails nothing goes out, and the session has what was handed;
+/// - no place is lost and none is made: the connection has those that it had and that its calls brought, but for those that they took.
 pub fn calls_law<P: HoldingPlace, S: Supply<P>>()
     ensures stepped { (number now : ℕ) (phase phase' : ConnPhase P) (input : Input) (packets : List Packet) (next : Then) (old new : S) →
         Steps S.call P.slot_of old number phase now input packets next phase' new →
-        StepCalls S.call old number phase input packets next new }
+        StepCalls S.call old number phase input packets next phase' new }
     ensures failed { (number now : ℕ) (phase : ConnPhase P) (input : Input) (old new : S) →
         FailsToStep S.call P.slot_of old number phase now input new →
         FailedCalls S.call old number phase input new }
