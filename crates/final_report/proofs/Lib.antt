@@ -4,3 +4,5 @@ pub mod Fates
 pub mod Orders
 pub mod Held
 pub mod Brokers
+pub mod DeskPlaces
+pub mod EachOnce

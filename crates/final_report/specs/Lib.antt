@@ -1,3 +1,4 @@
 pub mod Messages
 pub mod Promises
 pub mod Brokers
+pub mod DeskPlaces
