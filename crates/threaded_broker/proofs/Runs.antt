@@ -13,6 +13,7 @@ use Rattle.transport.specs.declared.counts.Counts.{Counts}
 use Rattle.call_history.specs.Callers.{all_parts}
 use Rattle.group_queue.specs.Ports.{GroupId, PortState}
 use Rattle.broker_groups.specs.Answers.{Sights}
+use Rattle.broker_groups.specs.Naming.{AreNewPlacesOf}
 use Rattle.conn_channel.specs.Interleavings.{IsInterleaving}
 use Rattle.worker_connections.specs.declared.served.ServedCounts.{ServedCounts}
 use Rattle.worker_connections.specs.Arrivals.{ArrivedState}
@@ -81,7 +82,7 @@ module _ {T : Type 0} (group : ℕ → GroupId) (seen : Sights) (counts : T → 
   -- a broker that was served kept to it
   pub within : (limit workers : ℕ) (came : List T) (before after : DeskCallerState) (routes shares : List Share) (ports : List (List PortState)) (callers : List DeskCallerState) (served : List ServedCounts)
       (closed : List (Option (List T))) → shares ≡ take most_routes routes → AreServed group seen counts given accepted (arrivals limit came) routes ports callers served closed
-      → (places : List PlaceState) × HasPutIn before places → HasTakenIn before callers after → length callers ≡ workers → before.parts + workers ≡ all_parts
+      → (places : List PlaceState) × AreNewPlacesOf group places × HasPutIn before places → HasTakenIn before callers after → length callers ≡ workers → before.parts + workers ≡ all_parts
       → RunsUntilClosed group seen counts given accepted limit came before after shares ports served closed
   within limit workers came before after routes shares ports callers served closed shares_are ran opened taken_in count right =
       let parts = ap (sum_by (λ (caller : DeskCallerState). caller.parts)) ran.callers_are ∙ parts_of_all ran.runs ran.one_part in

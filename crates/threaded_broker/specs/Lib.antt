@@ -1,3 +1,4 @@
 pub mod Callers
+pub mod Places
 pub mod Headline
 pub mod Shares

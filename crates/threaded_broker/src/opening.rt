@@ -1,7 +1,7 @@
 //! A broker that is open, and how it is opened.
 ghost use Rattle.std.specs.Prelude.{◌≡◌, ◌+◌, ◌<◌, ◌≤◌, List, [], All, length, vec_capacity, IfOk};
 ghost use Rattle.gate_word.specs.Seats.{AreSeatsOf};
-ghost use Rattle.broker_groups.specs.Naming.{AreUnsent, IsOfBroker};
+ghost use Rattle.broker_groups.specs.Naming.{AreNewPlacesOf, AreUnsent, IsOfBroker};
 ghost use Rattle.call_history.specs.Callers.{all_parts};
 ghost use Rattle.group_queue.specs.Places.{PlaceState};
 ghost use Rattle.worker_connections.specs.Handles.{IsUnused};
@@ -22,7 +22,7 @@ use std::sync::Wait;
 use worker_connections::WorkerHandle;
 
 /// A broker that is open: what its workers share, what each of them has, and the first caller of its desk. There are 1 to 64 workers, and nobody has used what they have: nothing was
-/// published through their ports, and they made no call of the desk. The first caller put places into the desk, and did nothing else.
+/// published through their ports, and they made no call of the desk. The first caller put the new places of the groups into the desk, and did nothing else.
 ///
 /// Contracts see it as the number of its workers, with the first caller: together they have the whole right to call the desk.
 pub struct OpenBroker<'g, B: Broker, N: HistoryName> {
@@ -35,10 +35,9 @@ pub struct OpenBroker<'g, B: Broker, N: HistoryName> {
 
 impl<'g, B: Broker, N: HistoryName> Model for OpenBroker<'g, B, N> {
     ghost use Rattle.std.specs.Prelude.{◌≡◌, ◌+◌, ◌≤◌, List, [], All, length, vec_capacity};
+    ghost use Rattle.broker_groups.specs.Naming.{AreNewPlacesOf};
     ghost use Rattle.call_history.specs.Callers.{all_parts};
-    ghost use Rattle.group_queue.specs.Places.{PlaceState};
     ghost use Rattle.worker_connections.specs.Handles.{IsUnused};
-    ghost use Rattle.threaded_broker.specs.Callers.{HasPutIn};
     ghost use Rattle.group_queue.specs.Places.{PlaceState};
     ghost use Rattle.threaded_broker.specs.Callers.{BrokerState, HasPutIn};
 
@@ -48,7 +47,7 @@ impl<'g, B: Broker, N: HistoryName> Model for OpenBroker<'g, B, N> {
 
     ghost invariant = { λ b. (1 ≤ length b.handles.items) × (length b.handles.items ≤ 64) × All (λ handle. IsUnused handle.ports handle.desk) b.handles.items
         × (b.room.items ≡ []) × (length b.handles.items ≤ vec_capacity b.room) × (b.caller.parts + length b.handles.items ≡ all_parts)
-        × ((places : List PlaceState) × HasPutIn b.caller places) };
+        × ((places : List PlaceState) × AreNewPlacesOf B.group places × HasPutIn b.caller places) };
 }
 
 impl<'g, B: Broker<Seen = Nobody>, N: HistoryName> OpenBroker<'g, B, N> {
@@ -125,7 +124,7 @@ impl<'g, B: Broker, N: HistoryName> OpenBroker<'g, B, N> {
         ensures room { (result.room.items ≡ []) × (self.entry.workers ≤ vec_capacity result.room) }
         ensures caller { result.caller ≡ self.entry.caller }
         ensures right { self.entry.caller.parts + self.entry.workers ≡ all_parts }
-        ensures opened { (places : List PlaceState) × HasPutIn self.entry.caller places }
+        ensures opened { (places : List PlaceState) × AreNewPlacesOf B.group places × HasPutIn self.entry.caller places }
     {
         let OpenBroker {
             shared_broker,

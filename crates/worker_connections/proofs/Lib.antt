@@ -13,3 +13,4 @@ pub mod Occupied
 pub mod Turning
 pub mod Going
 pub mod Numbers
+pub mod RunCalls

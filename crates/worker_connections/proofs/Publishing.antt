@@ -130,7 +130,7 @@ module _ (group : ℕ → GroupId) (seen : Sights) where
       let parts = none_found (offer_of supply_call) (offered supply_calls) none in
       all_stay supply_calls made.0 new parts.1 made.2 ∙ stays supply_call old.ports made.0.ports (called supply_call old made.0 made.1) parts.0
 
-  plain : {given : List Message} (old new : Worker) → Plain (Calls group seen) given old new → new.ports ≡ old.ports
+  plain : {given : List Message} {before after : List PlaceState} (old new : Worker) → Plain (Calls group seen) given before after old new → new.ports ≡ old.ports
   plain old new calls = all_stay calls.supply_calls old new calls.offers calls.made
 
   -- a message is offered to each of these slots

@@ -12,3 +12,4 @@ pub mod Sessions
 pub mod Cells
 pub mod EachAct
 pub mod Numbers
+pub mod RunCalls

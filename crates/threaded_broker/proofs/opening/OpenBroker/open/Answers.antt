@@ -5,6 +5,7 @@ use Rattle.broker_groups.specs.Outs.{HasOut}
 use Rattle.call_history.specs.Callers.{all_parts, first_caller}
 use Rattle.shared_desk.specs.Histories.{TakesEach}
 use Rattle.threaded_broker.specs.Callers.{DeskCallerState}
+use Rattle.threaded_broker.proofs.Reversed.{reversed_new}
 use Rattle.threaded_broker.proofs.opening.OpenBroker.open.Goals as goal
 
 pub invariant_of-result : goal.invariant_of-result
@@ -21,5 +22,5 @@ invariant_of-result g c =
       search rules,
       search rules,
       search rules,
-      (reverse c.in-Ok.field-0.places.items, subst (Puts first_caller) same (subst (λ old. Puts old c.take_places.new.me) c.name-desk.ensures c.take_places.ensures.taken)),
+      (reverse c.in-Ok.field-0.places.items, reversed_new g.B.Broker.group c.in-Ok.field-0.places.items c.in-Ok.ensures.new, subst (Puts first_caller) same (subst (λ old. Puts old c.take_places.new.me) c.name-desk.ensures c.take_places.ensures.taken)),
     )
